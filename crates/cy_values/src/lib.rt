@@ -1,0 +1,18 @@
+//! The values of the product: what a property, a cell and a row of a table hold, and the one order of rows.
+#![tactic(auto)]
+
+mod faults;
+mod numbers;
+mod order;
+mod rows;
+mod scalars;
+mod sequences;
+mod texts;
+
+pub use faults::Fault;
+pub use numbers::{Entity, NodeId, RelId};
+pub use order::{row_order, row_order_laws};
+pub use rows::{Cell, Row};
+pub use scalars::{Scalar, Value};
+pub use sequences::{Duplicate, Sequence};
+pub use texts::Text;

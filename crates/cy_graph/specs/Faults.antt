@@ -1,0 +1,8 @@
+-- The numbers of faults.
+use Rattle.std.specs.Prelude.{ℕ}
+use Rattle.cy_graph.specs.declared.faults.GraphFault.{GraphFault}
+use Rattle.cy_graph.specs.declared.faults.GraphFault.TheVariants.{Full, NoMemory}
+
+abbrev pub code_of : GraphFault → ℕ
+code_of Full = 53
+code_of NoMemory = 90

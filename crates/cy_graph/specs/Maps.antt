@@ -1,0 +1,28 @@
+-- Finite maps from texts, as lists of entries whose keys strictly rise. So each map has one form, and two maps
+-- are the same where their lists are.
+use Rattle.std.specs.Prelude.{ℕ, not, List, Option, Bool}
+use Rattle.std.specs.declared.cmp.Ordering.{Ordering}
+use Rattle.std.specs.Ordering.{nat_cmp, eq_by_cmp}
+use Rattle.std.specs.Cmp.Lexicographic.{slice_cmp}
+use Rattle.std.specs.FinMap.Entries as entries
+
+-- texts by their bytes
+abbrev pub text_order : List ℕ → List ℕ → Ordering
+text_order = slice_cmp nat_cmp
+
+module _ {V : Type 0} where
+  -- whether the keys strictly rise
+  abbrev pub rises : List (List ℕ × V) → Bool
+  rises = entries.is_sorted text_order
+
+  -- the value at a key
+  abbrev pub value_at : List ℕ → List (List ℕ × V) → Option V
+  value_at = entries.find text_order
+
+  -- the map with the value at the key, and all else as it was
+  abbrev pub with_value : List ℕ → V → List (List ℕ × V) → List (List ℕ × V)
+  with_value = entries.put text_order
+
+  -- the map with nothing at the key, and all else as it was
+  abbrev pub without : List ℕ → List (List ℕ × V) → List (List ℕ × V)
+  without key = entries.where_key text_order (λ k. not (eq_by_cmp text_order key k))

@@ -1,0 +1,20 @@
+-- Which values can be stored: no null, and no list with null in it.
+use Rattle.std.specs.Prelude.{ℕ, Bool, true, false, not, List, [], ◌∷◌, IsTrue}
+use Rattle.std.specs.List.{list_all}
+use Rattle.cy_values.specs.declared.scalars.Scalar.{Scalar}
+use Rattle.cy_values.specs.declared.scalars.Scalar.TheVariants as scalar
+use Rattle.cy_values.specs.declared.scalars.Value.{Value}
+use Rattle.cy_values.specs.declared.scalars.Value.TheVariants as value
+
+abbrev pub is_null : Scalar → Bool
+is_null scalar.Null = true
+is_null _ = false
+
+abbrev pub is_storable : Value → Bool
+is_storable value.Null = false
+is_storable (value.List elements) = list_all (λ e. not (is_null e)) elements
+is_storable _ = true
+
+-- each value of these properties can be stored
+abbrev pub IsStorable : List (List ℕ × Value) → Type 0
+IsStorable props = IsTrue (list_all (λ e. is_storable e.1) props)

@@ -1,0 +1,14 @@
+//! The property graph: nodes with labels and properties under numbers, and one change at a time that can be taken back.
+#![tactic(auto)]
+
+mod faults;
+mod graph;
+mod maps;
+mod nodes;
+mod walks;
+
+pub use faults::GraphFault;
+pub use graph::Graph;
+pub use maps::TextMap;
+pub use nodes::{Labels, Node, Props};
+pub use walks::Nodes;

@@ -1,0 +1,87 @@
+//! Finite maps from texts, which keep the labels and the properties of a node.
+
+ghost use Rattle.std.specs.Prelude.{◌≡◌, List, ℕ, [], Some, None, IfOk, IfErr, OnOk, OnErr, IsTrue, is_some};
+ghost use Rattle.std.specs.Option.{option_copied};
+ghost use Rattle.cy_graph.specs.Maps.{rises, value_at, with_value, without};
+ghost use Rattle.cy_graph.specs.Place.{IsAt, IsGapFor};
+
+use cy_values::{Duplicate, Fault, Text};
+use std::alloc::Global;
+use std::marker::Model;
+
+/// A map from texts to values, in the order of its keys. A clause sees the list of its entries.
+#[derive(Debug, Drop)]
+pub struct TextMap<V> {
+    entries: Vec<(Text, V)>,
+}
+
+impl<V> Model for TextMap<V> {
+    ghost Value = { List (List ℕ × V) };
+
+    ghost view = { λ m. m.entries.items };
+
+    ghost invariant = { λ m. IsTrue (rises m.entries.items) };
+}
+
+impl<V> TextMap<V> {
+    /// The map with no entry.
+    pub fn new(alloc: Global) -> Self
+        ensures { result ≡ [] }
+    {
+        TextMap {
+            entries: Vec::new(alloc),
+        }
+    }
+
+    /// The entries by rising key.
+    pub fn entries(&self) -> &[(Text, V)]
+        ensures all { result.now ≡ self.now }
+        ensures rising { IsTrue (rises self.now) }
+    {
+        &self.entries
+    }
+
+    /// The value at a key, if there is one.
+    pub fn get(&self, key: &str) -> Option<&V>
+        ensures { option_copied result ≡ value_at key.now self.now }
+    {
+        match self.search(key) {
+            Ok(at) => Some(&self.entries[at].1),
+            Err(_) => None,
+        }
+    }
+
+    // Where the key is, or where it would go.
+    fn search(&self, key: &str) -> Result<usize, usize>
+        ensures found { IfOk result (IsAt key.now self.now) }
+        ensures absent { IfErr result (IsGapFor key.now self.now) }
+    {
+        self.entries
+            .binary_search_by(|entry| entry.0.as_str().cmp(key))
+    }
+}
+
+impl<V: Drop> TextMap<V> {
+    /// Sets the value at a key. Fails only for want of memory, and then the map is as before.
+    pub fn insert(&mut self, key: Text, value: V) -> Result<(), Fault>
+        ensures ok { OnOk result (self.new ≡ with_value key value self.old) }
+        ensures err { OnErr result (self.new ≡ self.old) }
+    {
+        match self.search(key.as_str()) {
+            Ok(at) => {
+                self.entries[at] = (key, value);
+                Ok(())
+            }
+            Err(at) => Ok(self.entries.insert(at, (key, value))?),
+        }
+    }
+
+    /// Removes what stands at a key, if anything does.
+    pub fn remove(&mut self, key: &str)
+        ensures { self.new ≡ without key.now self.old }
+    {
+        if let Ok(at) = self.search(key) {
+            self.entries.remove(at);
+        }
+    }
+}

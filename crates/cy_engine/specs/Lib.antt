@@ -1,0 +1,6 @@
+pub mod Asked
+pub mod Faults
+pub mod Grammar
+pub mod Meaning
+pub mod Step
+pub mod Words

@@ -1,0 +1,112 @@
+-- The engine as a machine: its state, and the steps that a line allows.
+use Rattle.std.specs.Prelude.{◌≡◌, ◌≢◌, ℕ, ◌+◌, ◌-◌, ◌^◌, ◌<◌, List, [], ◌∷◌, ◌++◌, length, map, Option, Some, None, Result, Ok, Err, Contains}
+use Rattle.cy_values.specs.declared.rows.Cell.{Cell}
+use Rattle.cy_values.specs.Bag.{IsBagOf, IsCanonical}
+use Rattle.cy_graph.specs.Graph.{State, empty_state}
+use Rattle.cy_engine.specs.declared.faults.Fault.{Fault}
+use Rattle.cy_engine.specs.declared.faults.Fault.TheVariants as fault
+use Rattle.cy_engine.specs.declared.replies.Changed.{Changed}
+use Rattle.cy_engine.specs.declared.replies.Reply.{Reply}
+use Rattle.cy_engine.specs.declared.replies.Reply.TheVariants as reply
+use Rattle.cy_engine.specs.declared.trees.Create.{Create}
+use Rattle.cy_engine.specs.declared.trees.Query.{Query}
+use Rattle.cy_engine.specs.Asked.{asked, place_of, Blank, Statement, ViewOf, RowsOf, Wrong}
+use Rattle.cy_engine.specs.Grammar.{IsCreate, IsQuery}
+use Rattle.cy_engine.specs.Meaning.{Outcome, carried_out, rows_of}
+
+-- a view: its name, its query and the tick at which it was made. Its rows are no part of it: they are what its
+-- query means on the graph
+pub record View : Type 0 where
+  pub name : List ℕ
+  pub query : Query
+  pub made : ℕ
+
+-- the graph with its next numbers, the views in the order in which they were made, the tick, and how many entries
+-- a view's history has
+pub record EngineState : Type 0 where
+  pub graph : State
+  pub views : List View
+  pub tick : ℕ
+  pub history : ℕ
+
+-- the last tick
+abbrev pub last_tick : ℕ
+last_tick = 2 ^ 62 - 1
+
+-- how many views there may be
+abbrev pub view_limit : ℕ
+view_limit = 256
+
+-- an empty graph, no view, tick 0
+abbrev pub empty_engine : ℕ → EngineState
+empty_engine history = record { graph = empty_state 1 1; views = []; tick = 0; history = history }
+
+-- a view has the name
+abbrev pub IsTaken : List ℕ → EngineState → Type 0
+IsTaken name state = Contains (map (λ v. v.name) state.views) name
+
+-- the line is a statement, and the text of it is this tree's
+pub record IsStatement (line : List ℕ) (tree : Create) : Type 0 where
+  pub text : List ℕ
+  pub is : asked line ≡ Statement text
+  pub spelled : IsCreate text tree
+
+-- the line makes a view of this name, and the text of its query is this tree's
+pub record IsView (line name : List ℕ) (tree : Query) : Type 0 where
+  pub text : List ℕ
+  pub is : asked line ≡ ViewOf name text
+  pub spelled : IsQuery text tree
+
+-- a statement is carried out: the graph is new, and the tick rises
+pub record Carries (old : EngineState) (line : List ℕ) (changed : Changed) (columns : List (List ℕ)) (rows : List (List Cell)) (new : EngineState) : Type 0 where
+  pub tree : Create
+  pub graph : State
+  pub statement : IsStatement line tree
+  pub meaning : carried_out tree old.graph ≡ Ok (record { graph = graph; changed = changed; columns = columns; rows = rows })
+  pub tick_left : old.tick < last_tick
+  pub is : new ≡ record old { graph = graph; tick = old.tick + 1 }
+
+-- a view is made: it stands after all others, and the tick rises
+pub record Makes (old : EngineState) (line : List ℕ) (columns : List (List ℕ)) (tick : ℕ) (name : List ℕ) (new : EngineState) : Type 0 where
+  pub tree : Query
+  pub view : IsView line name tree
+  pub bound : tree.returned ≡ tree.variable
+  pub free : IsTaken name old → ⊥
+  pub room : length old.views < view_limit
+  pub tick_left : old.tick < last_tick
+  pub columns_are : columns ≡ tree.column ∷ []
+  pub tick_is : tick ≡ old.tick + 1
+  pub is : new ≡ record old { views = old.views ++ (record { name = name; query = tree; made = tick }) ∷ []; tick = tick }
+
+-- the rows of a view, each once, in canonical order, with their counts: what its query means on the graph
+pub record AreRows (state : EngineState) (name : List ℕ) (rows : List (List Cell × ℕ)) : Type 0 where
+  pub view : View
+  pub named : view.name ≡ name
+  pub there : Contains state.views view
+  pub bag : IsBagOf (rows_of view.query state.graph.content) rows
+  pub canonical : IsCanonical rows
+
+-- why a line is refused, each reason only where none before it holds
+abbrev pub Refused : EngineState → List ℕ → Fault → Type 0
+Refused state line (fault.Unexpected at) =
+    ((text : List ℕ) × (asked line ≡ Statement text) × (at ≡ place_of text line) × ((tree : Create) → IsCreate text tree → ⊥))
+    ⊎ ((name : List ℕ) × (text : List ℕ) × (asked line ≡ ViewOf name text) × (at ≡ place_of text line) × ((tree : Query) → IsQuery text tree → ⊥))
+Refused state line fault.UnknownVariable = (name : List ℕ) × (tree : Query) × IsView line name tree × (tree.returned ≢ tree.variable)
+Refused state line fault.ViewNameTaken = (name : List ℕ) × (tree : Query) × IsView line name tree × (tree.returned ≡ tree.variable) × IsTaken name state
+Refused state line fault.TooManyViews = (name : List ℕ) × (tree : Query) × IsView line name tree × (tree.returned ≡ tree.variable) × (IsTaken name state → ⊥) × (length state.views ≡ view_limit)
+Refused state line fault.Full =
+    ((tree : Create) × IsStatement line tree × ((carried_out tree state.graph ≡ Err 53) ⊎ (state.tick ≡ last_tick)))
+    ⊎ ((name : List ℕ) × (tree : Query) × IsView line name tree × (tree.returned ≡ tree.variable) × (IsTaken name state → ⊥) × (length state.views < view_limit) × (state.tick ≡ last_tick))
+Refused state line fault.NoSuchView = (name : List ℕ) × (asked line ≡ RowsOf name) × (IsTaken name state → ⊥)
+Refused state line fault.UnknownCommand = asked line ≡ Wrong 70
+Refused state line fault.BadArgument = asked line ≡ Wrong 72
+-- want of memory may refuse any line
+Refused state line fault.NoMemory = Unit {0}
+
+-- From old, the machine may answer the line so and go on to new. A refused line leaves all as it was.
+abbrev pub Step : EngineState → List ℕ → Result Reply Fault → EngineState → Type 0
+Step old line (Ok reply.Nothing) new = (asked line ≡ Blank) × (new ≡ old)
+Step old line (Ok (reply.Statement changed columns rows)) new = Carries old line changed columns rows new
+Step old line (Ok (reply.Made columns tick name)) new = Makes old line columns tick name new
+Step old line (Ok (reply.Rows rows tick name)) new = (asked line ≡ RowsOf name) × AreRows old name rows × (tick ≡ old.tick) × (new ≡ old)
+Step old line (Err fault) new = Refused old line fault × (new ≡ old)

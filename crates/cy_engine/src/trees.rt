@@ -1,0 +1,22 @@
+//! What the texts of the language say.
+
+use cy_values::{Sequence, Text, Value};
+
+/// A statement: `CREATE (:label {key: value, ..})`.
+#[derive(Debug, Drop)]
+pub struct Create {
+    pub label: Text,
+    /// The entries of the map as they stand, from the left.
+    pub entries: Sequence<(Text, Value)>,
+}
+
+/// A query: `MATCH (variable:label) RETURN returned.key`.
+#[derive(Debug, Drop)]
+pub struct Query {
+    pub variable: Text,
+    pub label: Text,
+    pub returned: Text,
+    pub key: Text,
+    /// The name of the one column: the item as it stands in the line.
+    pub column: Text,
+}

@@ -1,5 +1,5 @@
 -- What a line asks for: which command it is, with its arguments, or the text of a statement.
-use Rattle.std.specs.Prelude.{ℕ, ◌-◌, List, [], ◌∷◌, length, codes, Option, Some, None, if◌then◌else◌}
+use Rattle.std.specs.Prelude.{ℕ, ◌-◌, ◌==◌, List, [], ◌∷◌, length, codes, Option, Some, None, if◌then◌else◌}
 use Rattle.cy_engine.specs.Words.{skip, first_word, is_alike}
 
 pub data Asked : Type 0 where
@@ -34,10 +34,10 @@ command_asked (Some (word, arguments)) =
     else if is_alike word (codes "ROWS") then rows_asked (first_word (skip arguments))
     else Wrong 70
 
+-- a colon begins a command
 abbrev pub asked_at : List ℕ → Asked
 asked_at [] = Blank
-asked_at (58 ∷ command) = command_asked (first_word (skip command))
-asked_at (c ∷ cs) = Statement (c ∷ cs)
+asked_at (c ∷ cs) = if c == 58 then command_asked (first_word (skip cs)) else Statement (c ∷ cs)
 
 abbrev pub asked : List ℕ → Asked
 asked line = asked_at (skip line)

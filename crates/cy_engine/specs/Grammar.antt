@@ -1,13 +1,13 @@
 -- The language: which text says which statement or query. Blanks and tabs may stand between tokens. Each relation
 -- here is between a text, what stands at its front, and what is behind that.
-use Rattle.std.specs.Prelude.{◌≡◌, ℕ, zero, suc, ◌+◌, ◌≤◌, ◌^◌, Bool, true, false, not, ◌&&◌, ◌==◌, List, [], ◌∷◌, ◌++◌, codes, IsTrue, ℤ, pos, negsuc}
+use Rattle.std.specs.Prelude.{◌≡◌, ℕ, zero, suc, ◌-◌, ◌≤◌, ◌^◌, Bool, true, false, not, ◌&&◌, ◌==◌, List, [], ◌∷◌, ◌++◌, codes, IsTrue, ℤ, pos, negsuc}
 use Rattle.std.specs.List.{list_all}
 use Rattle.std.specs.Fmt.{decimal}
 use Rattle.cy_values.specs.declared.scalars.Value.{Value}
 use Rattle.cy_values.specs.declared.scalars.Value.TheVariants as value
 use Rattle.cy_engine.specs.declared.trees.Create.{Create}
 use Rattle.cy_engine.specs.declared.trees.Query.{Query}
-use Rattle.cy_engine.specs.Words.{IsGap, ends_word, is_alike, is_word, IsName}
+use Rattle.cy_engine.specs.Words.{IsGap, ends_word, is_alike, IsName}
 
 -- a character, as a colon
 pub record Symbol (symbol : ℕ) (text rest : List ℕ) : Type 0 where
@@ -101,7 +101,6 @@ pub record IsQuery (text : List ℕ) (tree : Query) : Type 0 where
   pub after_label : List ℕ
   pub after_close : List ℕ
   pub after_return : List ℕ
-  pub before_returned : List ℕ
   pub after_returned : List ℕ
   pub after_dot : List ℕ
   pub after_key : List ℕ
@@ -116,5 +115,5 @@ pub record IsQuery (text : List ℕ) (tree : Query) : Type 0 where
   pub dot : Symbol 46 after_returned after_dot
   pub key : Name tree.key after_dot after_key
   -- the column is the item as it stands, from its first token to its last
-  pub column : (gap : List ℕ) × IsGap gap × (after_return ≡ gap ++ tree.column ++ after_key) × IsTrue (is_word (tree.returned))
+  pub column : (inner : List ℕ) × (tree.column ≡ tree.returned ++ inner) × (after_returned ≡ inner ++ after_key)
   pub end : IsGap after_key

@@ -1,5 +1,5 @@
 -- The engine as a machine: its state, and the steps that a line allows.
-use Rattle.std.specs.Prelude.{◌≡◌, ◌≢◌, ℕ, ◌+◌, ◌-◌, ◌^◌, ◌<◌, List, [], ◌∷◌, ◌++◌, length, map, Option, Some, None, Result, Ok, Err, Contains}
+use Rattle.std.specs.Prelude.{◌≡◌, ◌≢◌, ℕ, ◌+◌, ◌-◌, ◌^◌, ◌<◌, ◌⊎◌, List, [], ◌∷◌, ◌++◌, length, map, Result, Ok, Err, Contains}
 use Rattle.cy_values.specs.declared.rows.Cell.{Cell}
 use Rattle.cy_values.specs.Bag.{IsBagOf, IsCanonical}
 use Rattle.cy_graph.specs.Graph.{State, empty_state}
@@ -12,7 +12,7 @@ use Rattle.cy_engine.specs.declared.trees.Create.{Create}
 use Rattle.cy_engine.specs.declared.trees.Query.{Query}
 use Rattle.cy_engine.specs.Asked.{asked, place_of, Blank, Statement, ViewOf, RowsOf, Wrong}
 use Rattle.cy_engine.specs.Grammar.{IsCreate, IsQuery}
-use Rattle.cy_engine.specs.Meaning.{Outcome, carried_out, rows_of}
+use Rattle.cy_engine.specs.Meaning.{carried_out, rows_of}
 
 -- a view: its name, its query and the tick at which it was made. Its rows are no part of it: they are what its
 -- query means on the graph

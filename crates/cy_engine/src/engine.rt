@@ -1,10 +1,11 @@
 //! The engine.
 
-ghost use Rattle.std.specs.Prelude.{◌≡◌, ◌≤◌, IfOk};
-ghost use Rattle.cy_engine.specs.Step.{Step, empty_engine};
+ghost use Rattle.std.specs.Prelude.{◌≡◌, ◌≤◌, ◌⊎◌, IfOk, IfErr};
+ghost use Rattle.cy_engine.specs.Step.{Step, AreRows, IsTaken, empty_engine};
 
 use crate::faults::Fault;
 use crate::replies::Reply;
+use cy_values::Row;
 use std::alloc::Global;
 use std::marker::Model;
 
@@ -38,6 +39,15 @@ impl Engine {
         ensures { Step self.old line.now result self.new }
     {
         let _ = line;
+        Err(Fault::NoMemory)
+    }
+
+    /// The rows of a view with their counts: what its query means on the graph, each row once, in canonical order.
+    pub fn rows(&self, view: &str) -> Result<Vec<(Row, u64)>, Fault>
+        ensures rows { IfOk result (λ rows. AreRows self.now view.now rows.items) }
+        ensures refused { IfErr result (λ fault. ((fault ≡ Fault.NoSuchView) × (IsTaken view.now self.now → ⊥)) ⊎ (fault ≡ Fault.NoMemory)) }
+    {
+        let _ = view;
         Err(Fault::NoMemory)
     }
 

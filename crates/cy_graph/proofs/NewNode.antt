@@ -5,6 +5,7 @@ use Rattle.std.specs.Map.{lookup}
 use Rattle.std.specs.Option.{ForSome}
 use Rattle.std.specs.Ordering.{nat_cmp, is_eq, is_lt, eq_by_cmp}
 use Rattle.std.specs.FinMap.Entries as entries
+use Rattle.std.proofs.lemmas.Bool.{and_from, and_parts}
 use Rattle.std.proofs.lemmas.Bool.Decides.{nat_tests}
 use Rattle.std.proofs.lemmas.List.{take-append-le}
 use Rattle.indexmap.specs.IndexMap.{IndexMap, insert_entry}
@@ -53,27 +54,15 @@ numbered_push : (next : ℕ) (es : List (NodeId × Node)) (node : Node) → 1 �
 numbered_push next [] node from numbered = ((from, omega arith), tt)
 numbered_push next (e ∷ es) node from numbered = ((numbered.0.0, omega (arith, numbered.0.1)), numbered_push next es node from numbered.1)
 
-both : (a b : Bool) → a ≡ true → b ≡ true → (a && b) ≡ true
-both true b p q = q
-both false b p q = cc
-
-first : (a b : Bool) → (a && b) ≡ true → a ≡ true
-first true b p = refl
-first false b p = cc
-
-second : (a b : Bool) → (a && b) ≡ true → b ≡ true
-second true b p = p
-second false b p = cc
-
 -- a number that is below all is below a greater one too
 below_push : (id : NodeId) (next : ℕ) (es : List (NodeId × Node)) (node : Node) → id.0 < next → entries.below_all node_order id es ≡ true → entries.below_all node_order id (es ++ (record { 0 = next }, node) ∷ []) ≡ true
-below_push id next [] node lt below = both _ _ (grind (arith, nat_tests)) refl
-below_push id next (e ∷ es) node lt below = both _ _ (first _ _ below) (below_push id next es node lt (second _ _ below))
+below_push id next [] node lt below = and_from _ _ (grind (arith, nat_tests)) refl
+below_push id next (e ∷ es) node lt below = and_from _ _ (and_parts _ _ below).0 (below_push id next es node lt (and_parts _ _ below).1)
 
 -- numbers still rise
 rising_push : (next : ℕ) (es : List (NodeId × Node)) (node : Node) → AreNumbered next es → IsTrue (entries.is_sorted node_order es) → IsTrue (entries.is_sorted node_order (es ++ (record { 0 = next }, node) ∷ []))
 rising_push next [] node numbered rising = refl
-rising_push next (e ∷ es) node numbered rising = both _ _ (below_push e.0 next es node numbered.0.1 (first _ _ rising)) (rising_push next es node numbered.1 (second _ _ rising))
+rising_push next (e ∷ es) node numbered rising = and_from _ _ (below_push e.0 next es node numbered.0.1 (and_parts _ _ rising).0) (rising_push next es node numbered.1 (and_parts _ _ rising).1)
 
 -- a graph with a node added is a graph
 pub is_graph_with_node : (state : State) (node : Node) → IsGraph state → IsStorable node.props → state.next_node < number_end → IsGraph (with_node node state)

@@ -9,28 +9,19 @@ use Rattle.std.specs.declared.cmp.Ordering.TheVariants.{Less, Equal, Greater}
 use Rattle.std.specs.Cmp.{tied_itself}
 use Rattle.std.specs.Cmp.Lexicographic.{nat_list_cmp_total}
 use Rattle.std.specs.FinMap.Entries.{by_order, below_all, where_key, is_sorted-put, is_sorted-where_key}
+use Rattle.std.proofs.lemmas.Bool.{and_from, and_parts}
 use Rattle.std.proofs.lemmas.Map.Lookups.{exact_bytes}
 use Rattle.std.proofs.lemmas.List.Sorted.{searchable_from_sorted}
 use Rattle.cy_graph.specs.Maps.{text_order, rises, value_at, with_value, without}
 use Rattle.cy_graph.specs.Place.{IsAt, IsGapFor}
 
-both : (a b : Bool) → a ≡ true → b ≡ true → (a && b) ≡ true
-both true b p q = q
-both false b p q = cc
-
-first : (a b : Bool) → (a && b) ≡ true → a ≡ true
-first true b p = refl
-first false b p = cc
-
-second : (a b : Bool) → (a && b) ≡ true → b ≡ true
-second true b p = p
-second false b p = cc
-
+-- what a test of an answer says
 less : (o : Ordering) → is_lt o ≡ true → o ≡ Less
 less Less p = refl
 less Equal p = cc
 less Greater p = cc
 
+-- the two sides the other way round
 turn : (x y : List ℕ) → text_order x y ≡ Less → text_order y x ≡ Greater
 turn x y e = nat_list_cmp_total.antisymm y x ∙ ap ordering_reverse e
 
@@ -53,14 +44,14 @@ module _ {V : Type 0} where
   -- a key below all is below the one at each place
   below_at : (key : List ℕ) (es : List (List ℕ × V)) → below_all text_order key es ≡ true → (i : ℕ) (d : List ℕ × V) → i < length es → text_order key (get_or es i d).0 ≡ Less
   below_at key [] below i d lt = absurd (omega arith)
-  below_at key (e ∷ es) below zero d lt = less _ (first _ _ below)
-  below_at key (e ∷ es) below (suc i) d lt = below_at key es (second _ _ below) i d (omega arith)
+  below_at key (e ∷ es) below zero d lt = less _ (and_parts _ _ below).0
+  below_at key (e ∷ es) below (suc i) d lt = below_at key es (and_parts _ _ below).1 i d (omega arith)
 
   -- where the keys rise, neighbours stand in order
   neighbours : (es : List (List ℕ × V)) → IsTrue (rises es) → (i : ℕ) (d : List ℕ × V) → i + 1 < length es → is_lt (text_order (get_or es (suc i) d).0 (get_or es i d).0) ≡ false
   neighbours [] up i d lt = absurd (omega arith)
-  neighbours (e ∷ es) up zero d lt = ap is_lt (turn e.0 (get_or es 0 d).0 (below_at e.0 es (first _ _ up) 0 d (omega arith)))
-  neighbours (e ∷ es) up (suc i) d lt = neighbours es (second _ _ up) i d (omega arith)
+  neighbours (e ∷ es) up zero d lt = ap is_lt (turn e.0 (get_or es 0 d).0 (below_at e.0 es (and_parts _ _ up).0 0 d (omega arith)))
+  neighbours (e ∷ es) up (suc i) d lt = neighbours es (and_parts _ _ up).1 i d (omega arith)
 
   -- so comparisons with a key rise along the list, as a binary search asks
   comparisons_rise : (key : List ℕ) (es : List (List ℕ × V)) → IsTrue (rises es) → IsNonDecreasingBy (λ e. ordering_index (text_order e.0 key)) es
@@ -71,14 +62,14 @@ module _ {V : Type 0} where
   at_place key [] up at lt tied = absurd (omega arith)
   at_place key (e ∷ es) up zero lt tied = exact_bytes e.0 key (tied e)
   at_place key (e ∷ es) up (suc at) lt tied = (
-    turn e.0 key (subst (λ k. text_order e.0 k ≡ Less) (exact_bytes (get_or es at e).0 key (tied e)) (below_at e.0 es (first _ _ up) at e (omega arith))),
-    at_place key es (second _ _ up) at (omega arith) tied,
+    turn e.0 key (subst (λ k. text_order e.0 k ≡ Less) (exact_bytes (get_or es at e).0 key (tied e)) (below_at e.0 es (and_parts _ _ up).0 at e (omega arith))),
+    at_place key es (and_parts _ _ up).1 at (omega arith) tied,
   )
 
   -- a key below each one is below all
   below_each : (key : List ℕ) (es : List (List ℕ × V)) → ((i : ℕ) (d : List ℕ × V) → i < length es → text_order (get_or es i d).0 key ≡ Greater) → below_all text_order key es ≡ true
   below_each key [] each = refl
-  below_each key (e ∷ es) each = both _ _ (ap is_lt (turn_back e.0 key (each 0 e (omega arith)))) (below_each key es (λ i d lt. each (suc i) d (omega arith)))
+  below_each key (e ∷ es) each = and_from _ _ (ap is_lt (turn_back e.0 key (each 0 e (omega arith)))) (below_each key es (λ i d lt. each (suc i) d (omega arith)))
 
   -- the place between the smaller and the greater keys is the gap
   in_gap : (key : List ℕ) (es : List (List ℕ × V)) (at : ℕ) → at ≤ length es → ((i : ℕ) (d : List ℕ × V) → i < at → text_order (get_or es i d).0 key ≡ Less) → ((i : ℕ) (d : List ℕ × V) → at ≤ i → i < length es → text_order (get_or es i d).0 key ≡ Greater) → IsGapFor key es at
@@ -118,7 +109,7 @@ module _ {V : Type 0} where
   -- a key below all has no value
   value_at-below : (key : List ℕ) (es : List (List ℕ × V)) → below_all text_order key es ≡ true → value_at key es ≡ None
   value_at-below key [] below = refl
-  value_at-below key (e ∷ es) below = ap (λ o. cond (is_eq o) (Some e.1) (value_at key es)) (less _ (first _ _ below)) ∙ value_at-below key es (second _ _ below)
+  value_at-below key (e ∷ es) below = ap (λ o. cond (is_eq o) (Some e.1) (value_at key es)) (less _ (and_parts _ _ below).0) ∙ value_at-below key es (and_parts _ _ below).1
 
   -- and so has a key with a gap
   pub value_at-gap : (key : List ℕ) (es : List (List ℕ × V)) (at : ℕ) → IsGapFor key es at → value_at key es ≡ None
@@ -135,7 +126,7 @@ module _ {V : Type 0} where
   -- a key below all goes first
   with_value-below : (key : List ℕ) (v : V) (es : List (List ℕ × V)) → below_all text_order key es ≡ true → with_value key v es ≡ (key, v) ∷ es
   with_value-below key v [] below = refl
-  with_value-below key v (e ∷ es) below = ap (λ o. by_order o ((key, v) ∷ e ∷ es) ((e.0, v) ∷ es) (e ∷ with_value key v es)) (less _ (first _ _ below))
+  with_value-below key v (e ∷ es) below = ap (λ o. by_order o ((key, v) ∷ e ∷ es) ((e.0, v) ∷ es) (e ∷ with_value key v es)) (less _ (and_parts _ _ below).0)
 
   -- to set the value at a new key is to insert it in its gap
   pub with_value-gap : (key : List ℕ) (v : V) (es : List (List ℕ × V)) (at : ℕ) → IsGapFor key es at → with_value key v es ≡ insert es at (key, v)
@@ -146,13 +137,13 @@ module _ {V : Type 0} where
   -- nothing goes where a key is below all
   without-below : (key : List ℕ) (es : List (List ℕ × V)) → below_all text_order key es ≡ true → without key es ≡ es
   without-below key [] below = refl
-  without-below key (e ∷ es) below = ap (λ o. cond (not (is_eq o)) (e ∷ without key es) (without key es)) (less _ (first _ _ below)) ∙ ap (λ l. e ∷ l) (without-below key es (second _ _ below))
+  without-below key (e ∷ es) below = ap (λ o. cond (not (is_eq o)) (e ∷ without key es) (without key es)) (less _ (and_parts _ _ below).0) ∙ ap (λ l. e ∷ l) (without-below key es (and_parts _ _ below).1)
 
   -- to remove a key is to remove the entry at its place
   pub without-place : (key : List ℕ) (es : List (List ℕ × V)) → IsTrue (rises es) → (at : ℕ) → IsAt key es at → without key es ≡ remove es at
   without-place key [] up at here = absurd here
-  without-place key (e ∷ es) up zero here = ap (λ o. cond (not (is_eq o)) (e ∷ without key es) (without key es)) (same e.0 key here) ∙ without-below key es (subst (λ k. below_all text_order k es ≡ true) here (first _ _ up))
-  without-place key (e ∷ es) up (suc at) here = ap (λ o. cond (not (is_eq o)) (e ∷ without key es) (without key es)) here.0 ∙ ap (λ l. e ∷ l) (without-place key es (second _ _ up) at here.1)
+  without-place key (e ∷ es) up zero here = ap (λ o. cond (not (is_eq o)) (e ∷ without key es) (without key es)) (same e.0 key here) ∙ without-below key es (subst (λ k. below_all text_order k es ≡ true) here (and_parts _ _ up).0)
+  without-place key (e ∷ es) up (suc at) here = ap (λ o. cond (not (is_eq o)) (e ∷ without key es) (without key es)) here.0 ∙ ap (λ l. e ∷ l) (without-place key es (and_parts _ _ up).1 at here.1)
 
   -- a key with a gap has nothing to remove
   pub without-gap : (key : List ℕ) (es : List (List ℕ × V)) (at : ℕ) → IsGapFor key es at → without key es ≡ es

@@ -1,1 +1,2 @@
+pub mod NewNode
 pub mod Places

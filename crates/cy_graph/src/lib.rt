@@ -5,6 +5,8 @@ mod faults;
 mod graph;
 mod maps;
 mod nodes;
+#[cfg(test)]
+mod tests;
 mod walks;
 
 pub use faults::GraphFault;

@@ -7,6 +7,8 @@ mod order;
 mod rows;
 mod scalars;
 mod sequences;
+#[cfg(test)]
+mod tests;
 mod texts;
 
 pub use faults::Fault;

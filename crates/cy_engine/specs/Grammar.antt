@@ -1,13 +1,13 @@
 -- The language: which text says which statement or query. Blanks and tabs may stand between tokens. Each relation
 -- here is between a text, what stands at its front, and what is behind that.
-use Rattle.std.specs.Prelude.{◌≡◌, ℕ, zero, suc, ◌-◌, ◌≤◌, ◌^◌, Bool, true, false, not, ◌&&◌, ◌==◌, List, [], ◌∷◌, ◌++◌, codes, IsTrue, ℤ, pos, negsuc}
+use Rattle.std.specs.Prelude.{◌≡◌, ℕ, zero, suc, ◌-◌, ◌≤◌, ◌^◌, true, false, List, [], ◌∷◌, ◌++◌, codes, IsTrue, ℤ, pos, negsuc}
 use Rattle.std.specs.List.{list_all}
 use Rattle.std.specs.Fmt.{decimal}
 use Rattle.cy_values.specs.declared.scalars.Value.{Value}
 use Rattle.cy_values.specs.declared.scalars.Value.TheVariants as value
 use Rattle.cy_engine.specs.declared.trees.Create.{Create}
 use Rattle.cy_engine.specs.declared.trees.Query.{Query}
-use Rattle.cy_engine.specs.Words.{IsGap, ends_word, is_alike, IsName}
+use Rattle.cy_engine.specs.Words.{IsGap, ends_word, is_alike, is_plain, IsName}
 
 -- a character, as a colon
 pub record Symbol (symbol : ℕ) (text rest : List ℕ) : Type 0 where
@@ -43,10 +43,6 @@ pub record Digits (number : ℕ) (text rest : List ℕ) : Type 0 where
 abbrev pub minus : ℕ → ℤ
 minus zero = pos zero
 minus (suc n) = negsuc n
-
--- the characters of a text in single quotes: any but the quote and the backslash
-abbrev pub is_plain : ℕ → Bool
-is_plain c = not (c == 39) && not (c == 92)
 
 -- an integer with a minus sign and one without, a text, a truth value, null
 pub data Literal : Value → List ℕ → List ℕ → Type 0 where

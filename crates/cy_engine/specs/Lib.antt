@@ -1,6 +1,11 @@
 pub mod Asked
+pub mod Classified
+pub mod Counting
 pub mod Faults
 pub mod Grammar
+pub mod Kept
 pub mod Meaning
+pub mod Reading
+pub mod Run
 pub mod Step
 pub mod Words

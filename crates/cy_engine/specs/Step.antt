@@ -1,5 +1,6 @@
 -- The engine as a machine: its state, and the steps that a line allows.
-use Rattle.std.specs.Prelude.{◌≡◌, ◌≢◌, ℕ, ◌+◌, ◌-◌, ◌^◌, ◌<◌, ◌⊎◌, List, [], ◌∷◌, ◌++◌, length, map, Result, Ok, Err, Contains}
+use Rattle.std.specs.Prelude.{◌≡◌, ◌≢◌, ℕ, ◌+◌, ◌-◌, ◌^◌, ◌<◌, ◌⊎◌, List, [], ◌∷◌, ◌++◌, length, find, IsSome, Option, Some, None, Result, Ok, Err}
+use Rattle.std.specs.Str.{bytes_eq}
 use Rattle.cy_values.specs.declared.rows.Cell.{Cell}
 use Rattle.cy_values.specs.Bag.{IsBagOf, IsCanonical}
 use Rattle.cy_graph.specs.Graph.{State, empty_state}
@@ -41,9 +42,9 @@ view_limit = 256
 abbrev pub empty_engine : ℕ → EngineState
 empty_engine history = record { graph = empty_state 1 1; views = []; tick = 0; history = history }
 
--- a view has the name
-abbrev pub IsTaken : List ℕ → EngineState → Type 0
-IsTaken name state = Contains (map (λ v. v.name) state.views) name
+-- the view of a name
+abbrev pub view_at : List ℕ → EngineState → Option View
+view_at name state = find (λ v. bytes_eq name v.name) state.views
 
 -- the line is a statement, and the text of it is this tree's
 pub record IsStatement (line : List ℕ) (tree : Create) : Type 0 where
@@ -71,7 +72,7 @@ pub record Makes (old : EngineState) (line : List ℕ) (columns : List (List ℕ
   pub tree : Query
   pub view : IsView line name tree
   pub bound : tree.returned ≡ tree.variable
-  pub free : IsTaken name old → ⊥
+  pub free : view_at name old ≡ None
   pub room : length old.views < view_limit
   pub tick_left : old.tick < last_tick
   pub columns_are : columns ≡ tree.column ∷ []
@@ -81,8 +82,7 @@ pub record Makes (old : EngineState) (line : List ℕ) (columns : List (List ℕ
 -- the rows of a view, each once, in canonical order, with their counts: what its query means on the graph
 pub record AreRows (state : EngineState) (name : List ℕ) (rows : List (List Cell × ℕ)) : Type 0 where
   pub view : View
-  pub named : view.name ≡ name
-  pub there : Contains state.views view
+  pub there : view_at name state ≡ Some view
   pub bag : IsBagOf (rows_of view.query state.graph.content) rows
   pub canonical : IsCanonical rows
 
@@ -92,16 +92,33 @@ Refused state line (fault.Unexpected at) =
     ((text : List ℕ) × (asked line ≡ Statement text) × (at ≡ place_of text line) × ((tree : Create) → IsCreate text tree → ⊥))
     ⊎ ((name : List ℕ) × (text : List ℕ) × (asked line ≡ ViewOf name text) × (at ≡ place_of text line) × ((tree : Query) → IsQuery text tree → ⊥))
 Refused state line fault.UnknownVariable = (name : List ℕ) × (tree : Query) × IsView line name tree × (tree.returned ≢ tree.variable)
-Refused state line fault.ViewNameTaken = (name : List ℕ) × (tree : Query) × IsView line name tree × (tree.returned ≡ tree.variable) × IsTaken name state
-Refused state line fault.TooManyViews = (name : List ℕ) × (tree : Query) × IsView line name tree × (tree.returned ≡ tree.variable) × (IsTaken name state → ⊥) × (length state.views ≡ view_limit)
+Refused state line fault.ViewNameTaken = (name : List ℕ) × (tree : Query) × IsView line name tree × (tree.returned ≡ tree.variable) × IsSome (view_at name state)
+Refused state line fault.TooManyViews = (name : List ℕ) × (tree : Query) × IsView line name tree × (tree.returned ≡ tree.variable) × (view_at name state ≡ None) × (length state.views ≡ view_limit)
 Refused state line fault.Full =
     ((tree : Create) × IsStatement line tree × ((carried_out tree state.graph ≡ Err 53) ⊎ (state.tick ≡ last_tick)))
-    ⊎ ((name : List ℕ) × (tree : Query) × IsView line name tree × (tree.returned ≡ tree.variable) × (IsTaken name state → ⊥) × (length state.views < view_limit) × (state.tick ≡ last_tick))
-Refused state line fault.NoSuchView = (name : List ℕ) × (asked line ≡ RowsOf name) × (IsTaken name state → ⊥)
+    ⊎ ((name : List ℕ) × (tree : Query) × IsView line name tree × (tree.returned ≡ tree.variable) × (view_at name state ≡ None) × (length state.views < view_limit) × (state.tick ≡ last_tick))
+Refused state line fault.NoSuchView = (name : List ℕ) × (asked line ≡ RowsOf name) × (view_at name state ≡ None)
 Refused state line fault.UnknownCommand = asked line ≡ Wrong 70
 Refused state line fault.BadArgument = asked line ≡ Wrong 72
 -- want of memory may refuse any line
 Refused state line fault.NoMemory = Unit {0}
+
+-- whether a view may be made of a query, and why not
+abbrev pub MayMake : EngineState → List ℕ → Query → Result (Unit {0}) Fault → Type 0
+MayMake state name tree (Ok u) = (tree.returned ≡ tree.variable) × (view_at name state ≡ None) × (length state.views < view_limit) × (state.tick < last_tick)
+MayMake state name tree (Err fault.UnknownVariable) = tree.returned ≢ tree.variable
+MayMake state name tree (Err fault.ViewNameTaken) = (tree.returned ≡ tree.variable) × IsSome (view_at name state)
+MayMake state name tree (Err fault.TooManyViews) = (tree.returned ≡ tree.variable) × (view_at name state ≡ None) × (length state.views ≡ view_limit)
+MayMake state name tree (Err fault.Full) = (tree.returned ≡ tree.variable) × (view_at name state ≡ None) × (length state.views < view_limit) × (state.tick ≡ last_tick)
+MayMake state name tree (Err _) = ⊥
+
+-- what is answered to `:rows`
+abbrev pub ShowsRows : EngineState → List ℕ → Result Reply Fault → Type 0
+ShowsRows state name (Ok (reply.Rows rows tick view)) = AreRows state name rows × (tick ≡ state.tick) × (view ≡ name)
+ShowsRows state name (Ok _) = ⊥
+ShowsRows state name (Err fault.NoSuchView) = view_at name state ≡ None
+ShowsRows state name (Err fault.NoMemory) = Unit {0}
+ShowsRows state name (Err _) = ⊥
 
 -- From old, the machine may answer the line so and go on to new. A refused line leaves all as it was.
 abbrev pub Step : EngineState → List ℕ → Result Reply Fault → EngineState → Type 0

@@ -1,9 +1,11 @@
 -- Words, blanks and names in a line of bytes.
-use Rattle.std.specs.Prelude.{ℕ, Bool, true, false, not, ◌&&◌, ◌||◌, ◌==◌, List, [], ◌∷◌, codes, Option, Some, None, IsTrue, if◌then◌else◌, nat_eq}
-use Rattle.std.specs.List.{list_any, list_all}
+use Rattle.std.specs.Prelude.{ℕ, Bool, true, false, not, ◌&&◌, ◌||◌, ◌==◌, List, [], ◌∷◌, codes, take, drop, Option, Some, None, IsTrue, if◌then◌else◌, nat_eq}
+use Rattle.std.specs.List.{list_any, list_all, prefix_len}
 use Rattle.std.specs.Char.{is_ascii_alphabetic, is_ascii_alphanumeric}
 use Rattle.std.specs.Str.{str_to_ascii_lowercase}
 use Rattle.std.specs.Cmp.Lexicographic.{pointwise}
+use Rattle.cy_engine.specs.declared.words.Class.{Class}
+use Rattle.cy_engine.specs.declared.words.Class.TheVariants.{Blank, Word, Plain}
 
 -- a blank or a tab
 abbrev pub is_blank : ℕ → Bool
@@ -50,21 +52,27 @@ is_keyword word = list_any (is_alike word) keywords
 abbrev pub IsName : List ℕ → Type 0
 IsName word = IsTrue (is_word word) × IsTrue (not (is_keyword word))
 
--- the text behind the blanks and tabs that it begins with
-abbrev pub skip : List ℕ → List ℕ
-skip [] = []
-skip (c ∷ cs) = if is_blank c then skip cs else c ∷ cs
-
 -- the longest front of the text that passes, and what is behind it
 abbrev pub front : (ℕ → Bool) → List ℕ → List ℕ
-front test [] = []
-front test (c ∷ cs) = if test c then c ∷ front test cs else []
+front test text = take (prefix_len test text) text
 
 abbrev pub behind : (ℕ → Bool) → List ℕ → List ℕ
-behind test [] = []
-behind test (c ∷ cs) = if test c then behind test cs else c ∷ cs
+behind test text = drop (prefix_len test text) text
+
+-- the text behind the blanks and tabs that it begins with
+abbrev pub skip : List ℕ → List ℕ
+skip text = behind is_blank text
 
 -- the word that the text begins with, and what is behind it
 abbrev pub first_word : List ℕ → Option (List ℕ × List ℕ)
-first_word [] = None
-first_word (c ∷ cs) = if starts_name c then Some (c ∷ front continues_name cs, behind continues_name cs) else None
+first_word text = if is_word (front continues_name text) then Some (front continues_name text, behind continues_name text) else None
+
+-- the characters of a text in single quotes: any but the quote and the backslash
+abbrev pub is_plain : ℕ → Bool
+is_plain c = not (c == 39) && not (c == 92)
+
+-- the bytes of each class
+abbrev pub has : Class → ℕ → Bool
+has Blank c = is_blank c
+has Word c = continues_name c
+has Plain c = is_plain c

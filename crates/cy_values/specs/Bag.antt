@@ -1,5 +1,5 @@
 -- Bags of rows: a table's rows, each with the number of times that it counts.
-use Rattle.std.specs.Prelude.{◌≡◌, ℕ, ◌+◌, ◌<◌, List, [], ◌∷◌, if◌then◌else◌}
+use Rattle.std.specs.Prelude.{◌≡◌, ℕ, ◌<◌, List, [], ◌∷◌, if◌then◌else◌, count_by, sum_by}
 use Rattle.std.specs.declared.cmp.Ordering.TheVariants.{Less}
 use Rattle.std.specs.Ordering.{eq_by_cmp}
 use Rattle.cy_values.specs.declared.rows.Cell.{Cell}
@@ -7,13 +7,11 @@ use Rattle.cy_values.specs.Order.{row_cmp}
 
 -- how often a row stands among the rows
 abbrev pub count_of : List Cell → List (List Cell) → ℕ
-count_of row [] = 0
-count_of row (r ∷ rows) = (if eq_by_cmp row_cmp row r then 1 else 0) + count_of row rows
+count_of row rows = count_by (eq_by_cmp row_cmp row) rows
 
 -- how often a row counts, where each row stands with its count
 abbrev pub weight_of : List Cell → List (List Cell × ℕ) → ℕ
-weight_of row [] = 0
-weight_of row (p ∷ pairs) = (if eq_by_cmp row_cmp row p.0 then p.1 else 0) + weight_of row pairs
+weight_of row pairs = sum_by (λ p. if eq_by_cmp row_cmp row p.0 then p.1 else 0) pairs
 
 -- the pairs are those of this bag: each row has its count
 abbrev pub IsBagOf : List (List Cell) → List (List Cell × ℕ) → Type 0

@@ -21,6 +21,8 @@ pub fn row_order(left: &Row, right: &Row) -> Ordering
 /// The canonical order is total, and calls equal exactly the rows that are the same.
 pub fn row_order_laws()
     ensures total { IsTotalOrder row_cmp }
+    // The order of rows that sorts and comparisons go by.
+    ensures ordered { (left right : List Cell) → ⟦<Row as Ord>⟧.cmp left right ≡ row_cmp left right }
     ensures identity { (left right : List Cell) → (row_cmp left right ≡ Equal) ↔ (left ≡ right) }
 {
     order_is_total::<Row>();

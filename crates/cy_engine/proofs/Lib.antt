@@ -1,0 +1,13 @@
+pub mod Chains
+pub mod Counting
+pub mod Cuts
+pub mod Items
+pub mod Literals
+pub mod Maps
+pub mod Numbers
+pub mod Registry
+pub mod Sentences
+pub mod Setting
+pub mod Steps
+pub mod Texts
+pub mod Tokens

@@ -1,0 +1,35 @@
+use Rattle.std.proofs.Common.{◌≡◌, None, Some, sym, ap, ◌∙◌, ◌⊎◌, IfOk, inl, inr, is_some, refl, Result, Ok, Err}
+use Rattle.std.proofs.lemmas.Result.{IfErr-weaker}
+use Rattle.cy_values.specs.Bag.{IsBagOf, IsCanonical}
+use Rattle.cy_engine.specs.Meaning.{rows_of}
+use Rattle.cy_engine.specs.Step.{AreRows, view_at}
+use Rattle.cy_engine.specs.declared.faults.Fault.TheVariants.{NoSuchView, NoMemory}
+use Rattle.cy_engine.specs.Kept.{named}
+use Rattle.cy_engine.proofs.Registry.{view_there, view_absent}
+use Rattle.cy_engine.proofs.engine.Engine.rows.Goals as goal
+use Rattle.cy_engine.proofs.engine.Engine.rows.Goals.{After-rows_with_counts}
+
+both_ok : {A E : Type 0} (r : Result A E) (P Q R : A → Type 0) → ((x : A) → P x → Q x → R x) → IfOk r P → IfOk r Q → IfOk r R
+both_ok (Ok x) P Q R gives p q = gives x p q
+both_ok (Err e) P Q R gives p q = tt
+
+pub returns-in-Some-clause-rows : goal.returns-in-Some-clause-rows
+returns-in-Some-clause-rows c =
+    rw (← c.self.view_is) (both_ok c.rows_with_counts.result
+    (λ rows. IsBagOf (rows_of c.in-Some.found.now.query c.self.inside.graph.now.content) rows.items)
+    (λ rows. IsCanonical rows.items)
+    _
+    (λ rows bag canonical. record {
+      view = named c.args.view.now c.in-Some.found.now;
+      there = view_there c.args.view.now c.self.inside.views.entries c.in-Some.found.now c.in-Some.ensures.value;
+      bag = bag;
+      canonical = canonical;
+    })
+    c.rows_with_counts.ensures.bag c.rows_with_counts.ensures.canonical)
+
+pub returns-in-Some-clause-refused : goal.returns-in-Some-clause-refused
+returns-in-Some-clause-refused c =
+    IfErr-weaker c.rows_with_counts.result (λ fault. fault ≡ NoMemory) (λ fault. ((fault ≡ NoSuchView) × (view_at c.args.view.now c.args.self.now ≡ None)) ⊎ (fault ≡ NoMemory)) (λ fault is. inr is) c.rows_with_counts.ensures.memory
+
+pub returns-in-None-clause-refused : goal.returns-in-None-clause-refused
+returns-in-None-clause-refused c = inl (refl, rw (← c.self.view_is) (view_absent c.args.view.now c.self.inside.views.entries (sym (ap is_some c.in-None.ensures.value))))

@@ -1,14 +1,14 @@
 -- What a search for a key finds among entries whose keys rise, and what an edit at that place does.
-use Rattle.std.proofs.Common.{◌≡◌, ℕ, zero, suc, ◌+◌, ◌<◌, ◌≤◌, Bool, true, false, cond, not, ◌&&◌, List, [], ◌∷◌, length, get_or, set, Option, Some, None, Result, Ok, Err, IfOk, IfErr, IsTrue, refl, sym, ap, subst, ◌∙◌, arith}
+use Rattle.std.proofs.Common.{◌≡◌, ℕ, zero, suc, ◌+◌, ◌<◌, ◌≤◌, Bool, true, false, cond, not, List, [], ◌∷◌, length, get_or, set, Some, None, Result, Ok, Err, IfOk, IfErr, IsTrue, refl, sym, ap, subst, ◌∙◌, arith}
 use Rattle.std.specs.Prelude.{T}
-use Rattle.std.specs.List.{insert, remove, AllWithin}
+use Rattle.std.specs.List.{insert, remove}
 use Rattle.std.specs.List.Sorted.{IsSearchInRange, IsBinarySearchResult, IsNonDecreasingBy}
 use Rattle.std.specs.Ordering.{is_eq, is_lt, ordering_reverse, ordering_index, eq_by_cmp}
 use Rattle.std.specs.declared.cmp.Ordering.{Ordering}
 use Rattle.std.specs.declared.cmp.Ordering.TheVariants.{Less, Equal, Greater}
 use Rattle.std.specs.Cmp.{tied_itself}
 use Rattle.std.specs.Cmp.Lexicographic.{nat_list_cmp_total}
-use Rattle.std.specs.FinMap.Entries.{by_order, below_all, where_key, is_sorted-put, is_sorted-where_key}
+use Rattle.std.specs.FinMap.Entries.{by_order, below_all, is_sorted-put, is_sorted-where_key}
 use Rattle.std.proofs.lemmas.Bool.{and_from, and_parts}
 use Rattle.std.proofs.lemmas.Map.Lookups.{exact_bytes}
 use Rattle.std.proofs.lemmas.List.Sorted.{searchable_from_sorted}
@@ -28,7 +28,7 @@ turn x y e = nat_list_cmp_total.antisymm y x ∙ ap ordering_reverse e
 turn_back : (x y : List ℕ) → text_order x y ≡ Greater → text_order y x ≡ Less
 turn_back x y e = nat_list_cmp_total.antisymm y x ∙ ap ordering_reverse e
 
--- a key ties with itself
+-- equal keys tie
 same : (x y : List ℕ) → x ≡ y → text_order y x ≡ Equal
 same x y e = subst (λ k. text_order y k ≡ Equal) (sym e) (tied_itself nat_list_cmp_total y)
 

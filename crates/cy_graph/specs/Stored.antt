@@ -1,5 +1,5 @@
 -- Which values can be stored: no null, and no list with null in it.
-use Rattle.std.specs.Prelude.{ℕ, Bool, true, false, not, List, [], ◌∷◌, IsTrue}
+use Rattle.std.specs.Prelude.{ℕ, Bool, true, false, not, List, IsTrue}
 use Rattle.std.specs.List.{list_all}
 use Rattle.cy_values.specs.declared.scalars.Scalar.{Scalar}
 use Rattle.cy_values.specs.declared.scalars.Scalar.TheVariants as scalar

@@ -1,6 +1,6 @@
 //! Finite maps from texts, which keep the labels and the properties of a node.
 
-ghost use Rattle.std.specs.Prelude.{◌≡◌, List, ℕ, [], Some, None, IfOk, IfErr, OnOk, OnErr, IsTrue, is_some};
+ghost use Rattle.std.specs.Prelude.{◌≡◌, List, ℕ, [], Some, None, IsSome, IsOk, IfOk, IfErr, OnOk, OnErr, IsTrue, is_some};
 ghost use Rattle.std.specs.Option.{option_copied};
 ghost use Rattle.cy_graph.specs.Maps.{rises, value_at, with_value, without};
 ghost use Rattle.cy_graph.specs.Place.{IsAt, IsGapFor};
@@ -62,10 +62,12 @@ impl<V> TextMap<V> {
 }
 
 impl<V: Drop> TextMap<V> {
-    /// Sets the value at a key. Fails only for want of memory, and then the map is as before.
+    /// Sets the value at a key. Fails only for want of memory, and then the map is as before. A key that is there
+    /// takes no memory.
     pub fn insert(&mut self, key: Text, value: V) -> Result<(), Fault>
         ensures ok { OnOk result (self.new ≡ with_value key value self.old) }
         ensures err { OnErr result (self.new ≡ self.old) }
+        ensures overwrite_succeeds { IsSome (value_at key self.old) → IsOk result }
     {
         match self.search(key.as_str()) {
             Ok(at) => {

@@ -1,7 +1,8 @@
 use Rattle.std.proofs.Common.{◌<◌, ◌≤◌, length, rules, sym, subst, IsTrue, ◌∙◌}
+use Rattle.std.proofs.lemmas.Bool.{false≢true}
 use Rattle.cy_graph.specs.Maps.{rises}
 use Rattle.cy_graph.specs.Place.{IsAt, IsGapFor}
-use Rattle.cy_graph.proofs.Places.{at_within, gap_within, with_value-place, with_value-gap, rises-with_value}
+use Rattle.cy_graph.proofs.Places.{at_within, gap_within, with_value-place, with_value-gap, rises-with_value, value_at-gap}
 use Rattle.cy_graph.proofs.maps.TextMap.insert.Goals as goal
 
 -- the place that was found is within the list
@@ -39,3 +40,10 @@ pub invariant_of-self-in-Err : goal.invariant_of-self-in-Err
 invariant_of-self-in-Err g c =
     let gap : IsGapFor c.args.key c.self.inside.entries.items c.in-Err.at = rw (← c.as_str.ensures, c.self.view_is) c.in-Err.ensures.absent in
     subst (λ l. IsTrue (rises l)) (with_value-gap c.args.key c.args.value c.self.inside.entries.items c.in-Err.at gap ∙ sym c.in_ok-insert-in-Err.ensures.items) (rises-with_value c.args.key c.args.value c.self.inside.entries.items c.self.invariant)
+
+-- memory fails only for a key that was not there
+pub returns-in_err-insert-in-Err-clause-overwrite_succeeds : goal.returns-in_err-insert-in-Err-clause-overwrite_succeeds
+returns-in_err-insert-in-Err-clause-overwrite_succeeds g c found =
+    let gap : IsGapFor c.args.key c.args.self.now c.in-Err.at = rw (← c.as_str.ensures) c.in-Err.ensures.absent in
+    let none = value_at-gap c.args.key c.args.self.now c.in-Err.at gap in
+    absurd (false≢true (rw none at found))

@@ -71,13 +71,13 @@ entries_takes (suc n) text x e =
     let split : (o : Option (List ℕ)) → symbol_at 44 entry.0.1 ≡ o → with_others entry.0 (λ next. entries_at n next) o ≡ Some x → Entries x.0 text x.1 = λ o.
     elim o as (λ (p : Option (List ℕ)). symbol_at 44 entry.0.1 ≡ p → with_others entry.0 (λ next. entries_at n next) p ≡ Some x → Entries x.0 text x.1) [
       | None ↦ λ comma read.
-        let made : List (List ℕ × Value) × List ℕ = (entry.0.0 ∷ [], entry.0.1) in
-        subst (λ (y : List (List ℕ × Value) × List ℕ). Entries y.0 text y.1) (some_is made x read) first
+          let made : List (List ℕ × Value) × List ℕ = (entry.0.0 ∷ [], entry.0.1) in
+          subst (λ (y : List (List ℕ × Value) × List ℕ). Entries y.0 text y.1) (some_is made x read) first
       | Some next ↦ λ comma read.
-        let more = bind_some (entries_at n next) (λ more. Some (entry.0.0 ∷ more.0, more.1)) x read in
-        let made : List (List ℕ × Value) × List ℕ = (entry.0.0 ∷ more.0.0, more.0.1) in
-        subst (λ (y : List (List ℕ × Value) × List ℕ). Entries y.0 text y.1) (some_is made x more.2)
-        (entries_more entry.0.0 more.0.0 text entry.0.1 next more.0.1 first (symbol_takes 44 entry.0.1 next (lit< tt) comma) (entries_takes n next more.0 more.1))
+          let more = bind_some (entries_at n next) (λ more. Some (entry.0.0 ∷ more.0, more.1)) x read in
+          let made : List (List ℕ × Value) × List ℕ = (entry.0.0 ∷ more.0.0, more.0.1) in
+          subst (λ (y : List (List ℕ × Value) × List ℕ). Entries y.0 text y.1) (some_is made x more.2)
+          (entries_more entry.0.0 more.0.0 text entry.0.1 next more.0.1 first (symbol_takes 44 entry.0.1 next (lit< tt) comma) (entries_takes n next more.0 more.1))
     ] in
     split (symbol_at 44 entry.0.1) refl entry.2
 
@@ -155,12 +155,14 @@ goes_on front rest e after next total entry comma so_far =
     let shorter : length next < length rest = omega (arith, entry_shorter e rest after (entry_takes rest (e, after) entry), symbol_shorter 44 after next (symbol_takes 44 after next (lit< tt) comma)) in
     let n = so_far.left - 1 in
     let one : so_far.left ≡ suc n = omega (arith, so_far.enough) in
-    let read : entries_at so_far.left rest ≡ with_others (e, after) (λ next. entries_at n next) (Some next) = ap (λ k. entries_at k rest) one ∙ step n front rest e after (Some next) entry comma in
-    (shorter, record {
-      left = n;
-      enough = omega (arith, so_far.enough, shorter);
-      is = sym (regroup front e (entries_at n next)) ∙ ap (with_front front) (sym read) ∙ so_far.is;
-    })
+    let read : entries_at so_far.left rest ≡ with_others (e, after) (λ next. entries_at n next) (Some next) = ap (λ k. entries_at k rest) one ∙ step n front rest e after (Some next) entry comma in (
+      shorter,
+      record {
+        left = n;
+        enough = omega (arith, so_far.enough, shorter);
+        is = sym (regroup front e (entries_at n next)) ∙ ap (with_front front) (sym read) ∙ so_far.is;
+      },
+    )
 
 pub is_done : (front : List (List ℕ × Value)) (rest : List ℕ) (e : List ℕ × Value) (after : List ℕ) (total : Option (List (List ℕ × Value) × List ℕ)) → entry_at rest ≡ Some (e, after) → symbol_at 44 after ≡ None
     → SoFar front rest total → total ≡ Some (front ++ e ∷ [], after)

@@ -84,12 +84,15 @@ number_takes text x e =
     let whole : w ++ rest ≡ skip text = front_whole continues_name (skip text) in
     let made : ℕ × List ℕ = (read.0, rest) in
     let same : made ≡ x = cc (read.2) in
-    subst (λ (y : ℕ × List ℕ). Digits y.0 text y.1 × (y.0 < 2 ^ 64)) same (record {
-      gap = front is_blank text;
-      blank = front_passes is_blank text;
-      ends = sym (stops_word rest) ∙ behind_stops continues_name (skip text);
-      is = skip_whole text ∙ ap (λ (t : List ℕ). front is_blank text ++ t) (sym whole ∙ ap (λ (t : List ℕ). t ++ rest) (sym spelled)) ∙ sym (append_assoc (front is_blank text) (decimal read.0) rest);
-    }, subst (λ (n : ℕ). n < 2 ^ 64) parts.4 parts.3)
+    subst (λ (y : ℕ × List ℕ). Digits y.0 text y.1 × (y.0 < 2 ^ 64)) same (
+      record {
+        gap = front is_blank text;
+        blank = front_passes is_blank text;
+        ends = sym (stops_word rest) ∙ behind_stops continues_name (skip text);
+        is = skip_whole text ∙ ap (λ (t : List ℕ). front is_blank text ++ t) (sym whole ∙ ap (λ (t : List ℕ). t ++ rest) (sym spelled)) ∙ sym (append_assoc (front is_blank text) (decimal read.0) rest);
+      },
+      subst (λ (n : ℕ). n < 2 ^ 64) parts.4 parts.3,
+    )
 
 digit_continues : (c : ℕ) → is_ascii_digit c ≡ true → continues_name c ≡ true
 digit_continues c h = grind (arith, nat_tests)

@@ -12,5 +12,5 @@ unfolding quoted_at
 returns-in_err-rest c =
     let inside = c.in_ok-symbol.field-0.now in
     let gone : without_front (39 ∷ []) (behind is_plain inside) ≡ None =
-        ap (λ bs. without_front bs (behind is_plain inside)) (sym (encode_ascii 39 (lit< tt))) ∙ ap (without_front (encode_utf8 39)) (sym c.split_front.ensures.behind) ∙ sym (stripped 39 c.split_front.result.1.now c.strip_prefix.result c.strip_prefix.ensures.cases) ∙ ap (option_map (λ x. x.now)) c.in_err-rest.was in
+    ap (λ bs. without_front bs (behind is_plain inside)) (sym (encode_ascii 39 (lit< tt))) ∙ ap (without_front (encode_utf8 39)) (sym c.split_front.ensures.behind) ∙ sym (stripped 39 c.split_front.result.1.now c.strip_prefix.result c.strip_prefix.ensures.cases) ∙ ap (option_map (λ x. x.now)) c.in_err-rest.was in
     rw (c.from_residual-in_err-rest.ensures, sym c.in_ok-symbol.ensures, gone) refl

@@ -1,0 +1,7 @@
+//! Sessions over the whole path of a line, from bytes to bytes. There is nothing here but tests.
+#![tactic(auto)]
+
+#[cfg(test)]
+mod plain;
+#[cfg(test)]
+mod tests;

@@ -1,0 +1,23 @@
+-- Known bytes that grow.
+use Rattle.std.proofs.Common.{◌≡◌, ℕ, ◌+◌, List, [], ◌++◌, take, drop, Option, Some, None, refl, sym, ◌∙◌, ap, append_assoc}
+use Rattle.std.proofs.lemmas.List.{append-nil, take-append-drop}
+use Rattle.std.proofs.Math.Seq.{take-add}
+use Rattle.cy_shell.specs.Streams.{appended, AppendsFront}
+
+pub appended-nil : (known : Option (List ℕ)) → known ≡ appended known []
+appended-nil None = refl
+appended-nil (Some bytes) = ap Some (sym (append-nil bytes))
+
+pub appended-appended : (known : Option (List ℕ)) (a b : List ℕ) → appended (appended known a) b ≡ appended known (a ++ b)
+appended-appended None a b = refl
+appended-appended (Some bytes) a b = ap Some (append_assoc bytes a b)
+
+-- one more piece of a text
+pub appended_more : (known : Option (List ℕ)) (text : List ℕ) (at count : ℕ) → appended (appended known (take at text)) (take count (drop at text)) ≡ appended known (take (at + count) text)
+appended_more known text at count = appended-appended known (take at text) (take count (drop at text)) ∙ ap (appended known) (sym (take-add at count text))
+
+pub front_appended : (before after : Option (List ℕ)) (text : List ℕ) (at : ℕ) → after ≡ appended before (take at text) → AppendsFront before after text
+front_appended before after text at is = record { front = take at text; rest = drop at text; whole = sym (take-append-drop at text); is = is }
+
+pub front_whole : (before after : Option (List ℕ)) (text : List ℕ) → after ≡ appended before text → AppendsFront before after text
+front_whole before after text is = record { front = text; rest = []; whole = sym (append-nil text); is = is }

@@ -1,0 +1,85 @@
+-- Printed runs, one after another.
+use Rattle.std.proofs.Common.{◌≡◌, ℕ, ◌≤◌, ◌<◌, List, [], ◌∷◌, ◌++◌, length, Option, Some, None, Err, Bool, true, false, refl, sym, ◌∙◌, ap, subst, append_assoc, ◌⊎◌, inl, inr, arith}
+use Rattle.std.proofs.lemmas.Bool.{leb-true, leb-false}
+use Rattle.std.proofs.lemmas.List.{append-nil}
+use lib.Dec.{leb}
+use Rattle.std.proofs.lemmas.Str.{IsUtf8-from_is_utf8, is_utf8-from_IsUtf8}
+use Rattle.std.specs.Str.{IsUtf8, is_utf8}
+use Rattle.cy_engine.specs.Step.{EngineState, Step}
+use Rattle.cy_engine.specs.declared.faults.Fault.TheVariants as fault
+use Rattle.cy_shell.specs.Lines.{line_limit}
+use Rattle.cy_shell.specs.Printed.{no_memory_text}
+use Rattle.cy_shell.specs.Runs.{Answered, TooLong, NotUtf8, Carried, PrintedRun, WritesRun, WritesBeginning}
+use Rattle.cy_shell.specs.Streams.{appended, AppendsFront}
+use Rattle.cy_shell.proofs.Appends.{appended-nil, appended-appended}
+
+run_append : (old mid new : EngineState) (xs ys : List (List ℕ)) (a b : List ℕ) → PrintedRun old xs a mid → PrintedRun mid ys b new → PrintedRun old (xs ++ ys) (a ++ b) new
+run_append old mid new [] ys a b left right = subst (λ t. PrintedRun old ys t new) (ap (λ t. t ++ b) (sym left.0)) (subst (λ s. PrintedRun s ys b new) left.1 right)
+run_append old mid new (x ∷ xs) ys a b (next, first, rest, is, answered, run) right =
+    (next, first, rest ++ b, ap (λ t. t ++ b) is ∙ append_assoc first rest b, answered, run_append next mid new xs ys rest b run right)
+
+run_one : (old new : EngineState) (line text : List ℕ) → Answered old line text new → PrintedRun old (line ∷ []) text new
+run_one old new line text answered = (new, text, [], sym (append-nil text), answered, (refl, refl))
+
+-- A line can always be answered: for want of memory.
+short_answer : (state : EngineState) (line : List ℕ) → length line ≤ line_limit → (b : Bool) → is_utf8 line ≡ b → Answered state line no_memory_text state
+short_answer state line short true is = Carried (Err fault.NoMemory) short (IsUtf8-from_is_utf8 line is) (tt, refl) (inr refl)
+short_answer state line short false is =
+    NotUtf8 short (λ utf8. let opposite : true ≡ false = sym (is_utf8-from_IsUtf8 line utf8) ∙ is in cc) (inr refl)
+
+some_answer_at : (state : EngineState) (line : List ℕ) (b : Bool) → leb (length line) line_limit ≡ b → Answered state line no_memory_text state
+some_answer_at state line true is = short_answer state line (leb-true _ _ is) (is_utf8 line) refl
+some_answer_at state line false is = TooLong (leb-false _ _ is) (inr refl)
+
+some_answer : (state : EngineState) (line : List ℕ) → Answered state line no_memory_text state
+some_answer state line = some_answer_at state line (leb (length line) line_limit) refl
+
+some_run : (state : EngineState) (lines : List (List ℕ)) → (text : List ℕ) × PrintedRun state lines text state
+some_run state [] = ([], (refl, refl))
+some_run state (line ∷ lines) = let more = some_run state lines in (no_memory_text ++ more.0, (state, no_memory_text, more.0, refl, some_answer state line, more.1))
+
+pub no_lines : (state : EngineState) (known : Option (List ℕ)) → WritesRun state [] state known known
+no_lines state known = record { text = []; run = (refl, refl); is = appended-nil known }
+
+pub one_line : (old new : EngineState) (line text : List ℕ) (before after : Option (List ℕ)) → Answered old line text new → after ≡ appended before text → WritesRun old (line ∷ []) new before after
+one_line old new line text before after answered is = record { text = text; run = run_one old new line text answered; is = is }
+
+pub one_line_begun : (old new : EngineState) (line text : List ℕ) (before after : Option (List ℕ)) → Answered old line text new → AppendsFront before after text → WritesBeginning old (line ∷ []) before after
+one_line_begun old new line text before after answered front = record {
+  text = front.front;
+  unwritten = front.rest;
+  new = new;
+  run = subst (λ t. PrintedRun old (line ∷ []) t new) front.whole (run_one old new line text answered);
+  is = front.is;
+}
+
+pub more_lines : (old mid new : EngineState) (xs ys : List (List ℕ)) (before between after : Option (List ℕ))
+    → WritesRun old xs mid before between → WritesRun mid ys new between after → WritesRun old (xs ++ ys) new before after
+more_lines old mid new xs ys before between after left right = record {
+  text = left.text ++ right.text;
+  run = run_append old mid new xs ys left.text right.text left.run right.run;
+  is = right.is ∙ ap (λ k. appended k right.text) left.is ∙ appended-appended before left.text right.text;
+}
+
+pub breaks_later : (old mid : EngineState) (xs ys : List (List ℕ)) (before between after : Option (List ℕ))
+    → WritesRun old xs mid before between → WritesBeginning mid ys between after → WritesBeginning old (xs ++ ys) before after
+breaks_later old mid xs ys before between after left right = record {
+  text = left.text ++ right.text;
+  unwritten = right.unwritten;
+  new = right.new;
+  run = subst (λ t. PrintedRun old (xs ++ ys) t right.new) (sym (append_assoc left.text right.text right.unwritten))
+      (run_append old mid right.new xs ys left.text (right.text ++ right.unwritten) left.run right.run);
+  is = right.is ∙ ap (λ k. appended k right.text) left.is ∙ appended-appended before left.text right.text;
+}
+
+-- whatever lines come later
+pub breaks_before : (old : EngineState) (xs ys : List (List ℕ)) (before after : Option (List ℕ)) → WritesBeginning old xs before after → WritesBeginning old (xs ++ ys) before after
+breaks_before old xs ys before after broken =
+    let more = some_run broken.new ys in record {
+      text = broken.text;
+      unwritten = broken.unwritten ++ more.0;
+      new = broken.new;
+      run = subst (λ t. PrintedRun old (xs ++ ys) t broken.new) (append_assoc broken.text broken.unwritten more.0)
+          (run_append old broken.new broken.new xs ys (broken.text ++ broken.unwritten) more.0 broken.run more.1);
+      is = broken.is;
+    }

@@ -1,0 +1,143 @@
+-- How far an input is read and served.
+use Rattle.std.proofs.Common.{◌≡◌, ℕ, ◌+◌, ◌≤◌, ◌<◌, ◌^◌, List, [], ◌++◌, length, take, drop, Bool, true, Option, Some, None, IfSome, refl, sym, ◌∙◌, ap, subst, ◌⊎◌, inl, inr, arith, length-drop}
+use Rattle.std.proofs.lemmas.List.{append-nil, take-append-drop, take_all, take-append-le, drop-drop, length-take-le}
+use Rattle.std.proofs.Math.Seq.{take-add}
+use Rattle.cy_engine.specs.Step.{EngineState}
+use Rattle.cy_shell.specs.Lines.{kept, ended_lines, begun_line, whole_lines, last_line, unless_empty, lines_of}
+use Rattle.cy_shell.specs.Runs.{WritesRun, WritesBeginning, WritesAll, input_limit, StopsReading, StopsWriting}
+use Rattle.cy_shell.specs.Streams.{MovesFront, TakesFront}
+use Rattle.cy_shell.proofs.Chains.{no_lines, more_lines, breaks_later, breaks_before}
+use Rattle.cy_shell.proofs.Cuts.{ended-append, begun-append}
+
+-- so many bytes of the input are read, and the lines that have ended in them are answered
+pub record Reads (input : List ℕ) (total : ℕ) (start : EngineState) (left line : Option (List ℕ)) (engine : EngineState) (before after : Option (List ℕ)) : Type 0 where
+  pub within : total ≤ length input
+  pub unread : left ≡ Some (drop total input)
+  pub keeps : line ≡ kept (last_line (take total input))
+  pub written : WritesRun start (whole_lines (take total input)) engine before after
+
+pub known_input : (left : Option (List ℕ)) {P : List ℕ → Type 0} → ((input : List ℕ) → left ≡ Some input → P input) → IfSome left P
+known_input None each = tt
+known_input (Some input) each = each input refl
+
+pub reads_first : (input : List ℕ) (start : EngineState) (left line known : Option (List ℕ)) → left ≡ Some input → line ≡ kept [] → Reads input 0 start left line start known known
+reads_first input start left line known is keeps = record {
+  within = omega arith;
+  unread = is;
+  keeps = keeps;
+  written = no_lines start known;
+}
+
+-- what one read takes of the input
+pub record Takes (input : List ℕ) (total count : ℕ) (left : Option (List ℕ)) (piece : List ℕ) : Type 0 where
+  pub within : total + count ≤ length input
+  pub unread : left ≡ Some (drop (total + count) input)
+  pub piece_is : take count piece ≡ take count (drop total input)
+  pub front : take (total + count) input ≡ take total input ++ take count piece
+
+pub takes : (input : List ℕ) (total count : ℕ) (left after : Option (List ℕ)) (old_piece piece : List ℕ) → total ≤ length input → left ≡ Some (drop total input)
+    → TakesFront left after old_piece piece count → Takes input total count after piece
+takes input total count left after old_piece piece within is taken =
+    let parts : TakesFront (Some (drop total input)) after old_piece piece count = subst (λ l. TakesFront l after old_piece piece count) is taken in
+    let moved = parts.0 in
+    let room : count ≤ length (drop total input) = moved.within in
+    let size : length (take count (drop total input)) ≡ count = length-take-le count (drop total input) room in
+    let same : take count piece ≡ take count (drop total input) =
+    ap (take count) moved.piece ∙ take-append-le count (take count (drop total input)) (drop count old_piece) (omega (arith, size)) ∙ take_all count (take count (drop total input)) (omega (arith, size)) in
+    record {
+      within = omega (arith, room, length-drop total input);
+      unread = parts.1 ∙ ap Some (drop-drop count total input);
+      piece_is = same;
+      front = take-add total count input ∙ ap (λ bytes. take total input ++ bytes) (sym same);
+    }
+
+-- the lines of a longer front
+whole_more : (front chunk : List ℕ) → whole_lines (front ++ chunk) ≡ whole_lines front ++ ended_lines (last_line front) chunk
+whole_more front chunk = ended-append [] front chunk
+
+last_more : (front chunk : List ℕ) → last_line (front ++ chunk) ≡ begun_line (last_line front) chunk
+last_more front chunk = begun-append [] front chunk
+
+-- one more piece
+pub reads_more : (input : List ℕ) (total count : ℕ) (start mid new : EngineState) (left left' line line' : Option (List ℕ)) (old_piece piece chunk : List ℕ) (before between after : Option (List ℕ))
+    → Reads input total start left line mid before between → TakesFront left left' old_piece piece count → chunk ≡ take count piece
+    → ((begun : List ℕ) → line ≡ kept begun → line' ≡ kept (begun_line begun chunk))
+    → ((begun : List ℕ) → line ≡ kept begun → WritesRun mid (ended_lines begun chunk) new between after)
+    → Reads input (total + count) start left' line' new before after
+reads_more input total count start mid new left left' line line' old_piece piece chunk before between after reads taken is begins answers =
+    let next = takes input total count left left' old_piece piece reads.within reads.unread taken in
+    let front : take (total + count) input ≡ take total input ++ chunk = next.front ∙ ap (λ bytes. take total input ++ bytes) (sym is) in
+    record {
+      within = next.within;
+      unread = next.unread;
+      keeps = begins (last_line (take total input)) reads.keeps ∙ ap kept (sym (ap last_line front ∙ last_more (take total input) chunk));
+      written = subst (λ ls. WritesRun start ls new before after) (sym (ap whole_lines front ∙ whole_more (take total input) chunk))
+          (more_lines start mid new _ _ before between after reads.written (answers (last_line (take total input)) reads.keeps));
+    }
+
+-- a read that fails, or one too many
+pub stops_reading : (input : List ℕ) (total : ℕ) (start engine : EngineState) (left left' line : Option (List ℕ)) (has_failed : Bool) (before after : Option (List ℕ))
+    → Reads input total start left line engine before after → left' ≡ left → (has_failed ≡ true) ⊎ (input_limit ≤ total) → StopsReading start input left' has_failed before after
+stops_reading input total start engine left left' line has_failed before after reads same cause = record {
+  front = take total input;
+  rest = drop total input;
+  end = engine;
+  read = sym (take-append-drop total input);
+  unread = same ∙ reads.unread;
+  cause = elim cause [ inl failed ↦ inl failed | inr limit ↦ inr (omega (arith, limit, length-take-le total input reads.within)) ];
+  written = reads.written;
+}
+
+-- a piece that was broken off
+pub stops_in_piece : (input : List ℕ) (total count : ℕ) (start mid : EngineState) (left left' line : Option (List ℕ)) (old_piece piece chunk : List ℕ) (before between after : Option (List ℕ))
+    → Reads input total start left line mid before between → TakesFront left left' old_piece piece count → chunk ≡ take count piece
+    → ((begun : List ℕ) → line ≡ kept begun → WritesBeginning mid (ended_lines begun chunk) between after)
+    → StopsWriting start input left' before after
+stops_in_piece input total count start mid left left' line old_piece piece chunk before between after reads taken is answers =
+    let next = takes input total count left left' old_piece piece reads.within reads.unread taken in
+    let front : take (total + count) input ≡ take total input ++ chunk = next.front ∙ ap (λ bytes. take total input ++ bytes) (sym is) in
+    record {
+      front = take (total + count) input;
+      rest = drop (total + count) input;
+      read = sym (take-append-drop (total + count) input);
+      unread = next.unread;
+      written = breaks_before start (whole_lines (take (total + count) input)) (unless_empty (last_line (take (total + count) input))) before after
+          (subst (λ ls. WritesBeginning start ls before after) (sym (ap whole_lines front ∙ whole_more (take total input) chunk))
+          (breaks_later start mid _ _ before between after reads.written (answers (last_line (take total input)) reads.keeps)));
+    }
+
+-- the end of the input
+pub all_read : (input : List ℕ) (total : ℕ) (left left' : Option (List ℕ)) (old_piece piece : List ℕ) → total ≤ length input → left ≡ Some (drop total input)
+    → TakesFront left left' old_piece piece 0 → 0 < length old_piece → (take total input ≡ input) × (left' ≡ Some [])
+all_read input total left left' old_piece piece within is taken room =
+    let parts : TakesFront (Some (drop total input)) left' old_piece piece 0 = subst (λ l. TakesFront l left' old_piece piece 0) is taken in
+    let nothing : drop total input ≡ [] = parts.0.end refl room in
+    (sym (append-nil (take total input)) ∙ ap (λ bytes. take total input ++ bytes) (sym nothing) ∙ take-append-drop total input, parts.1 ∙ ap Some nothing)
+
+pub ends_well : (input : List ℕ) (total : ℕ) (start mid new : EngineState) (left left' line : Option (List ℕ)) (old_piece piece : List ℕ) (before between after : Option (List ℕ))
+    → Reads input total start left line mid before between → TakesFront left left' old_piece piece 0 → 0 < length old_piece
+    → ((begun : List ℕ) → line ≡ kept begun → WritesRun mid (unless_empty begun) new between after)
+    → (left' ≡ Some []) × WritesAll start input before after
+ends_well input total start mid new left left' line old_piece piece before between after reads taken room answers =
+    let all = all_read input total left left' old_piece piece reads.within reads.unread taken room in (
+      all.1,
+      (
+        new,
+        subst (λ bytes. WritesRun start (lines_of bytes) new before after) all.0
+            (more_lines start mid new _ _ before between after reads.written (answers (last_line (take total input)) reads.keeps)),
+      ),
+    )
+
+pub stops_at_end : (input : List ℕ) (total : ℕ) (start mid : EngineState) (left left' line : Option (List ℕ)) (old_piece piece : List ℕ) (before between after : Option (List ℕ))
+    → Reads input total start left line mid before between → TakesFront left left' old_piece piece 0 → 0 < length old_piece
+    → ((begun : List ℕ) → line ≡ kept begun → WritesBeginning mid (unless_empty begun) between after)
+    → StopsWriting start input left' before after
+stops_at_end input total start mid left left' line old_piece piece before between after reads taken room answers =
+    let all = all_read input total left left' old_piece piece reads.within reads.unread taken room in record {
+      front = input;
+      rest = [];
+      read = sym (append-nil input);
+      unread = all.1;
+      written = subst (λ bytes. WritesBeginning start (lines_of bytes) before after) all.0
+          (breaks_later start mid _ _ before between after reads.written (answers (last_line (take total input)) reads.keeps));
+    }

@@ -1,0 +1,14 @@
+use Rattle.std.proofs.Common.{◌-◌, ◌≡◌, ℕ, List, Some, false}
+use Rattle.cy_shell.proofs.Reading.{Reads, known_input}
+use Rattle.cy_shell.proofs.serving.serve.Given as goal
+
+abbrev pub invariant-loop-total : goal.invariant-loop-total
+invariant-loop-total g l = record {
+  readable : g.R.Source.has_failed l.source ≡ false;
+  writable : g.W.Sink.has_failed l.sink ≡ false;
+  reads : (input : List ℕ) → g.R.Source.remaining l.initial.source ≡ Some input
+      → Reads input l.total l.initial.session.engine (g.R.Source.remaining l.source) l.session.line l.session.engine (g.W.Sink.written l.initial.sink) (g.W.Sink.written l.sink);
+}
+
+abbrev pub decreases-loop-total : goal.decreases-loop-total
+decreases-loop-total g l = 4611686018427387904 - l.total

@@ -1,0 +1,14 @@
+use Rattle.std.proofs.Common.{◌≡◌, ℕ, List, false, length}
+use Rattle.cy_shell.specs.Lines.{kept}
+use Rattle.cy_shell.proofs.Progress.{Served}
+use Rattle.cy_shell.proofs.session.Session.serve_piece.Given as goal
+
+abbrev pub invariant-loop-end : goal.invariant-loop-end
+invariant-loop-end g l = record {
+  works : g.W.Sink.has_failed l.sink ≡ false;
+  served : (begun : List ℕ) → l.initial.self.line ≡ kept begun
+      → Served begun l.piece l.initial.self.engine l.self.line l.rest l.self.engine (g.W.Sink.written l.initial.sink) (g.W.Sink.written l.sink);
+}
+
+abbrev pub decreases-loop-end : goal.decreases-loop-end
+decreases-loop-end g l = length l.rest

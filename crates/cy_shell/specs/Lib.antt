@@ -1,0 +1,9 @@
+pub mod Faults
+pub mod Json
+pub mod Lines
+pub mod Memory
+pub mod Printed
+pub mod Replies
+pub mod Runs
+pub mod Streams
+pub mod Words

@@ -1,0 +1,37 @@
+-- The lines of an input. A line ends at LF, and a last line without LF counts if it isn't empty.
+use Rattle.std.specs.Prelude.{ℕ, ◌==◌, nat_le, List, [], ◌∷◌, ◌++◌, length, Option, Some, None, if◌then◌else◌}
+
+-- the most bytes that a line may have, without its LF
+abbrev pub line_limit : ℕ
+line_limit = 65536
+
+-- the lines that end in the bytes, of which the first begins with what was read of it before
+abbrev pub ended_lines : List ℕ → List ℕ → List (List ℕ)
+ended_lines begun [] = []
+ended_lines begun (c ∷ cs) = if c == 10 then begun ∷ ended_lines [] cs else ended_lines (begun ++ c ∷ []) cs
+
+-- what was read of the line that doesn't end in them
+abbrev pub begun_line : List ℕ → List ℕ → List ℕ
+begun_line begun [] = begun
+begun_line begun (c ∷ cs) = if c == 10 then begun_line [] cs else begun_line (begun ++ c ∷ []) cs
+
+-- the lines of which the end was read
+abbrev pub whole_lines : List ℕ → List (List ℕ)
+whole_lines bytes = ended_lines [] bytes
+
+-- the bytes behind the last LF
+abbrev pub last_line : List ℕ → List ℕ
+last_line bytes = begun_line [] bytes
+
+-- a line, if it isn't empty
+abbrev pub unless_empty : List ℕ → List (List ℕ)
+unless_empty [] = []
+unless_empty (c ∷ cs) = (c ∷ cs) ∷ []
+
+-- all lines of an input that is at its end
+abbrev pub lines_of : List ℕ → List (List ℕ)
+lines_of bytes = whole_lines bytes ++ unless_empty (last_line bytes)
+
+-- a line is kept up to the limit
+abbrev pub kept : List ℕ → Option (List ℕ)
+kept line = if nat_le (length line) line_limit then Some line else None

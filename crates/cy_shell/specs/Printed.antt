@@ -1,0 +1,46 @@
+-- The text of what is answered to a line.
+use Rattle.std.specs.Prelude.{◌≡◌, ℕ, List, [], ◌∷◌, ◌++◌, ◌⊎◌, Option, Some, None, Result, Ok, Err, string_bytes}
+use Rattle.serde_json.specs.Data.{Data}
+use Rattle.serde_json.specs.Written.{compact_text}
+use Rattle.cy_engine.specs.Faults.{code_of, offset_of}
+use Rattle.cy_engine.specs.declared.faults.Fault.{Fault}
+use Rattle.cy_engine.specs.declared.replies.Reply.{Reply}
+use Rattle.cy_shell.specs.Replies.{reply_json, fault_json}
+use Rattle.cy_shell.specs.declared.printing.Printed.{Printed}
+use Rattle.cy_shell.specs.declared.printing.Printed.TheVariants as printed
+
+-- an object as it is printed: compact, on a line of its own
+abbrev pub text_of : Data → List ℕ
+text_of json = compact_text json ++ 10 ∷ []
+
+-- the text of 90, which stands in for that of any fault
+abbrev pub no_memory_text : List ℕ
+no_memory_text = text_of (fault_json None 90)
+
+-- the text of 91, which stands in for that of any other object
+abbrev pub reply_lost_text : List ℕ
+reply_lost_text = text_of (fault_json None 91)
+
+-- the text of a fault with this offset and number, or that of 90
+abbrev pub IsFaultText : Option ℕ → ℕ → List ℕ → Type 0
+IsFaultText at code text = (text ≡ text_of (fault_json at code)) ⊎ (text ≡ no_memory_text)
+
+-- no text where there is no object, or the text of the object, or that of 91
+abbrev pub IsObjectText : Option Data → List ℕ → Type 0
+IsObjectText None text = text ≡ []
+IsObjectText (Some json) text = (text ≡ text_of json) ⊎ (text ≡ reply_lost_text)
+
+abbrev pub IsReplyText : Reply → List ℕ → Type 0
+IsReplyText reply text = IsObjectText (reply_json reply) text
+
+-- the text of what the engine answered
+abbrev pub IsTextOf : Result Reply Fault → List ℕ → Type 0
+IsTextOf (Ok reply) text = IsReplyText reply text
+IsTextOf (Err fault) text = IsFaultText (offset_of fault) (code_of fault) text
+
+-- the text that the program has for a line
+abbrev pub printed_text : Printed → List ℕ
+printed_text printed.Nothing = []
+printed_text (printed.Text text) = string_bytes text
+printed_text printed.NoMemory = no_memory_text
+printed_text printed.ReplyLost = reply_lost_text

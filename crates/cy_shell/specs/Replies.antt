@@ -1,0 +1,53 @@
+-- The JSON of replies and faults, with keys in the order of their letters.
+use Rattle.std.specs.Prelude.{ℕ, List, codes, Option, Some, None, Result, Ok, Err, unwrap_or, option_map}
+use Rattle.serde_json.specs.Data.{Data, null, number, unsigned, string, array, object, item, no_items, member, no_members}
+use Rattle.cy_values.specs.declared.rows.Cell.{Cell}
+use Rattle.cy_engine.specs.declared.replies.Changed.{Changed}
+use Rattle.cy_engine.specs.declared.replies.Reply.{Reply}
+use Rattle.cy_engine.specs.declared.replies.Reply.TheVariants as reply
+use Rattle.cy_shell.specs.Json.{list_json, row_json, counted_json}
+use Rattle.cy_shell.specs.Words.{word_of}
+
+abbrev pub columns_json : List (List ℕ) → Data
+columns_json columns = list_json string columns
+
+-- nodes made, nodes gone, relationships made, relationships gone
+abbrev pub changed_json : Changed → Data
+changed_json changed =
+    array (item (number (unsigned changed.nodes_made)) (item (number (unsigned changed.nodes_gone))
+    (item (number (unsigned changed.rels_made)) (item (number (unsigned changed.rels_gone)) no_items))))
+
+-- {"changed":[..],"columns":[..],"rows":[..]}
+abbrev pub statement_json : Changed → List (List ℕ) → List (List Cell) → Data
+statement_json changed columns rows =
+    object (member (codes "changed") (changed_json changed) (member (codes "columns") (columns_json columns)
+    (member (codes "rows") (list_json row_json rows) no_members)))
+
+-- {"columns":[..],"tick":t,"view":name}
+abbrev pub made_json : List (List ℕ) → ℕ → List ℕ → Data
+made_json columns tick name =
+    object (member (codes "columns") (columns_json columns) (member (codes "tick") (number (unsigned tick))
+    (member (codes "view") (string name) no_members)))
+
+-- {"rows":[[row,count],..],"tick":t,"view":name}
+abbrev pub rows_json : List (List Cell × ℕ) → ℕ → List ℕ → Data
+rows_json rows tick name =
+    object (member (codes "rows") (list_json counted_json rows) (member (codes "tick") (number (unsigned tick))
+    (member (codes "view") (string name) no_members)))
+
+-- the object that a reply is printed as, where it is printed
+abbrev pub reply_json : Reply → Option Data
+reply_json reply.Nothing = None
+reply_json (reply.Statement changed columns rows) = Some (statement_json changed columns rows)
+reply_json (reply.Made columns tick name) = Some (made_json columns tick name)
+reply_json (reply.Rows rows tick name) = Some (rows_json rows tick name)
+
+abbrev pub offset_json : Option ℕ → Data
+offset_json None = null
+offset_json (Some at) = number (unsigned at)
+
+-- {"at":offset or null,"code":n,"error":word}
+abbrev pub fault_json : Option ℕ → ℕ → Data
+fault_json at code =
+    object (member (codes "at") (offset_json at) (member (codes "code") (number (unsigned code))
+    (member (codes "error") (string (word_of code)) no_members)))

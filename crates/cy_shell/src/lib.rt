@@ -1,0 +1,22 @@
+//! Bytes in, JSON out: lines are cut from a source, carried out by an engine, and answered on a sink.
+#![tactic(auto)]
+
+mod answers;
+mod buffer;
+mod json;
+mod memory;
+mod printing;
+mod replies;
+mod serving;
+mod session;
+mod standard;
+mod streams;
+#[cfg(test)]
+mod tests;
+mod words;
+mod writing;
+
+pub use memory::{MemorySink, MemorySource};
+pub use serving::{RunFault, Settings, run};
+pub use standard::{InputSource, OutputSink};
+pub use streams::{Failed, Sink, Source};

@@ -1,0 +1,157 @@
+//! The whole of a run: an input is read to its end, and its lines are answered.
+
+ghost use Rattle.std.specs.Prelude.{◌≡◌, ◌≢◌, ◌≤◌, ◌<◌, [], length, ℕ, List, Option, Some, true, false, Err, OnOk, OnErr, IfOk, IfSome};
+ghost use Rattle.cy_engine.specs.Step.{empty_engine};
+ghost use Rattle.cy_shell.specs.Lines.{kept};
+ghost use Rattle.cy_shell.specs.Runs.{WritesAll, StopsReading, StopsWriting};
+ghost use Rattle.cy_shell.specs.declared.serving.RunFault.TheVariants.{Memory};
+
+use crate::session::Session;
+use crate::streams::{Sink, Source};
+use std::alloc::{AllocError, Global};
+use thiserror::Error;
+
+/// How many bytes are read at a time.
+const PIECE: usize = 65_536;
+
+/// After how many bytes of input a run stops.
+const INPUT_LIMIT: u64 = 1 << 62;
+
+/// How a run is set up.
+#[derive(Clone, Copy, Debug, PartialEq, Eq)]
+pub struct Settings {
+    /// How many entries a view's history has: 1 to 4096.
+    pub history: usize,
+    /// Whether the entries of a line follow its reply. It has no effect yet.
+    pub feed: bool,
+}
+
+/// Why a run ended before its input did.
+#[derive(Clone, Copy, Debug, PartialEq, Eq, Error)]
+pub enum RunFault {
+    /// A read failed, or 2^62 bytes were read.
+    #[error("the input cannot be read on")]
+    Read,
+    /// A write or a flush failed.
+    #[error("the output cannot be written on")]
+    Write,
+    /// There was no memory at the start.
+    #[error("no memory to begin with")]
+    Memory,
+}
+
+impl RunFault {
+    ghost use Rattle.std.specs.Prelude.{◌≡◌, None};
+    ghost use Rattle.cy_shell.specs.Faults.{status_of};
+
+    /// The status with which the program ends.
+    pub fn code(&self) -> u16
+        ensures { result ≡ status_of self.now }
+    {
+        match self {
+            RunFault::Read | RunFault::Write => 3,
+            RunFault::Memory => 4,
+        }
+    }
+
+    /// The byte offset that the fault points at: there is none.
+    pub fn at(&self) -> Option<usize>
+        ensures { result ≡ None }
+    {
+        None
+    }
+}
+
+impl From<AllocError> for RunFault {
+    ghost from_gives = { λ _ fault. fault ≡ Memory };
+
+    fn from(_error: AllocError) -> RunFault {
+        RunFault::Memory
+    }
+}
+
+/// Reads an input to its end, and answers each line of it on a line of its own, in order. All memory for reading is
+/// taken at the start.
+///
+/// A read, write or flush that fails ends the run at once, as does an input of 2^62 bytes.
+pub fn run<R: Source, W: Sink>(
+    alloc: Global,
+    source: &mut R,
+    sink: &mut W,
+    settings: Settings,
+) -> Result<(), RunFault>
+    requires readable { R.has_failed source.old ≡ false }
+    requires writable { W.has_failed sink.old ≡ false }
+    requires from { 1 ≤ settings.history }
+    requires to { settings.history ≤ 4096 }
+
+    // At the end of the input all was read, and what was written is the printed answers to it, and nothing else.
+    ensures done { OnOk result (IfSome (R.remaining source.old) (λ input. (R.remaining source.new ≡ Some [])
+        × WritesAll (empty_engine settings.history) input (W.written sink.old) (W.written sink.new))) }
+    ensures works { OnOk result ((R.has_failed source.new ≡ false) × (W.has_failed sink.new ≡ false)) }
+
+    // The lines that were read whole are answered, and the source failed, or the input is too long.
+    ensures read { result ≡ Err RunFault.Read → IfSome (R.remaining source.old) (λ input.
+        StopsReading (empty_engine settings.history) input (R.remaining source.new) (R.has_failed source.new) (W.written sink.old) (W.written sink.new)) }
+    ensures read_works { result ≡ Err RunFault.Read → W.has_failed sink.new ≡ false }
+
+    // The sink failed at the answers to what was read.
+    ensures write { result ≡ Err RunFault.Write → IfSome (R.remaining source.old) (λ input.
+        StopsWriting (empty_engine settings.history) input (R.remaining source.new) (W.written sink.old) (W.written sink.new)) }
+    ensures write_fails { result ≡ Err RunFault.Write → W.has_failed sink.new ≡ true }
+    ensures write_works { result ≡ Err RunFault.Write → R.has_failed source.new ≡ false }
+
+    // Nothing was read or written.
+    ensures memory { result ≡ Err RunFault.Memory → (source.new ≡ source.old) × (sink.new ≡ sink.old) }
+{
+    let mut piece = new_piece(alloc)?;
+    let mut session = Session::new(alloc, settings.history)?;
+    serve(&mut session, piece.as_mut_slice(), source, sink)
+}
+
+// The room for a piece of the input. Fails only for want of memory.
+fn new_piece(alloc: Global) -> Result<Vec<u8>, AllocError>
+    ensures { IfOk result (λ piece. length piece.items ≡ 65536) }
+{
+    Ok(vec![in alloc; 0u8; PIECE]?)
+}
+
+// Serves an input to its end with a session in which no line has begun, a piece at a time.
+fn serve<R: Source, W: Sink>(
+    session: &mut Session,
+    piece: &mut [u8],
+    source: &mut R,
+    sink: &mut W,
+) -> Result<(), RunFault>
+    requires readable { R.has_failed source.old ≡ false }
+    requires writable { W.has_failed sink.old ≡ false }
+    requires begins { session.old.line ≡ kept [] }
+    requires some_room { 0 < length piece.old }
+    requires room { length piece.old ≤ 65536 }
+    ensures done { OnOk result (IfSome (R.remaining source.old) (λ input. (R.remaining source.new ≡ Some [])
+        × WritesAll session.old.engine input (W.written sink.old) (W.written sink.new))) }
+    ensures works { OnOk result ((R.has_failed source.new ≡ false) × (W.has_failed sink.new ≡ false)) }
+    ensures read { result ≡ Err RunFault.Read → IfSome (R.remaining source.old) (λ input.
+        StopsReading session.old.engine input (R.remaining source.new) (R.has_failed source.new) (W.written sink.old) (W.written sink.new)) }
+    ensures read_works { result ≡ Err RunFault.Read → W.has_failed sink.new ≡ false }
+    ensures write { result ≡ Err RunFault.Write → IfSome (R.remaining source.old) (λ input.
+        StopsWriting session.old.engine input (R.remaining source.new) (W.written sink.old) (W.written sink.new)) }
+    ensures write_fails { result ≡ Err RunFault.Write → W.has_failed sink.new ≡ true }
+    ensures write_works { result ≡ Err RunFault.Write → R.has_failed source.new ≡ false }
+    ensures no_memory { result ≢ Err RunFault.Memory }
+{
+    let mut total = 0;
+    while total < INPUT_LIMIT {
+        let Ok(count) = source.read(piece) else {
+            return Err(RunFault::Read);
+        };
+        if count == 0 {
+            return session.finish(sink).map_err(|_| RunFault::Write);
+        }
+        let Ok(()) = session.serve_piece(sink, &piece[..count]) else {
+            return Err(RunFault::Write);
+        };
+        total += count as u64;
+    }
+    Err(RunFault::Read)
+}

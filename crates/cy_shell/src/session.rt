@@ -1,0 +1,99 @@
+//! An engine with the line that is being read for it.
+
+ghost use Rattle.std.specs.Prelude.{◌≡◌, ◌==◌, [], ◌∷◌, ℕ, List, true, false, OnOk, OnErr, position, length, ◌<◌, ◌≤◌, IfOk, IfSome};
+ghost use Rattle.cy_engine.specs.Step.{empty_engine};
+ghost use Rattle.cy_shell.specs.Lines.{kept, ended_lines, begun_line, unless_empty};
+ghost use Rattle.cy_shell.specs.Runs.{WritesRun, WritesBeginning};
+
+use crate::answers::answer;
+use crate::buffer::LineBuffer;
+use crate::streams::{Failed, Sink};
+use crate::writing::write_text;
+use cy_engine::Engine;
+use std::alloc::{AllocError, Global};
+
+/// An engine, and what was read of a line that has not ended.
+#[derive(Drop)]
+pub(crate) struct Session {
+    alloc: Global,
+    pub(crate) engine: Engine,
+    pub(crate) line: LineBuffer,
+}
+
+impl Session {
+    /// An engine that is empty, and no line begun. Fails only for want of memory.
+    pub(crate) fn new(alloc: Global, history: usize) -> Result<Self, AllocError>
+        requires from { 1 ≤ history }
+        requires to { history ≤ 4096 }
+        ensures engine { IfOk result (λ session. session.engine ≡ empty_engine history) }
+        ensures line { IfOk result (λ session. session.line ≡ kept []) }
+    {
+        Ok(Session {
+            alloc,
+            line: LineBuffer::new(alloc)?,
+            engine: Engine::new(alloc, history),
+        })
+    }
+
+    /// Serves the lines that end in a piece of the input, and keeps what it has of the next.
+    pub(crate) fn serve_piece<W: Sink>(&mut self, sink: &mut W, piece: &[u8]) -> Result<(), Failed>
+        requires { W.has_failed sink.old ≡ false }
+        ensures line { OnOk result ((begun : List ℕ) → self.old.line ≡ kept begun → self.new.line ≡ kept (begun_line begun piece.now)) }
+        ensures served { OnOk result ((begun : List ℕ) → self.old.line ≡ kept begun
+            → WritesRun self.old.engine (ended_lines begun piece.now) self.new.engine (W.written sink.old) (W.written sink.new)) }
+        ensures works { OnOk result (W.has_failed sink.new ≡ false) }
+        ensures broken_off { OnErr result ((begun : List ℕ) → self.old.line ≡ kept begun
+            → WritesBeginning self.old.engine (ended_lines begun piece.now) (W.written sink.old) (W.written sink.new)) }
+        ensures fails { OnErr result (W.has_failed sink.new ≡ true) }
+    {
+        let mut rest = piece;
+        while let Some(end) = line_end(rest) {
+            let (line, next) = rest.split_at(end);
+            self.line.append(line);
+            self.serve_line(sink)?;
+            rest = &next[1..];
+        }
+        self.line.append(rest);
+        Ok(())
+    }
+
+    /// Serves the last line of an input, which counts if it is not empty.
+    pub(crate) fn finish<W: Sink>(&mut self, sink: &mut W) -> Result<(), Failed>
+        requires { W.has_failed sink.old ≡ false }
+        ensures served { OnOk result ((begun : List ℕ) → self.old.line ≡ kept begun
+            → WritesRun self.old.engine (unless_empty begun) self.new.engine (W.written sink.old) (W.written sink.new)) }
+        ensures works { OnOk result (W.has_failed sink.new ≡ false) }
+        ensures broken_off { OnErr result ((begun : List ℕ) → self.old.line ≡ kept begun
+            → WritesBeginning self.old.engine (unless_empty begun) (W.written sink.old) (W.written sink.new)) }
+        ensures fails { OnErr result (W.has_failed sink.new ≡ true) }
+    {
+        if self.line.is_empty() {
+            return Ok(());
+        }
+        self.serve_line(sink)
+    }
+
+    // Answers the line, and begins the next.
+    fn serve_line<W: Sink>(&mut self, sink: &mut W) -> Result<(), Failed>
+        requires { W.has_failed sink.old ≡ false }
+        ensures line { self.new.line ≡ kept [] }
+        ensures served { OnOk result ((line : List ℕ) → self.old.line ≡ kept line
+            → WritesRun self.old.engine (line ∷ []) self.new.engine (W.written sink.old) (W.written sink.new)) }
+        ensures works { OnOk result (W.has_failed sink.new ≡ false) }
+        ensures broken_off { OnErr result ((line : List ℕ) → self.old.line ≡ kept line
+            → WritesBeginning self.old.engine (line ∷ []) (W.written sink.old) (W.written sink.new)) }
+        ensures fails { OnErr result (W.has_failed sink.new ≡ true) }
+    {
+        let printed = answer(self.alloc, &mut self.engine, &self.line);
+        self.line.clear();
+        write_text(sink, printed.as_str())
+    }
+}
+
+// Where the line at the front of the bytes ends, if it does.
+fn line_end(bytes: &[u8]) -> Option<usize>
+    ensures first { result ≡ position (λ byte. byte == 10) bytes.now }
+    ensures within { IfSome result (λ at. at < length bytes.now) }
+{
+    bytes.iter().position(|byte| *byte == b'\n')
+}

@@ -1,0 +1,117 @@
+//! Sources and sinks that move few bytes at a time, and fail at a chosen call.
+
+ghost use Rattle.std.specs.Prelude.{◌≡◌, false, None};
+
+use crate::streams::{Failed, Sink, Source};
+use std::alloc::Global;
+
+/// Gives at most so many bytes a read. The read of this number fails; none does if it is 0.
+#[derive(Drop)]
+pub(super) struct TestSource<'a> {
+    left: &'a [u8],
+    most: usize,
+    failing: usize,
+    calls: usize,
+    has_failed: bool,
+}
+
+impl<'a> TestSource<'a> {
+    pub(super) fn new(bytes: &'a [u8], most: usize, failing: usize) -> Self
+        ensures { result.has_failed ≡ false }
+    {
+        TestSource {
+            left: bytes,
+            most,
+            failing,
+            calls: 0,
+            has_failed: false,
+        }
+    }
+
+    pub(super) fn calls(&self) -> usize {
+        self.calls
+    }
+}
+
+impl<'a> Source for TestSource<'a> {
+    ghost use Rattle.std.specs.Prelude.{None};
+
+    ghost remaining = { λ _. None };
+
+    ghost has_failed = { λ source. source.has_failed };
+
+    fn read(&mut self, piece: &mut [u8]) -> Result<usize, Failed> {
+        self.calls = self.calls.saturating_add(1);
+        if self.calls == self.failing {
+            self.has_failed = true;
+            return Err(Failed);
+        }
+        let count = self.left.len().min(piece.len()).min(self.most);
+        let (front, rest) = self.left.split_at(count);
+        piece[..count].copy_from_slice(front);
+        self.left = rest;
+        Ok(count)
+    }
+}
+
+/// Takes at most so many bytes a write. The call of this number, a write or a flush, fails; none does if it is 0.
+#[derive(Drop)]
+pub(super) struct TestSink {
+    written: Vec<u8>,
+    most: usize,
+    failing: usize,
+    calls: usize,
+    has_failed: bool,
+}
+
+impl TestSink {
+    pub(super) fn new(alloc: Global, most: usize, failing: usize) -> Self
+        ensures { result.has_failed ≡ false }
+    {
+        TestSink {
+            written: Vec::new(alloc),
+            most: most.max(1),
+            failing,
+            calls: 0,
+            has_failed: false,
+        }
+    }
+
+    pub(super) fn calls(&self) -> usize {
+        self.calls
+    }
+
+    pub(super) fn written(&self) -> &[u8] {
+        self.written.as_slice()
+    }
+
+    fn fails(&mut self) -> bool {
+        self.calls = self.calls.saturating_add(1);
+        self.calls == self.failing
+    }
+}
+
+impl Sink for TestSink {
+    ghost use Rattle.std.specs.Prelude.{None};
+
+    ghost written = { λ _. None };
+
+    ghost has_failed = { λ sink. sink.has_failed };
+
+    fn write(&mut self, piece: &[u8]) -> Result<usize, Failed> {
+        let count = piece.len().min(self.most.max(1));
+        self.has_failed = self.fails() || self.written.extend_from_slice(&piece[..count]).is_err();
+        if self.has_failed {
+            return Err(Failed);
+        }
+        Ok(count)
+    }
+
+    fn flush(&mut self) -> Result<(), Failed> {
+        self.has_failed = self.fails();
+        if self.has_failed {
+            return Err(Failed);
+        }
+        Ok(())
+    }
+}

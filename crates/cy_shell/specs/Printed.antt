@@ -34,9 +34,9 @@ abbrev pub IsReplyText : Reply → List ℕ → Type 0
 IsReplyText reply text = IsObjectText (reply_json reply) text
 
 -- the text of what the engine answered
-abbrev pub IsTextOf : Result Reply Fault → List ℕ → Type 0
-IsTextOf (Ok reply) text = IsReplyText reply text
-IsTextOf (Err fault) text = IsFaultText (offset_of fault) (code_of fault) text
+abbrev pub IsAnswerText : Result Reply Fault → List ℕ → Type 0
+IsAnswerText (Ok reply) text = IsReplyText reply text
+IsAnswerText (Err fault) text = IsFaultText (offset_of fault) (code_of fault) text
 
 -- the text that the program has for a line
 abbrev pub printed_text : Printed → List ℕ

@@ -1,6 +1,7 @@
 //! Sources and sinks over memory, which tell their bytes.
 
-ghost use Rattle.std.specs.Prelude.{◌≡◌, ◌≤◌, ◌<◌, [], ℕ, List, IfOk, OnErr, OnOk, Some, true, false, length, take};
+ghost use Rattle.std.specs.Prelude.{◌≡◌, ◌≤◌, ◌<◌, [], IfOk, OnErr, OnOk, IsOk, Some, true, false, length, take};
+ghost use Rattle.cy_shell.specs.Streams.{TakesFront, appended};
 
 use crate::streams::{Failed, Sink, Source};
 use std::alloc::{AllocError, Global};
@@ -36,7 +37,15 @@ impl<'a> Source for MemorySource<'a> {
 
     ghost has_failed = { λ _. false };
 
-    fn read(&mut self, piece: &mut [u8]) -> Result<usize, Failed> {
+    /// Never fails.
+    fn read(&mut self, piece: &mut [u8]) -> Result<usize, Failed>
+        ensures within { IfOk result (λ count. count ≤ length piece.old) }
+        ensures front { IfOk result (λ count. TakesFront (Some self.old) (Some self.new) piece.old piece.new count) }
+        ensures works { OnOk result (false ≡ false) }
+        ensures moves_nothing { OnErr result (Some self.new ≡ Some self.old) }
+        ensures fails { OnErr result (false ≡ true) }
+        ensures succeeds { IsOk result }
+    {
         let count = self.left.len().min(piece.len());
         let (front, rest) = self.left.split_at(count);
         piece[..count].copy_from_slice(front);
@@ -88,7 +97,17 @@ impl Sink for MemorySink {
 
     ghost has_failed = { λ (sink : MemoryBytes). sink.has_failed };
 
-    fn write(&mut self, piece: &[u8]) -> Result<usize, Failed> {
+    /// Fails only where there is no room.
+    fn write(&mut self, piece: &[u8]) -> Result<usize, Failed>
+        requires { self.old.has_failed ≡ false }
+        ensures within { IfOk result (λ count. count ≤ length piece.now) }
+        ensures some { IfOk result (λ count. 0 < length piece.now → 0 < count) }
+        ensures front { IfOk result (λ count. Some self.new.written ≡ appended (Some self.old.written) (take count piece.now)) }
+        ensures works { OnOk result (self.new.has_failed ≡ false) }
+        ensures moves_nothing { OnErr result (Some self.new.written ≡ Some self.old.written) }
+        ensures fails { OnErr result (self.new.has_failed ≡ true) }
+        ensures full { OnErr result (self.old.room ≤ length self.old.written) }
+    {
         let count = piece.len().min(self.bytes.capacity() - self.bytes.len());
         let is_full = count == 0 && !piece.is_empty();
         if is_full || self.bytes.extend_from_slice(&piece[..count]).is_err() {
@@ -98,7 +117,14 @@ impl Sink for MemorySink {
         Ok(count)
     }
 
-    fn flush(&mut self) -> Result<(), Failed> {
+    /// Never fails.
+    fn flush(&mut self) -> Result<(), Failed>
+        requires { self.old.has_failed ≡ false }
+        ensures moves_nothing { Some self.new.written ≡ Some self.old.written }
+        ensures works { OnOk result (self.new.has_failed ≡ false) }
+        ensures fails { OnErr result (self.new.has_failed ≡ true) }
+        ensures succeeds { IsOk result }
+    {
         Ok(())
     }
 }

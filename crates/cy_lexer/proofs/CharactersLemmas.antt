@@ -1,0 +1,46 @@
+-- Lemmas on the characters of a line.
+use Rattle.std.proofs.Common.{◌≡◌, ℕ, ◌+◌, ◌-◌, List, ◌∷◌, ◌++◌, length, take, drop, sym, ap, ◌∙◌, arith}
+use Rattle.std.specs.Str.{chars, IsUtf8, encode_utf8_all, IsCharBoundary}
+use Rattle.std.proofs.lemmas.Str.{encodes-chars, encodes-append, IsCharBoundary-at_seam}
+use Rattle.std.proofs.lemmas.List.{drop-drop, take-append-drop, length-append, take_at, drop_at}
+use Rattle.cy_lexer.specs.Characters.{offset}
+
+-- where the text bs begins, which ends a line of total bytes
+pub offset-chars : (total : ℕ) (bs : List ℕ) → IsUtf8 bs → offset total (chars bs) ≡ total - length bs
+offset-chars total bs u = ap (λ (x : List ℕ). total - length x) (encodes-chars bs u)
+
+pub offset_of_text : (total c : ℕ) (bs cs : List ℕ) → IsUtf8 bs → chars bs ≡ c ∷ cs → offset total (c ∷ cs) ≡ total - length bs
+offset_of_text total c bs cs u e = ap (λ (x : List ℕ). offset total x) (sym e) ∙ offset-chars total bs u
+
+-- behind one character more
+pub drop-past : (i : ℕ) (xs whole cs : List ℕ) (c : ℕ) → whole ≡ c ∷ cs → whole ≡ drop i xs → cs ≡ drop (i + 1) xs
+drop-past i xs whole cs c e at = ap (λ (x : List ℕ). drop 1 x) (sym e ∙ at) ∙ simp drop-drop
+
+-- a text whose characters are the last ones of another ends it
+pub front_bytes : (bs ds : List ℕ) (n : ℕ) → IsUtf8 bs → IsUtf8 ds → chars ds ≡ drop n (chars bs) → bs ≡ encode_utf8_all (take n (chars bs)) ++ ds
+front_bytes bs ds n u v e =
+    sym (encodes-chars bs u)
+    ∙ ap encode_utf8_all (sym (take-append-drop n (chars bs)))
+    ∙ encodes-append (take n (chars bs)) (drop n (chars bs))
+    ∙ ap (λ (x : List ℕ). encode_utf8_all (take n (chars bs)) ++ x) (ap encode_utf8_all (sym e) ∙ encodes-chars ds v)
+
+front_len : (bs xs ds : List ℕ) → bs ≡ xs ++ ds → length bs - length ds ≡ length xs
+front_len bs xs ds e = omega (arith, ap length e, length-append xs ds)
+
+take_front : (bs xs ds : List ℕ) → bs ≡ xs ++ ds → take (length bs - length ds) bs ≡ xs
+take_front bs xs ds e = rw e (take_at xs ds _ (omega (arith, length-append xs ds)))
+
+drop_front : (bs xs ds : List ℕ) → bs ≡ xs ++ ds → drop (length bs - length ds) bs ≡ ds
+drop_front bs xs ds e = rw e (drop_at xs ds _ (omega (arith, length-append xs ds)))
+
+-- the bytes before the last characters, and where these begin
+pub take-suffix : (bs ds : List ℕ) (n : ℕ) → IsUtf8 bs → IsUtf8 ds → chars ds ≡ drop n (chars bs) → take (length bs - length ds) bs ≡ encode_utf8_all (take n (chars bs))
+take-suffix bs ds n u v e = take_front bs (encode_utf8_all (take n (chars bs))) ds (front_bytes bs ds n u v e)
+
+pub suffix-drop : (bs ds : List ℕ) (n : ℕ) → IsUtf8 bs → IsUtf8 ds → chars ds ≡ drop n (chars bs) → ds ≡ drop (length bs - length ds) bs
+suffix-drop bs ds n u v e = sym (drop_front bs (encode_utf8_all (take n (chars bs))) ds (front_bytes bs ds n u v e))
+
+pub suffix-boundary : (bs ds : List ℕ) (n : ℕ) → IsUtf8 bs → IsUtf8 ds → chars ds ≡ drop n (chars bs) → IsCharBoundary bs (length bs - length ds)
+suffix-boundary bs ds n u v e =
+    let parts = front_bytes bs ds n u v e in
+    rw (front_len bs (encode_utf8_all (take n (chars bs))) ds parts) (IsCharBoundary-at_seam bs (encode_utf8_all (take n (chars bs))) ds parts v)

@@ -1,0 +1,4 @@
+pub mod CharactersLemmas
+pub mod QuotedLemmas
+pub mod PiecesLemmas
+pub mod TokensLemmas

@@ -1,0 +1,9 @@
+pub mod Faults
+pub mod Line
+pub mod Keywords
+pub mod Symbols
+pub mod Characters
+pub mod Numbers
+pub mod Quoted
+pub mod Tokens
+pub mod Spans

@@ -1,0 +1,37 @@
+//! From a line to its tokens.
+
+ghost use Rattle.std.specs.Prelude.{◌≡◌, ◌≢◌, length, All, IfOk, IfErr};
+ghost use Rattle.cy_lexer.specs.Tokens.{tokens_of};
+ghost use Rattle.cy_lexer.specs.Spans.{IsSpanOf, AreSpansOf};
+
+use crate::characters::split_first;
+use crate::faults::LexFault;
+use crate::line::LONGEST_LINE;
+use crate::pieces::piece;
+use crate::tokens::Token;
+use std::alloc::Global;
+
+/// The tokens of a line, or the first fault that reading it from the left meets. Fails with `LineTooLong` above 65,536
+/// bytes, and may fail with `NoMemory` at any token.
+pub fn lex(alloc: Global, line: &str) -> Result<Vec<Token>, LexFault>
+    ensures tokens { IfOk result (λ tokens. tokens_of line.now ≡ Ok tokens.items) }
+    ensures fault { IfErr result (λ fault. fault ≢ LexFault.NoMemory → tokens_of line.now ≡ Err fault) }
+    ensures slices { IfOk result (λ tokens. All (IsSpanOf line.now) tokens.items) }
+    ensures spans { IfOk result (λ tokens. AreSpansOf line.now 0 tokens.items (length line.now)) }
+{
+    if line.len() > LONGEST_LINE {
+        return Err(LexFault::LineTooLong);
+    }
+    let mut tokens = Vec::new(alloc);
+    let mut rest = line;
+    while let Some((first, after)) = split_first(rest) {
+        let start = line.len() - rest.len();
+        let (kind, left) = piece(line.len(), rest, first, after)?;
+        if let Some(kind) = kind {
+            let end = line.len() - left.len();
+            tokens.push(Token { kind, start, end })?;
+        }
+        rest = left;
+    }
+    Ok(tokens)
+}

@@ -1,0 +1,334 @@
+//! What no clause says: that ample memory is enough, and that the definitions mean the language.
+
+ghost use Rattle.std.specs.Prelude.{◌≡◌, [], ◌∷◌, Ok, Err, IsFalse, codes};
+ghost use Rattle.unicode_ident.specs.Ident.{is_xid_start};
+ghost use Rattle.cy_lexer.specs.Tokens.{tokens_of};
+
+use super::*;
+use std::alloc::Global;
+use std::test::Fail;
+
+/// The number of the fault of a line and its offset, or (0, None) for a line that has tokens.
+fn fault_of(alloc: Global, line: &str) -> (u16, Option<usize>) {
+    match lex(alloc, line) {
+        Ok(_) => (0, None),
+        Err(fault) => (fault.code(), fault.at()),
+    }
+}
+
+/// The line's tokens as their slices, each with a bar behind it; empty where the line has a fault.
+fn slices_of(alloc: Global, line: &str) -> Result<String, LexFault> {
+    let mut slices = String::new(alloc);
+    for token in &lex(alloc, line)? {
+        slices.push_str(token.slice(line))?;
+        slices.push('|')?;
+    }
+    Ok(slices)
+}
+
+#[test]
+fn faults_of_lines(rt: HostRuntime) {
+    let rows = [
+        ("RETURN # AS x", 10, 7),
+        ("RETURN 'ab", 11, 7),
+        ("RETURN \"a\\q\" AS x", 12, 9),
+        ("RETURN 'a\\q", 12, 9),
+        ("RETURN '\\uD800' AS x", 12, 8),
+        ("/* a", 13, 0),
+        ("RETURN `a", 14, 7),
+        ("RETURN 01 AS x", 15, 7),
+        ("RETURN 1x AS y", 15, 7),
+        ("RETURN 1.5 AS x", 15, 7),
+        ("RETURN 9223372036854775809", 16, 7),
+        ("RETURN 99999999999999999999x", 15, 7),
+        ("RETURN 9223372036854775809.0", 15, 7),
+        (":foo 'abc", 11, 5),
+        ("``", 10, 0),
+        ("a ``b", 10, 2),
+        ("```", 14, 0),
+        ("'\\u12'", 12, 1),
+        ("'\\u123", 12, 1),
+        ("'\\U00110000'", 12, 1),
+        ("'\\U0001F60'", 12, 1),
+        ("'ab\\", 12, 3),
+        ("'a\\'", 11, 0),
+        ("é 'ü\\x'", 12, 6),
+        ("a €", 10, 2),
+        ("😀", 10, 0),
+        ("/* a /* */ */ \u{0}", 10, 14),
+        ("1\u{661}", 15, 0),
+        ("\u{661}", 10, 0),
+        ("/*/", 13, 0),
+        ("a\u{0}", 10, 1),
+        ("1__", 15, 0),
+        ("$", 10, 0),
+        ("!", 10, 0),
+    ];
+    for (line, code, at) in rows {
+        assert_eq!(rt; fault_of(rt.alloc(), line), (code, Some(at)), "{line}");
+    }
+}
+
+#[test]
+fn tokens_of_lines(rt: HostRuntime) -> Result<(), Fail> {
+    let rows = [
+        ("", ""),
+        ("\r", ""),
+        (" \t\u{85}\u{a0}\u{2028}\u{3000}", ""),
+        ("// all", ""),
+        ("a//b\nc/*d\ne*/f", "a|c|f|"),
+        ("a/**/b/***/c", "a|b|c|"),
+        (
+            "MATCH (n:A)-[r*1..2]->(m)",
+            "MATCH|(|n|:|A|)|-|[|r|*|1|..|2|]|-|>|(|m|)|",
+        ),
+        (
+            "a<=b<>c>=d<e>f=g..h.i",
+            "a|<=|b|<>|c|>=|d|<|e|>|f|=|g|..|h|.|i|",
+        ),
+        ("...", "..|.|"),
+        ("<=>", "<=|>|"),
+        ("<-->", "<|-|-|>|"),
+        ("1..2", "1|..|2|"),
+        ("1.", "1|.|"),
+        ("0", "0|"),
+        ("9223372036854775808", "9223372036854775808|"),
+        ("`a``b`'c'\"d\"", "`a``b`|'c'|\"d\"|"),
+        ("````", "````|"),
+        ("größe _x1 变量", "größe|_x1|变量|"),
+        ("'a\\'b'", "'a\\'b'|"),
+        ("''", "''|"),
+        ("a/b", "a|/|b|"),
+        ("x'y'z", "x|'y'|z|"),
+        ("{}[](),:;|+-*%", "{|}|[|]|(|)|,|:|;|||+|-|*|%|"),
+    ];
+    for (line, slices) in rows {
+        let found = slices_of(rt.alloc(), line)?;
+        assert_eq!(rt; found.as_str(), slices, "{line}");
+    }
+    Ok(())
+}
+
+/// The first token of the line, and what it denotes.
+fn first_of(alloc: Global, line: &str) -> Result<(Option<Token>, String), LexFault> {
+    match lex(alloc, line)?.first() {
+        Some(token) => Ok((Some(*token), token.denoted(alloc, line)?)),
+        None => Ok((None, String::new(alloc))),
+    }
+}
+
+#[test]
+fn what_tokens_denote(rt: HostRuntime) -> Result<(), Fail> {
+    let rows = [
+        ("größe", Kind::Name, "größe"),
+        ("`a``b`", Kind::QuotedName, "a`b"),
+        ("````", Kind::QuotedName, "`"),
+        ("`match`", Kind::QuotedName, "match"),
+        ("`a\\q'`", Kind::QuotedName, "a\\q'"),
+        ("`€😀`", Kind::QuotedName, "€😀"),
+        ("''", Kind::Text, ""),
+        ("\"it's\"", Kind::Text, "it's"),
+        ("'a`b\"c//d'", Kind::Text, "a`b\"c//d"),
+        ("'\\\\\\'\\\"'", Kind::Text, "\\'\""),
+        ("'\\b\\f\\n\\r\\t'", Kind::Text, "\u{8}\u{c}\n\r\t"),
+        ("'\\u00e9\\u00E9'", Kind::Text, "éé"),
+        ("'\\U0001F600\\U0010ffff'", Kind::Text, "😀\u{10ffff}"),
+        ("'\\uD7FF\\uE000'", Kind::Text, "\u{d7ff}\u{e000}"),
+        ("'ü€😀'", Kind::Text, "ü€😀"),
+        ("0", Kind::Number(0), "0"),
+        (
+            "9223372036854775808",
+            Kind::Number(9223372036854775808),
+            "9223372036854775808",
+        ),
+        ("MaTcH", Kind::Keyword(Keyword::Match), "MaTcH"),
+        ("matches", Kind::Name, "matches"),
+        ("<=", Kind::Symbol(Symbol::LessOrEqual), "<="),
+    ];
+    for (line, kind, denoted) in rows {
+        let (token, found) = first_of(rt.alloc(), line)?;
+        assert_eq!(rt; token.map(|token| token.kind), Some(kind), "{line}");
+        assert_eq!(rt; found.as_str(), denoted, "{line}");
+    }
+    Ok(())
+}
+
+/// Whether the line begins with the keyword.
+fn is_first(alloc: Global, line: &str, keyword: Keyword) -> Result<bool, LexFault> {
+    let tokens = lex(alloc, line)?;
+    Ok(
+        tokens
+            .first()
+            .is_some_and(|token| token.is_keyword(keyword)),
+    )
+}
+
+/// Whether the word is the keyword, in capitals and in small letters.
+fn is_in_any_case(alloc: Global, word: &str, keyword: Keyword) -> Result<bool, LexFault> {
+    let small = word.to_ascii_lowercase(alloc)?;
+    Ok(is_first(alloc, word, keyword)? && is_first(alloc, small.as_str(), keyword)?)
+}
+
+#[test]
+fn keywords_in_any_case(rt: HostRuntime) -> Result<(), Fail> {
+    let rows = [
+        ("ALL", Keyword::All),
+        ("AND", Keyword::And),
+        ("AS", Keyword::As),
+        ("ASC", Keyword::Asc),
+        ("ASCENDING", Keyword::Ascending),
+        ("BY", Keyword::By),
+        ("CASE", Keyword::Case),
+        ("CONTAINS", Keyword::Contains),
+        ("CREATE", Keyword::Create),
+        ("DELETE", Keyword::Delete),
+        ("DESC", Keyword::Desc),
+        ("DESCENDING", Keyword::Descending),
+        ("DETACH", Keyword::Detach),
+        ("DISTINCT", Keyword::Distinct),
+        ("ELSE", Keyword::Else),
+        ("END", Keyword::End),
+        ("ENDS", Keyword::Ends),
+        ("FALSE", Keyword::False),
+        ("IN", Keyword::In),
+        ("IS", Keyword::Is),
+        ("LIMIT", Keyword::Limit),
+        ("MATCH", Keyword::Match),
+        ("NOT", Keyword::Not),
+        ("NULL", Keyword::Null),
+        ("OPTIONAL", Keyword::Optional),
+        ("OR", Keyword::Or),
+        ("ORDER", Keyword::Order),
+        ("REMOVE", Keyword::Remove),
+        ("RETURN", Keyword::Return),
+        ("SET", Keyword::Set),
+        ("SKIP", Keyword::Skip),
+        ("STARTS", Keyword::Starts),
+        ("THEN", Keyword::Then),
+        ("TRUE", Keyword::True),
+        ("UNION", Keyword::Union),
+        ("UNWIND", Keyword::Unwind),
+        ("WHEN", Keyword::When),
+        ("WHERE", Keyword::Where),
+        ("WITH", Keyword::With),
+        ("XOR", Keyword::Xor),
+    ];
+    for (word, keyword) in rows {
+        let found = is_in_any_case(rt.alloc(), word, keyword)?;
+        assert!(rt; found, "{word}");
+    }
+    Ok(())
+}
+
+/// The parts, one behind the other.
+fn joined(alloc: Global, parts: &[&str]) -> Result<String, LexFault> {
+    let mut line = String::new(alloc);
+    for part in parts {
+        line.push_str(part)?;
+    }
+    Ok(line)
+}
+
+/// The slices of two symbols that stand next to each other, or nothing where they open a comment.
+fn neighbours(alloc: Global, first: &str, second: &str) -> Result<String, LexFault> {
+    let slices = match (first, second) {
+        (".", ".") => "..|",
+        (".", "..") => "..|.|",
+        ("<", ">") => "<>|",
+        ("<", "=") => "<=|",
+        ("<", ">=") => "<>|=|",
+        (">", "=") => ">=|",
+        ("/", "/") | ("/", "*") => "",
+        _ => return joined(alloc, &[first, "|", second, "|"]),
+    };
+    Ok(String::from_str(alloc, slices)?)
+}
+
+#[test]
+fn symbols_next_to_symbols(rt: HostRuntime) -> Result<(), Fail> {
+    let symbols = [
+        "..", "<>", "<=", ">=", "(", ")", "[", "]", "{", "}", ",", ":", ";", ".", "|", "+", "-",
+        "*", "/", "%", "=", "<", ">",
+    ];
+    for first in symbols {
+        for second in symbols {
+            let line = joined(rt.alloc(), &[first, second])?;
+            let slices = neighbours(rt.alloc(), first, second)?;
+            let found = slices_of(rt.alloc(), line.as_str()).unwrap_or(String::new(rt.alloc()));
+            assert_eq!(rt; found.as_str(), slices.as_str(), "{line}");
+        }
+    }
+    Ok(())
+}
+
+/// A line of so many times the piece.
+fn repeated(alloc: Global, piece: &str, times: usize) -> Result<String, LexFault> {
+    let mut line = String::new(alloc);
+    for _ in 0..times {
+        line.push_str(piece)?;
+    }
+    Ok(line)
+}
+
+#[test]
+fn lines_of_full_length(rt: HostRuntime) -> Result<(), Fail> {
+    let rows = [
+        ("x", 65535, 0, None),
+        ("x", 65536, 0, None),
+        ("x", 65537, 17, Some(65536)),
+        ("..", 32768, 0, None),
+        ("..", 32769, 17, Some(65536)),
+        ("€", 21845, 10, Some(0)),
+        ("€", 21846, 17, Some(65536)),
+        ("/*-", 21845, 13, Some(0)),
+        ("/*-", 21846, 17, Some(65536)),
+    ];
+    for (piece, times, code, at) in rows {
+        let line = repeated(rt.alloc(), piece, times)?;
+        assert_eq!(rt;
+            fault_of(rt.alloc(), line.as_str()),
+            (code, at),
+            "{piece} {times}"
+        );
+        let text = text_of(line.as_bytes());
+        assert_eq!(rt; text.is_ok(), code != 17, "{piece} {times}");
+    }
+    Ok(())
+}
+
+#[test]
+fn texts_of_bytes(rt: HostRuntime) {
+    let rows = [
+        ([0xff, b'a', b'b', b'c'], 0),
+        ([b'a', 0xff, b'b', b'c'], 1),
+        ([b'a', 0xc3, 0xa9, 0xc3], 3),
+        ([b'a', 0xed, 0xa0, 0x80], 1),
+        ([0xf0, 0x9f, 0x98, b'a'], 0),
+        ([b'a', b'b', 0xc0, 0x80], 2),
+    ];
+    for (bytes, at) in rows {
+        assert_eq!(rt; text_of(&bytes).err(), Some(LexFault::NotUtf8(at)), "{at}");
+    }
+    assert_eq!(rt; text_of(&[0xf0, 0x9f, 0x98, 0x80]), Ok("😀"));
+    assert_eq!(rt; text_of(b""), Ok(""));
+}
+
+#[test]
+fn rows_of_the_definition() {
+    computed_rows();
+}
+
+/// Worked rows of the definition, each computed, where the characters that they begin with begin no name.
+fn computed_rows()
+    ensures nothing { tokens_of [] ≡ Ok [] }
+    ensures blanks { tokens_of (codes " /* a */ // b") ≡ Ok [] }
+    ensures comment { tokens_of (codes "/* a") ≡ Err (LexFault.UnclosedComment 0) }
+    ensures text { IsFalse (is_xid_start 39) → tokens_of (codes " 'ab") ≡ Err (LexFault.UnclosedText 1) }
+    ensures escape { IsFalse (is_xid_start 39) → tokens_of (codes "'a\\q") ≡ Err (LexFault.BadEscape 2) }
+    ensures surrogate { IsFalse (is_xid_start 39) → tokens_of (codes "'\\uD800'") ≡ Err (LexFault.BadEscape 1) }
+    ensures name { IsFalse (is_xid_start 96) → tokens_of (codes "`a") ≡ Err (LexFault.UnclosedName 0) }
+    ensures empty_name { IsFalse (is_xid_start 96) → tokens_of (codes "``") ≡ Err (LexFault.BadCharacter 0) }
+    ensures zero { IsFalse (is_xid_start 48) → tokens_of (codes "01") ≡ Err (LexFault.BadNumber 0) }
+    ensures character { IsFalse (is_xid_start 35) → tokens_of (codes "#") ≡ Err (LexFault.BadCharacter 0) }
+    ensures symbols { IsFalse (is_xid_start 60) → tokens_of (codes "< <=") ≡ Ok (record { kind = Kind.Symbol Symbol.Less; start = 0; end = 1 } ∷ record { kind = Kind.Symbol Symbol.LessOrEqual; start = 2; end = 4 } ∷ []) }
+{}

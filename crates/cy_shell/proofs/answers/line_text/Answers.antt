@@ -1,0 +1,9 @@
+use Rattle.std.proofs.Common.{sym, ◌∙◌}
+use Rattle.cy_shell.proofs.Kept.{kept_past, text_kept}
+use Rattle.cy_shell.proofs.answers.line_text.Goals as goal
+
+pub returns-in-None : goal.returns-in-None
+returns-in-None c = λ bytes is. kept_past bytes (sym (c.in-None.ensures ∙ is))
+
+pub returns-in-Some : goal.returns-in-Some
+returns-in-Some c = λ bytes is. text_kept bytes c.in-Some.bytes.now c.text_of.result (sym (c.in-Some.ensures ∙ is)) c.text_of.ensures

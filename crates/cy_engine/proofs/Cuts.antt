@@ -1,5 +1,5 @@
 -- Where the front of a text that is of one class ends, a character begins.
-use Rattle.std.proofs.Common.{◌≡◌, ℕ, zero, suc, ◌+◌, ◌-◌, ◌<◌, ◌≤◌, Bool, true, false, List, length, get_or, refl, sym, ap, subst, ◌∙◌, arith, ⊎_elim, add-one}
+use Rattle.std.proofs.Common.{◌≡◌, ℕ, zero, suc, ◌<◌, ◌≤◌, Bool, true, false, List, length, refl, subst, arith, ⊎_elim, add-one}
 use Rattle.std.specs.List.{prefix_len}
 use Rattle.std.specs.Str.{IsUtf8, IsCharBoundary}
 use Rattle.std.proofs.lemmas.Bool.{cases_lt}
@@ -25,7 +25,7 @@ after_ascii p ascii bs utf8 zero is = IsCharBoundary-start bs utf8
 after_ascii p ascii bs utf8 (suc n) is =
     let below : n < prefix_len p bs = omega arith in
     let in_range : n < length bs = omega (arith, prefix_len-le-length p bs) in
-    rw (← add-one) (IsCharBoundary-after_ascii bs n utf8 in_range (ascii _ (prefix_len_passes p bs n 0 below)))
+    subst (IsCharBoundary bs) (add-one n) (IsCharBoundary-after_ascii bs n utf8 in_range (ascii _ (prefix_len_passes p bs n 0 below)))
 
 -- and so does one that an ASCII byte ends
 before_ascii : (p : ℕ → Bool) → ((c : ℕ) → p c ≡ false → c < 128) → (bs : List ℕ) → IsCharBoundary bs (prefix_len p bs)

@@ -1,22 +1,18 @@
 -- Literals: what is read is in the grammar, and what is in the grammar is read.
-use Rattle.std.proofs.Common.{◌≡◌, ℕ, zero, suc, ◌+◌, ◌-◌, ◌<◌, ◌≤◌, ◌^◌, ◌≢◌, Bool, true, false, cond, ltb, leb, List, [], ◌∷◌, ◌++◌, length, codes, Option, Some, None, refl, sym, ap, subst, ◌∙◌, arith, lit<, ◌⊎◌, inl, inr, ⊎_elim, ℤ, pos}
+use Rattle.std.proofs.Common.{◌≡◌, ℕ, ◌-◌, ◌<◌, ◌≤◌, ◌^◌, ◌≢◌, true, false, cond, ltb, leb, List, [], ◌∷◌, ◌++◌, codes, Option, Some, None, refl, sym, ap, subst, ◌∙◌, arith, lit<, ◌⊎◌, inl, inr, ⊎_elim, ℤ, pos}
 use Rattle.std.specs.List.{list_all}
-use Rattle.std.specs.Fmt.{decimal}
 use Rattle.std.specs.Char.{is_ascii_alphabetic, is_ascii_digit}
-use Rattle.std.specs.Str.{all_ascii_digits}
-use Rattle.std.proofs.lemmas.Bool.{and_parts, ltb-true, lt-ltb, leb-true, le-leb}
+use Rattle.std.proofs.lemmas.Bool.{ltb-true, lt-ltb, leb-true, le-leb}
 use Rattle.std.proofs.lemmas.Bool.Decides.{nat_tests}
-use Rattle.std.proofs.lemmas.List.{append_assoc}
 use Rattle.std.proofs.lemmas.Option.{cond_some}
-use Rattle.std.proofs.lemmas.Fmt.{digits_decimal, decimal_nonempty}
 use Rattle.cy_values.specs.declared.scalars.Value.{Value}
 use Rattle.cy_values.specs.declared.scalars.Value.TheVariants as value
-use Rattle.cy_engine.specs.Words.{is_blank, is_plain, is_alike, front, behind, skip}
+use Rattle.cy_engine.specs.Words.{is_plain, front, behind, skip}
 use Rattle.cy_engine.specs.Grammar.{Symbol, Keyword, Digits, Literal, Positive, Negative, Quoted, True, False, Null, minus}
 use Rattle.cy_engine.specs.Reading.{◌>>=◌, or_else, without_front, symbol_at, keyword_at, number_at, negative_at, positive_at, signed_at, integer_at, quoted_at, word_at, constant_at, integer_value, text_value, literal_at}
-use Rattle.cy_engine.proofs.Texts.{stops, front_whole, front_passes, front_of, behind_of}
+use Rattle.cy_engine.proofs.Texts.{front_whole, front_passes, front_of, behind_of}
 use Rattle.cy_engine.proofs.Tokens.{bind_some, skip_gap, one_takes, symbol_takes, symbol_again, symbol_other, alike_letter, is_lettered, word_here, keyword_takes, keyword_again, keyword_other}
-use Rattle.cy_engine.proofs.Numbers.{own, number_takes, number_again, number_other, digits_here}
+use Rattle.cy_engine.proofs.Numbers.{number_takes, number_again, number_other, digits_here}
 
 pub or_else_some : {A : Type 0} (a b : Option A) (y : A) → or_else a b ≡ Some y → (a ≡ Some y) ⊎ ((a ≡ None) × (b ≡ Some y))
 or_else_some (Some x) b y e = inl e
@@ -24,6 +20,10 @@ or_else_some None b y e = inr (refl, e)
 
 pub some_is : {A : Type 0} (x y : A) → Some x ≡ Some y → x ≡ y
 some_is x y e = cc
+
+-- what holds of the value that was made holds of the one that was read
+pub at_read : {A : Type 0} (P : A → Type 0) (made x : A) → Some made ≡ Some x → P made → P x
+at_read P made x e h = subst P (some_is made x e) h
 
 -- ---- integers
 
@@ -75,7 +75,7 @@ quoted_takes text x e =
     let closed = bind_some (without_front (39 ∷ []) (behind is_plain inside.0)) (λ rest. Some (front is_plain inside.0, rest)) x inside.2 in
     let made : List ℕ × List ℕ = (front is_plain inside.0, closed.0) in
     let whole : inside.0 ≡ front is_plain inside.0 ++ 39 ∷ closed.0 = sym (front_whole is_plain inside.0) ∙ ap (λ (t : List ℕ). front is_plain inside.0 ++ t) (one_takes 39 (behind is_plain inside.0) closed.0 closed.1) in
-    subst (λ (y : List ℕ × List ℕ). Literal (value.Text y.0) text y.1) (some_is made x closed.2)
+    at_read (λ (y : List ℕ × List ℕ). Literal (value.Text y.0) text y.1) made x closed.2
     (Quoted (front is_plain inside.0) inside.0 (front_passes is_plain inside.0) (symbol_takes 39 text inside.0 (lit< tt) inside.1) whole)
 
 quoted_again : (characters text inside rest : List ℕ) → list_all is_plain characters ≡ true → Symbol 39 text inside → inside ≡ characters ++ 39 ∷ rest → quoted_at text ≡ Some (characters, rest)
@@ -154,13 +154,13 @@ literal_takes text x e =
     (λ (h : i ≡ Some x).
     let read = bind_some (integer_at text) integer_value x h in
     let made : Value × List ℕ = (value.Int read.0.0, read.0.1) in
-    subst Read (some_is made x read.2) (integer_takes text read.0 read.1))
+    at_read Read made x read.2 (integer_takes text read.0 read.1))
     (λ (g : (i ≡ None) × (or_else q (constant_at text) ≡ Some x)).
     ⊎_elim
     (λ (h : q ≡ Some x).
     let read = bind_some (quoted_at text) text_value x h in
     let made : Value × List ℕ = (value.Text read.0.0, read.0.1) in
-    subst Read (some_is made x read.2) (quoted_takes text read.0 read.1))
+    at_read Read made x read.2 (quoted_takes text read.0 read.1))
     (λ (k : (q ≡ None) × (constant_at text ≡ Some x)). constant_takes text x k.1)
     (or_else_some q (constant_at text) x g.1))
     (or_else_some i (or_else q (constant_at text)) x e)

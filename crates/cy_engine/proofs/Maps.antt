@@ -1,15 +1,15 @@
 -- Maps: what is read is in the grammar, and what is in the grammar is read; and the entries one after the other, as a loop reads them.
-use Rattle.std.proofs.Common.{◌≡◌, ℕ, zero, suc, ◌+◌, ◌-◌, ◌<◌, ◌≤◌, ◌≢◌, List, [], ◌∷◌, ◌++◌, length, Option, Some, None, refl, sym, ap, subst, ◌∙◌, arith, lit<}
+use Rattle.std.proofs.Common.{◌≡◌, ℕ, zero, suc, ◌-◌, ◌<◌, ◌≤◌, List, [], ◌∷◌, ◌++◌, length, Option, Some, None, refl, sym, ap, subst, ◌∙◌, arith, lit<}
 use Rattle.std.specs.Fmt.{decimal}
-use Rattle.std.proofs.lemmas.List.{append-nil, append_assoc, length-append}
+use Rattle.std.proofs.lemmas.List.{append_assoc, length-append}
 use Rattle.cy_values.specs.declared.scalars.Value.{Value}
 use Rattle.cy_engine.specs.declared.reading.Unread.{Unread}
 use Rattle.cy_engine.specs.declared.reading.Unread.TheVariants as unread
 use Rattle.cy_engine.specs.Words.{skip}
-use Rattle.cy_engine.specs.Grammar.{Symbol, Keyword, Name, Digits, Literal, Positive, Negative, Quoted, True, False, Null, Entry, Entries, Map}
+use Rattle.cy_engine.specs.Grammar.{Symbol, Name, Literal, Positive, Negative, Quoted, True, False, Null, Entry, Entries, Map}
 use Rattle.cy_engine.specs.Reading.{◌>>=◌, Fails, symbol_at, name_at, literal_at, key_at, entry_at, with_others, entries_at, all_entries_at, braced_at, map_at}
 use Rattle.cy_engine.proofs.Tokens.{bind_some, skip_gap, symbol_takes, symbol_again, symbol_other, name_takes, name_again}
-use Rattle.cy_engine.proofs.Literals.{some_is, literal_takes, literal_again}
+use Rattle.cy_engine.proofs.Literals.{some_is, at_read, literal_takes, literal_again}
 
 -- ---- what is read is shorter
 
@@ -43,7 +43,7 @@ entry_takes text x e =
     let key_made : List ℕ × List ℕ = (name.0.0, colon.0) in
     let same_key : key_made ≡ key.0 = some_is key_made key.0 colon.2 in
     let made : (List ℕ × Value) × List ℕ = ((key.0.0, literal.0.0), literal.0.1) in
-    subst (λ (y : (List ℕ × Value) × List ℕ). Entry y.0 text y.1) (some_is made x literal.2) (record {
+    at_read (λ (y : (List ℕ × Value) × List ℕ). Entry y.0 text y.1) made x literal.2 (record {
       after_name = name.0.1;
       after_colon = key.0.1;
       name = subst (λ (k : List ℕ × List ℕ). Name k.0 text name.0.1) same_key (name_takes text name.0 name.1);
@@ -72,11 +72,11 @@ entries_takes (suc n) text x e =
     elim o as (λ (p : Option (List ℕ)). symbol_at 44 entry.0.1 ≡ p → with_others entry.0 (λ next. entries_at n next) p ≡ Some x → Entries x.0 text x.1) [
       | None ↦ λ comma read.
           let made : List (List ℕ × Value) × List ℕ = (entry.0.0 ∷ [], entry.0.1) in
-          subst (λ (y : List (List ℕ × Value) × List ℕ). Entries y.0 text y.1) (some_is made x read) first
+          at_read (λ (y : List (List ℕ × Value) × List ℕ). Entries y.0 text y.1) made x read first
       | Some next ↦ λ comma read.
           let more = bind_some (entries_at n next) (λ more. Some (entry.0.0 ∷ more.0, more.1)) x read in
           let made : List (List ℕ × Value) × List ℕ = (entry.0.0 ∷ more.0.0, more.0.1) in
-          subst (λ (y : List (List ℕ × Value) × List ℕ). Entries y.0 text y.1) (some_is made x more.2)
+          at_read (λ (y : List (List ℕ × Value) × List ℕ). Entries y.0 text y.1) made x more.2
           (entries_more entry.0.0 more.0.0 text entry.0.1 next more.0.1 first (symbol_takes 44 entry.0.1 next (lit< tt) comma) (entries_takes n next more.0 more.1))
     ] in
     split (symbol_at 44 entry.0.1) refl entry.2
@@ -99,12 +99,12 @@ map_more (e ∷ es) text inside after rest opened entries closed = (inside, afte
 braced_takes : (text : List ℕ) (o : Option (List ℕ)) (x : List (List ℕ × Value) × List ℕ) → symbol_at 123 text ≡ o → braced_at o text ≡ Some x → Map x.0 text x.1
 braced_takes text None x opened e =
     let made : List (List ℕ × Value) × List ℕ = ([], text) in
-    subst (λ (y : List (List ℕ × Value) × List ℕ). Map y.0 text y.1) (some_is made x e) refl
+    at_read (λ (y : List (List ℕ × Value) × List ℕ). Map y.0 text y.1) made x e refl
 braced_takes text (Some inside) x opened e =
     let entries = bind_some (all_entries_at inside) (λ entries. symbol_at 125 entries.1 >>= λ rest. Some (entries.0, rest)) x e in
     let closed = bind_some (symbol_at 125 entries.0.1) (λ rest. Some (entries.0.0, rest)) x entries.2 in
     let made : List (List ℕ × Value) × List ℕ = (entries.0.0, closed.0) in
-    subst (λ (y : List (List ℕ × Value) × List ℕ). Map y.0 text y.1) (some_is made x closed.2)
+    at_read (λ (y : List (List ℕ × Value) × List ℕ). Map y.0 text y.1) made x closed.2
     (map_more entries.0.0 text inside entries.0.1 closed.0 (symbol_takes 123 text inside (lit< tt) opened) (entries_takes (suc (length inside)) inside entries.0 entries.1) (symbol_takes 125 entries.0.1 closed.0 (lit< tt) closed.1))
 
 pub map_takes : (text : List ℕ) (x : List (List ℕ × Value) × List ℕ) → map_at text ≡ Some x → Map x.0 text x.1

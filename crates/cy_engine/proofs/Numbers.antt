@@ -1,23 +1,23 @@
 -- Numbers: decimal digits with no leading zero.
-use Rattle.std.proofs.Common.{◌≡◌, ℕ, zero, suc, ◌+◌, ◌<◌, ◌≤◌, ◌^◌, ◌≢◌, Bool, true, false, cond, not, ◌&&◌, ltb, eqb, List, [], ◌∷◌, ◌++◌, length, get_or, Option, Some, None, Result, Ok, Err, refl, sym, ap, subst, ◌∙◌, arith, ⊎_elim}
+use Rattle.std.proofs.Common.{◌≡◌, ℕ, zero, suc, ◌<◌, ◌^◌, ◌≢◌, Bool, true, false, cond, ◌&&◌, ltb, eqb, List, [], ◌∷◌, ◌++◌, length, get_or, Option, Some, None, Result, Ok, Err, refl, sym, ap, subst, ◌∙◌, arith, ⊎_elim}
 use Rattle.std.specs.List.{list_all}
 use Rattle.std.specs.Result.{OkIff}
 use Rattle.std.specs.Fmt.{decimal}
 use Rattle.std.specs.Char.{is_ascii_digit}
 use Rattle.std.specs.Str.{all_ascii_digits}
 use Rattle.std.specs.Str.Parse.{digits_value, ParsesUnsigned}
-use Rattle.std.proofs.lemmas.Bool.{cases_Bool, and_parts, and_from, ltb-true, ltb-false, lt-ltb, le-ltb, eqb-true, ne_eqb, false_from_ne_true, not_from_false, and_cases, and_right, and_left}
+use Rattle.std.proofs.lemmas.Bool.{cases_Bool, and_parts, and_from, ltb-true, ltb-false, lt-ltb, ne_eqb, false_from_ne_true, not_from_false, and_cases, and_right}
 use Rattle.std.proofs.lemmas.Bool.Decides.{nat_tests}
 use Rattle.std.proofs.lemmas.List.{append_assoc}
 use Rattle.std.proofs.lemmas.List.Sums.{take_while-cons}
 use Rattle.std.proofs.lemmas.Option.{cond_some}
 use Rattle.std.proofs.lemmas.Str.Parse.{IsNumeralModel, numerals_by_value, tells_all_ascii_digits, parse_plain}
 use Rattle.std.proofs.lemmas.Fmt.{digits_decimal, digits_value-decimal, decimal-digits_value, decimal_nonempty, decimal_digit, first_decimal}
-use Rattle.cy_engine.specs.Words.{is_blank, continues_name, ends_word, front, behind, skip}
+use Rattle.cy_engine.specs.Words.{is_blank, continues_name, front, behind, skip}
 use Rattle.cy_engine.specs.Grammar.{Digits}
-use Rattle.cy_engine.specs.Reading.{◌>>=◌, leads_with_zero, is_numeral, number_of, number_at}
+use Rattle.cy_engine.specs.Reading.{leads_with_zero, is_numeral, number_of, number_at}
 use Rattle.cy_engine.proofs.Texts.{stops, stops_word, front_whole, front_passes, front_of, behind_of, behind_stops}
-use Rattle.cy_engine.proofs.Tokens.{bind_some, cond_none, skip_whole, skip_gap}
+use Rattle.cy_engine.proofs.Tokens.{bind_some, skip_whole, skip_gap}
 
 pub own : IsNumeralModel (λ ds. all_ascii_digits ds ≡ true) (digits_value 10)
 own = numerals_by_value (λ ds. all_ascii_digits ds ≡ true) tells_all_ascii_digits

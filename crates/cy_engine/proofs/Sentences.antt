@@ -1,20 +1,18 @@
 -- Statements and queries: what is read is in the grammar, and what is in the grammar is read.
-use Rattle.std.proofs.Common.{◌≡◌, ℕ, ◌+◌, ◌-◌, ◌<◌, ◌≤◌, Bool, true, false, cond, eqb, List, [], ◌∷◌, ◌++◌, length, take, codes, Option, Some, None, Result, Ok, Err, refl, sym, ap, subst, ◌∙◌, arith, lit<}
-use Rattle.std.specs.Prelude.{IfOk, IfErr}
-use Rattle.std.proofs.lemmas.Bool.{eqb-true, false_from_ne_true}
+use Rattle.std.proofs.Common.{◌≡◌, ℕ, ◌-◌, true, cond, List, [], ◌∷◌, ◌++◌, length, take, codes, Option, Some, None, refl, sym, ap, subst, ◌∙◌, arith, lit<}
+use Rattle.std.proofs.lemmas.Bool.{eqb-true}
 use Rattle.std.proofs.lemmas.List.{append-nil, append_assoc, length-append, take_at, nil_from_length}
 use Rattle.std.proofs.lemmas.Option.{cond_some}
-use Rattle.cy_values.specs.declared.scalars.Value.{Value}
 use Rattle.cy_engine.specs.declared.reading.Unread.{Unread}
 use Rattle.cy_engine.specs.declared.reading.Unread.TheVariants as unread
 use Rattle.cy_engine.specs.declared.trees.Create.{Create}
 use Rattle.cy_engine.specs.declared.trees.Query.{Query}
 use Rattle.cy_engine.specs.Words.{IsGap, is_blank, front, skip}
-use Rattle.cy_engine.specs.Grammar.{Symbol, Keyword, Name, Map, IsCreate, IsQuery}
+use Rattle.cy_engine.specs.Grammar.{Symbol, Keyword, Name, IsCreate, IsQuery}
 use Rattle.cy_engine.specs.Reading.{◌>>=◌, Fails, symbol_at, keyword_at, name_at, is_end, map_at, created_label_at, ends_behind, is_closed, create_at, pattern_at, item_at, query_at}
 use Rattle.cy_engine.proofs.Texts.{front_whole, front_passes, skip_twice}
 use Rattle.cy_engine.proofs.Tokens.{bind_some, skip_gap, word_here, symbol_takes, symbol_again, symbol_other, keyword_takes, keyword_again, name_takes, name_again}
-use Rattle.cy_engine.proofs.Literals.{some_is}
+use Rattle.cy_engine.proofs.Literals.{some_is, at_read}
 use Rattle.cy_engine.proofs.Maps.{map_takes, map_again}
 
 -- ---- the end
@@ -79,7 +77,7 @@ create_takes text tree e =
     let c = cond_some (is_closed m.0.1) made tree m.2 in
     let label = label_takes text l.0 l.1 in
     let closed = is_closed_takes m.0.1 c.0 in
-    subst (IsCreate text) c.1 (record {
+    subst (IsCreate text) {x = made} c.1 (record {
       after_create = label.after_create;
       after_open = label.after_open;
       after_colon = label.after_colon;
@@ -134,7 +132,7 @@ pattern_takes text x e =
     let f = bind_some (name_at d.0) (λ label. symbol_at 41 label.1 >>= λ after_close. Some ((c.0.0, label.0), after_close)) x d.2 in
     let g = bind_some (symbol_at 41 f.0.1) (λ after_close. Some ((c.0.0, f.0.0), after_close)) x f.2 in
     let made : (List ℕ × List ℕ) × List ℕ = ((c.0.0, f.0.0), g.0) in
-    subst (λ (y : (List ℕ × List ℕ) × List ℕ). Matched text y.0.0 y.0.1 y.1) (some_is made x g.2) (record {
+    at_read (λ (y : (List ℕ × List ℕ) × List ℕ). Matched text y.0.0 y.0.1 y.1) made x g.2 (record {
       after_match = a.0;
       after_open = b.0;
       after_variable = c.0.1;
@@ -169,6 +167,22 @@ column_is start returned after inner rest first second =
     let cut : length (returned ++ inner) ≡ length start - length rest = omega (arith, ap length whole, length-append (returned ++ inner) rest) in
     ap (take (length start - length rest)) whole ∙ take_at (returned ++ inner) rest (length start - length rest) cut
 
+-- the column runs from the first name to the last
+item_spelled : (text returned after dotted key rest : List ℕ) → Name returned text after → Symbol 46 after dotted → Name key dotted rest
+    → Returned text returned key (take (length (skip text) - length rest) (skip text)) rest
+item_spelled text returned after dotted key rest named dot keyed =
+    let inner = dot.gap ++ 46 ∷ (keyed.gap ++ key) in
+    let parts : after ≡ inner ++ rest = dot.is ∙ ap (λ (t : List ℕ). dot.gap ++ 46 ∷ t) keyed.is ∙ sym (append_assoc dot.gap (46 ∷ (keyed.gap ++ key)) rest) in
+    let here : skip text ≡ returned ++ after = word_here text named.gap returned after named.is named.blank named.named.0 in
+    record {
+      after_returned = after;
+      after_dot = dotted;
+      named = named;
+      dot = dot;
+      keyed = keyed;
+      spelled = (inner, column_is (skip text) returned after inner rest here parts, parts);
+    }
+
 item_takes : (text : List ℕ) (x : (List ℕ × List ℕ × List ℕ) × List ℕ) → item_at text ≡ Some x → Returned text x.0.0 x.0.1 x.0.2 x.1
 unfolding item_at
 item_takes text x e =
@@ -176,21 +190,8 @@ item_takes text x e =
     let a = bind_some (name_at (skip text)) (λ returned. symbol_at 46 returned.1 >>= λ after_dot. name_at after_dot >>= λ key. Some ((returned.0, key.0, cut key.1), key.1)) x e in
     let b = bind_some (symbol_at 46 a.0.1) (λ after_dot. name_at after_dot >>= λ key. Some ((a.0.0, key.0, cut key.1), key.1)) x a.2 in
     let c = bind_some (name_at b.0) (λ key. Some ((a.0.0, key.0, cut key.1), key.1)) x b.2 in
-    let named = name_takes text a.0 (sym (name_at-skip text) ∙ a.1) in
-    let dot = symbol_takes 46 a.0.1 b.0 (lit< tt) b.1 in
-    let keyed = name_takes b.0 c.0 c.1 in
-    let inner = dot.gap ++ 46 ∷ (keyed.gap ++ c.0.0) in
-    let parts : a.0.1 ≡ inner ++ c.0.1 = dot.is ∙ ap (λ (t : List ℕ). dot.gap ++ 46 ∷ t) keyed.is ∙ sym (append_assoc dot.gap (46 ∷ (keyed.gap ++ c.0.0)) c.0.1) in
-    let here : skip text ≡ a.0.0 ++ a.0.1 = word_here text named.gap a.0.0 a.0.1 named.is named.blank named.named.0 in
-    let made : (List ℕ × List ℕ × List ℕ) × List ℕ = ((a.0.0, c.0.0, cut c.0.1), c.0.1) in
-    subst (λ (y : (List ℕ × List ℕ × List ℕ) × List ℕ). Returned text y.0.0 y.0.1 y.0.2 y.1) (some_is made x c.2) (record {
-      after_returned = a.0.1;
-      after_dot = b.0;
-      named = named;
-      dot = dot;
-      keyed = keyed;
-      spelled = (inner, column_is (skip text) a.0.0 a.0.1 inner c.0.1 here parts, parts);
-    })
+    at_read (λ (y : (List ℕ × List ℕ × List ℕ) × List ℕ). Returned text y.0.0 y.0.1 y.0.2 y.1) ((a.0.0, c.0.0, cut c.0.1), c.0.1) x c.2
+    (item_spelled text a.0.0 a.0.1 b.0 c.0.0 c.0.1 (name_takes text a.0 (sym (name_at-skip text) ∙ a.1)) (symbol_takes 46 a.0.1 b.0 (lit< tt) b.1) (name_takes b.0 c.0 c.1))
 
 item_again : (text returned key column rest : List ℕ) → Returned text returned key column rest → item_at text ≡ Some ((returned, key, column), rest)
 unfolding item_at
@@ -214,7 +215,7 @@ query_takes text tree e =
     let d = cond_some (is_end c.0.1) made tree c.2 in
     let pattern = pattern_takes text a.0 a.1 in
     let item = item_takes b.0 c.0 c.1 in
-    subst (IsQuery text) d.1 (record {
+    subst (IsQuery text) {x = made} d.1 (record {
       after_match = pattern.after_match;
       after_open = pattern.after_open;
       after_variable = pattern.after_variable;
@@ -271,3 +272,11 @@ query_outside text none other h = none_some (query_at text) other none (query_ag
 
 pub query_unique : (text : List ℕ) (tree : Query) → query_at text ≡ Some tree → (other : Query) → IsQuery text other → tree ≡ other
 query_unique text tree read other h = some_is tree other (sym read ∙ query_again text other h)
+
+-- ---- a text has one tree at most
+
+pub one_create : (text : List ℕ) (tree other : Create) → IsCreate text tree → IsCreate text other → tree ≡ other
+one_create text tree other h k = create_unique text tree (create_again text tree h) other k
+
+pub one_query : (text : List ℕ) (tree other : Query) → IsQuery text tree → IsQuery text other → tree ≡ other
+one_query text tree other h k = query_unique text tree (query_again text tree h) other k

@@ -1,7 +1,7 @@
 -- The tokens: what is read is in the grammar, and what is in the grammar is read.
-use Rattle.std.proofs.Common.{◌≡◌, ℕ, zero, suc, ◌+◌, ◌<◌, ◌≢◌, Bool, true, false, cond, not, ◌&&◌, eqb, List, [], ◌∷◌, ◌++◌, length, take, drop, Option, Some, None, IsTrue, refl, sym, ap, subst, ◌∙◌, arith, ⊎_elim, Bor}
+use Rattle.std.proofs.Common.{◌≡◌, ℕ, ◌+◌, ◌<◌, ◌≢◌, Bool, true, false, cond, eqb, List, [], ◌∷◌, ◌++◌, length, drop, Option, Some, None, refl, sym, ap, subst, ◌∙◌, arith, ⊎_elim, Bor}
 use Rattle.std.specs.Prelude.{MatchOption}
-use Rattle.std.specs.List.{list_all, list_any}
+use Rattle.std.specs.List.{list_all}
 use Rattle.std.specs.Option.{option_map}
 use Rattle.std.specs.Char.{is_ascii_alphabetic, to_ascii_lowercase, encode_utf8}
 use Rattle.std.specs.Str.{str_to_ascii_lowercase}
@@ -12,7 +12,7 @@ use Rattle.std.proofs.lemmas.Bool.Decides.{nat_tests}
 use Rattle.std.proofs.lemmas.List.{append_assoc}
 use Rattle.std.proofs.lemmas.Option.{cond_some}
 use Rattle.std.proofs.lemmas.Str.{encode_ascii}
-use Rattle.cy_engine.specs.Words.{IsGap, IsName, is_blank, starts_name, continues_name, is_word, ends_word, is_alike, is_keyword, front, behind, skip, first_word}
+use Rattle.cy_engine.specs.Words.{IsGap, is_blank, starts_name, continues_name, is_word, ends_word, is_alike, is_keyword, front, skip, first_word}
 use Rattle.cy_engine.specs.Grammar.{Symbol, Keyword, Name}
 use Rattle.cy_engine.specs.Reading.{◌>>=◌, without_front, symbol_at, keyword_at, name_at}
 use Rattle.cy_engine.proofs.Texts.{stops, front_whole, front_passes, behind_of, word_no_blank, same_letter, first_word_takes, first_word_again}

@@ -1,5 +1,5 @@
 -- Reading from the left. Each function here reads what stands at the front of a text, and gives it with what is behind.
-use Rattle.std.specs.Prelude.{◌≡◌, ℕ, zero, suc, ◌-◌, ◌^◌, ◌==◌, Bool, not, ◌&&◌, List, [], ◌∷◌, length, take, codes, nat_lt, nat_le, slice_index, Option, Some, None, Result, Ok, Err, ℤ, pos, if◌then◌else◌}
+use Rattle.std.specs.Prelude.{◌≡◌, ℕ, zero, suc, ◌-◌, ◌^◌, ◌==◌, Bool, ◌&&◌, List, [], ◌∷◌, length, take, codes, nat_lt, nat_le, slice_index, Option, Some, None, Result, Ok, Err, ℤ, pos, if◌then◌else◌}
 use Rattle.std.specs.Char.{encode_utf8}
 use Rattle.std.specs.Str.{all_ascii_digits}
 use Rattle.std.specs.Str.Parse.{digits_value}

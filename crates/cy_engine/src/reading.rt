@@ -1,5 +1,5 @@
 //! Reads the statements and queries of the language. Each function reads what stands at the front of a text, and gives
-//! what is behind it.
+//! what is behind it. What takes no memory answers `None` where nothing of its kind stands there.
 
 ghost use Rattle.std.specs.Prelude.{◌≡◌, IfOk, IsErrOf};
 ghost use Rattle.std.specs.Option.{option_map};
@@ -164,6 +164,7 @@ fn constant(text: &str) -> Option<(Value, &str)>
     Some((Value::Null, rest))
 }
 
+// An integer, a text, a truth value or null. These begin differently, so at most one of them stands there.
 #[tactic(auto, unfolding(crate::specs::Reading::literal_at))]
 fn literal(alloc: Global, text: &str) -> Result<(Value, &str), Unread>
     ensures { Gives (λ x. (x.0, x.1.now)) result (literal_at text.now) }
@@ -299,6 +300,7 @@ struct Item<'a> {
     column: &'a str,
 }
 
+// `variable.key`, from its first token to its last.
 #[tactic(auto, unfolding(crate::specs::Reading::item_at))]
 fn returned_item(text: &str) -> Option<(Item<'_>, &str)>
     ensures { option_map (λ x. ((x.0.returned.now, x.0.key.now, x.0.column.now), x.1.now)) result ≡ item_at text.now }

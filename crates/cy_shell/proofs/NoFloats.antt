@@ -1,9 +1,8 @@
 -- No reply has a float, so its compact text is known.
-use Rattle.std.proofs.Common.{◌≡◌, ℕ, ℤ, pos, negsuc, List, [], ◌∷◌, map, false, ◌||◌, Option, Some, None, IfSome, refl}
+use Rattle.std.proofs.Common.{◌≡◌, ℕ, ℤ, pos, negsuc, List, [], ◌∷◌, false, Option, Some, None, IfSome, refl}
 use Rattle.serde_json.specs.Data.{Data}
 use Rattle.serde_json.specs.Find.{of_integer, is_float}
-use Rattle.serde_json.specs.View.{items_of}
-use Rattle.serde_json.specs.Written.{has_float, items_have_float}
+use Rattle.serde_json.specs.Written.{has_float}
 use Rattle.cy_values.specs.declared.scalars.Scalar.{Scalar}
 use Rattle.cy_values.specs.declared.scalars.Scalar.TheVariants as scalar
 use Rattle.cy_values.specs.declared.scalars.Value.{Value}

@@ -6,7 +6,7 @@ use Rattle.cy_engine.specs.Step.{EngineState}
 use Rattle.cy_shell.specs.Lines.{kept, ended_lines, begun_line}
 use Rattle.cy_shell.specs.Runs.{WritesRun, WritesBeginning}
 use Rattle.cy_shell.proofs.Chains.{no_lines, more_lines, breaks_later, breaks_before}
-use Rattle.cy_shell.proofs.Cuts.{is_end, EndsAt, EndsNowhere, ends_at, ends_nowhere}
+use Rattle.cy_shell.proofs.Cuts.{is_end, EndsAt, ends_at, ends_nowhere}
 
 -- the lines that have ended in a piece are answered, up to this rest of it
 pub record Served (begun piece : List ℕ) (start : EngineState) (line : Option (List ℕ)) (rest : List ℕ) (engine : EngineState) (before after : Option (List ℕ)) : Type 0 where

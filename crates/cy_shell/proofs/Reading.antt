@@ -1,11 +1,11 @@
 -- How far an input is read and served.
-use Rattle.std.proofs.Common.{◌≡◌, ℕ, ◌+◌, ◌≤◌, ◌<◌, ◌^◌, List, [], ◌++◌, length, take, drop, Bool, true, Option, Some, None, IfSome, refl, sym, ◌∙◌, ap, subst, ◌⊎◌, inl, inr, arith, length-drop}
+use Rattle.std.proofs.Common.{◌≡◌, ℕ, ◌+◌, ◌≤◌, ◌<◌, List, [], ◌++◌, length, take, drop, Bool, true, Option, Some, None, IfSome, refl, sym, ◌∙◌, ap, subst, ◌⊎◌, inl, inr, arith, length-drop}
 use Rattle.std.proofs.lemmas.List.{append-nil, take-append-drop, take_all, take-append-le, drop-drop, length-take-le}
 use Rattle.std.proofs.Math.Seq.{take-add}
 use Rattle.cy_engine.specs.Step.{EngineState}
 use Rattle.cy_shell.specs.Lines.{kept, ended_lines, begun_line, whole_lines, last_line, unless_empty, lines_of}
 use Rattle.cy_shell.specs.Runs.{WritesRun, WritesBeginning, WritesAll, input_limit, StopsReading, StopsWriting}
-use Rattle.cy_shell.specs.Streams.{MovesFront, TakesFront}
+use Rattle.cy_shell.specs.Streams.{TakesFront}
 use Rattle.cy_shell.proofs.Chains.{no_lines, more_lines, breaks_later, breaks_before}
 use Rattle.cy_shell.proofs.Cuts.{ended-append, begun-append}
 

@@ -1,5 +1,5 @@
 -- The JSON of replies and faults, with keys in the order of their letters.
-use Rattle.std.specs.Prelude.{ℕ, List, codes, Option, Some, None, Result, Ok, Err, unwrap_or, option_map}
+use Rattle.std.specs.Prelude.{ℕ, List, codes, Option, Some, None}
 use Rattle.serde_json.specs.Data.{Data, null, number, unsigned, string, array, object, item, no_items, member, no_members}
 use Rattle.cy_values.specs.declared.rows.Cell.{Cell}
 use Rattle.cy_engine.specs.declared.replies.Changed.{Changed}

@@ -1,7 +1,7 @@
-use Rattle.std.proofs.Common.{rules, ◌≡◌, ◌<◌, length, Some, sym, ap, ◌∙◌}
+use Rattle.std.proofs.Common.{rules, sym}
 use Rattle.std.proofs.lemmas.Result.{err_from_is_err_and}
 use Rattle.cy_engine.specs.Reading.{all_entries_at}
-use Rattle.cy_engine.proofs.Maps.{SoFar, goes_on, is_done, ends}
+use Rattle.cy_engine.proofs.Maps.{goes_on, is_done, ends}
 use Rattle.cy_engine.proofs.reading.entries.Goals as goal
 
 pub returns-in_err-entry : goal.returns-in_err-entry

@@ -1,5 +1,5 @@
-use Rattle.std.proofs.Common.{◌≡◌, Option, Some, None, refl, sym, ap, ◌∙◌}
-use Rattle.cy_engine.specs.Words.{continues_name, front, behind, skip}
+use Rattle.std.proofs.Common.{◌≡◌, Some, None, refl, sym, ◌∙◌}
+use Rattle.cy_engine.specs.Words.{continues_name, front, skip}
 use Rattle.cy_engine.specs.Reading.{number_of, number_at}
 use Rattle.cy_engine.proofs.Numbers.{parsed_at}
 use Rattle.cy_engine.proofs.reading.number.Goals as goal

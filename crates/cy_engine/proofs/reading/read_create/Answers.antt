@@ -1,6 +1,5 @@
-use Rattle.std.proofs.Common.{◌≡◌, Some, Err, sym, ◌∙◌}
+use Rattle.std.proofs.Common.{◌≡◌, Some}
 use Rattle.std.proofs.lemmas.Result.{err_from_is_err_and}
-use Rattle.cy_engine.specs.declared.reading.Unread.{Unread}
 use Rattle.cy_engine.specs.declared.reading.Unread.TheVariants as unread
 use Rattle.cy_engine.specs.declared.trees.Create.{Create}
 use Rattle.cy_engine.specs.Reading.{create_at}

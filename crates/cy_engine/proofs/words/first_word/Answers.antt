@@ -1,6 +1,6 @@
-use Rattle.std.proofs.Common.{◌≡◌, Bool, true, Some, refl, sym, ap, ◌∙◌, arith}
+use Rattle.std.proofs.Common.{◌≡◌, true, Some, refl, sym, ap, ◌∙◌, arith}
 use Rattle.std.specs.List.{slice_get}
-use Rattle.cy_engine.specs.Words.{continues_name, is_word, front, behind}
+use Rattle.cy_engine.specs.Words.{continues_name, is_word, front}
 use Rattle.cy_engine.proofs.Texts.{front_passes, run_is_word}
 use Rattle.cy_engine.proofs.words.first_word.Goals as goal
 

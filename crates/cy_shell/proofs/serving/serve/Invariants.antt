@@ -1,5 +1,5 @@
 use Rattle.std.proofs.Common.{◌-◌, ◌≡◌, ℕ, List, Some, false}
-use Rattle.cy_shell.proofs.Reading.{Reads, known_input}
+use Rattle.cy_shell.proofs.Reading.{Reads}
 use Rattle.cy_shell.proofs.serving.serve.Given as goal
 
 abbrev pub invariant-loop-total : goal.invariant-loop-total

@@ -1,4 +1,4 @@
-use Rattle.std.proofs.Common.{◌≤◌, ◌-◌, ◌∙◌, ap, arith, length, take, drop, length-drop}
+use Rattle.std.proofs.Common.{◌≤◌, ◌∙◌, ap, arith, length, take, drop, length-drop}
 use Rattle.std.proofs.lemmas.List.{take_rest}
 use Rattle.cy_shell.specs.Streams.{appended}
 use Rattle.cy_shell.proofs.Appends.{appended_more, front_appended}

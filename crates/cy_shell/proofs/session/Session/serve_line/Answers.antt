@@ -2,7 +2,6 @@ use Rattle.std.proofs.Common.{◌∙◌, ap, subst}
 use Rattle.std.proofs.lemmas.Result.{on_ok_weaker, on_err_weaker}
 use Rattle.cy_shell.specs.Streams.{appended, AppendsFront}
 use Rattle.cy_shell.proofs.Chains.{one_line, one_line_begun}
-use Rattle.cy_shell.proofs.Cuts.{ends_at, ends_nowhere}
 use Rattle.cy_shell.proofs.session.Session.serve_line.Goals as goal
 
 pub returns-clause-served : goal.returns-clause-served

@@ -1,4 +1,4 @@
-use Rattle.std.proofs.Common.{◌≡◌, ℕ, suc, ◌+◌, ◌-◌, List, [], ◌∷◌, ◌++◌, length, take, drop, sym, ◌∙◌, ap, subst, add-one}
+use Rattle.std.proofs.Common.{◌≡◌, ℕ, suc, ◌-◌, List, ◌++◌, length, take, drop, sym, ◌∙◌, ap, add-one}
 use Rattle.std.proofs.lemmas.List.{take_rest, drop-drop}
 use Rattle.cy_shell.specs.Lines.{kept}
 use Rattle.cy_shell.proofs.Outcomes.{on_err}

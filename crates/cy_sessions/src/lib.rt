@@ -1,6 +1,8 @@
-//! Sessions over the whole path of a line, from bytes to bytes. There is nothing here but tests.
+//! The engine's calls, and sessions over the whole path of a line, from bytes to bytes. There is nothing here but tests.
 #![tactic(auto)]
 
+#[cfg(test)]
+mod engine;
 #[cfg(test)]
 mod plain;
 #[cfg(test)]

@@ -3,11 +3,9 @@
 ghost use Rattle.std.specs.Prelude.{◌≡◌, ◌++◌, ℕ, ◌↔◌, List, [], IfOk, IsTrue, option_map};
 ghost use Rattle.cy_shell.specs.Lines.{kept};
 
+use cy_lexer::LONGEST_LINE;
 use std::alloc::{AllocError, Global};
 use std::marker::Model;
-
-/// How many bytes a line may have, without its LF.
-pub(crate) const LINE_LIMIT: usize = 65_536;
 
 /// The bytes of a line as far as it was read, or that they are too many. It has its room from the start.
 #[derive(Drop)]
@@ -32,7 +30,7 @@ impl LineBuffer {
         ensures { IfOk result (λ buffer. buffer ≡ kept []) }
     {
         Ok(LineBuffer {
-            bytes: Vec::with_capacity(alloc, LINE_LIMIT)?,
+            bytes: Vec::with_capacity(alloc, LONGEST_LINE)?,
             is_too_long: false,
         })
     }
@@ -62,7 +60,7 @@ impl LineBuffer {
         if self.is_too_long {
             return;
         }
-        if part.len() > LINE_LIMIT - self.bytes.len() {
+        if part.len() > LONGEST_LINE - self.bytes.len() {
             self.is_too_long = true;
             return;
         }

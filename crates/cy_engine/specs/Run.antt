@@ -1,8 +1,10 @@
 -- Runs of the engine: a list of lines, answered one after another.
 use Rattle.std.specs.Prelude.{◌≡◌, ℕ, List, [], ◌∷◌, Result, Ok, Err}
+use Rattle.cy_values.specs.declared.rows.Cell.{Cell}
 use Rattle.cy_engine.specs.declared.faults.Fault.{Fault}
 use Rattle.cy_engine.specs.declared.replies.Reply.{Reply}
-use Rattle.cy_engine.specs.Step.{EngineState, Step}
+use Rattle.cy_engine.specs.declared.replies.Reply.TheVariants as reply
+use Rattle.cy_engine.specs.Step.{EngineState, empty_engine, AreRows, Step}
 
 -- from old, the lines may be answered so, one step after another, and lead to new
 abbrev pub Run : EngineState → List (List ℕ) → List (Result Reply Fault) → EngineState → Type 0
@@ -22,7 +24,21 @@ accepted [] = []
 accepted (Ok reply ∷ results) = Ok reply ∷ accepted results
 accepted (Err fault ∷ results) = accepted results
 
--- A refused line changes nothing: every run has the answers and the end that it would have without its refused
+-- The headline, in two parts. After any list of lines, which an empty engine answered, the rows that answer the next
+-- line are, as a bag, exactly what the query of the view means on the current graph.
+abbrev pub RowsAreTheQuerys : Type 0
+RowsAreTheQuerys =
+    (history : ℕ) (lines : List (List ℕ)) (results : List (Result Reply Fault)) (now new : EngineState)
+    (line : List ℕ) (rows : List (List Cell × ℕ)) (tick : ℕ) (view : List ℕ)
+    → Run (empty_engine history) lines results now → Step now line (Ok (reply.Rows rows tick view)) new → AreRows now view rows
+
+-- And a next line that is refused leaves graph, next numbers, views and tick as they were.
+abbrev pub RefusedLinesChangeNothing : Type 0
+RefusedLinesChangeNothing =
+    (history : ℕ) (lines : List (List ℕ)) (results : List (Result Reply Fault)) (now new : EngineState) (line : List ℕ) (fault : Fault)
+    → Run (empty_engine history) lines results now → Step now line (Err fault) new → new ≡ now
+
+-- So refused lines leave no trace: every run has the answers and the end that it would have without its refused
 -- lines, graph, next numbers, views and tick included.
 abbrev pub RefusedLinesLeaveNoTrace : Type 0
 RefusedLinesLeaveNoTrace =

@@ -15,4 +15,4 @@ mod words;
 pub use engine::Engine;
 pub use faults::Fault;
 pub use replies::{Changed, Reply};
-pub use runs::{answer_all, refused_lines_leave_no_trace};
+pub use runs::{answer_all, headline};

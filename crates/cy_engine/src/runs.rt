@@ -1,7 +1,7 @@
 //! Runs over lists of lines.
 
 ghost use Rattle.std.specs.Prelude.{◌≡◌, IfErr, IfOk, OnErr, map};
-ghost use Rattle.cy_engine.specs.Run.{Run, RefusedLinesLeaveNoTrace};
+ghost use Rattle.cy_engine.specs.Run.{Run, RowsAreTheQuerys, RefusedLinesChangeNothing, RefusedLinesLeaveNoTrace};
 
 use crate::engine::Engine;
 use crate::faults::Fault;
@@ -25,8 +25,11 @@ pub fn answer_all(
     Ok(results)
 }
 
-/// A refused line changes nothing: every run has the answers and the end that it would have without its refused
-/// lines.
-pub fn refused_lines_leave_no_trace()
-    ensures { RefusedLinesLeaveNoTrace }
+/// The headline. After any list of lines a view's rows are, as a bag, exactly what its query means on the current graph,
+/// and a refused line leaves all as it was: every run has the answers and the end that it would have without its
+/// refused lines.
+pub fn headline()
+    ensures rows { RowsAreTheQuerys }
+    ensures refused { RefusedLinesChangeNothing }
+    ensures no_trace { RefusedLinesLeaveNoTrace }
 {}

@@ -51,10 +51,13 @@ pub(crate) fn print_reply(alloc: Global, reply: &Reply) -> Printed
     }
 }
 
-/// What is printed for a fault.
+/// What is printed for a fault. That no memory was left is told without taking any.
 pub(crate) fn print_fault(alloc: Global, at: Option<usize>, code: u16) -> Printed
     ensures { IsFaultText at code (printed_text result) }
 {
+    if code == 90 {
+        return Printed::NoMemory;
+    }
     match fault_text(alloc, at, code) {
         Ok(text) => Printed::Text(text),
         Err(AllocError) => Printed::NoMemory,

@@ -64,7 +64,7 @@ impl Token {
         }
     }
 
-    /// The text of the token, as it stands in its line. Of another line that has no such slice it is empty.
+    /// The text of the token, as it stands in its line. Of a line that has no such slice nothing is promised but a text.
     pub fn slice<'a>(&self, line: &'a str) -> &'a str
         ensures { IsSpanOf line.now self.now → result.now ≡ slice_of line.now self.now }
     {

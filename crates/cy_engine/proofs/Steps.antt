@@ -1,5 +1,5 @@
 -- Steps of the engine: a line that is refused, a statement that is carried out, a view that is made.
-use Rattle.std.proofs.Common.{◌≡◌, ◌≢◌, ℕ, ◌<◌, true, ◌&&◌, List, [], ◌∷◌, length, Result, Ok, Err, None, Some, IsSome, IsTrue, ◌+◌, ◌++◌, map, String, Global, refl, sym, ap, subst, ◌∙◌, inl, inr}
+use Rattle.std.proofs.Common.{◌≡◌, ℕ, ◌<◌, true, ◌&&◌, List, [], ◌∷◌, Ok, Err, ◌+◌, ◌++◌, map, String, Global, refl, ap, inl, inr}
 use Rattle.std.specs.List.{list_all}
 use Rattle.cy_values.specs.declared.scalars.Value.{Value}
 use Rattle.cy_engine.specs.declared.faults.Fault.{Fault}
@@ -12,7 +12,8 @@ use Rattle.cy_engine.specs.Asked.{asked, place_of, Statement, ViewOf}
 use Rattle.cy_engine.specs.Grammar.{IsCreate, IsQuery, Literal, Positive, Negative, Quoted, True, False, Null, Entries, Map}
 use Rattle.cy_engine.specs.Kept.{fault_of, state_of, view_of, named}
 use Rattle.cy_engine.specs.Meaning.{is_literal, AreLiterals, carried_out}
-use Rattle.cy_engine.specs.Step.{EngineState, View, Refused, MayMake, IsView, Carries, Makes, last_tick, view_at}
+use Rattle.cy_engine.specs.Parts.{MayMake}
+use Rattle.cy_engine.specs.Step.{EngineState, View, Refused, IsView, Carries, Makes, last_tick}
 use Rattle.cy_engine.specs.declared.replies.Changed.{Changed}
 use Rattle.cy_engine.specs.declared.views.Registered.{Registered}
 use Rattle.cy_graph.specs.Graph.{State, Versions}
@@ -21,12 +22,12 @@ use Rattle.cy_values.specs.declared.rows.Cell.{Cell}
 -- a statement that wasn't read
 pub unread_statement : (state : EngineState) (line text : List ℕ) → asked line ≡ Statement text → (u : Unread) → (u ≡ unread.Outside → (tree : Create) → IsCreate text tree → ⊥) → Refused state line (fault_of u (place_of text line))
 unread_statement state line text is unread.Outside outside = inl (text, is, refl, outside refl)
-unread_statement state line text is unread.NoMemory outside = tt
+unread_statement state line text is unread.NoMemory outside = rw is tt
 
 -- a query that wasn't read
 pub unread_query : (state : EngineState) (line name text : List ℕ) → asked line ≡ ViewOf name text → (u : Unread) → (u ≡ unread.Outside → (tree : Query) → IsQuery text tree → ⊥) → Refused state line (fault_of u (place_of text line))
 unread_query state line name text is unread.Outside outside = inr (name, text, is, refl, outside refl)
-unread_query state line name text is unread.NoMemory outside = tt
+unread_query state line name text is unread.NoMemory outside = rw is tt
 
 -- a view that may not be made
 pub view_refused : (state : EngineState) (line name : List ℕ) (tree : Query) → IsView line name tree → (f : Fault) → MayMake state name tree (Err f) → Refused state line f

@@ -5,6 +5,7 @@ pub mod Faults
 pub mod Grammar
 pub mod Kept
 pub mod Meaning
+pub mod Parts
 pub mod Reading
 pub mod Run
 pub mod Step

@@ -11,7 +11,7 @@ use Rattle.cy_engine.specs.declared.replies.Reply.{Reply}
 use Rattle.cy_engine.specs.declared.replies.Reply.TheVariants as reply
 use Rattle.cy_engine.specs.declared.trees.Create.{Create}
 use Rattle.cy_engine.specs.declared.trees.Query.{Query}
-use Rattle.cy_engine.specs.Asked.{asked, place_of, Blank, Statement, ViewOf, RowsOf, Wrong}
+use Rattle.cy_engine.specs.Asked.{Asked, asked, place_of, Blank, Statement, ViewOf, RowsOf, Wrong}
 use Rattle.cy_engine.specs.Grammar.{IsCreate, IsQuery}
 use Rattle.cy_engine.specs.Meaning.{carried_out, rows_of}
 
@@ -86,6 +86,15 @@ pub record AreRows (state : EngineState) (name : List ℕ) (rows : List (List Ce
   pub bag : IsBagOf (rows_of view.query state.graph.content) rows
   pub canonical : IsCanonical rows
 
+-- Which lines take memory, so that want of it may refuse them: statements, queries that are to be views, and the rows
+-- of a view that is there.
+abbrev pub TakesMemory : EngineState → Asked → Type 0
+TakesMemory state Blank = ⊥
+TakesMemory state (Statement text) = Unit {0}
+TakesMemory state (ViewOf name query) = Unit {0}
+TakesMemory state (RowsOf name) = IsSome (view_at name state)
+TakesMemory state (Wrong code) = ⊥
+
 -- why a line is refused, each reason only where none before it holds
 abbrev pub Refused : EngineState → List ℕ → Fault → Type 0
 Refused state line (fault.Unexpected at) =
@@ -100,25 +109,7 @@ Refused state line fault.Full =
 Refused state line fault.NoSuchView = (name : List ℕ) × (asked line ≡ RowsOf name) × (view_at name state ≡ None)
 Refused state line fault.UnknownCommand = asked line ≡ Wrong 70
 Refused state line fault.BadArgument = asked line ≡ Wrong 72
--- want of memory may refuse any line
-Refused state line fault.NoMemory = Unit {0}
-
--- whether a view may be made of a query, and why not
-abbrev pub MayMake : EngineState → List ℕ → Query → Result (Unit {0}) Fault → Type 0
-MayMake state name tree (Ok u) = (tree.returned ≡ tree.variable) × (view_at name state ≡ None) × (length state.views < view_limit) × (state.tick < last_tick)
-MayMake state name tree (Err fault.UnknownVariable) = tree.returned ≢ tree.variable
-MayMake state name tree (Err fault.ViewNameTaken) = (tree.returned ≡ tree.variable) × IsSome (view_at name state)
-MayMake state name tree (Err fault.TooManyViews) = (tree.returned ≡ tree.variable) × (view_at name state ≡ None) × (length state.views ≡ view_limit)
-MayMake state name tree (Err fault.Full) = (tree.returned ≡ tree.variable) × (view_at name state ≡ None) × (length state.views < view_limit) × (state.tick ≡ last_tick)
-MayMake state name tree (Err _) = ⊥
-
--- what is answered to `:rows`
-abbrev pub ShowsRows : EngineState → List ℕ → Result Reply Fault → Type 0
-ShowsRows state name (Ok (reply.Rows rows tick view)) = AreRows state name rows × (tick ≡ state.tick) × (view ≡ name)
-ShowsRows state name (Ok _) = ⊥
-ShowsRows state name (Err fault.NoSuchView) = view_at name state ≡ None
-ShowsRows state name (Err fault.NoMemory) = Unit {0}
-ShowsRows state name (Err _) = ⊥
+Refused state line fault.NoMemory = TakesMemory state (asked line)
 
 -- From old, the machine may answer the line so and go on to new. A refused line leaves all as it was.
 abbrev pub Step : EngineState → List ℕ → Result Reply Fault → EngineState → Type 0

@@ -3,7 +3,8 @@
 ghost use Rattle.std.specs.Prelude.{◌≡◌, ◌≤◌, ◌<◌, ◌⊎◌, ◌∷◌, [], length, None, IfErr, IfOk, IsSome, MatchResult, OnErr};
 ghost use Rattle.cy_engine.specs.Asked.{asked, Statement, ViewOf, place_of};
 ghost use Rattle.cy_engine.specs.Kept.{fault_of};
-ghost use Rattle.cy_engine.specs.Step.{AreRows, Step, ShowsRows, MayMake, empty_engine, last_tick, view_at, view_limit};
+ghost use Rattle.cy_engine.specs.Parts.{MayMake, ShowsRows};
+ghost use Rattle.cy_engine.specs.Step.{AreRows, Step, empty_engine, last_tick, view_at, view_limit};
 
 use crate::asked::{Asked, classify};
 use crate::faults::Fault;
@@ -63,7 +64,14 @@ impl Engine {
         }
     }
 
-    /// Answers a line.
+    /// Answers a line. A refused line leaves the engine as it was.
+    ///
+    /// A statement is `Unexpected` where it isn't one of the language, and `Full` where number 2^40 or the last tick was
+    /// given out. A view is, in this order, `Unexpected` where its query isn't one of the language, `UnknownVariable`
+    /// where it returns another variable than it matches, `ViewNameTaken`, `TooManyViews`, or `Full` where the last tick
+    /// was given out. Rows are refused as `NoSuchView`; other commands as `UnknownCommand`, and a command whose
+    /// arguments are missing or too many as `BadArgument`. `NoMemory` comes only of a statement, a view to be made, or
+    /// the rows of a view that is there.
     pub fn line(&mut self, line: &str) -> Result<Reply, Fault>
         ensures { Step self.old line.now result self.new }
     {
@@ -85,10 +93,10 @@ impl Engine {
     }
 
     /// The rows of a view with their counts: what its query means on the graph, each row once, in canonical order.
-    /// `NoSuchView` where there is no view of this name.
+    /// `NoSuchView` where there is no view of this name; else it fails only for want of memory.
     pub fn rows(&self, view: &str) -> Result<Vec<(Row, u64)>, Fault>
         ensures rows { IfOk result (λ rows. AreRows self.now view.now rows.items) }
-        ensures refused { IfErr result (λ fault. ((fault ≡ Fault.NoSuchView) × (view_at view.now self.now ≡ None)) ⊎ (fault ≡ Fault.NoMemory)) }
+        ensures refused { IfErr result (λ fault. ((fault ≡ Fault.NoSuchView) × (view_at view.now self.now ≡ None)) ⊎ ((fault ≡ Fault.NoMemory) × IsSome (view_at view.now self.now))) }
     {
         match self.views.get(view) {
             Some(found) => rows_with_counts(self.alloc, &found.query, &self.graph),

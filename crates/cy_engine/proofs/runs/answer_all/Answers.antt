@@ -1,6 +1,5 @@
-use Rattle.std.proofs.Common.{◌≡◌, ◌+◌, ◌++◌, ◌∷◌, [], ◌<◌, Bool, true, cond, length, take, map, get_or, is_ok, vec_len, ap, ◌∙◌, arith, List, ℕ, Bor}
+use Rattle.std.proofs.Common.{◌≡◌, ◌+◌, ◌++◌, ◌∷◌, [], ◌<◌, Bool, cond, length, take, map, get_or, is_ok, vec_len, ap, ◌∙◌, arith, List, ℕ, Bor}
 use Rattle.std.proofs.lemmas.List.{take_more, length-map, get_or-map}
-use Rattle.cy_engine.specs.Run.{Run}
 use Rattle.cy_engine.proofs.Chains.{run_more}
 use Rattle.cy_engine.proofs.runs.answer_all.Goals as goal
 use Rattle.cy_engine.proofs.runs.answer_all.Goals.{After-unwrap}

@@ -1,4 +1,4 @@
-use Rattle.std.proofs.Common.{◌≡◌, sym, subst}
+use Rattle.std.proofs.Common.{sym, subst}
 use Rattle.cy_graph.specs.Stored.{IsStorable}
 use Rattle.cy_engine.proofs.Setting.{set_next, literal_next, literals_left, storable_set}
 use Rattle.cy_engine.proofs.statements.props_of.Goals as goal

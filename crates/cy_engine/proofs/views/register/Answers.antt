@@ -1,4 +1,4 @@
-use Rattle.std.proofs.Common.{◌≡◌, ◌+◌, ◌∷◌, [], ◌++◌, List, ℕ, length, map, None, subst, sym, ap, ◌∙◌, arith, length-append}
+use Rattle.std.proofs.Common.{◌≡◌, ◌∷◌, [], ◌++◌, List, ℕ, length, map, None, subst, sym, ap, ◌∙◌, length-append}
 use Rattle.std.specs.String.{string_eq}
 use Rattle.indexmap.proofs.CallerLemmas.{insert_entry-new}
 use Rattle.cy_engine.specs.Kept.{registered_at, view_of}

@@ -2,7 +2,7 @@ use Rattle.std.proofs.Common.{◌≡◌, refl, ap, Err, None}
 use Rattle.cy_engine.specs.Step.{view_at}
 use Rattle.std.proofs.lemmas.Result.{err_from_is_err_and}
 use Rattle.cy_engine.proofs.Registry.{not_registered}
-use Rattle.cy_engine.proofs.Steps.{unread_query, view_refused, makes}
+use Rattle.cy_engine.proofs.Steps.{unread_query, view_refused}
 use Rattle.cy_engine.proofs.engine.Engine.make_view.Goals as goal
 
 pub returns-in-Err : goal.returns-in-Err

@@ -1,4 +1,4 @@
-use Rattle.std.proofs.Common.{◌≡◌, ◌<◌, length, map, None, IsSome, find, sym, ap, subst, ◌∙◌, arith}
+use Rattle.std.proofs.Common.{sym, ◌∙◌, arith}
 use Rattle.std.proofs.lemmas.List.{length-map}
 use Rattle.cy_engine.proofs.Registry.{same_texts, view_absent, view_present}
 use Rattle.cy_engine.specs.Kept.{view_of}

@@ -1,11 +1,11 @@
-use Rattle.std.proofs.Common.{◌≡◌, None, Some, sym, ap, ◌∙◌, ◌⊎◌, IfOk, inl, inr, is_some, refl, Result, Ok, Err}
+use Rattle.std.proofs.Common.{◌≡◌, IsSome, sym, ap, IfOk, inl, inr, is_some, refl, Result, Ok, Err}
 use Rattle.std.proofs.lemmas.Result.{IfErr-weaker}
 use Rattle.cy_values.specs.Bag.{IsBagOf, IsCanonical}
 use Rattle.cy_engine.specs.Meaning.{rows_of}
-use Rattle.cy_engine.specs.Step.{AreRows, view_at}
-use Rattle.cy_engine.specs.declared.faults.Fault.TheVariants.{NoSuchView, NoMemory}
+use Rattle.cy_engine.specs.Step.{view_at}
+use Rattle.cy_engine.specs.declared.faults.Fault.TheVariants.{NoMemory}
 use Rattle.cy_engine.specs.Kept.{named}
-use Rattle.cy_engine.proofs.Registry.{view_there, view_absent}
+use Rattle.cy_engine.proofs.Registry.{view_there, view_absent, view_present}
 use Rattle.cy_engine.proofs.engine.Engine.rows.Goals as goal
 use Rattle.cy_engine.proofs.engine.Engine.rows.Goals.{After-rows_with_counts}
 
@@ -29,7 +29,8 @@ returns-in-Some-clause-rows c =
 
 pub returns-in-Some-clause-refused : goal.returns-in-Some-clause-refused
 returns-in-Some-clause-refused c =
-    IfErr-weaker c.rows_with_counts.result (λ fault. fault ≡ NoMemory) (λ fault. ((fault ≡ NoSuchView) × (view_at c.args.view.now c.args.self.now ≡ None)) ⊎ (fault ≡ NoMemory)) (λ fault is. inr is) c.rows_with_counts.ensures.memory
+    let there : IsSome (view_at c.args.view.now c.args.self.now) = rw (← c.self.view_is) (view_present c.args.view.now c.self.inside.views.entries (sym (ap is_some c.in-Some.ensures.value))) in
+    IfErr-weaker c.rows_with_counts.result (λ fault. fault ≡ NoMemory) _ (λ fault is. inr (is, there)) c.rows_with_counts.ensures.memory
 
 pub returns-in-None-clause-refused : goal.returns-in-None-clause-refused
 returns-in-None-clause-refused c = inl (refl, rw (← c.self.view_is) (view_absent c.args.view.now c.self.inside.views.entries (sym (ap is_some c.in-None.ensures.value))))

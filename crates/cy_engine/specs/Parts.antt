@@ -1,0 +1,25 @@
+-- What the parts of the engine's work on a line promise one another. No public call is stated in these terms.
+use Rattle.std.specs.Prelude.{◌≡◌, ◌≢◌, ℕ, ◌<◌, List, length, IsSome, None, Result, Ok, Err}
+use Rattle.cy_engine.specs.declared.faults.Fault.{Fault}
+use Rattle.cy_engine.specs.declared.faults.Fault.TheVariants as fault
+use Rattle.cy_engine.specs.declared.replies.Reply.{Reply}
+use Rattle.cy_engine.specs.declared.replies.Reply.TheVariants as reply
+use Rattle.cy_engine.specs.declared.trees.Query.{Query}
+use Rattle.cy_engine.specs.Step.{EngineState, AreRows, last_tick, view_at, view_limit}
+
+-- whether a view may be made of a query, and why not
+abbrev pub MayMake : EngineState → List ℕ → Query → Result (Unit {0}) Fault → Type 0
+MayMake state name tree (Ok u) = (tree.returned ≡ tree.variable) × (view_at name state ≡ None) × (length state.views < view_limit) × (state.tick < last_tick)
+MayMake state name tree (Err fault.UnknownVariable) = tree.returned ≢ tree.variable
+MayMake state name tree (Err fault.ViewNameTaken) = (tree.returned ≡ tree.variable) × IsSome (view_at name state)
+MayMake state name tree (Err fault.TooManyViews) = (tree.returned ≡ tree.variable) × (view_at name state ≡ None) × (length state.views ≡ view_limit)
+MayMake state name tree (Err fault.Full) = (tree.returned ≡ tree.variable) × (view_at name state ≡ None) × (length state.views < view_limit) × (state.tick ≡ last_tick)
+MayMake state name tree (Err _) = ⊥
+
+-- what is answered to `:rows`
+abbrev pub ShowsRows : EngineState → List ℕ → Result Reply Fault → Type 0
+ShowsRows state name (Ok (reply.Rows rows tick view)) = AreRows state name rows × (tick ≡ state.tick) × (view ≡ name)
+ShowsRows state name (Ok _) = ⊥
+ShowsRows state name (Err fault.NoSuchView) = view_at name state ≡ None
+ShowsRows state name (Err fault.NoMemory) = IsSome (view_at name state)
+ShowsRows state name (Err _) = ⊥

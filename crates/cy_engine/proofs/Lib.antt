@@ -1,4 +1,5 @@
 pub mod Chains
+pub mod Changes
 pub mod Counting
 pub mod Cuts
 pub mod Items

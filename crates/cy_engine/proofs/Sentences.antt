@@ -8,7 +8,7 @@ use Rattle.cy_engine.specs.declared.reading.Unread.TheVariants as unread
 use Rattle.cy_engine.specs.declared.trees.Create.{Create}
 use Rattle.cy_engine.specs.declared.trees.Query.{Query}
 use Rattle.cy_engine.specs.Words.{IsGap, is_blank, front, skip}
-use Rattle.cy_engine.specs.Grammar.{Symbol, Keyword, Name, IsCreate, IsQuery}
+use Rattle.cy_engine.specs.Grammar.{Symbol, Keyword, Name, IsCreate, Pattern, IsQuery}
 use Rattle.cy_engine.specs.Reading.{◌>>=◌, Fails, symbol_at, keyword_at, name_at, is_end, map_at, created_label_at, ends_behind, is_closed, create_at, pattern_at, item_at, query_at}
 use Rattle.cy_engine.proofs.Texts.{front_whole, front_passes, skip_twice}
 use Rattle.cy_engine.proofs.Tokens.{bind_some, skip_gap, word_here, symbol_takes, symbol_again, symbol_other, keyword_takes, keyword_again, name_takes, name_again}
@@ -17,13 +17,13 @@ use Rattle.cy_engine.proofs.Maps.{map_takes, map_again}
 
 -- ---- the end
 
-end_takes : (text : List ℕ) → is_end text ≡ true → IsGap text
+pub end_takes : (text : List ℕ) → is_end text ≡ true → IsGap text
 end_takes text h =
     let nothing : skip text ≡ [] = nil_from_length (skip text) (eqb-true _ _ h) in
     let whole : front is_blank text ≡ text = sym (append-nil (front is_blank text)) ∙ ap (λ (t : List ℕ). front is_blank text ++ t) (sym nothing) ∙ front_whole is_blank text in
     subst IsGap whole (front_passes is_blank text)
 
-end_again : (text : List ℕ) → IsGap text → is_end text ≡ true
+pub end_again : (text : List ℕ) → IsGap text → is_end text ≡ true
 end_again text h =
     let nothing : skip text ≡ [] = skip_gap text text [] (sym (append-nil text)) h refl in
     rw nothing refl
@@ -109,20 +109,7 @@ create_again text tree h =
 
 -- ---- MATCH
 
-record Matched (text variable label rest : List ℕ) : Type 0 where
-  after_match : List ℕ
-  after_open : List ℕ
-  after_variable : List ℕ
-  after_colon : List ℕ
-  after_label : List ℕ
-  match : Keyword (codes "MATCH") text after_match
-  open_bracket : Symbol 40 after_match after_open
-  bound : Name variable after_open after_variable
-  colon : Symbol 58 after_variable after_colon
-  named : Name label after_colon after_label
-  close_bracket : Symbol 41 after_label rest
-
-pattern_takes : (text : List ℕ) (x : (List ℕ × List ℕ) × List ℕ) → pattern_at text ≡ Some x → Matched text x.0.0 x.0.1 x.1
+pub pattern_takes : (text : List ℕ) (x : (List ℕ × List ℕ) × List ℕ) → pattern_at text ≡ Some x → Pattern x.0.0 x.0.1 text x.1
 unfolding pattern_at
 pattern_takes text x e =
     let a = bind_some (keyword_at (codes "MATCH") text) (λ after_match. symbol_at 40 after_match >>= λ after_open. name_at after_open >>= λ variable. symbol_at 58 variable.1 >>= λ after_colon. name_at after_colon >>= λ label. symbol_at 41 label.1 >>= λ after_close. Some ((variable.0, label.0), after_close)) x e in
@@ -132,7 +119,7 @@ pattern_takes text x e =
     let f = bind_some (name_at d.0) (λ label. symbol_at 41 label.1 >>= λ after_close. Some ((c.0.0, label.0), after_close)) x d.2 in
     let g = bind_some (symbol_at 41 f.0.1) (λ after_close. Some ((c.0.0, f.0.0), after_close)) x f.2 in
     let made : (List ℕ × List ℕ) × List ℕ = ((c.0.0, f.0.0), g.0) in
-    at_read (λ (y : (List ℕ × List ℕ) × List ℕ). Matched text y.0.0 y.0.1 y.1) made x g.2 (record {
+    at_read (λ (y : (List ℕ × List ℕ) × List ℕ). Pattern y.0.0 y.0.1 text y.1) made x g.2 (record {
       after_match = a.0;
       after_open = b.0;
       after_variable = c.0.1;
@@ -140,11 +127,23 @@ pattern_takes text x e =
       after_label = f.0.1;
       match = keyword_takes (codes "MATCH") text a.0 a.1;
       open_bracket = symbol_takes 40 a.0 b.0 (lit< tt) b.1;
-      bound = name_takes b.0 c.0 c.1;
+      variable_is = name_takes b.0 c.0 c.1;
       colon = symbol_takes 58 c.0.1 d.0 (lit< tt) d.1;
-      named = name_takes d.0 f.0 f.1;
+      label_is = name_takes d.0 f.0 f.1;
       close_bracket = symbol_takes 41 f.0.1 g.0 (lit< tt) g.1;
     })
+
+pub pattern_again : (variable label text rest : List ℕ) → Pattern variable label text rest → pattern_at text ≡ Some ((variable, label), rest)
+unfolding pattern_at
+pattern_again variable label text rest h =
+    rw (
+      keyword_again (codes "MATCH") text h.after_match refl h.match,
+      symbol_again 40 h.after_match h.after_open (lit< tt) refl h.open_bracket,
+      name_again variable h.after_open h.after_variable h.variable_is,
+      symbol_again 58 h.after_variable h.after_colon (lit< tt) refl h.colon,
+      name_again label h.after_colon h.after_label h.label_is,
+      symbol_again 41 h.after_label rest (lit< tt) refl h.close_bracket,
+    ) refl
 
 record Returned (text returned key column rest : List ℕ) : Type 0 where
   after_returned : List ℕ
@@ -213,25 +212,14 @@ query_takes text tree e =
     let c = bind_some (item_at b.0) (λ item. cond (is_end item.1) (Some (record { variable = a.0.0.0; label = a.0.0.1; returned = item.0.0; key = item.0.1; column = item.0.2 })) None) tree b.2 in
     let made : Query = record { variable = a.0.0.0; label = a.0.0.1; returned = c.0.0.0; key = c.0.0.1; column = c.0.0.2 } in
     let d = cond_some (is_end c.0.1) made tree c.2 in
-    let pattern = pattern_takes text a.0 a.1 in
     let item = item_takes b.0 c.0 c.1 in
     subst (IsQuery text) {x = made} d.1 (record {
-      after_match = pattern.after_match;
-      after_open = pattern.after_open;
-      after_variable = pattern.after_variable;
-      after_colon = pattern.after_colon;
-      after_label = pattern.after_label;
-      after_close = a.0.1;
+      after_pattern = a.0.1;
       after_return = b.0;
       after_returned = item.after_returned;
       after_dot = item.after_dot;
       after_key = c.0.1;
-      match = pattern.match;
-      open_bracket = pattern.open_bracket;
-      variable = pattern.bound;
-      colon = pattern.colon;
-      label = pattern.named;
-      close_bracket = pattern.close_bracket;
+      pattern = pattern_takes text a.0 a.1;
       return = keyword_takes (codes "RETURN") a.0.1 b.0 b.1;
       returned = item.named;
       dot = item.dot;
@@ -241,24 +229,19 @@ query_takes text tree e =
     })
 
 pub query_again : (text : List ℕ) (tree : Query) → IsQuery text tree → query_at text ≡ Some tree
-unfolding query_at pattern_at
+unfolding query_at
 query_again text tree h =
     let item : Returned h.after_return tree.returned tree.key tree.column h.after_key = record { after_returned = h.after_returned; after_dot = h.after_dot; named = h.returned; dot = h.dot; keyed = h.key; spelled = h.column } in
     rw (
-      keyword_again (codes "MATCH") text h.after_match refl h.match,
-      symbol_again 40 h.after_match h.after_open (lit< tt) refl h.open_bracket,
-      name_again tree.variable h.after_open h.after_variable h.variable,
-      symbol_again 58 h.after_variable h.after_colon (lit< tt) refl h.colon,
-      name_again tree.label h.after_colon h.after_label h.label,
-      symbol_again 41 h.after_label h.after_close (lit< tt) refl h.close_bracket,
-      keyword_again (codes "RETURN") h.after_close h.after_return refl h.return,
+      pattern_again tree.variable tree.label text h.after_pattern h.pattern,
+      keyword_again (codes "RETURN") h.after_pattern h.after_return refl h.return,
       item_again h.after_return tree.returned tree.key tree.column h.after_key item,
       end_again h.after_key h.end,
     ) refl
 
 -- ---- what is outside
 
-none_some : {A : Type 0} (o : Option A) (x : A) → o ≡ None → o ≡ Some x → ⊥
+pub none_some : {A : Type 0} (o : Option A) (x : A) → o ≡ None → o ≡ Some x → ⊥
 none_some o x none some = let e : None ≡ Some x = sym none ∙ some in absurd (cc)
 
 pub create_outside : (text : List ℕ) (why : Unread) → Fails why (create_at text) → why ≡ unread.Outside → (other : Create) → IsCreate text other → ⊥

@@ -6,7 +6,11 @@ use Rattle.std.specs.Fmt.{decimal}
 use Rattle.cy_values.specs.declared.scalars.Value.{Value}
 use Rattle.cy_values.specs.declared.scalars.Value.TheVariants as value
 use Rattle.cy_engine.specs.declared.trees.Create.{Create}
+use Rattle.cy_engine.specs.declared.trees.DetachDelete.{DetachDelete}
 use Rattle.cy_engine.specs.declared.trees.Query.{Query}
+use Rattle.cy_engine.specs.declared.trees.SetProperty.{SetProperty}
+use Rattle.cy_engine.specs.declared.trees.Statement.{Statement}
+use Rattle.cy_engine.specs.declared.trees.Statement.TheVariants as statement
 use Rattle.cy_engine.specs.Words.{IsGap, ends_word, is_alike, is_plain, IsName}
 
 -- a character, as a colon
@@ -88,25 +92,65 @@ pub record IsCreate (text : List ℕ) (tree : Create) : Type 0 where
   pub close_bracket : Symbol 41 after_map after_close
   pub end : IsGap after_close
 
--- the text is `MATCH (variable:label) RETURN returned.key`
-pub record IsQuery (text : List ℕ) (tree : Query) : Type 0 where
+-- `MATCH (variable:label)`
+pub record Pattern (variable label text rest : List ℕ) : Type 0 where
   pub after_match : List ℕ
   pub after_open : List ℕ
   pub after_variable : List ℕ
   pub after_colon : List ℕ
   pub after_label : List ℕ
-  pub after_close : List ℕ
+  pub match : Keyword (codes "MATCH") text after_match
+  pub open_bracket : Symbol 40 after_match after_open
+  pub variable_is : Name variable after_open after_variable
+  pub colon : Symbol 58 after_variable after_colon
+  pub label_is : Name label after_colon after_label
+  pub close_bracket : Symbol 41 after_label rest
+
+-- the text is `MATCH (variable:label) SET target.key = value`
+pub record IsSet (text : List ℕ) (tree : SetProperty) : Type 0 where
+  pub after_pattern : List ℕ
+  pub after_set : List ℕ
+  pub after_target : List ℕ
+  pub after_dot : List ℕ
+  pub after_key : List ℕ
+  pub after_equals : List ℕ
+  pub after_value : List ℕ
+  pub pattern : Pattern tree.variable tree.label text after_pattern
+  pub set : Keyword (codes "SET") after_pattern after_set
+  pub target : Name tree.target after_set after_target
+  pub dot : Symbol 46 after_target after_dot
+  pub key : Name tree.key after_dot after_key
+  pub equals : Symbol 61 after_key after_equals
+  pub value : Literal tree.value after_equals after_value
+  pub end : IsGap after_value
+
+-- the text is `MATCH (variable:label) DETACH DELETE target`
+pub record IsDelete (text : List ℕ) (tree : DetachDelete) : Type 0 where
+  pub after_pattern : List ℕ
+  pub after_detach : List ℕ
+  pub after_delete : List ℕ
+  pub after_target : List ℕ
+  pub pattern : Pattern tree.variable tree.label text after_pattern
+  pub detach : Keyword (codes "DETACH") after_pattern after_detach
+  pub delete : Keyword (codes "DELETE") after_detach after_delete
+  pub target : Name tree.target after_delete after_target
+  pub end : IsGap after_target
+
+-- the text is this statement
+abbrev pub Says : List ℕ → Statement → Type 0
+Says text (statement.Create tree) = IsCreate text tree
+Says text (statement.Set tree) = IsSet text tree
+Says text (statement.Delete tree) = IsDelete text tree
+
+-- the text is `MATCH (variable:label) RETURN returned.key`
+pub record IsQuery (text : List ℕ) (tree : Query) : Type 0 where
+  pub after_pattern : List ℕ
   pub after_return : List ℕ
   pub after_returned : List ℕ
   pub after_dot : List ℕ
   pub after_key : List ℕ
-  pub match : Keyword (codes "MATCH") text after_match
-  pub open_bracket : Symbol 40 after_match after_open
-  pub variable : Name tree.variable after_open after_variable
-  pub colon : Symbol 58 after_variable after_colon
-  pub label : Name tree.label after_colon after_label
-  pub close_bracket : Symbol 41 after_label after_close
-  pub return : Keyword (codes "RETURN") after_close after_return
+  pub pattern : Pattern tree.variable tree.label text after_pattern
+  pub return : Keyword (codes "RETURN") after_pattern after_return
   pub returned : Name tree.returned after_return after_returned
   pub dot : Symbol 46 after_returned after_dot
   pub key : Name tree.key after_dot after_key

@@ -8,7 +8,9 @@ use Rattle.cy_values.specs.declared.scalars.Value.TheVariants as value
 use Rattle.cy_engine.specs.declared.reading.Unread.{Unread}
 use Rattle.cy_engine.specs.declared.reading.Unread.TheVariants as unread
 use Rattle.cy_engine.specs.declared.trees.Create.{Create}
+use Rattle.cy_engine.specs.declared.trees.DetachDelete.{DetachDelete}
 use Rattle.cy_engine.specs.declared.trees.Query.{Query}
+use Rattle.cy_engine.specs.declared.trees.SetProperty.{SetProperty}
 use Rattle.cy_engine.specs.Words.{continues_name, front, behind, skip, first_word, is_alike, is_keyword, is_plain}
 use Rattle.cy_engine.specs.Grammar.{minus}
 
@@ -184,6 +186,36 @@ pattern_at text = do
   label ← name_at after_colon
   after_close ← symbol_at 41 label.1
   Some ((variable.0, label.0), after_close)
+
+-- `SET target.key =`
+unfoldable pub set_target_at : List ℕ → Option ((List ℕ × List ℕ) × List ℕ)
+set_target_at text = do
+  after_set ← keyword_at (codes "SET") text
+  target ← name_at after_set
+  after_dot ← symbol_at 46 target.1
+  key ← name_at after_dot
+  after_equals ← symbol_at 61 key.1
+  Some ((target.0, key.0), after_equals)
+
+unfoldable pub set_at : List ℕ → Option SetProperty
+set_at text = do
+  pattern ← pattern_at text
+  target ← set_target_at pattern.1
+  value ← literal_at target.1
+  if is_end value.1 then Some (record { variable = pattern.0.0; label = pattern.0.1; target = target.0.0; key = target.0.1; value = value.0 }) else None
+
+-- `DETACH DELETE target`
+unfoldable pub deleted_at : List ℕ → Option (List ℕ × List ℕ)
+deleted_at text = do
+  after_detach ← keyword_at (codes "DETACH") text
+  after_delete ← keyword_at (codes "DELETE") after_detach
+  name_at after_delete
+
+unfoldable pub delete_at : List ℕ → Option DetachDelete
+delete_at text = do
+  pattern ← pattern_at text
+  target ← deleted_at pattern.1
+  if is_end target.1 then Some (record { variable = pattern.0.0; label = pattern.0.1; target = target.0 }) else None
 
 -- `variable.key`, with the text of it as it stands
 unfoldable pub item_at : List ℕ → Option ((List ℕ × List ℕ × List ℕ) × List ℕ)

@@ -5,11 +5,14 @@ ghost use Rattle.std.specs.Prelude.{◌≡◌, IfOk, IsErrOf};
 ghost use Rattle.std.specs.Option.{option_map};
 ghost use Rattle.cy_engine.specs.declared.reading.Unread.TheVariants.{NoMemory};
 ghost use Rattle.cy_engine.specs.declared.trees.Create.{Create};
+ghost use Rattle.cy_engine.specs.declared.trees.DetachDelete.{DetachDelete};
 ghost use Rattle.cy_engine.specs.declared.trees.Query.{Query};
-ghost use Rattle.cy_engine.specs.Grammar.{IsCreate, IsQuery};
-ghost use Rattle.cy_engine.specs.Reading.{Gives, symbol_at, keyword_at, name_at, is_end, leads_with_zero, number_at, negative_at, positive_at, integer_at, quoted_at, constant_at, literal_at, key_at, entry_at, all_entries_at, map_at, created_label_at, is_closed, create_at, pattern_at, item_at, query_at};
+ghost use Rattle.cy_engine.specs.declared.trees.SetProperty.{SetProperty};
+ghost use Rattle.cy_engine.specs.declared.trees.Statement.{Statement};
+ghost use Rattle.cy_engine.specs.Grammar.{IsCreate, IsDelete, IsQuery, IsSet, Says};
+ghost use Rattle.cy_engine.specs.Reading.{Gives, symbol_at, keyword_at, name_at, is_end, leads_with_zero, number_at, negative_at, positive_at, integer_at, quoted_at, constant_at, literal_at, key_at, entry_at, all_entries_at, map_at, created_label_at, is_closed, create_at, pattern_at, set_target_at, set_at, deleted_at, delete_at, item_at, query_at};
 
-use crate::trees::{Create, Query};
+use crate::trees::{Create, DetachDelete, Query, SetProperty, Statement};
 use crate::words::{Class, first_word, is_alike, is_keyword, skip, split_front};
 use cy_values::{Sequence, Text, Value};
 use std::alloc::{AllocError, AllocFailed, Global};
@@ -290,6 +293,107 @@ fn matched(text: &str) -> Option<(Pattern<'_>, &str)>
     let (variable, rest) = name(symbol(keyword(text, "MATCH")?, '(')?)?;
     let (label, rest) = name(symbol(rest, ':')?)?;
     Some((Pattern { variable, label }, symbol(rest, ')')?))
+}
+
+// What SET sets: a property of a variable.
+#[derive(Clone, Copy)]
+struct Target<'a> {
+    variable: &'a str,
+    key: &'a str,
+}
+
+// `SET target.key =`.
+#[tactic(auto, unfolding(crate::specs::Reading::set_target_at))]
+fn set_target(text: &str) -> Option<(Target<'_>, &str)>
+    ensures { option_map (λ x. ((x.0.variable.now, x.0.key.now), x.1.now)) result ≡ set_target_at text.now }
+{
+    let (variable, rest) = name(keyword(text, "SET")?)?;
+    let (key, rest) = name(symbol(rest, '.')?)?;
+    Some((Target { variable, key }, symbol(rest, '=')?))
+}
+
+// The parts of `MATCH (variable:label) SET target.key = value`, the whole of a text.
+#[tactic(auto, unfolding(crate::specs::Reading::set_at))]
+fn assigned(alloc: Global, text: &str) -> Result<(Pattern<'_>, Target<'_>, Value), Unread>
+    ensures { Gives (λ x. record { variable = x.0.variable.now; label = x.0.label.now; target = x.1.variable.now; key = x.1.key.now; value = x.2 }) result (set_at text.now) }
+{
+    let (pattern, rest) = matched(text).ok_or(Unread::Outside)?;
+    let (target, rest) = set_target(rest).ok_or(Unread::Outside)?;
+    let (value, rest) = literal(alloc, rest)?;
+    if !is_end(rest) {
+        return Err(Unread::Outside);
+    }
+    Ok((pattern, target, value))
+}
+
+// Reads `MATCH (variable:label) SET target.key = value`, the whole of a text.
+fn read_set(alloc: Global, text: &str) -> Result<SetProperty, Unread>
+    ensures found { IfOk result (λ tree. IsSet text.now tree) }
+    ensures outside { IsErrOf result Unread.Outside → (other : SetProperty) → IsSet text.now other → ⊥ }
+{
+    let (pattern, target, value) = assigned(alloc, text)?;
+    Ok(SetProperty {
+        variable: Text::from_str(alloc, pattern.variable)?,
+        label: Text::from_str(alloc, pattern.label)?,
+        target: Text::from_str(alloc, target.variable)?,
+        key: Text::from_str(alloc, target.key)?,
+        value,
+    })
+}
+
+// `DETACH DELETE target`.
+#[tactic(auto, unfolding(crate::specs::Reading::deleted_at))]
+fn deleted(text: &str) -> Option<(&str, &str)>
+    ensures { option_map (λ x. (x.0.now, x.1.now)) result ≡ deleted_at text.now }
+{
+    name(keyword(keyword(text, "DETACH")?, "DELETE")?)
+}
+
+// The parts of `MATCH (variable:label) DETACH DELETE target`, the whole of a text.
+#[tactic(auto, unfolding(crate::specs::Reading::delete_at))]
+fn removed(text: &str) -> Option<(Pattern<'_>, &str)>
+    ensures { option_map (λ x. record { variable = x.0.variable.now; label = x.0.label.now; target = x.1.now }) result ≡ delete_at text.now }
+{
+    let (pattern, rest) = matched(text)?;
+    let (target, rest) = deleted(rest)?;
+    if is_end(rest) {
+        Some((pattern, target))
+    } else {
+        None
+    }
+}
+
+// Reads `MATCH (variable:label) DETACH DELETE target`, the whole of a text.
+fn read_delete(alloc: Global, text: &str) -> Result<DetachDelete, Unread>
+    ensures found { IfOk result (λ tree. IsDelete text.now tree) }
+    ensures outside { IsErrOf result Unread.Outside → (other : DetachDelete) → IsDelete text.now other → ⊥ }
+{
+    let (pattern, target) = removed(text).ok_or(Unread::Outside)?;
+    Ok(DetachDelete {
+        variable: Text::from_str(alloc, pattern.variable)?,
+        label: Text::from_str(alloc, pattern.label)?,
+        target: Text::from_str(alloc, target)?,
+    })
+}
+
+/// Reads a statement, the whole of a text. Each form is tried where the one before it is outside.
+pub(crate) fn read_statement(alloc: Global, text: &str) -> Result<Statement, Unread>
+    // What is read is what the text says.
+    ensures found { IfOk result (λ tree. Says text.now tree) }
+    // What is outside says nothing.
+    ensures outside { IsErrOf result Unread.Outside → (other : Statement) → Says text.now other → ⊥ }
+{
+    match read_create(alloc, text) {
+        Ok(tree) => return Ok(Statement::Create(tree)),
+        Err(Unread::NoMemory) => return Err(Unread::NoMemory),
+        Err(Unread::Outside) => {}
+    }
+    match read_set(alloc, text) {
+        Ok(tree) => return Ok(Statement::Set(tree)),
+        Err(Unread::NoMemory) => return Err(Unread::NoMemory),
+        Err(Unread::Outside) => {}
+    }
+    Ok(Statement::Delete(read_delete(alloc, text)?))
 }
 
 // What RETURN gives: a property of a variable. The column is the item as it stands.

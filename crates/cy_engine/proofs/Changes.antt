@@ -1,11 +1,11 @@
 -- SET and DETACH DELETE: what is read is in the grammar, and what is in the grammar is read.
-use Rattle.std.proofs.Common.{◌≡◌, ℕ, cond, List, codes, Option, Some, None, refl, sym, subst, ◌∙◌, lit<}
+use Rattle.std.proofs.Common.{◌≡◌, ℕ, cond, List, codes, Some, None, refl, subst, lit<}
 use Rattle.std.proofs.lemmas.Option.{cond_some}
 use Rattle.cy_engine.specs.declared.reading.Unread.{Unread}
 use Rattle.cy_engine.specs.declared.reading.Unread.TheVariants as unread
 use Rattle.cy_engine.specs.declared.trees.DetachDelete.{DetachDelete}
 use Rattle.cy_engine.specs.declared.trees.SetProperty.{SetProperty}
-use Rattle.cy_engine.specs.Grammar.{Symbol, Keyword, Name, Pattern, IsSet, IsDelete}
+use Rattle.cy_engine.specs.Grammar.{Symbol, Keyword, Name, IsSet, IsDelete}
 use Rattle.cy_engine.specs.Reading.{◌>>=◌, Fails, symbol_at, keyword_at, name_at, is_end, literal_at, pattern_at, set_target_at, set_at, deleted_at, delete_at}
 use Rattle.cy_engine.proofs.Literals.{at_read, literal_takes, literal_again}
 use Rattle.cy_engine.proofs.Sentences.{end_takes, end_again, pattern_takes, pattern_again, none_some}

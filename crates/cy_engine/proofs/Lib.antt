@@ -2,6 +2,7 @@ pub mod Chains
 pub mod Changes
 pub mod Counting
 pub mod Cuts
+pub mod Each
 pub mod Items
 pub mod Literals
 pub mod Maps

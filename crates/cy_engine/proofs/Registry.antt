@@ -1,11 +1,15 @@
 -- Looking a view up by its name.
-use Rattle.std.proofs.Common.{◌≡◌, ℕ, true, false, cond, not, List, [], ◌∷◌, ◌++◌, map, find, Option, Some, None, String, Global, string_bytes, is_some, refl, sym, ap, ◌∙◌}
+use Rattle.std.proofs.Common.{◌≡◌, ℕ, Bool, true, false, cond, not, List, [], ◌∷◌, ◌++◌, map, find, Option, Some, None, String, Global, string_bytes, is_some, refl, sym, ap, ◌∙◌}
 use Rattle.std.specs.Option.{option_map}
 use Rattle.std.specs.Str.{bytes_eq}
 use Rattle.std.proofs.lemmas.Slice.Eq.{bytes_eq-Decides}
 use Rattle.cy_engine.specs.declared.views.Registered.{Registered}
 use Rattle.cy_engine.specs.Kept.{view_of, named, registered_at}
 use Rattle.cy_engine.specs.Step.{View}
+
+pub not_other : (b : Bool) → not b ≡ false → b ≡ true
+not_other true h = refl
+not_other false h = cc
 
 pub same_texts : (a b : List ℕ) → not (bytes_eq a b) ≡ false → a ≡ b
 same_texts a b h =

@@ -1,26 +1,27 @@
 -- Steps of the engine: a line that is refused, a statement that is carried out, a view that is made.
-use Rattle.std.proofs.Common.{◌≡◌, ℕ, ◌<◌, true, ◌&&◌, List, [], ◌∷◌, Ok, Err, ◌+◌, ◌++◌, map, String, Global, refl, ap, inl, inr}
+use Rattle.std.proofs.Common.{◌≡◌, ℕ, true, ◌&&◌, List, [], ◌∷◌, Ok, Err, ◌+◌, ◌++◌, map, String, Global, refl, ap, inl, inr}
 use Rattle.std.specs.List.{list_all}
 use Rattle.cy_values.specs.declared.scalars.Value.{Value}
 use Rattle.cy_engine.specs.declared.faults.Fault.{Fault}
 use Rattle.cy_engine.specs.declared.faults.Fault.TheVariants as fault
 use Rattle.cy_engine.specs.declared.reading.Unread.{Unread}
 use Rattle.cy_engine.specs.declared.reading.Unread.TheVariants as unread
-use Rattle.cy_engine.specs.declared.trees.Create.{Create}
 use Rattle.cy_engine.specs.declared.trees.Query.{Query}
-use Rattle.cy_engine.specs.Asked.{asked, place_of, Statement, ViewOf}
-use Rattle.cy_engine.specs.Grammar.{IsCreate, IsQuery, Literal, Positive, Negative, Quoted, True, False, Null, Entries, Map}
+use Rattle.cy_engine.specs.declared.trees.Statement.{Statement as Tree}
+use Rattle.cy_engine.specs.declared.trees.Statement.TheVariants as tree
+use Rattle.cy_engine.specs.Asked.{asked, place_of, StatementOf, ViewOf}
+use Rattle.cy_engine.specs.Grammar.{Says, IsQuery, Literal, Positive, Negative, Quoted, True, False, Null, Entries, Map}
 use Rattle.cy_engine.specs.Kept.{fault_of, state_of, view_of, named}
-use Rattle.cy_engine.specs.Meaning.{is_literal, AreLiterals, carried_out}
-use Rattle.cy_engine.specs.Parts.{MayMake}
-use Rattle.cy_engine.specs.Step.{EngineState, View, Refused, IsView, Carries, Makes, last_tick}
+use Rattle.cy_engine.specs.Meaning.{is_literal, AreLiterals, HasLiterals}
+use Rattle.cy_engine.specs.Parts.{Changes, MayMake}
+use Rattle.cy_engine.specs.Step.{EngineState, View, Refused, IsStatement, IsView, Carries, Makes}
 use Rattle.cy_engine.specs.declared.replies.Changed.{Changed}
 use Rattle.cy_engine.specs.declared.views.Registered.{Registered}
 use Rattle.cy_graph.specs.Graph.{State, Versions}
 use Rattle.cy_values.specs.declared.rows.Cell.{Cell}
 
 -- a statement that wasn't read
-pub unread_statement : (state : EngineState) (line text : List ℕ) → asked line ≡ Statement text → (u : Unread) → (u ≡ unread.Outside → (tree : Create) → IsCreate text tree → ⊥) → Refused state line (fault_of u (place_of text line))
+pub unread_statement : (state : EngineState) (line text : List ℕ) → asked line ≡ StatementOf text → (u : Unread) → (u ≡ unread.Outside → (tree : Tree) → Says text tree → ⊥) → Refused state line (fault_of u (place_of text line))
 unread_statement state line text is unread.Outside outside = inl (text, is, refl, outside refl)
 unread_statement state line text is unread.NoMemory outside = rw is tt
 
@@ -31,7 +32,7 @@ unread_query state line name text is unread.NoMemory outside = rw is tt
 
 -- a view that may not be made
 pub view_refused : (state : EngineState) (line name : List ℕ) (tree : Query) → IsView line name tree → (f : Fault) → MayMake state name tree (Err f) → Refused state line f
-view_refused state line name tree view fault.UnknownVariable why = (name, tree, view, why)
+view_refused state line name tree view fault.UnknownVariable why = inr (name, tree, view, why)
 view_refused state line name tree view fault.ViewNameTaken why = (name, tree, view, why.0, why.1)
 view_refused state line name tree view fault.TooManyViews why = (name, tree, view, why.0, why.1, why.2)
 view_refused state line name tree view fault.Full why = inr (name, tree, view, why.0, why.1, why.2, why.3)
@@ -62,22 +63,45 @@ literal_map [] text rest map = refl
 literal_map (e ∷ es) text rest map = literal_entries (e ∷ es) map.0 map.1 map.3
 
 -- the values of a statement that is read are literals
-pub literals_of : {text : List ℕ} {tree : Create} → IsCreate text tree → AreLiterals tree.entries
-literals_of create = literal_map _ create.after_label create.after_map create.map
+pub literals_of : (text : List ℕ) (tree : Tree) → Says text tree → HasLiterals tree
+literals_of text (tree.Create create) says = literal_map _ says.after_label says.after_map says.map
+literals_of text (tree.Set set) says = is_a_literal says.value
+literals_of text (tree.Delete delete) says = tt
+
+-- a statement that is refused when it is carried out
+pub change_refused : (state : EngineState) (line text : List ℕ) (statement : Tree) → asked line ≡ StatementOf text → Says text statement
+    → (f : Fault) (new : State) → Changes statement state.graph state.tick (Err f) new → Refused state line f
+change_refused state line text statement is says f new changes = refused f changes
+  where
+    told : IsStatement line statement
+    told = record { text = text; is = is; spelled = says }
+
+    refused : (f : Fault) → Changes statement state.graph state.tick (Err f) new → Refused state line f
+    refused fault.UnknownVariable why = inl (statement, told, why)
+    refused fault.Full (inl full) = inl (statement, told, inl full)
+    refused fault.Full (inr late) = inl (statement, told, inr (record { outcome = late.0; meaning = late.1; differs = late.2; last = late.3 }))
+    refused fault.NoMemory why = rw is tt
+    refused (fault.Unexpected at) why = absurd why
+    refused fault.ViewNameTaken why = absurd why
+    refused fault.TooManyViews why = absurd why
+    refused fault.NoSuchView why = absurd why
+    refused fault.UnknownCommand why = absurd why
+    refused fault.BadArgument why = absurd why
 
 -- what is kept before a line: the graph, the views, the tick and the history
 module _ (graph : Versions) (views : List (String Global × Registered)) (tick history : ℕ) (line : List ℕ) where
-  pub carries : (text : List ℕ) (tree : Create) (after : Versions) (changed : Changed) (columns : List (List ℕ)) (rows : List (List Cell)) (new : Versions)
-      → asked line ≡ Statement text → IsCreate text tree → carried_out tree graph.now ≡ Ok (record { graph = after.now; changed = changed; columns = []; rows = [] })
-      → tick < last_tick → columns ≡ [] → rows ≡ [] → new.now ≡ after.now
-      → Carries (state_of graph views tick history) line changed columns rows (state_of new views (tick + 1) history)
-  carries text tree after changed columns rows new is spelled meaning left no_columns no_rows committed = record {
-    tree = tree;
-    graph = after.now;
-    statement = record { text = text; is = is; spelled = spelled };
-    meaning = rw (no_columns, no_rows) meaning;
-    tick_left = left;
-    is = ap (λ (g : State). let s : EngineState = record { graph = g; views = map view_of views; tick = tick + 1; history = history } in s) committed;
+  pub carries : (text : List ℕ) (statement : Tree) (after : State) (changed : Changed) (next : ℕ) (columns : List (List ℕ)) (rows : List (List Cell)) (new : Versions)
+      → asked line ≡ StatementOf text → Says text statement → Changes statement graph.now tick (Ok (changed, next)) after
+      → columns ≡ [] → rows ≡ [] → new.now ≡ after
+      → Carries (state_of graph views tick history) line changed columns rows (state_of new views next history)
+  carries text statement after changed next columns rows new is says changes no_columns no_rows committed = record {
+    tree = statement;
+    graph = after;
+    tick = next;
+    statement = record { text = text; is = is; spelled = says };
+    meaning = rw (no_columns, no_rows) changes.0;
+    ticks = changes.1;
+    is = ap (λ (g : State). let s : EngineState = record { graph = g; views = map view_of views; tick = next; history = history } in s) committed;
   }
 
   pub makes : (name text : List ℕ) (tree : Query) (entries : List (String Global × Registered))

@@ -6,7 +6,7 @@ pub data Asked : Type 0 where
   -- no token
   Blank : Asked
   -- the text of a statement
-  Statement : List ℕ → Asked
+  StatementOf : (text : List ℕ) → Asked
   -- `:view name query`
   ViewOf : (name query : List ℕ) → Asked
   -- `:rows name`
@@ -37,7 +37,7 @@ command_asked (Some (word, arguments)) =
 -- a colon begins a command
 abbrev pub asked_at : List ℕ → Asked
 asked_at [] = Blank
-asked_at (c ∷ cs) = if c == 58 then command_asked (first_word (skip cs)) else Statement (c ∷ cs)
+asked_at (c ∷ cs) = if c == 58 then command_asked (first_word (skip cs)) else StatementOf (c ∷ cs)
 
 abbrev pub asked : List ℕ → Asked
 asked line = asked_at (skip line)

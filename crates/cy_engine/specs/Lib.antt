@@ -1,6 +1,7 @@
 pub mod Asked
 pub mod Classified
 pub mod Counting
+pub mod Each
 pub mod Faults
 pub mod Grammar
 pub mod Kept

@@ -1,11 +1,15 @@
 -- What the parts of the engine's work on a line promise one another. No public call is stated in these terms.
-use Rattle.std.specs.Prelude.{◌≡◌, ◌≢◌, ℕ, ◌<◌, List, length, IsSome, None, Result, Ok, Err}
+use Rattle.std.specs.Prelude.{◌≡◌, ◌≢◌, ℕ, ◌<◌, ◌⊎◌, List, [], length, IsSome, None, Result, Ok, Err}
 use Rattle.cy_engine.specs.declared.faults.Fault.{Fault}
 use Rattle.cy_engine.specs.declared.faults.Fault.TheVariants as fault
 use Rattle.cy_engine.specs.declared.replies.Reply.{Reply}
 use Rattle.cy_engine.specs.declared.replies.Reply.TheVariants as reply
 use Rattle.cy_engine.specs.declared.trees.Query.{Query}
-use Rattle.cy_engine.specs.Step.{EngineState, AreRows, last_tick, view_at, view_limit}
+use Rattle.cy_engine.specs.declared.replies.Changed.{Changed}
+use Rattle.cy_engine.specs.declared.trees.Statement.{Statement}
+use Rattle.cy_engine.specs.Meaning.{Outcome, carried_out}
+use Rattle.cy_engine.specs.Step.{EngineState, AreRows, Ticks, last_tick, view_at, view_limit}
+use Rattle.cy_graph.specs.Graph.{State}
 
 -- whether a view may be made of a query, and why not
 abbrev pub MayMake : EngineState → List ℕ → Query → Result (Unit {0}) Fault → Type 0
@@ -23,3 +27,13 @@ ShowsRows state name (Ok _) = ⊥
 ShowsRows state name (Err fault.NoSuchView) = view_at name state ≡ None
 ShowsRows state name (Err fault.NoMemory) = IsSome (view_at name state)
 ShowsRows state name (Err _) = ⊥
+
+-- what becomes of a statement, from a graph and a tick: what it tells and the next tick, and the graph after it
+abbrev pub Changes : Statement → State → ℕ → Result (Changed × ℕ) Fault → State → Type 0
+Changes tree old tick (Ok x) new = (carried_out tree old ≡ Ok (record { graph = new; changed = x.0; columns = []; rows = [] })) × Ticks old.content new.content tick x.1
+Changes tree old tick (Err fault.UnknownVariable) new = carried_out tree old ≡ Err 30
+Changes tree old tick (Err fault.Full) new =
+    (carried_out tree old ≡ Err 53)
+    ⊎ ((outcome : Outcome) × (carried_out tree old ≡ Ok outcome) × (outcome.graph.content ≢ old.content) × (tick ≡ last_tick))
+Changes tree old tick (Err fault.NoMemory) new = Unit {0}
+Changes tree old tick (Err _) new = ⊥

@@ -3,17 +3,17 @@ use Rattle.std.specs.Prelude.{◌≡◌, ◌≢◌, ℕ, ◌+◌, ◌-◌, ◌^�
 use Rattle.std.specs.Str.{bytes_eq}
 use Rattle.cy_values.specs.declared.rows.Cell.{Cell}
 use Rattle.cy_values.specs.Bag.{IsBagOf, IsCanonical}
-use Rattle.cy_graph.specs.Graph.{State, empty_state}
+use Rattle.cy_graph.specs.Graph.{Content, State, empty_state}
 use Rattle.cy_engine.specs.declared.faults.Fault.{Fault}
 use Rattle.cy_engine.specs.declared.faults.Fault.TheVariants as fault
 use Rattle.cy_engine.specs.declared.replies.Changed.{Changed}
 use Rattle.cy_engine.specs.declared.replies.Reply.{Reply}
 use Rattle.cy_engine.specs.declared.replies.Reply.TheVariants as reply
-use Rattle.cy_engine.specs.declared.trees.Create.{Create}
 use Rattle.cy_engine.specs.declared.trees.Query.{Query}
-use Rattle.cy_engine.specs.Asked.{Asked, asked, place_of, Blank, Statement, ViewOf, RowsOf, Wrong}
-use Rattle.cy_engine.specs.Grammar.{IsCreate, IsQuery}
-use Rattle.cy_engine.specs.Meaning.{carried_out, rows_of}
+use Rattle.cy_engine.specs.declared.trees.Statement.{Statement as Tree}
+use Rattle.cy_engine.specs.Asked.{Asked, asked, place_of, Blank, StatementOf, ViewOf, RowsOf, Wrong}
+use Rattle.cy_engine.specs.Grammar.{Says, IsQuery}
+use Rattle.cy_engine.specs.Meaning.{Outcome, carried_out, rows_of}
 
 -- a view: its name, its query and the tick at which it was made. Its rows are no part of it: they are what its
 -- query means on the graph
@@ -47,10 +47,10 @@ abbrev pub view_at : List ℕ → EngineState → Option View
 view_at name state = find (λ v. bytes_eq name v.name) state.views
 
 -- the line is a statement, and the text of it is this tree's
-pub record IsStatement (line : List ℕ) (tree : Create) : Type 0 where
+pub record IsStatement (line : List ℕ) (tree : Tree) : Type 0 where
   pub text : List ℕ
-  pub is : asked line ≡ Statement text
-  pub spelled : IsCreate text tree
+  pub is : asked line ≡ StatementOf text
+  pub spelled : Says text tree
 
 -- the line makes a view of this name, and the text of its query is this tree's
 pub record IsView (line name : List ℕ) (tree : Query) : Type 0 where
@@ -58,14 +58,19 @@ pub record IsView (line name : List ℕ) (tree : Query) : Type 0 where
   pub is : asked line ≡ ViewOf name text
   pub spelled : IsQuery text tree
 
--- a statement is carried out: the graph is new, and the tick rises
+-- the tick rises where the content of the graph is another, and stays where it is the same
+abbrev pub Ticks : Content → Content → ℕ → ℕ → Type 0
+Ticks before after old new = ((after ≡ before) × (new ≡ old)) ⊎ ((after ≢ before) × (old < last_tick) × (new ≡ old + 1))
+
+-- a statement is carried out
 pub record Carries (old : EngineState) (line : List ℕ) (changed : Changed) (columns : List (List ℕ)) (rows : List (List Cell)) (new : EngineState) : Type 0 where
-  pub tree : Create
+  pub tree : Tree
   pub graph : State
+  pub tick : ℕ
   pub statement : IsStatement line tree
   pub meaning : carried_out tree old.graph ≡ Ok (record { graph = graph; changed = changed; columns = columns; rows = rows })
-  pub tick_left : old.tick < last_tick
-  pub is : new ≡ record old { graph = graph; tick = old.tick + 1 }
+  pub ticks : Ticks old.graph.content graph.content old.tick tick
+  pub is : new ≡ record old { graph = graph; tick = tick }
 
 -- a view is made: it stands after all others, and the tick rises
 pub record Makes (old : EngineState) (line : List ℕ) (columns : List (List ℕ)) (tick : ℕ) (name : List ℕ) (new : EngineState) : Type 0 where
@@ -90,21 +95,30 @@ pub record AreRows (state : EngineState) (name : List ℕ) (rows : List (List Ce
 -- of a view that is there.
 abbrev pub TakesMemory : EngineState → Asked → Type 0
 TakesMemory state Blank = ⊥
-TakesMemory state (Statement text) = Unit {0}
+TakesMemory state (StatementOf text) = Unit {0}
 TakesMemory state (ViewOf name query) = Unit {0}
 TakesMemory state (RowsOf name) = IsSome (view_at name state)
 TakesMemory state (Wrong code) = ⊥
 
+-- the statement would raise the tick, and it is the last one
+pub record RaisesLastTick (state : EngineState) (tree : Tree) : Type 0 where
+  pub outcome : Outcome
+  pub meaning : carried_out tree state.graph ≡ Ok outcome
+  pub differs : outcome.graph.content ≢ state.graph.content
+  pub last : state.tick ≡ last_tick
+
 -- why a line is refused, each reason only where none before it holds
 abbrev pub Refused : EngineState → List ℕ → Fault → Type 0
 Refused state line (fault.Unexpected at) =
-    ((text : List ℕ) × (asked line ≡ Statement text) × (at ≡ place_of text line) × ((tree : Create) → IsCreate text tree → ⊥))
+    ((text : List ℕ) × (asked line ≡ StatementOf text) × (at ≡ place_of text line) × ((tree : Tree) → Says text tree → ⊥))
     ⊎ ((name : List ℕ) × (text : List ℕ) × (asked line ≡ ViewOf name text) × (at ≡ place_of text line) × ((tree : Query) → IsQuery text tree → ⊥))
-Refused state line fault.UnknownVariable = (name : List ℕ) × (tree : Query) × IsView line name tree × (tree.returned ≢ tree.variable)
+Refused state line fault.UnknownVariable =
+    ((tree : Tree) × IsStatement line tree × (carried_out tree state.graph ≡ Err 30))
+    ⊎ ((name : List ℕ) × (tree : Query) × IsView line name tree × (tree.returned ≢ tree.variable))
 Refused state line fault.ViewNameTaken = (name : List ℕ) × (tree : Query) × IsView line name tree × (tree.returned ≡ tree.variable) × IsSome (view_at name state)
 Refused state line fault.TooManyViews = (name : List ℕ) × (tree : Query) × IsView line name tree × (tree.returned ≡ tree.variable) × (view_at name state ≡ None) × (length state.views ≡ view_limit)
 Refused state line fault.Full =
-    ((tree : Create) × IsStatement line tree × ((carried_out tree state.graph ≡ Err 53) ⊎ (state.tick ≡ last_tick)))
+    ((tree : Tree) × IsStatement line tree × ((carried_out tree state.graph ≡ Err 53) ⊎ RaisesLastTick state tree))
     ⊎ ((name : List ℕ) × (tree : Query) × IsView line name tree × (tree.returned ≡ tree.variable) × (view_at name state ≡ None) × (length state.views < view_limit) × (state.tick ≡ last_tick))
 Refused state line fault.NoSuchView = (name : List ℕ) × (asked line ≡ RowsOf name) × (view_at name state ≡ None)
 Refused state line fault.UnknownCommand = asked line ≡ Wrong 70

@@ -1,17 +1,18 @@
 //! The engine: one line at a time.
 
-ghost use Rattle.std.specs.Prelude.{◌≡◌, ◌≤◌, ◌<◌, ◌⊎◌, ◌∷◌, [], length, None, IfErr, IfOk, IsSome, MatchResult, OnErr};
-ghost use Rattle.cy_engine.specs.Asked.{asked, Statement, ViewOf, place_of};
+ghost use Rattle.std.specs.Prelude.{◌≡◌, ◌≤◌, ◌<◌, ◌⊎◌, ◌∷◌, [], length, None, Some, IfErr, IfOk, IsSome, MatchResult, OnErr};
+ghost use Rattle.cy_engine.specs.Asked.{asked, StatementOf, ViewOf, place_of};
 ghost use Rattle.cy_engine.specs.Kept.{fault_of};
-ghost use Rattle.cy_engine.specs.Parts.{MayMake, ShowsRows};
+ghost use Rattle.cy_engine.specs.Parts.{Changes, MayMake, ShowsRows};
+ghost use Rattle.cy_engine.specs.Meaning.{HasLiterals};
 ghost use Rattle.cy_engine.specs.Step.{AreRows, Step, empty_engine, last_tick, view_at, view_limit};
 
 use crate::asked::{Asked, classify};
 use crate::faults::Fault;
-use crate::reading::{Unread, read_create, read_query};
-use crate::replies::Reply;
-use crate::statements::create;
-use crate::trees::Query;
+use crate::reading::{Unread, read_query, read_statement};
+use crate::replies::{Changed, Reply};
+use crate::statements::carry_out;
+use crate::trees::{Query, Statement};
 use crate::views::{Registered, made_reply, register, rows_with_counts};
 use crate::words::skip;
 use cy_graph::Graph;
@@ -106,21 +107,18 @@ impl Engine {
 
     // Carries a statement out.
     fn carry_out(&mut self, line: &str, text: &str) -> Result<Reply, Fault>
-        requires { asked line.now ≡ Statement text.now }
+        requires { asked line.now ≡ StatementOf text.now }
         ensures { Step self.old line.now result self.new }
     {
-        let tree = match read_create(self.alloc, text) {
+        let tree = match read_statement(self.alloc, text) {
             Ok(tree) => tree,
             Err(unread) => return Err(unread_fault(unread, line, text)),
         };
-        if self.tick == LAST_TICK {
-            return Err(Fault::Full);
-        }
         self.graph.begin();
-        match create(self.alloc, &mut self.graph, tree) {
-            Ok(changed) => {
+        match change(self.alloc, &mut self.graph, tree, self.tick) {
+            Ok((changed, tick)) => {
                 self.graph.commit();
-                self.tick += 1;
+                self.tick = tick;
                 Ok(Reply::Statement {
                     changed,
                     columns: Sequence::new(Vec::new(self.alloc)),
@@ -186,6 +184,30 @@ impl Engine {
             view: Text::from_str(self.alloc, name)?,
         })
     }
+}
+
+// Carries a statement out in the open change, and tells what changed, and the tick that follows. After a fault the change
+// is to be rolled back.
+fn change(
+    alloc: Global,
+    graph: &mut Graph,
+    tree: Statement,
+    tick: u64,
+) -> Result<(Changed, u64), Fault>
+    requires open { graph.old.was ≡ Some graph.old.now }
+    requires literals { HasLiterals tree }
+    requires in_time { tick ≤ last_tick }
+    ensures changes { Changes tree graph.old.now tick result graph.new.now }
+    ensures open { graph.new.was ≡ graph.old.was }
+{
+    let changed = carry_out(alloc, graph, tree)?;
+    if graph.touched(alloc)?.is_empty() {
+        return Ok((changed, tick));
+    }
+    if tick == LAST_TICK {
+        return Err(Fault::Full);
+    }
+    Ok((changed, tick + 1))
 }
 
 // What is told of a text that was not read.

@@ -1,7 +1,7 @@
 //! Why a line was refused.
 
 ghost use Rattle.std.specs.Prelude.{◌≡◌};
-ghost use Rattle.cy_engine.specs.Faults.{code_of, offset_of};
+ghost use Rattle.cy_engine.specs.Faults.{code_of, offset_of, of_graph};
 ghost use Rattle.cy_engine.specs.declared.faults.Fault.TheVariants.{NoMemory};
 
 use std::alloc::{AllocError, AllocFailed};
@@ -80,6 +80,17 @@ impl<T: Drop> From<AllocFailed<T>> for Fault {
 
     fn from(_failed: AllocFailed<T>) -> Fault {
         Fault::NoMemory
+    }
+}
+
+impl From<cy_graph::GraphFault> for Fault {
+    ghost from_gives = { λ refused fault. fault ≡ of_graph refused };
+
+    fn from(refused: cy_graph::GraphFault) -> Fault {
+        match refused {
+            cy_graph::GraphFault::Full => Fault::Full,
+            cy_graph::GraphFault::NoMemory => Fault::NoMemory,
+        }
     }
 }
 

@@ -1,38 +1,59 @@
 //! Carries statements out.
 
-ghost use Rattle.std.specs.Prelude.{◌≡◌, ◌⊎◌, [], Err, IfErr, IfOk, IsSome, Ok, OnErr, OnOk};
-ghost use Rattle.cy_graph.specs.Stored.{IsStorable};
-ghost use Rattle.cy_engine.specs.Meaning.{AreLiterals, carried_out, set_all, set_one};
+ghost use Rattle.std.specs.Prelude.{◌≡◌, ◌⊎◌, [], length, map, filter, Err, IfErr, IfOk, IsSome, IsTrue, Ok, OnErr, OnOk};
+ghost use Rattle.std.specs.FinMap.Entries.{is_sorted};
+ghost use Rattle.cy_graph.specs.Graph.{node_order};
+ghost use Rattle.cy_graph.specs.Stored.{IsStorable, is_storable};
+ghost use Rattle.cy_engine.specs.Each.{CanRemove, CanSet, set_each, without_each};
+ghost use Rattle.cy_engine.specs.Meaning.{AreLiterals, HasLiterals, carried_out, has_label, is_literal, outcome, set_all, set_one, unless_null};
 
 use crate::faults::Fault;
 use crate::replies::Changed;
-use crate::trees::Create;
-use cy_graph::{Graph, GraphFault, Labels, Props, TextMap};
-use cy_values::{Text, Value};
+use crate::trees::{Create, DetachDelete, SetProperty, Statement};
+use cy_graph::{Graph, Labels, Props, TextMap};
+use cy_values::{Duplicate, Entity, NodeId, Text, Value};
 use std::alloc::Global;
 
-/// Makes the node of a CREATE in the open change, and tells what changed. A fault leaves the graph as it was.
-pub(crate) fn create(alloc: Global, graph: &mut Graph, tree: Create) -> Result<Changed, Fault>
+/// Carries a statement out in the open change, and tells what changed. After a fault the change is to be rolled back.
+pub(crate) fn carry_out(alloc: Global, graph: &mut Graph, tree: Statement) -> Result<Changed, Fault>
+    requires open { IsSome graph.old.was }
+    requires literals { HasLiterals tree }
+    ensures meaning { IfOk result (λ changed. carried_out tree graph.old.now ≡ Ok (record { graph = graph.new.now; changed = changed; columns = []; rows = [] })) }
+    ensures refused { IfErr result (λ fault. ((fault ≡ Fault.Full) × (carried_out tree graph.old.now ≡ Err 53)) ⊎ ((fault ≡ Fault.UnknownVariable) × (carried_out tree graph.old.now ≡ Err 30)) ⊎ (fault ≡ Fault.NoMemory)) }
+    ensures open { graph.new.was ≡ graph.old.was }
+{
+    match tree {
+        Statement::Create(tree) => create(alloc, graph, tree),
+        Statement::Set(tree) => set_property(alloc, graph, &tree),
+        Statement::Delete(tree) => detach_delete(alloc, graph, &tree),
+    }
+}
+
+// Makes the node of a CREATE.
+fn create(alloc: Global, graph: &mut Graph, tree: Create) -> Result<Changed, Fault>
     requires open { IsSome graph.old.was }
     requires literals { AreLiterals tree.entries }
-    ensures meaning { IfOk result (λ changed. carried_out tree graph.old.now ≡ Ok (record { graph = graph.new.now; changed = changed; columns = []; rows = [] })) }
-    ensures open { OnOk result (graph.new.was ≡ graph.old.was) }
-    ensures refused { IfErr result (λ fault. ((fault ≡ Fault.Full) × (carried_out tree graph.old.now ≡ Err 53)) ⊎ (fault ≡ Fault.NoMemory)) }
-    ensures err { OnErr result (graph.new ≡ graph.old) }
+    ensures meaning { IfOk result (λ changed. carried_out (Statement.Create tree) graph.old.now ≡ Ok (record { graph = graph.new.now; changed = changed; columns = []; rows = [] })) }
+    ensures refused { IfErr result (λ fault. ((fault ≡ Fault.Full) × (carried_out (Statement.Create tree) graph.old.now ≡ Err 53)) ⊎ (fault ≡ Fault.NoMemory)) }
+    ensures open { graph.new.was ≡ graph.old.was }
 {
     let Create { label, entries } = tree;
     let mut labels: Labels = TextMap::new(alloc);
     labels.insert(label, ())?;
     let props = props_of(alloc, entries.into_vec())?;
-    match graph.add_node(labels, props) {
-        Ok(_) => Ok(Changed {
-            nodes_made: 1,
-            nodes_gone: 0,
-            rels_made: 0,
-            rels_gone: 0,
-        }),
-        Err(GraphFault::Full) => Err(Fault::Full),
-        Err(GraphFault::NoMemory) => Err(Fault::NoMemory),
+    graph.add_node(labels, props)?;
+    Ok(changed(1, 0))
+}
+
+// What a statement tells that made and removed so many nodes.
+fn changed(nodes_made: u64, nodes_gone: u64) -> Changed
+    ensures { result ≡ record { nodes_made = nodes_made; nodes_gone = nodes_gone; rels_made = 0; rels_gone = 0 } }
+{
+    Changed {
+        nodes_made,
+        nodes_gone,
+        rels_made: 0,
+        rels_gone: 0,
     }
 }
 
@@ -58,6 +79,94 @@ fn set(props: &mut Props, key: Text, value: Value) -> Result<(), Fault>
     match value {
         Value::Null => props.remove(key.as_str()),
         stored => props.insert(key, stored)?,
+    }
+    Ok(())
+}
+
+// Sets a property of the nodes that MATCH gives.
+fn set_property(alloc: Global, graph: &mut Graph, tree: &SetProperty) -> Result<Changed, Fault>
+    requires open { IsSome graph.old.was }
+    requires literal { IsTrue (is_literal tree.now.value) }
+    ensures meaning { IfOk result (λ changed. carried_out (Statement.Set tree.now) graph.old.now ≡ Ok (record { graph = graph.new.now; changed = changed; columns = []; rows = [] })) }
+    ensures refused { IfErr result (λ fault. ((fault ≡ Fault.UnknownVariable) × (carried_out (Statement.Set tree.now) graph.old.now ≡ Err 30)) ⊎ (fault ≡ Fault.NoMemory)) }
+    ensures open { graph.new.was ≡ graph.old.was }
+{
+    if tree.target != tree.variable {
+        return Err(Fault::UnknownVariable);
+    }
+    let ids = labelled(alloc, graph, &tree.label)?;
+    set_nodes(alloc, graph, ids, &tree.key, &tree.value)?;
+    Ok(changed(0, 0))
+}
+
+// Removes the nodes that MATCH gives.
+fn detach_delete(alloc: Global, graph: &mut Graph, tree: &DetachDelete) -> Result<Changed, Fault>
+    requires open { IsSome graph.old.was }
+    ensures meaning { IfOk result (λ changed. carried_out (Statement.Delete tree.now) graph.old.now ≡ Ok (record { graph = graph.new.now; changed = changed; columns = []; rows = [] })) }
+    ensures refused { IfErr result (λ fault. ((fault ≡ Fault.UnknownVariable) × (carried_out (Statement.Delete tree.now) graph.old.now ≡ Err 30)) ⊎ (fault ≡ Fault.NoMemory)) }
+    ensures open { graph.new.was ≡ graph.old.was }
+{
+    if tree.target != tree.variable {
+        return Err(Fault::UnknownVariable);
+    }
+    let ids = labelled(alloc, graph, &tree.label)?;
+    let gone = ids.len() as u64;
+    remove_nodes(graph, ids)?;
+    Ok(changed(0, gone))
+}
+
+// The numbers of the nodes with a label, which rise.
+fn labelled(alloc: Global, graph: &Graph, label: &Text) -> Result<Vec<NodeId>, Fault>
+    ensures rising { IsTrue (is_sorted node_order graph.now.now.content.nodes) }
+    ensures ids { IfOk result (λ ids. ids.items ≡ map (λ e. e.0) (filter (has_label label.now) graph.now.now.content.nodes)) }
+    ensures memory { IfErr result (λ fault. fault ≡ Fault.NoMemory) }
+{
+    let mut ids = Vec::new(alloc);
+    for (id, node) in graph.nodes() {
+        if node.labels.get(label.as_str()).is_some() {
+            ids.push(id)?;
+        }
+    }
+    Ok(ids)
+}
+
+// Sets a property of each of these nodes, or removes it where the value is null.
+fn set_nodes(alloc: Global, graph: &mut Graph, ids: Vec<NodeId>, key: &Text, value: &Value) -> Result<(), Fault>
+    requires open { IsSome graph.old.was }
+    requires there { CanSet key.now (unless_null value.now) ids.items graph.old.now }
+    requires literal { IsTrue (is_literal value.now) }
+    ensures set { OnOk result (graph.new.now ≡ set_each key.now (unless_null value.now) ids.items graph.old.now) }
+    ensures memory { IfErr result (λ fault. fault ≡ Fault.NoMemory) }
+    ensures open { graph.new.was ≡ graph.old.was }
+{
+    for id in ids {
+        let stored = stored(alloc, value)?;
+        graph.set_prop(alloc, Entity::Node(id), key.copy(alloc)?, stored)?;
+    }
+    Ok(())
+}
+
+// What is to be stored of a literal: nothing where it is null.
+fn stored(alloc: Global, value: &Value) -> Result<Option<Value>, Fault>
+    ensures value { IfOk result (λ stored. stored ≡ unless_null value.now) }
+    ensures memory { IfErr result (λ fault. fault ≡ Fault.NoMemory) }
+{
+    match value {
+        Value::Null => Ok(None),
+        value => Ok(Some(value.copy(alloc)?)),
+    }
+}
+
+// Removes each of these nodes.
+fn remove_nodes(graph: &mut Graph, ids: Vec<NodeId>) -> Result<(), Fault>
+    requires open { IsSome graph.old.was }
+    requires there { CanRemove ids.items graph.old.now }
+    ensures removed { OnOk result (graph.new.now ≡ without_each ids.items graph.old.now) }
+    ensures memory { IfErr result (λ fault. fault ≡ Fault.NoMemory) }
+    ensures open { graph.new.was ≡ graph.old.was }
+{
+    for id in ids {
+        graph.remove_node(id)?;
     }
     Ok(())
 }

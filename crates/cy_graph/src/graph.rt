@@ -1,14 +1,14 @@
 //! The graph, and one change of it at a time.
 
-ghost use Rattle.std.specs.Prelude.{◌≡◌, ◌≤◌, ◌<◌, ◌↔◌, IsSome, IsNone, IfSome, IfOk, OnErr, IsErrOf, Some, None};
+ghost use Rattle.std.specs.Prelude.{[], ◌≡◌, ◌≤◌, ◌<◌, ◌↔◌, IsSome, IsNone, IfSome, IfOk, IfErr, OnOk, OnErr, IsErrOf, IsTrue, Some, None};
 ghost use Rattle.std.specs.Option.{option_copied};
-ghost use Rattle.cy_graph.specs.Graph.{Versions, empty_state, node_at, with_node, number_end, IsGraph};
-ghost use Rattle.cy_graph.specs.Stored.{IsStorable};
+ghost use Rattle.cy_graph.specs.Graph.{Versions, empty_state, node_at, with_node, with_prop, without_node, number_end, IsGraph, IsThere};
+ghost use Rattle.cy_graph.specs.Stored.{IsStorable, is_storable};
 
 use crate::faults::GraphFault;
 use crate::nodes::{Labels, Node, Props};
 use crate::walks::Nodes;
-use cy_values::NodeId;
+use cy_values::{Entity, NodeId, Text, Value};
 use indexmap::IndexMap;
 use std::alloc::Global;
 use std::marker::Model;
@@ -23,6 +23,19 @@ struct Start {
     nodes: usize,
     next_node: u64,
     next_rel: u64,
+}
+
+/// What an entity was.
+#[derive(Clone, Copy, Debug, Drop)]
+pub enum Was<'a> {
+    Node(&'a Node),
+}
+
+#[derive(Clone, Copy, Debug, Drop)]
+/// An entity that differs from what it was, with that, if it was there.
+pub struct Touched<'a> {
+    pub entity: Entity,
+    pub was: Option<Was<'a>>,
 }
 
 /// A property graph in memory. Nodes stand in the map by rising number, since numbers rise and are never used again.
@@ -113,6 +126,44 @@ impl Graph {
         self.nodes.insert(id, Node { labels, props })?;
         self.next_node += 1;
         Ok(id)
+    }
+
+    /// Sets the property of an entity at a key, or removes it where no value is given. Fails only for want of memory.
+    pub fn set_prop(
+        &mut self,
+        _alloc: Global,
+        _entity: Entity,
+        _key: Text,
+        _value: Option<Value>,
+    ) -> Result<(), GraphFault>
+        requires open { IsSome self.old.was }
+        requires there { IsThere _entity self.old.now }
+        requires storable { IfSome _value (λ v. IsTrue (is_storable v)) }
+        ensures ok { OnOk result (self.new ≡ record self.old { now = with_prop _entity _key _value self.old.now }) }
+        ensures fault { IfErr result (λ fault. fault ≡ GraphFault.NoMemory) }
+        ensures err { OnErr result (self.new ≡ self.old) }
+    {
+        Err(GraphFault::NoMemory)
+    }
+
+    /// Removes a node. Its number is not used again. Fails only for want of memory.
+    pub fn remove_node(&mut self, _id: NodeId) -> Result<(), GraphFault>
+        requires open { IsSome self.old.was }
+        requires there { IsSome (node_at _id self.old.now) }
+        ensures ok { OnOk result (self.new ≡ record self.old { now = without_node _id self.old.now }) }
+        ensures fault { IfErr result (λ fault. fault ≡ GraphFault.NoMemory) }
+        ensures err { OnErr result (self.new ≡ self.old) }
+    {
+        Err(GraphFault::NoMemory)
+    }
+
+    /// The nodes that differ from what they were when the change began, each once, with their old values.
+    pub fn touched(&self, _alloc: Global) -> Result<Vec<Touched<'_>>, GraphFault>
+        requires open { IsSome self.now.was }
+        ensures same { IfOk result (λ touched. IfSome self.now.was (λ before. (touched.items ≡ []) ↔ (self.now.now.content ≡ before.content))) }
+        ensures fault { IfErr result (λ fault. fault ≡ GraphFault.NoMemory) }
+    {
+        Err(GraphFault::NoMemory)
     }
 
     /// Ends the change: what it did stays.

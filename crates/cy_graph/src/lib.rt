@@ -10,7 +10,7 @@ mod tests;
 mod walks;
 
 pub use faults::GraphFault;
-pub use graph::Graph;
+pub use graph::{Graph, Touched, Was};
 pub use maps::TextMap;
 pub use nodes::{Labels, Node, Props};
 pub use walks::Nodes;

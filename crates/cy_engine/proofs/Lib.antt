@@ -3,6 +3,7 @@ pub mod Changes
 pub mod Counting
 pub mod Cuts
 pub mod Each
+pub mod Excesses
 pub mod Items
 pub mod Literals
 pub mod Maps

@@ -1,7 +1,9 @@
 pub mod Asked
 pub mod Classified
 pub mod Counting
+pub mod Difference
 pub mod Each
+pub mod Excess
 pub mod Faults
 pub mod Grammar
 pub mod Kept

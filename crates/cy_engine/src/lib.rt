@@ -3,6 +3,7 @@
 
 mod asked;
 mod engine;
+mod differences;
 mod faults;
 mod reading;
 mod replies;

@@ -1,0 +1,57 @@
+//! The difference of two bags of rows.
+
+ghost use Rattle.std.specs.Prelude.{◌≡◌, IfErr, IfOk};
+ghost use Rattle.cy_values.specs.Bag.{IsCanonical, weight_of};
+ghost use Rattle.cy_engine.specs.Difference.{IsExcess};
+ghost use Rattle.cy_engine.specs.Excess.{excess_of};
+
+use crate::faults::Fault;
+use cy_values::{Duplicate, Row, row_order, row_order_laws};
+use std::alloc::Global;
+
+/// What the first rows have above the second ones, both with their counts, in canonical order.
+pub(crate) fn excess(
+    alloc: Global,
+    more: &[(Row, u64)],
+    less: &[(Row, u64)],
+) -> Result<Vec<(Row, u64)>, Fault>
+    requires more { IsCanonical more.now }
+    requires less { IsCanonical less.now }
+    ensures excess { IfOk result (λ excess. IsExcess more.now less.now excess.items) }
+    ensures memory { IfErr result (λ fault. fault ≡ Fault.NoMemory) }
+{
+    row_order_laws();
+    what_is_above(alloc, more, less)
+}
+
+// Each row that counts more than among the others, with how much.
+fn what_is_above(
+    alloc: Global,
+    more: &[(Row, u64)],
+    less: &[(Row, u64)],
+) -> Result<Vec<(Row, u64)>, Fault>
+    requires { IsCanonical less.now }
+    ensures above { IfOk result (λ above. above.items ≡ excess_of more.now less.now) }
+    ensures memory { IfErr result (λ fault. fault ≡ Fault.NoMemory) }
+{
+    let mut above = Vec::new(alloc);
+    for (row, count) in more.iter() {
+        let other = count_among(row, less);
+        if other < *count {
+            above.push((row.copy(alloc)?, *count - other))?;
+        }
+    }
+    Ok(above)
+}
+
+// How often a row counts among rows that stand in canonical order.
+fn count_among(row: &Row, pairs: &[(Row, u64)]) -> u64
+    requires { IsCanonical pairs.now }
+    ensures { result ≡ weight_of row.now pairs.now }
+{
+    row_order_laws();
+    match pairs.binary_search_by(|pair| row_order(&pair.0, row)) {
+        Ok(at) => pairs[at].1,
+        Err(_) => 0,
+    }
+}

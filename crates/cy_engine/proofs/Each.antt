@@ -25,7 +25,7 @@ above_other low id lt = grind (arith, nat_tests)
 above_greater : (low id : NodeId) → low.0 < id.0 → node_order id low ≡ Greater
 above_greater low id lt = grind (arith, nat_tests)
 
-itself : (id : NodeId) → eq_by_cmp node_order id id ≡ true
+pub itself : (id : NodeId) → eq_by_cmp node_order id id ≡ true
 itself id = grind (arith, nat_tests)
 
 itself_equal : (id : NodeId) → node_order id id ≡ Equal
@@ -51,33 +51,35 @@ above_numbers label low (e ∷ es) below =
       | false ↦ rest
     ]
 
+-- ---- lists of nodes, one number less
+
+abbrev pub removed_at : NodeId → List (NodeId × Node) → List (NodeId × Node)
+removed_at id es = entries.where_key node_order (λ k. not (eq_by_cmp node_order id k)) es
+
+remove_behind : (id : NodeId) (e : NodeId × Node) (es : List (NodeId × Node)) → e.0.0 < id.0 → removed_at id (e ∷ es) ≡ e ∷ removed_at id es
+remove_behind id e es lt = ap (λ b. cond (not b) (e ∷ removed_at id es) (removed_at id es)) (above_other e.0 id lt)
+
+pub nothing_removed : (id : NodeId) (es : List (NodeId × Node)) → IsBelow id es → removed_at id es ≡ es
+nothing_removed id [] below = refl
+nothing_removed id (e ∷ es) below =
+    let parts = and_parts _ _ below in
+    let other : eq_by_cmp node_order id e.0 ≡ false = grind (arith, nat_tests) in
+    ap (λ b. cond (not b) (e ∷ removed_at id es) (removed_at id es)) other ∙ ap (λ (fs : List (NodeId × Node)). e ∷ fs) (nothing_removed id es parts.1)
+
+pub remove_first : (e : NodeId × Node) (es : List (NodeId × Node)) → IsBelow e.0 es → removed_at e.0 (e ∷ es) ≡ es
+remove_first e es below = ap (λ b. cond (not b) (e ∷ removed_at e.0 es) (removed_at e.0 es)) (itself e.0) ∙ nothing_removed e.0 es below
+
+found_behind : (id : NodeId) (e : NodeId × Node) (es : List (NodeId × Node)) → e.0.0 < id.0 → entries.find node_order id (e ∷ es) ≡ entries.find node_order id es
+found_behind id e es lt = ap (λ b. cond b (Some e.1) (entries.find node_order id es)) (above_other e.0 id lt)
+
+pub found_first : (e : NodeId × Node) (es : List (NodeId × Node)) → entries.find node_order e.0 (e ∷ es) ≡ Some e.1
+found_first e es = ap (λ b. cond b (Some e.1) (entries.find node_order e.0 es)) (itself e.0)
+
 module _ (graph : State) where
   abbrev with : List (NodeId × Node) → State
   with nodes = with_nodes nodes graph
 
   -- ---- removal
-
-  abbrev removed_at : NodeId → List (NodeId × Node) → List (NodeId × Node)
-  removed_at id es = entries.where_key node_order (λ k. not (eq_by_cmp node_order id k)) es
-
-  remove_behind : (id : NodeId) (e : NodeId × Node) (es : List (NodeId × Node)) → e.0.0 < id.0 → removed_at id (e ∷ es) ≡ e ∷ removed_at id es
-  remove_behind id e es lt = ap (λ b. cond (not b) (e ∷ removed_at id es) (removed_at id es)) (above_other e.0 id lt)
-
-  nothing_removed : (id : NodeId) (es : List (NodeId × Node)) → IsBelow id es → removed_at id es ≡ es
-  nothing_removed id [] below = refl
-  nothing_removed id (e ∷ es) below =
-      let parts = and_parts _ _ below in
-      let other : eq_by_cmp node_order id e.0 ≡ false = grind (arith, nat_tests) in
-      ap (λ b. cond (not b) (e ∷ removed_at id es) (removed_at id es)) other ∙ ap (λ (fs : List (NodeId × Node)). e ∷ fs) (nothing_removed id es parts.1)
-
-  remove_first : (e : NodeId × Node) (es : List (NodeId × Node)) → IsBelow e.0 es → removed_at e.0 (e ∷ es) ≡ es
-  remove_first e es below = ap (λ b. cond (not b) (e ∷ removed_at e.0 es) (removed_at e.0 es)) (itself e.0) ∙ nothing_removed e.0 es below
-
-  found_behind : (id : NodeId) (e : NodeId × Node) (es : List (NodeId × Node)) → e.0.0 < id.0 → entries.find node_order id (e ∷ es) ≡ entries.find node_order id es
-  found_behind id e es lt = ap (λ b. cond b (Some e.1) (entries.find node_order id es)) (above_other e.0 id lt)
-
-  found_first : (e : NodeId × Node) (es : List (NodeId × Node)) → entries.find node_order e.0 (e ∷ es) ≡ Some e.1
-  found_first e es = ap (λ b. cond b (Some e.1) (entries.find node_order e.0 es)) (itself e.0)
 
   can_remove_behind : (ids : List NodeId) (e : NodeId × Node) (es : List (NodeId × Node)) → AreAbove e.0 ids → CanRemove ids (with es) → CanRemove ids (with (e ∷ es))
   can_remove_behind [] e es above can = tt

@@ -11,8 +11,7 @@ use Rattle.std.proofs.lemmas.List.Sums.{sum_by-cons}
 use Rattle.cy_values.specs.declared.rows.Cell.{Cell}
 use Rattle.cy_values.specs.Order.{row_cmp}
 use Rattle.cy_values.specs.Bag.{weight_of, IsCanonical}
-use Rattle.cy_engine.specs.Difference.{IsExcess}
-use Rattle.cy_engine.specs.Excess.{excess_of}
+use Rattle.cy_engine.specs.Excess.{IsExcess, excess_of}
 
 abbrev Pairs : Type 0
 Pairs = List (List Cell × ℕ)

@@ -14,3 +14,6 @@ pub mod Setting
 pub mod Steps
 pub mod Texts
 pub mod Tokens
+pub mod TouchedRows
+pub mod Touching
+pub mod ViewEntries

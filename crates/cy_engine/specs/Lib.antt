@@ -12,4 +12,5 @@ pub mod Parts
 pub mod Reading
 pub mod Run
 pub mod Step
+pub mod Touching
 pub mod Words

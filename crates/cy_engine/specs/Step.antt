@@ -4,6 +4,7 @@ use Rattle.std.specs.Str.{bytes_eq}
 use Rattle.cy_values.specs.declared.rows.Cell.{Cell}
 use Rattle.cy_values.specs.Bag.{IsBagOf, IsCanonical}
 use Rattle.cy_graph.specs.Graph.{Content, State, empty_state}
+use Rattle.cy_engine.specs.declared.entries.Entry.{Entry}
 use Rattle.cy_engine.specs.declared.faults.Fault.{Fault}
 use Rattle.cy_engine.specs.declared.faults.Fault.TheVariants as fault
 use Rattle.cy_engine.specs.declared.replies.Changed.{Changed}
@@ -12,6 +13,7 @@ use Rattle.cy_engine.specs.declared.replies.Reply.TheVariants as reply
 use Rattle.cy_engine.specs.declared.trees.Query.{Query}
 use Rattle.cy_engine.specs.declared.trees.Statement.{Statement as Tree}
 use Rattle.cy_engine.specs.Asked.{Asked, asked, place_of, Blank, StatementOf, ViewOf, RowsOf, Wrong}
+use Rattle.cy_engine.specs.Difference.{IsSameBag, IsDifference}
 use Rattle.cy_engine.specs.Grammar.{Says, IsQuery}
 use Rattle.cy_engine.specs.Meaning.{Outcome, carried_out, rows_of}
 
@@ -45,6 +47,20 @@ empty_engine history = record { graph = empty_state 1 1; views = []; tick = 0; h
 -- the view of a name
 abbrev pub view_at : List ℕ → EngineState → Option View
 view_at name state = find (λ v. bytes_eq name v.name) state.views
+
+-- what a line changed in the rows of a query: they are another bag, and the change is the difference
+pub record IsEntry (query : Query) (before after : Content) (tick : ℕ) (entry : Entry) : Type 0 where
+  pub differs : ¬ (IsSameBag (rows_of query before) (rows_of query after))
+  pub tick_is : entry.tick ≡ tick
+  pub difference : IsDifference (rows_of query before) (rows_of query after) entry.change
+
+-- the entries that views get, in the order of the views: one for each view whose rows are another bag, and none else
+abbrev pub AreEntries : List View → Content → Content → ℕ → List (List ℕ × Entry) → Type 0
+AreEntries [] before after tick entries = entries ≡ []
+AreEntries (view ∷ views) before after tick entries =
+    (IsSameBag (rows_of view.query before) (rows_of view.query after) × AreEntries views before after tick entries)
+    ⊎ ((entry : Entry) × (others : List (List ℕ × Entry)) × (entries ≡ (view.name, entry) ∷ others)
+        × IsEntry view.query before after tick entry × AreEntries views before after tick others)
 
 -- the line is a statement, and the text of it is this tree's
 pub record IsStatement (line : List ℕ) (tree : Tree) : Type 0 where

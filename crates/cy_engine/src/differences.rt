@@ -2,15 +2,33 @@
 
 ghost use Rattle.std.specs.Prelude.{◌≡◌, IfErr, IfOk};
 ghost use Rattle.cy_values.specs.Bag.{IsCanonical, weight_of};
-ghost use Rattle.cy_engine.specs.Difference.{IsExcess};
-ghost use Rattle.cy_engine.specs.Excess.{excess_of};
+ghost use Rattle.cy_engine.specs.Excess.{IsExcess, excess_of};
 
+use crate::entries::Change;
 use crate::faults::Fault;
-use cy_values::{Duplicate, Row, row_order, row_order_laws};
+use cy_values::{Duplicate, Row, Sequence, row_order, row_order_laws};
 use std::alloc::Global;
 
-/// What the first rows have above the second ones, both with their counts, in canonical order.
-pub(crate) fn excess(
+/// The difference of rows before and after, both with their counts, in canonical order.
+pub(crate) fn difference(
+    alloc: Global,
+    before: &[(Row, u64)],
+    after: &[(Row, u64)],
+) -> Result<Change, Fault>
+    requires before { IsCanonical before.now }
+    requires after { IsCanonical after.now }
+    ensures removed { IfOk result (λ change. IsExcess before.now after.now change.removed) }
+    ensures added { IfOk result (λ change. IsExcess after.now before.now change.added) }
+    ensures memory { IfErr result (λ fault. fault ≡ Fault.NoMemory) }
+{
+    Ok(Change {
+        removed: Sequence::new(excess(alloc, before, after)?),
+        added: Sequence::new(excess(alloc, after, before)?),
+    })
+}
+
+// What the first rows have above the second ones, both with their counts, in canonical order.
+fn excess(
     alloc: Global,
     more: &[(Row, u64)],
     less: &[(Row, u64)],

@@ -4,6 +4,7 @@
 mod asked;
 mod engine;
 mod differences;
+mod entries;
 mod faults;
 mod reading;
 mod replies;

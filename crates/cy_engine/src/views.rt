@@ -68,7 +68,18 @@ pub(crate) fn rows_with_counts(
     ensures canonical { IfOk result (λ rows. IsCanonical rows.items) }
     ensures memory { IfErr result (λ fault. fault ≡ Fault.NoMemory) }
 {
-    let mut rows = rows_on(alloc, query, graph)?;
+    counted_in_order(alloc, rows_on(alloc, query, graph)?)
+}
+
+/// Rows, each once with its count, in canonical order.
+pub(crate) fn counted_in_order(
+    alloc: Global,
+    mut rows: Vec<Row>,
+) -> Result<Vec<(Row, u64)>, Fault>
+    ensures bag { IfOk result (λ pairs. IsBagOf rows.items pairs.items) }
+    ensures canonical { IfOk result (λ pairs. IsCanonical pairs.items) }
+    ensures memory { IfErr result (λ fault. fault ≡ Fault.NoMemory) }
+{
     rows.sort()?;
     rows.reverse();
     row_order_laws();
@@ -89,8 +100,8 @@ fn rows_on(alloc: Global, query: &Query, graph: &Graph) -> Result<Vec<Row>, Faul
     Ok(rows)
 }
 
-// The row of a node: its property, null where it isn't there.
-fn row(alloc: Global, key: &Text, node: &Node) -> Result<Row, Fault>
+/// The row of a node: its property, null where it isn't there.
+pub(crate) fn row(alloc: Global, key: &Text, node: &Node) -> Result<Row, Fault>
     ensures row { IfOk result (λ row. row ≡ row_of key.now node.now) }
     ensures memory { IfErr result (λ fault. fault ≡ Fault.NoMemory) }
 {

@@ -4,3 +4,4 @@ pub mod Graph
 pub mod Maps
 pub mod Place
 pub mod Stored
+pub mod Touched

@@ -1,12 +1,14 @@
 //! The graph, and one change of it at a time.
 
-ghost use Rattle.std.specs.Prelude.{[], ◌≡◌, ◌≤◌, ◌<◌, ◌↔◌, IsSome, IsNone, IfSome, IfOk, IfErr, OnOk, OnErr, IsErrOf, IsTrue, Some, None};
+ghost use Rattle.std.specs.Prelude.{[], map, ◌≡◌, ◌≤◌, ◌<◌, ◌↔◌, IsSome, IsNone, IfSome, IfOk, IfErr, OnOk, OnErr, IsErrOf, IsTrue, Some, None};
 ghost use Rattle.std.specs.Option.{option_copied};
 ghost use Rattle.cy_graph.specs.Graph.{Versions, empty_state, node_at, with_node, with_prop, without_node, number_end, IsGraph, IsThere};
+ghost use Rattle.cy_graph.specs.Touched.{AreTouched, entry_of};
 ghost use Rattle.cy_graph.specs.Stored.{IsStorable, is_storable};
 
 use crate::faults::GraphFault;
 use crate::nodes::{Labels, Node, Props};
+use crate::touched::Touched;
 use crate::walks::Nodes;
 use cy_values::{Entity, NodeId, Text, Value};
 use indexmap::IndexMap;
@@ -23,19 +25,6 @@ struct Start {
     nodes: usize,
     next_node: u64,
     next_rel: u64,
-}
-
-/// What an entity was.
-#[derive(Clone, Copy, Debug, Drop)]
-pub enum Was<'a> {
-    Node(&'a Node),
-}
-
-#[derive(Clone, Copy, Debug, Drop)]
-/// An entity that differs from what it was, with that, if it was there.
-pub struct Touched<'a> {
-    pub entity: Entity,
-    pub was: Option<Was<'a>>,
 }
 
 /// A property graph in memory. Nodes stand in the map by rising number, since numbers rise and are never used again.
@@ -160,9 +149,12 @@ impl Graph {
     /// The nodes that differ from what they were when the change began, each once, with their old values.
     pub fn touched(&self, _alloc: Global) -> Result<Vec<Touched<'_>>, GraphFault>
         requires open { IsSome self.now.was }
+        ensures touched { IfOk result (λ touched. IfSome self.now.was (λ before. AreTouched before self.now.now (map entry_of touched.items))) }
+        ensures graphs { IfSome self.now.was (λ before. IsGraph before × IsGraph self.now.now) }
         ensures same { IfOk result (λ touched. IfSome self.now.was (λ before. (touched.items ≡ []) ↔ (self.now.now.content ≡ before.content))) }
         ensures fault { IfErr result (λ fault. fault ≡ GraphFault.NoMemory) }
     {
+        let _ = &self.next_node;
         Err(GraphFault::NoMemory)
     }
 

@@ -1,7 +1,6 @@
 use Rattle.std.proofs.Common.{◌≡◌, sym, subst}
 use Rattle.std.proofs.lemmas.Result.{IfOk-weaker}
-use Rattle.cy_engine.specs.Difference.{IsExcess}
-use Rattle.cy_engine.specs.Excess.{excess_of}
+use Rattle.cy_engine.specs.Excess.{IsExcess, excess_of}
 use Rattle.cy_engine.proofs.Excesses.{is_excess}
 use Rattle.cy_engine.proofs.differences.excess.Goals as goal
 

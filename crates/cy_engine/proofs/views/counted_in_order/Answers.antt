@@ -4,10 +4,9 @@ use Rattle.std.proofs.lemmas.List.Sorted.{sum_by-IsPermutation}
 use Rattle.std.proofs.lemmas.Result.{IfOk-weaker}
 use Rattle.cy_values.specs.Bag.{IsBagOf, IsCanonical, count_of, weight_of}
 use Rattle.cy_engine.specs.Counting.{counted_rows}
-use Rattle.cy_engine.specs.Meaning.{rows_of}
 use Rattle.cy_engine.proofs.Counting.{bag_of_counted, canonical_of_counted}
-use Rattle.cy_engine.proofs.views.rows_with_counts.Goals as goal
-use Rattle.cy_engine.proofs.views.rows_with_counts.Goals.{After-counted}
+use Rattle.cy_engine.proofs.views.counted_in_order.Goals as goal
+use Rattle.cy_engine.proofs.views.counted_in_order.Goals.{After-counted}
 
 -- what is counted is what was sorted
 in_order : (c : After-counted) → reverse c.reverse.new.self.items ≡ c.sort.new.self.items
@@ -17,13 +16,12 @@ pub returns-clause-bag : goal.returns-clause-bag
 returns-clause-bag c =
     IfOk-weaker c.counted.result
     (λ pairs. pairs.items ≡ counted_rows (reverse c.reverse.new.self.items))
-    (λ pairs. IsBagOf (rows_of c.args.query.now c.args.graph.now.now.content) pairs.items)
+    (λ pairs. IsBagOf c.args.rows.items pairs.items)
     (λ pairs counts row.
     ap (weight_of row) counts
     ∙ bag_of_counted c.row_order_laws.ensures.total (λ x y. (c.row_order_laws.ensures.identity x y).0) (reverse c.reverse.new.self.items) row
     ∙ ap (count_of row) (in_order c)
-    ∙ sum_by-IsPermutation _ _ _ c.sort.ensures.permutation
-    ∙ ap (count_of row) c.in_ok-rows.ensures.rows)
+    ∙ sum_by-IsPermutation _ _ _ c.sort.ensures.permutation)
     c.counted.ensures.counts
 
 pub returns-clause-canonical : goal.returns-clause-canonical

@@ -1,0 +1,8 @@
+use Rattle.std.proofs.Common.{◌≡◌, ◌++◌, map, drop}
+use Rattle.cy_graph.specs.Touched.{entry_of}
+use Rattle.cy_engine.specs.Touching.{rows_before}
+use Rattle.cy_engine.proofs.entries.old_rows.Given as goal
+
+-- the rows so far and those of the entities that are left are all
+abbrev pub invariant-loop-one : goal.invariant-loop-one
+invariant-loop-one l = l.rows.items ++ rows_before l.query (map entry_of (drop l.one-index l.touched)) ≡ rows_before l.query (map entry_of l.touched)

@@ -15,7 +15,7 @@ use Rattle.cy_engine.specs.Kept.{fault_of, state_of, view_of, named}
 use Rattle.cy_engine.specs.Meaning.{is_literal, AreLiterals, HasLiterals}
 use Rattle.cy_engine.specs.Parts.{Changes, MayMake}
 use Rattle.cy_engine.specs.Step.{EngineState, View, Refused, IsStatement, IsView, Carries, Makes}
-use Rattle.cy_engine.specs.declared.replies.Changed.{Changed}
+use Rattle.cy_engine.specs.declared.engine.Effect.{Effect}
 use Rattle.cy_engine.specs.declared.views.Registered.{Registered}
 use Rattle.cy_graph.specs.Graph.{State, Versions}
 use Rattle.cy_values.specs.declared.rows.Cell.{Cell}
@@ -70,13 +70,13 @@ literals_of text (tree.Delete delete) says = tt
 
 -- a statement that is refused when it is carried out
 pub change_refused : (state : EngineState) (line text : List ℕ) (statement : Tree) → asked line ≡ StatementOf text → Says text statement
-    → (f : Fault) (new : State) → Changes statement state.graph state.tick (Err f) new → Refused state line f
+    → (f : Fault) (new : State) → Changes statement state.views state.graph state.tick (Err f) new → Refused state line f
 change_refused state line text statement is says f new changes = refused f changes
   where
     told : IsStatement line statement
     told = record { text = text; is = is; spelled = says }
 
-    refused : (f : Fault) → Changes statement state.graph state.tick (Err f) new → Refused state line f
+    refused : (f : Fault) → Changes statement state.views state.graph state.tick (Err f) new → Refused state line f
     refused fault.UnknownVariable why = inl (statement, told, why)
     refused fault.Full (inl full) = inl (statement, told, inl full)
     refused fault.Full (inr late) = inl (statement, told, inr (record { outcome = late.0; meaning = late.1; differs = late.2; last = late.3 }))
@@ -90,18 +90,19 @@ change_refused state line text statement is says f new changes = refused f chang
 
 -- what is kept before a line: the graph, the views, the tick and the history
 module _ (graph : Versions) (views : List (String Global × Registered)) (tick history : ℕ) (line : List ℕ) where
-  pub carries : (text : List ℕ) (statement : Tree) (after : State) (changed : Changed) (next : ℕ) (columns : List (List ℕ)) (rows : List (List Cell)) (new : Versions)
-      → asked line ≡ StatementOf text → Says text statement → Changes statement graph.now tick (Ok (changed, next)) after
+  pub carries : (text : List ℕ) (statement : Tree) (after : State) (effect : Effect) (columns : List (List ℕ)) (rows : List (List Cell)) (new : Versions)
+      → asked line ≡ StatementOf text → Says text statement → Changes statement (map view_of views) graph.now tick (Ok effect) after
       → columns ≡ [] → rows ≡ [] → new.now ≡ after
-      → Carries (state_of graph views tick history) line changed columns rows (state_of new views next history)
-  carries text statement after changed next columns rows new is says changes no_columns no_rows committed = record {
+      → Carries (state_of graph views tick history) line effect.changed columns rows effect.entries (state_of new views effect.tick history)
+  carries text statement after effect columns rows new is says changes no_columns no_rows committed = record {
     tree = statement;
     graph = after;
-    tick = next;
+    tick = effect.tick;
     statement = record { text = text; is = is; spelled = says };
     meaning = rw (no_columns, no_rows) changes.0;
     ticks = changes.1;
-    is = ap (λ (g : State). let s : EngineState = record { graph = g; views = map view_of views; tick = next; history = history } in s) committed;
+    entries_are = changes.2;
+    is = ap (λ (g : State). let s : EngineState = record { graph = g; views = map view_of views; tick = effect.tick; history = history } in s) committed;
   }
 
   pub makes : (name text : List ℕ) (tree : Query) (entries : List (String Global × Registered))

@@ -1,10 +1,10 @@
 -- The entries of views, one view after another.
-use Rattle.std.proofs.Common.{◌≡◌, ◌≢◌, ℕ, ◌+◌, ◌-◌, ◌<◌, Bool, true, false, cond, List, [], ◌∷◌, ◌++◌, map, Option, None, Some, Result, Ok, Err, IfOk, IfSome, String, Global, string_bytes, refl, sym, ap, subst, ◌∙◌, arith, inl, inr}
+use Rattle.std.proofs.Common.{◌≡◌, ◌≢◌, ℕ, ◌<◌, cond, List, [], ◌∷◌, ◌++◌, map, Option, None, Some, Result, Ok, Err, IfOk, IfSome, String, Global, string_bytes, refl, sym, ap, subst, arith, inl, inr}
 use Rattle.std.specs.Cmp.{IsTotalOrder, tied_itself}
 use Rattle.std.specs.Ordering.{eq_by_cmp, is_eq}
 use Rattle.std.proofs.lemmas.List.Sums.{sum_by-cons}
 use Rattle.cy_values.specs.declared.rows.Cell.{Cell}
-use Rattle.cy_values.specs.Bag.{count_of, weight_of, IsBagOf, IsCanonical}
+use Rattle.cy_values.specs.Bag.{weight_of, IsBagOf, IsCanonical}
 use Rattle.cy_values.specs.Order.{row_cmp}
 use Rattle.std.proofs.lemmas.List.{append_assoc}
 use Rattle.cy_graph.specs.Graph.{Content, State, Versions, IsGraph}

@@ -5,12 +5,13 @@ use Rattle.std.specs.Str.{bytes_eq}
 use Rattle.std.specs.declared.alloc.Global.{Global}
 use Rattle.std.specs.declared.string.String.{String}
 use Rattle.cy_graph.specs.Graph.{Versions}
+use Rattle.cy_engine.specs.declared.entries.Entry.{Entry}
 use Rattle.cy_engine.specs.declared.faults.Fault.{Fault}
 use Rattle.cy_engine.specs.declared.faults.Fault.TheVariants as fault
 use Rattle.cy_engine.specs.declared.reading.Unread.{Unread}
 use Rattle.cy_engine.specs.declared.reading.Unread.TheVariants as unread
 use Rattle.cy_engine.specs.declared.views.Registered.{Registered}
-use Rattle.cy_engine.specs.Step.{View, EngineState, last_tick, view_limit}
+use Rattle.cy_engine.specs.Step.{View, EngineState, Machine, last_tick, view_limit}
 
 -- the view that an entry of the map stands for
 abbrev pub view_of : String Global × Registered → View
@@ -26,6 +27,9 @@ registered_at name entries = lookup (λ k. bytes_eq name (string_bytes k)) entri
 
 abbrev pub state_of : Versions → List (String Global × Registered) → ℕ → ℕ → EngineState
 state_of graph views tick history = record { graph = graph.now; views = map view_of views; tick = tick; history = history }
+
+abbrev pub machine_of : Versions → List (String Global × Registered) → ℕ → ℕ → List (List ℕ × Entry) → Machine
+machine_of graph views tick history entries = record { state = state_of graph views tick history; entries = entries }
 
 -- no change is open between lines, and the limits hold
 pub record IsAtRest (graph : Versions) (views : List (String Global × Registered)) (tick : ℕ) : Type 0 where

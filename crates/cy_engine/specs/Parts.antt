@@ -5,10 +5,10 @@ use Rattle.cy_engine.specs.declared.faults.Fault.TheVariants as fault
 use Rattle.cy_engine.specs.declared.replies.Reply.{Reply}
 use Rattle.cy_engine.specs.declared.replies.Reply.TheVariants as reply
 use Rattle.cy_engine.specs.declared.trees.Query.{Query}
-use Rattle.cy_engine.specs.declared.replies.Changed.{Changed}
+use Rattle.cy_engine.specs.declared.engine.Effect.{Effect}
 use Rattle.cy_engine.specs.declared.trees.Statement.{Statement}
 use Rattle.cy_engine.specs.Meaning.{Outcome, carried_out}
-use Rattle.cy_engine.specs.Step.{EngineState, AreRows, Ticks, last_tick, view_at, view_limit}
+use Rattle.cy_engine.specs.Step.{EngineState, View, AreEntries, AreRows, Ticks, last_tick, view_at, view_limit}
 use Rattle.cy_graph.specs.Graph.{State}
 
 -- whether a view may be made of a query, and why not
@@ -28,12 +28,15 @@ ShowsRows state name (Err fault.NoSuchView) = view_at name state ≡ None
 ShowsRows state name (Err fault.NoMemory) = IsSome (view_at name state)
 ShowsRows state name (Err _) = ⊥
 
--- what becomes of a statement, from a graph and a tick: what it tells and the next tick, and the graph after it
-abbrev pub Changes : Statement → State → ℕ → Result (Changed × ℕ) Fault → State → Type 0
-Changes tree old tick (Ok x) new = (carried_out tree old ≡ Ok (record { graph = new; changed = x.0; columns = []; rows = [] })) × Ticks old.content new.content tick x.1
-Changes tree old tick (Err fault.UnknownVariable) new = carried_out tree old ≡ Err 30
-Changes tree old tick (Err fault.Full) new =
+-- what becomes of a statement, from a graph, the views and a tick: its effect, and the graph after it
+abbrev pub Changes : Statement → List View → State → ℕ → Result Effect Fault → State → Type 0
+Changes tree views old tick (Ok effect) new =
+    (carried_out tree old ≡ Ok (record { graph = new; changed = effect.changed; columns = []; rows = [] }))
+    × Ticks old.content new.content tick effect.tick
+    × AreEntries views old.content new.content effect.tick effect.entries
+Changes tree views old tick (Err fault.UnknownVariable) new = carried_out tree old ≡ Err 30
+Changes tree views old tick (Err fault.Full) new =
     (carried_out tree old ≡ Err 53)
     ⊎ ((outcome : Outcome) × (carried_out tree old ≡ Ok outcome) × (outcome.graph.content ≢ old.content) × (tick ≡ last_tick))
-Changes tree old tick (Err fault.NoMemory) new = Unit {0}
-Changes tree old tick (Err _) new = ⊥
+Changes tree views old tick (Err fault.NoMemory) new = Unit {0}
+Changes tree views old tick (Err _) new = ⊥

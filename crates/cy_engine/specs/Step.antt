@@ -1,5 +1,6 @@
 -- The engine as a machine: its state, and the steps that a line allows.
 use Rattle.std.specs.Prelude.{◌≡◌, ◌≢◌, ℕ, ◌+◌, ◌-◌, ◌^◌, ◌<◌, ◌⊎◌, List, [], ◌∷◌, ◌++◌, length, find, IsSome, Option, Some, None, Result, Ok, Err}
+use Rattle.std.specs.Option.{option_map}
 use Rattle.std.specs.Str.{bytes_eq}
 use Rattle.cy_values.specs.declared.rows.Cell.{Cell}
 use Rattle.cy_values.specs.Bag.{IsBagOf, IsCanonical}
@@ -32,6 +33,12 @@ pub record EngineState : Type 0 where
   pub tick : ℕ
   pub history : ℕ
 
+-- an engine between two lines: its state, and the entries that the last line made, with the names of their views, in the
+-- order in which these were made
+pub record Machine : Type 0 where
+  pub state : EngineState
+  pub entries : List (List ℕ × Entry)
+
 -- the last tick
 abbrev pub last_tick : ℕ
 last_tick = 2 ^ 62 - 1
@@ -43,6 +50,9 @@ view_limit = 256
 -- an empty graph, no view, tick 0
 abbrev pub empty_engine : ℕ → EngineState
 empty_engine history = record { graph = empty_state 1 1; views = []; tick = 0; history = history }
+
+abbrev pub new_machine : ℕ → Machine
+new_machine history = record { state = empty_engine history; entries = [] }
 
 -- the view of a name
 abbrev pub view_at : List ℕ → EngineState → Option View
@@ -79,13 +89,14 @@ abbrev pub Ticks : Content → Content → ℕ → ℕ → Type 0
 Ticks before after old new = ((after ≡ before) × (new ≡ old)) ⊎ ((after ≢ before) × (old < last_tick) × (new ≡ old + 1))
 
 -- a statement is carried out
-pub record Carries (old : EngineState) (line : List ℕ) (changed : Changed) (columns : List (List ℕ)) (rows : List (List Cell)) (new : EngineState) : Type 0 where
+pub record Carries (old : EngineState) (line : List ℕ) (changed : Changed) (columns : List (List ℕ)) (rows : List (List Cell)) (entries : List (List ℕ × Entry)) (new : EngineState) : Type 0 where
   pub tree : Tree
   pub graph : State
   pub tick : ℕ
   pub statement : IsStatement line tree
   pub meaning : carried_out tree old.graph ≡ Ok (record { graph = graph; changed = changed; columns = columns; rows = rows })
   pub ticks : Ticks old.graph.content graph.content old.tick tick
+  pub entries_are : AreEntries old.views old.graph.content graph.content tick entries
   pub is : new ≡ record old { graph = graph; tick = tick }
 
 -- a view is made: it stands after all others, and the tick rises
@@ -141,10 +152,15 @@ Refused state line fault.UnknownCommand = asked line ≡ Wrong 70
 Refused state line fault.BadArgument = asked line ≡ Wrong 72
 Refused state line fault.NoMemory = TakesMemory state (asked line)
 
--- From old, the machine may answer the line so and go on to new. A refused line leaves all as it was.
-abbrev pub Step : EngineState → List ℕ → Result Reply Fault → EngineState → Type 0
-Step old line (Ok reply.Nothing) new = (asked line ≡ Blank) × (new ≡ old)
-Step old line (Ok (reply.Statement changed columns rows)) new = Carries old line changed columns rows new
-Step old line (Ok (reply.Made columns tick name)) new = Makes old line columns tick name new
-Step old line (Ok (reply.Rows rows tick name)) new = (asked line ≡ RowsOf name) × AreRows old name rows × (tick ≡ old.tick) × (new ≡ old)
-Step old line (Err fault) new = Refused old line fault × (new ≡ old)
+-- From old, the machine may answer the line so, make these entries and go on to new. Only a statement makes entries, and
+-- a refused line leaves all as it was.
+abbrev pub Step : EngineState → List ℕ → Result Reply Fault → List (List ℕ × Entry) → EngineState → Type 0
+Step old line (Ok reply.Nothing) entries new = (asked line ≡ Blank) × (entries ≡ []) × (new ≡ old)
+Step old line (Ok (reply.Statement changed columns rows)) entries new = Carries old line changed columns rows entries new
+Step old line (Ok (reply.Made columns tick name)) entries new = Makes old line columns tick name new × (entries ≡ [])
+Step old line (Ok (reply.Rows rows tick name)) entries new = (asked line ≡ RowsOf name) × AreRows old name rows × (tick ≡ old.tick) × (entries ≡ []) × (new ≡ old)
+Step old line (Err fault) entries new = Refused old line fault × (entries ≡ []) × (new ≡ old)
+
+-- the entry of the view of a name, if there is one
+abbrev pub entry_at : List ℕ → List (List ℕ × Entry) → Option Entry
+entry_at name entries = option_map (λ e. e.1) (find (λ e. bytes_eq name e.0) entries)

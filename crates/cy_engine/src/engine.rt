@@ -1,13 +1,15 @@
 //! The engine: one line at a time.
 
-ghost use Rattle.std.specs.Prelude.{◌≡◌, ◌≤◌, ◌<◌, ◌⊎◌, ◌∷◌, [], length, None, Some, IfErr, IfOk, IsSome, MatchResult, OnErr};
+ghost use Rattle.std.specs.Prelude.{◌≡◌, ◌≤◌, ◌<◌, ◌⊎◌, ◌∷◌, [], length, map, None, Some, IfErr, IfOk, IsSome, MatchResult, OnErr};
+ghost use Rattle.std.specs.Option.{option_copied};
 ghost use Rattle.cy_engine.specs.Asked.{asked, StatementOf, ViewOf, place_of};
-ghost use Rattle.cy_engine.specs.Kept.{fault_of};
+ghost use Rattle.cy_engine.specs.Kept.{fault_of, view_of};
 ghost use Rattle.cy_engine.specs.Parts.{Changes, MayMake, ShowsRows};
 ghost use Rattle.cy_engine.specs.Meaning.{HasLiterals};
-ghost use Rattle.cy_engine.specs.Step.{AreRows, Step, empty_engine, last_tick, view_at, view_limit};
+ghost use Rattle.cy_engine.specs.Step.{AreRows, Step, entry_at, last_tick, new_machine, view_at, view_limit};
 
 use crate::asked::{Asked, classify};
+use crate::entries::{Entry, entries_of};
 use crate::faults::Fault;
 use crate::reading::{Unread, read_query, read_statement};
 use crate::replies::{Changed, Reply};
@@ -36,15 +38,25 @@ pub struct Engine {
     views: IndexMap<String, Registered>,
     tick: u64,
     history: usize,
+    /// What the last line changed in the rows of views.
+    entries: Sequence<(Text, Entry)>,
+}
+
+// What a statement does: what it tells, the tick that follows, and the entries of the views.
+#[derive(Drop)]
+struct Effect {
+    changed: Changed,
+    tick: u64,
+    entries: Sequence<(Text, Entry)>,
 }
 
 impl Model for Engine {
-    ghost use Rattle.cy_engine.specs.Step.{EngineState};
-    ghost use Rattle.cy_engine.specs.Kept.{state_of, IsAtRest};
+    ghost use Rattle.cy_engine.specs.Step.{Machine};
+    ghost use Rattle.cy_engine.specs.Kept.{machine_of, IsAtRest};
 
-    ghost Value = { EngineState };
+    ghost Value = { Machine };
 
-    ghost view = { λ e. state_of e.graph e.views.entries e.tick e.history };
+    ghost view = { λ e. machine_of e.graph e.views.entries e.tick e.history e.entries };
 
     ghost invariant = { λ e. IsAtRest e.graph e.views.entries e.tick };
 }
@@ -54,7 +66,7 @@ impl Engine {
     pub fn new(alloc: Global, history: usize) -> Self
         requires from { 1 ≤ history }
         requires to { history ≤ 4096 }
-        ensures { result ≡ empty_engine history }
+        ensures { result ≡ new_machine history }
     {
         Engine {
             alloc,
@@ -62,6 +74,7 @@ impl Engine {
             views: IndexMap::new(alloc),
             tick: 0,
             history,
+            entries: Sequence::new(Vec::new(alloc)),
         }
     }
 
@@ -74,8 +87,9 @@ impl Engine {
     /// arguments are missing or too many as `BadArgument`. `NoMemory` comes only of a statement, a view to be made, or
     /// the rows of a view that is there.
     pub fn line(&mut self, line: &str) -> Result<Reply, Fault>
-        ensures { Step self.old line.now result self.new }
+        ensures { Step self.old.state line.now result self.new.entries self.new.state }
     {
+        self.entries = Sequence::new(Vec::new(self.alloc));
         match classify(line) {
             Asked::Blank => Ok(Reply::Nothing),
             Asked::Statement(text) => self.carry_out(line, text),
@@ -88,7 +102,7 @@ impl Engine {
 
     /// The number of the last line that changed the graph or made a view, 0 before the first.
     pub fn tick(&self) -> u64
-        ensures { result ≡ self.now.tick }
+        ensures { result ≡ self.now.state.tick }
     {
         self.tick
     }
@@ -96,8 +110,8 @@ impl Engine {
     /// The rows of a view with their counts: what its query means on the graph, each row once, in canonical order.
     /// `NoSuchView` where there is no view of this name; else it fails only for want of memory.
     pub fn rows(&self, view: &str) -> Result<Vec<(Row, u64)>, Fault>
-        ensures rows { IfOk result (λ rows. AreRows self.now view.now rows.items) }
-        ensures refused { IfErr result (λ fault. ((fault ≡ Fault.NoSuchView) × (view_at view.now self.now ≡ None)) ⊎ ((fault ≡ Fault.NoMemory) × IsSome (view_at view.now self.now))) }
+        ensures rows { IfOk result (λ rows. AreRows self.now.state view.now rows.items) }
+        ensures refused { IfErr result (λ fault. ((fault ≡ Fault.NoSuchView) × (view_at view.now self.now.state ≡ None)) ⊎ ((fault ≡ Fault.NoMemory) × IsSome (view_at view.now self.now.state))) }
     {
         match self.views.get(view) {
             Some(found) => rows_with_counts(self.alloc, &found.query, &self.graph),
@@ -105,20 +119,49 @@ impl Engine {
         }
     }
 
+    /// The entries that the last line made, with the names of their views, in the order in which these were made: none
+    /// after a refusal, a command or a line without tokens.
+    pub fn entries(&self) -> &[(Text, Entry)]
+        ensures { result.now ≡ self.now.entries }
+    {
+        self.entries.as_slice()
+    }
+
+    /// The entry that the last line made for a view, if it made one.
+    pub fn last(&self, view: &str) -> Option<&Entry>
+        ensures { option_copied result ≡ entry_at view.now self.now.entries }
+    {
+        let mut entries = self.entries.as_slice().iter();
+        let (_, entry) = entries.find(|(name, _)| name.as_str() == view)?;
+        Some(entry)
+    }
+
     // Carries a statement out.
     fn carry_out(&mut self, line: &str, text: &str) -> Result<Reply, Fault>
-        requires { asked line.now ≡ StatementOf text.now }
-        ensures { Step self.old line.now result self.new }
+        requires asks { asked line.now ≡ StatementOf text.now }
+        requires no_entries { self.old.entries ≡ [] }
+        ensures { Step self.old.state line.now result self.new.entries self.new.state }
     {
         let tree = match read_statement(self.alloc, text) {
             Ok(tree) => tree,
             Err(unread) => return Err(unread_fault(unread, line, text)),
         };
         self.graph.begin();
-        match change(self.alloc, &mut self.graph, tree, self.tick) {
-            Ok((changed, tick)) => {
+        match change(
+            self.alloc,
+            &mut self.graph,
+            &self.views,
+            tree,
+            self.tick,
+        ) {
+            Ok(Effect {
+                changed,
+                tick,
+                entries,
+            }) => {
                 self.graph.commit();
                 self.tick = tick;
+                self.entries = entries;
                 Ok(Reply::Statement {
                     changed,
                     columns: Sequence::new(Vec::new(self.alloc)),
@@ -134,8 +177,9 @@ impl Engine {
 
     // Makes a view.
     fn make_view(&mut self, line: &str, name: &str, text: &str) -> Result<Reply, Fault>
-        requires { asked line.now ≡ ViewOf name.now text.now }
-        ensures { Step self.old line.now result self.new }
+        requires asks { asked line.now ≡ ViewOf name.now text.now }
+        requires no_entries { self.old.entries ≡ [] }
+        ensures { Step self.old.state line.now result self.new.entries self.new.state }
     {
         let query = match read_query(self.alloc, text) {
             Ok(query) => query,
@@ -156,7 +200,7 @@ impl Engine {
 
     // Whether a view of this name and query may be made.
     fn may_make(&self, name: &str, query: &Query) -> Result<(), Fault>
-        ensures { MayMake self.now name.now query.now result }
+        ensures { MayMake self.now.state name.now query.now result }
     {
         if query.returned != query.variable {
             return Err(Fault::UnknownVariable);
@@ -175,7 +219,7 @@ impl Engine {
 
     // Shows the rows of a view.
     fn show_rows(&self, name: &str) -> Result<Reply, Fault>
-        ensures { ShowsRows self.now name.now result }
+        ensures { ShowsRows self.now.state name.now result }
     {
         let rows = self.rows(name)?;
         Ok(Reply::Rows {
@@ -186,28 +230,39 @@ impl Engine {
     }
 }
 
-// Carries a statement out in the open change, and tells what changed, and the tick that follows. After a fault the change
-// is to be rolled back.
+// Carries a statement out in the open change. After a fault the change is to be rolled back.
 fn change(
     alloc: Global,
     graph: &mut Graph,
+    views: &IndexMap<String, Registered>,
     tree: Statement,
     tick: u64,
-) -> Result<(Changed, u64), Fault>
+) -> Result<Effect, Fault>
     requires open { graph.old.was ≡ Some graph.old.now }
     requires literals { HasLiterals tree }
     requires in_time { tick ≤ last_tick }
-    ensures changes { Changes tree graph.old.now tick result graph.new.now }
+    ensures changes { Changes tree (map view_of views.now.entries) graph.old.now tick result graph.new.now }
     ensures open { graph.new.was ≡ graph.old.was }
 {
     let changed = carry_out(alloc, graph, tree)?;
-    if graph.touched(alloc)?.is_empty() {
-        return Ok((changed, tick));
+    let touched = graph.touched(alloc)?;
+    if touched.is_empty() {
+        return Ok(Effect {
+            changed,
+            tick,
+            entries: Sequence::new(Vec::new(alloc)),
+        });
     }
     if tick == LAST_TICK {
         return Err(Fault::Full);
     }
-    Ok((changed, tick + 1))
+    let tick = tick + 1;
+    let entries = entries_of(alloc, views, graph, touched.as_slice(), tick)?;
+    Ok(Effect {
+        changed,
+        tick,
+        entries: Sequence::new(entries),
+    })
 }
 
 // What is told of a text that was not read.

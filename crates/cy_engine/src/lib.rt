@@ -2,8 +2,8 @@
 #![tactic(auto)]
 
 mod asked;
-mod engine;
 mod differences;
+mod engine;
 mod entries;
 mod faults;
 mod reading;
@@ -15,6 +15,7 @@ mod views;
 mod words;
 
 pub use engine::Engine;
+pub use entries::{Change, Entry};
 pub use faults::Fault;
 pub use replies::{Changed, Reply};
 pub use runs::{answer_all, headline};

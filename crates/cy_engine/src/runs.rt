@@ -1,7 +1,7 @@
 //! Runs over lists of lines.
 
 ghost use Rattle.std.specs.Prelude.{◌≡◌, IfErr, IfOk, OnErr, map};
-ghost use Rattle.cy_engine.specs.Run.{Run, RowsAreTheQuerys, RefusedLinesChangeNothing, RefusedLinesLeaveNoTrace};
+ghost use Rattle.cy_engine.specs.Run.{Run, RowsAreTheQuerys, EntriesAreTheDifferences, RefusedLinesChangeNothing, RefusedLinesLeaveNoTrace};
 
 use crate::engine::Engine;
 use crate::faults::Fault;
@@ -14,7 +14,7 @@ pub fn answer_all(
     engine: &mut Engine,
     lines: &[&str],
 ) -> Result<Vec<Result<Reply, Fault>>, Fault>
-    ensures run { IfOk result (λ results. Run engine.old (map (λ line. line.now) lines.now) results.items engine.new) }
+    ensures run { IfOk result (λ results. Run engine.old.state (map (λ line. line.now) lines.now) results.items engine.new.state) }
     ensures refused { IfErr result (λ fault. fault ≡ Fault.NoMemory) }
     ensures err { OnErr result (engine.new ≡ engine.old) }
 {
@@ -30,6 +30,7 @@ pub fn answer_all(
 /// refused lines.
 pub fn headline()
     ensures rows { RowsAreTheQuerys }
+    ensures entries { EntriesAreTheDifferences }
     ensures refused { RefusedLinesChangeNothing }
     ensures no_trace { RefusedLinesLeaveNoTrace }
 {}

@@ -1,4 +1,4 @@
-use Rattle.std.proofs.Common.{rules, ◌≡◌, sym}
+use Rattle.std.proofs.Common.{rules, sym}
 use Rattle.std.proofs.lemmas.Fn.{always_returns_same}
 use Rattle.cy_values.specs.Order.{row_cmp}
 use Rattle.cy_engine.proofs.Excesses.{weight_at, searched}

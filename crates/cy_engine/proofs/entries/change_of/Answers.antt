@@ -1,4 +1,4 @@
-use Rattle.std.proofs.Common.{◌≡◌, true, false, sym, ◌∙◌}
+use Rattle.std.proofs.Common.{sym, ◌∙◌}
 use Rattle.std.proofs.lemmas.Bool.{false≢true}
 use Rattle.cy_engine.specs.Meaning.{rows_of}
 use Rattle.cy_engine.proofs.ViewEntries.{one_some, none_above, some_above}

@@ -1,8 +1,7 @@
-use Rattle.std.proofs.Common.{◌≡◌, ◌++◌, [], List, ℕ, map, IfSome, Some, Option, refl, sym, ap, subst, ◌∙◌, String, Global}
+use Rattle.std.proofs.Common.{[], map, Some, Option, refl, subst, ◌∙◌}
 use Rattle.std.proofs.lemmas.List.{append-nil}
 use Rattle.cy_engine.specs.declared.entries.Change.{Change}
 use Rattle.cy_engine.specs.declared.entries.Entry.{Entry}
-use Rattle.cy_engine.specs.declared.views.Registered.{Registered}
 use Rattle.cy_engine.specs.Kept.{view_of}
 use Rattle.cy_engine.specs.Step.{AreEntries}
 use Rattle.cy_engine.specs.Touching.{IsChangeOf}

@@ -1,4 +1,4 @@
-use Rattle.std.proofs.Common.{◌≡◌, map, rules}
+use Rattle.std.proofs.Common.{map}
 use Rattle.cy_values.specs.Bag.{IsBagOf}
 use Rattle.cy_graph.specs.Touched.{entry_of}
 use Rattle.cy_engine.specs.Touching.{rows_before, rows_after}

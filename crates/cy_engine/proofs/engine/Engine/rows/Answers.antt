@@ -29,7 +29,7 @@ returns-in-Some-clause-rows c =
 
 pub returns-in-Some-clause-refused : goal.returns-in-Some-clause-refused
 returns-in-Some-clause-refused c =
-    let there : IsSome (view_at c.args.view.now c.args.self.now) = rw (← c.self.view_is) (view_present c.args.view.now c.self.inside.views.entries (sym (ap is_some c.in-Some.ensures.value))) in
+    let there : IsSome (view_at c.args.view.now c.args.self.now.state) = rw (← c.self.view_is) (view_present c.args.view.now c.self.inside.views.entries (sym (ap is_some c.in-Some.ensures.value))) in
     IfErr-weaker c.rows_with_counts.result (λ fault. fault ≡ NoMemory) _ (λ fault is. inr (is, there)) c.rows_with_counts.ensures.memory
 
 pub returns-in-None-clause-refused : goal.returns-in-None-clause-refused

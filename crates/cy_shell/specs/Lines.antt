@@ -32,6 +32,12 @@ unless_empty (c ∷ cs) = (c ∷ cs) ∷ []
 abbrev pub lines_of : List ℕ → List (List ℕ)
 lines_of bytes = whole_lines bytes ++ unless_empty (last_line bytes)
 
+-- the lines that are served once a front of the input was read: those whose end was read, and at the end of the input its
+-- last line too
+abbrev pub lines_read : List ℕ → List ℕ → List (List ℕ)
+lines_read front [] = lines_of front
+lines_read front (c ∷ rest) = whole_lines front
+
 -- a line is kept up to the limit
 abbrev pub kept : List ℕ → Option (List ℕ)
 kept line = if nat_le (length line) line_limit then Some line else None

@@ -15,7 +15,7 @@ returns-then-count-eq0-clause-done g c =
     (on_ok_weaker c.finish.result
     (λ served. known_input _ (λ input is.
     ends_well input c.loop-total.total _ _ _ _ _ _ c.loop-total.piece c.read_piece.new.piece _ _ _ (c.loop-total.invariant.reads input is)
-    (subst (TakesFront _ _ _ _) c.if-count-eq0.true c.in-Ok.ensures.front) (omega (arith, c.loop-total.auto.piece, c.requires.some_room)) c.loop-total-test.true served))
+    (subst (TakesFront _ _ _ _) c.if-count-eq0.true c.in-Ok.ensures.front) (omega (arith, c.loop-total.auto.piece, c.requires.some_room)) (omega (arith, c.loop-total-test.true)) served))
     c.finish.ensures.served)
 
 pub returns-then-count-eq0-clause-write : goal.returns-then-count-eq0-clause-write

@@ -1,9 +1,10 @@
 -- The lines of an input. A line ends at LF, and a last line without LF counts if it isn't empty.
 use Rattle.std.specs.Prelude.{ℕ, ◌==◌, nat_le, List, [], ◌∷◌, ◌++◌, length, Option, Some, None, if◌then◌else◌}
+use Rattle.cy_lexer.specs.Tokens.{longest_line}
 
--- the most bytes that a line may have, without its LF
+-- the most bytes that a line may have, without its LF: those of the longest line that the lexer takes
 abbrev pub line_limit : ℕ
-line_limit = 65536
+line_limit = longest_line
 
 -- the lines that end in the bytes, of which the first begins with what was read of it before
 abbrev pub ended_lines : List ℕ → List ℕ → List (List ℕ)

@@ -71,10 +71,13 @@ impl From<AllocError> for RunFault {
     }
 }
 
-/// Reads an input to its end, and answers each line of it on a line of its own, in order. All memory for reading is
-/// taken at the start.
+/// Reads an input to its end, and answers its lines in order. A line ends at LF, and a last line without LF counts if it
+/// is not empty. A reply or a fault is a JSON object on a line of its own, and is flushed; a line without tokens has no
+/// reply. All memory for reading is taken at the start.
 ///
-/// A read, write or flush that fails ends the run at once, as does an input of 2^62 bytes, of which no more is read.
+/// Fails with `Read` where a read fails, or once 2^62 bytes were read: then the lines that had ended are answered. Fails
+/// with `Write` where a write or a flush fails, and with `Memory` before anything is read. Nothing that failed is tried
+/// again.
 pub fn run<R: Source, W: Sink>(
     alloc: Global,
     source: &mut R,

@@ -70,6 +70,7 @@ impl<W: Write> Sink for OutputSink<W> {
 
     ghost has_failed = { λ sink. sink.has_failed };
 
+    /// A write that takes no byte of a piece that is not empty has failed.
     fn write(&mut self, piece: &[u8]) -> Result<usize, Failed> {
         match self.writer.write(piece) {
             Ok(count) if count > 0 || piece.is_empty() => Ok(count),

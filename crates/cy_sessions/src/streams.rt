@@ -2,12 +2,12 @@
 
 ghost use Rattle.std.specs.Prelude.{◌≡◌, false, None};
 
-use crate::streams::{Failed, Sink, Source};
+use cy_shell::{Failed, Sink, Source};
 use std::alloc::Global;
 
 /// Gives at most so many bytes a read. The read of this number fails; none does if it is 0.
 #[derive(Drop)]
-pub(super) struct TestSource<'a> {
+pub(crate) struct TestSource<'a> {
     left: &'a [u8],
     most: usize,
     failing: usize,
@@ -16,7 +16,7 @@ pub(super) struct TestSource<'a> {
 }
 
 impl<'a> TestSource<'a> {
-    pub(super) fn new(bytes: &'a [u8], most: usize, failing: usize) -> Self
+    pub(crate) fn new(bytes: &'a [u8], most: usize, failing: usize) -> Self
         ensures { result.has_failed ≡ false }
     {
         TestSource {
@@ -28,7 +28,7 @@ impl<'a> TestSource<'a> {
         }
     }
 
-    pub(super) fn calls(&self) -> usize {
+    pub(crate) fn calls(&self) -> usize {
         self.calls
     }
 }
@@ -56,7 +56,7 @@ impl<'a> Source for TestSource<'a> {
 
 /// Takes at most so many bytes a write. The call of this number, a write or a flush, fails; none does if it is 0.
 #[derive(Drop)]
-pub(super) struct TestSink {
+pub(crate) struct TestSink {
     written: Vec<u8>,
     most: usize,
     failing: usize,
@@ -65,7 +65,7 @@ pub(super) struct TestSink {
 }
 
 impl TestSink {
-    pub(super) fn new(alloc: Global, most: usize, failing: usize) -> Self
+    pub(crate) fn new(alloc: Global, most: usize, failing: usize) -> Self
         ensures { result.has_failed ≡ false }
     {
         TestSink {
@@ -77,11 +77,11 @@ impl TestSink {
         }
     }
 
-    pub(super) fn calls(&self) -> usize {
+    pub(crate) fn calls(&self) -> usize {
         self.calls
     }
 
-    pub(super) fn written(&self) -> &[u8] {
+    pub(crate) fn written(&self) -> &[u8] {
         self.written.as_slice()
     }
 

@@ -1,7 +1,7 @@
-//! Sessions over streams that move a byte at a time, of which a call fails.
+//! Sessions over streams that move a byte at a time, or of which a call fails.
 
-use crate::streams::{TestSink, TestSource};
-use cy_shell::{RunFault, Settings, run};
+use crate::streams::{RefusingReader, RefusingWriter, TestSink, TestSource};
+use cy_shell::{InputSource, OutputSink, RunFault, Settings, run};
 use std::alloc::{AllocError, Global};
 use std::process::Abort;
 use std::test::Fail;
@@ -145,4 +145,41 @@ fn stops_at_a_read_that_fails(rt: HostRuntime) -> Result<(), Fail> {
 fn stops_at_a_write_that_fails(rt: HostRuntime) -> Result<(), Fail> {
     stop_at_each_write(&rt, rt.alloc(), &VIEW)?;
     stop_at_each_write(&rt, rt.alloc(), &NO_TEXTS)
+}
+
+// A reader and a writer of which a call fails, or a write takes no byte: none is tried again.
+#[test]
+fn stops_where_a_reader_or_a_writer_fails(rt: HostRuntime) -> Result<(), Fail> {
+    let alloc = rt.alloc();
+    let input = input_of(alloc, &VIEW)?;
+    let table = [
+        (Some(7), true, Ok(())),
+        (Some(0), true, Err(RunFault::Write)),
+        (None, true, Err(RunFault::Write)),
+        (Some(7), false, Err(RunFault::Write)),
+    ];
+    for (most, flushes, outcome) in table {
+        let mut source = InputSource::new(input.as_slice());
+        let mut sink = OutputSink::new(RefusingWriter { most, flushes });
+        assert!(rt; run(alloc, &mut source, &mut sink, SETTINGS) == outcome);
+    }
+    let mut source = InputSource::new(RefusingReader);
+    let mut sink = OutputSink::new(RefusingWriter {
+        most: Some(7),
+        flushes: true,
+    });
+    assert!(rt; run(alloc, &mut source, &mut sink, SETTINGS) == Err(RunFault::Read));
+    Ok(())
+}
+
+#[test]
+fn reads_from_a_reader_and_writes_to_a_writer(rt: HostRuntime) -> Result<(), Fail> {
+    let alloc = rt.alloc();
+    let input = input_of(alloc, &VIEW)?;
+    let mut output = Vec::new(alloc);
+    let mut source = InputSource::new(input.as_slice());
+    let mut sink = OutputSink::new(&mut output);
+    assert!(rt; run(alloc, &mut source, &mut sink, SETTINGS).is_ok());
+    assert!(rt; output.as_slice() == output_of(alloc, &VIEW)?.as_bytes());
+    Ok(())
 }

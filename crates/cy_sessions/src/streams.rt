@@ -1,9 +1,10 @@
-//! Sources and sinks that move few bytes at a time, and fail at a chosen call.
+//! Sources and sinks that move few bytes at a time, and fail at a chosen call. Readers and writers that fail.
 
 ghost use Rattle.std.specs.Prelude.{◌≡◌, false, None};
 
 use cy_shell::{Failed, Sink, Source};
 use std::alloc::Global;
+use std::io;
 
 /// Gives at most so many bytes a read. The read of this number fails; none does if it is 0.
 #[derive(Drop)]
@@ -113,5 +114,39 @@ impl Sink for TestSink {
             return Err(Failed);
         }
         Ok(())
+    }
+}
+
+/// Refuses each read, as one that was interrupted.
+#[derive(Drop)]
+pub(crate) struct RefusingReader;
+
+impl io::Read for RefusingReader {
+    fn read(&mut self, _piece: &mut [u8]) -> io::Result<usize> {
+        Err(io::Error::from(io::ErrorKind::Interrupted))
+    }
+}
+
+/// Takes at most so many bytes a write, and refuses each write where there is no such number. Refuses to flush, or does not.
+#[derive(Drop)]
+pub(crate) struct RefusingWriter {
+    pub(crate) most: Option<usize>,
+    pub(crate) flushes: bool,
+}
+
+impl io::Write for RefusingWriter {
+    fn write(&mut self, piece: &[u8]) -> io::Result<usize> {
+        match self.most {
+            Some(most) => Ok(piece.len().min(most)),
+            None => Err(io::Error::from(io::ErrorKind::Interrupted)),
+        }
+    }
+
+    fn flush(&mut self) -> io::Result<()> {
+        if self.flushes {
+            Ok(())
+        } else {
+            Err(io::Error::from(io::ErrorKind::Interrupted))
+        }
     }
 }

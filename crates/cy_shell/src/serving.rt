@@ -75,9 +75,9 @@ impl From<AllocError> for RunFault {
 /// is not empty. A reply or a fault is a JSON object on a line of its own, and is flushed; a line without tokens has no
 /// reply. All memory for reading is taken at the start.
 ///
-/// Fails with `Read` where a read fails, or once 2^62 bytes were read: then the lines that had ended are answered. Fails
-/// with `Write` where a write or a flush fails, and with `Memory` before anything is read. Nothing that failed is tried
-/// again.
+/// Fails with `Read` where a read fails, or once 2^62 bytes were read: the lines that had ended by then are answered.
+/// Fails with `Write` where a write or a flush fails, and with `Memory` where there is no memory at the start: nothing is
+/// read or written then. Nothing that failed is tried again.
 pub fn run<R: Source, W: Sink>(
     alloc: Global,
     source: &mut R,

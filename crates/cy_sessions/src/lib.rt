@@ -6,4 +6,8 @@ mod engine;
 #[cfg(test)]
 mod plain;
 #[cfg(test)]
+mod stops;
+#[cfg(test)]
+mod streams;
+#[cfg(test)]
 mod tests;

@@ -1,9 +1,9 @@
 -- How far an input is read and served.
-use Rattle.std.proofs.Common.{◌≡◌, ℕ, ◌+◌, ◌≤◌, ◌<◌, List, [], ◌++◌, length, take, drop, Bool, true, Option, Some, None, IfSome, refl, sym, ◌∙◌, ap, subst, ◌⊎◌, inl, inr, arith, length-drop}
-use Rattle.std.proofs.lemmas.List.{append-nil, take-append-drop, take_all, take-append-le, drop-drop, length-take-le}
+use Rattle.std.proofs.Common.{◌≡◌, ℕ, ◌+◌, ◌≤◌, ◌<◌, List, [], ◌∷◌, ◌++◌, length, take, drop, Bool, true, Option, Some, None, IfSome, Result, Ok, Err, IfOk, refl, sym, ◌∙◌, ap, subst, append_assoc, ◌⊎◌, inl, inr, arith, length-drop}
+use Rattle.std.proofs.lemmas.List.{append-nil, take-append-drop, take_all, take-append-le, drop-append-le, drop-drop, length-take-le}
 use Rattle.std.proofs.Math.Seq.{take-add}
 use Rattle.cy_engine.specs.Step.{EngineState}
-use Rattle.cy_shell.specs.Lines.{kept, ended_lines, begun_line, whole_lines, last_line, unless_empty, lines_of}
+use Rattle.cy_shell.specs.Lines.{kept, ended_lines, begun_line, whole_lines, last_line, unless_empty, lines_of, lines_read}
 use Rattle.cy_shell.specs.Runs.{WritesRun, WritesBeginning, WritesAll, input_limit, StopsReading, StopsWriting}
 use Rattle.cy_shell.specs.Streams.{TakesFront}
 use Rattle.cy_shell.proofs.Chains.{no_lines, more_lines, breaks_later, breaks_before}
@@ -27,6 +27,30 @@ reads_first input start left line known is keeps = record {
   keeps = keeps;
   written = no_lines start known;
 }
+
+-- a read into the front of a piece is one into the piece
+front_taken : (left after : Option (List ℕ)) (old_piece piece : List ℕ) (most count : ℕ) → 0 < most → most ≤ length old_piece → count ≤ length (take most old_piece)
+    → TakesFront left after (take most old_piece) piece count → TakesFront left after old_piece (piece ++ drop most old_piece) count
+front_taken None after old_piece piece most count some fits within taken = taken
+front_taken (Some left) after old_piece piece most count some fits within taken =
+    let moved = taken.0 in
+    let size : length (take most old_piece) ≡ most = length-take-le most old_piece fits in (
+      record {
+        within = moved.within;
+        piece = ap (λ bytes. bytes ++ drop most old_piece) moved.piece
+            ∙ append_assoc (take count left) (drop count (take most old_piece)) (drop most old_piece)
+            ∙ ap (λ bytes. take count left ++ bytes) (sym (drop-append-le count (take most old_piece) (drop most old_piece) within)
+            ∙ ap (drop count) (take-append-drop most old_piece));
+        end = λ none _. moved.end none (omega (arith, size, some));
+      },
+      taken.1,
+    )
+
+pub takes_into_front : {E : Type 0} (r : Result ℕ E) (left after : Option (List ℕ)) (old_piece piece : List ℕ) (most : ℕ) → 0 < most → most ≤ length old_piece
+    → IfOk r (λ count. count ≤ length (take most old_piece)) → IfOk r (λ count. TakesFront left after (take most old_piece) piece count)
+    → IfOk r (λ count. TakesFront left after old_piece (piece ++ drop most old_piece) count)
+takes_into_front (Ok count) left after old_piece piece most some fits within taken = front_taken left after old_piece piece most count some fits within taken
+takes_into_front (Err e) left after old_piece piece most some fits within taken = tt
 
 -- what one read takes of the input
 pub record Takes (input : List ℕ) (total count : ℕ) (left : Option (List ℕ)) (piece : List ℕ) : Type 0 where
@@ -77,23 +101,29 @@ reads_more input total count start mid new left left' line line' old_piece piece
 
 -- a read that fails, or one too many
 pub stops_reading : (input : List ℕ) (total : ℕ) (start engine : EngineState) (left left' line : Option (List ℕ)) (has_failed : Bool) (before after : Option (List ℕ))
-    → Reads input total start left line engine before after → left' ≡ left → (has_failed ≡ true) ⊎ (input_limit ≤ total) → StopsReading start input left' has_failed before after
-stops_reading input total start engine left left' line has_failed before after reads same cause = record {
+    → Reads input total start left line engine before after → left' ≡ left → total ≤ input_limit → (has_failed ≡ true) ⊎ (total ≡ input_limit) → StopsReading start input left' has_failed before after
+stops_reading input total start engine left left' line has_failed before after reads same limited cause = record {
   front = take total input;
   rest = drop total input;
   end = engine;
   read = sym (take-append-drop total input);
   unread = same ∙ reads.unread;
-  cause = elim cause [ inl failed ↦ inl failed | inr limit ↦ inr (omega (arith, limit, length-take-le total input reads.within)) ];
+  within = subst (λ n. n ≤ input_limit) (sym (length-take-le total input reads.within)) limited;
+  cause = elim cause [ inl failed ↦ inl failed | inr limit ↦ inr (length-take-le total input reads.within ∙ limit) ];
   written = reads.written;
 }
 
+-- what breaks the answers off, whether the input is at its end or not
+breaks_off : (front rest : List ℕ) (start : EngineState) (before after : Option (List ℕ)) → WritesBeginning start (whole_lines front) before after → WritesBeginning start (lines_read front rest) before after
+breaks_off front [] start before after broken = breaks_before start (whole_lines front) (unless_empty (last_line front)) before after broken
+breaks_off front (c ∷ rest) start before after broken = broken
+
 -- a piece that was broken off
 pub stops_in_piece : (input : List ℕ) (total count : ℕ) (start mid : EngineState) (left left' line : Option (List ℕ)) (old_piece piece chunk : List ℕ) (before between after : Option (List ℕ))
-    → Reads input total start left line mid before between → TakesFront left left' old_piece piece count → chunk ≡ take count piece
+    → Reads input total start left line mid before between → TakesFront left left' old_piece piece count → total + count ≤ input_limit → chunk ≡ take count piece
     → ((begun : List ℕ) → line ≡ kept begun → WritesBeginning mid (ended_lines begun chunk) between after)
     → StopsWriting start input left' before after
-stops_in_piece input total count start mid left left' line old_piece piece chunk before between after reads taken is answers =
+stops_in_piece input total count start mid left left' line old_piece piece chunk before between after reads taken limited is answers =
     let next = takes input total count left left' old_piece piece reads.within reads.unread taken in
     let front : take (total + count) input ≡ take total input ++ chunk = next.front ∙ ap (λ bytes. take total input ++ bytes) (sym is) in
     record {
@@ -101,7 +131,8 @@ stops_in_piece input total count start mid left left' line old_piece piece chunk
       rest = drop (total + count) input;
       read = sym (take-append-drop (total + count) input);
       unread = next.unread;
-      written = breaks_before start (whole_lines (take (total + count) input)) (unless_empty (last_line (take (total + count) input))) before after
+      within = subst (λ n. n ≤ input_limit) (sym (length-take-le (total + count) input next.within)) limited;
+      written = breaks_off (take (total + count) input) (drop (total + count) input) start before after
           (subst (λ ls. WritesBeginning start ls before after) (sym (ap whole_lines front ∙ whole_more (take total input) chunk))
           (breaks_later start mid _ _ before between after reads.written (answers (last_line (take total input)) reads.keeps)));
     }
@@ -114,13 +145,17 @@ all_read input total left left' old_piece piece within is taken room =
     let nothing : drop total input ≡ [] = parts.0.end refl room in
     (sym (append-nil (take total input)) ∙ ap (λ bytes. take total input ++ bytes) (sym nothing) ∙ take-append-drop total input, parts.1 ∙ ap Some nothing)
 
+size_read : (input : List ℕ) (total : ℕ) → total ≤ length input → take total input ≡ input → length input ≡ total
+size_read input total within all = ap length (sym all) ∙ length-take-le total input within
+
 pub ends_well : (input : List ℕ) (total : ℕ) (start mid new : EngineState) (left left' line : Option (List ℕ)) (old_piece piece : List ℕ) (before between after : Option (List ℕ))
-    → Reads input total start left line mid before between → TakesFront left left' old_piece piece 0 → 0 < length old_piece
+    → Reads input total start left line mid before between → TakesFront left left' old_piece piece 0 → 0 < length old_piece → total < input_limit
     → ((begun : List ℕ) → line ≡ kept begun → WritesRun mid (unless_empty begun) new between after)
-    → (left' ≡ Some []) × WritesAll start input before after
-ends_well input total start mid new left left' line old_piece piece before between after reads taken room answers =
+    → (left' ≡ Some []) × (length input < input_limit) × WritesAll start input before after
+ends_well input total start mid new left left' line old_piece piece before between after reads taken room limited answers =
     let all = all_read input total left left' old_piece piece reads.within reads.unread taken room in (
       all.1,
+      subst (λ n. n < input_limit) (sym (size_read input total reads.within all.0)) limited,
       (
         new,
         subst (λ bytes. WritesRun start (lines_of bytes) new before after) all.0
@@ -129,15 +164,16 @@ ends_well input total start mid new left left' line old_piece piece before betwe
     )
 
 pub stops_at_end : (input : List ℕ) (total : ℕ) (start mid : EngineState) (left left' line : Option (List ℕ)) (old_piece piece : List ℕ) (before between after : Option (List ℕ))
-    → Reads input total start left line mid before between → TakesFront left left' old_piece piece 0 → 0 < length old_piece
+    → Reads input total start left line mid before between → TakesFront left left' old_piece piece 0 → 0 < length old_piece → total ≤ input_limit
     → ((begun : List ℕ) → line ≡ kept begun → WritesBeginning mid (unless_empty begun) between after)
     → StopsWriting start input left' before after
-stops_at_end input total start mid left left' line old_piece piece before between after reads taken room answers =
+stops_at_end input total start mid left left' line old_piece piece before between after reads taken room limited answers =
     let all = all_read input total left left' old_piece piece reads.within reads.unread taken room in record {
       front = input;
       rest = [];
       read = sym (append-nil input);
       unread = all.1;
+      within = subst (λ n. n ≤ input_limit) (sym (size_read input total reads.within all.0)) limited;
       written = subst (λ bytes. WritesBeginning start (lines_of bytes) before after) all.0
           (breaks_later start mid _ _ before between after reads.written (answers (last_line (take total input)) reads.keeps));
     }

@@ -1,9 +1,10 @@
 -- The lines of an input. A line ends at LF, and a last line without LF counts if it isn't empty.
 use Rattle.std.specs.Prelude.{ℕ, ◌==◌, nat_le, List, [], ◌∷◌, ◌++◌, length, Option, Some, None, if◌then◌else◌}
+use Rattle.cy_lexer.specs.Tokens.{longest_line}
 
--- the most bytes that a line may have, without its LF
+-- the most bytes that a line may have, without its LF: those of the longest line that the lexer takes
 abbrev pub line_limit : ℕ
-line_limit = 65536
+line_limit = longest_line
 
 -- the lines that end in the bytes, of which the first begins with what was read of it before
 abbrev pub ended_lines : List ℕ → List ℕ → List (List ℕ)
@@ -31,6 +32,12 @@ unless_empty (c ∷ cs) = (c ∷ cs) ∷ []
 -- all lines of an input that is at its end
 abbrev pub lines_of : List ℕ → List (List ℕ)
 lines_of bytes = whole_lines bytes ++ unless_empty (last_line bytes)
+
+-- the lines that are served once a front of the input was read: those whose end was read, and at the end of the input its
+-- last line too
+abbrev pub lines_read : List ℕ → List ℕ → List (List ℕ)
+lines_read front [] = lines_of front
+lines_read front (c ∷ rest) = whole_lines front
 
 -- a line is kept up to the limit
 abbrev pub kept : List ℕ → Option (List ℕ)

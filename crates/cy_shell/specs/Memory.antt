@@ -1,7 +1,7 @@
 -- What a sink over memory is.
 use Rattle.std.specs.Prelude.{ℕ, List, Bool}
 
--- what was written, for how many bytes there is room, and whether a write has failed
+-- what was written, how many bytes there is room for in all, and whether a write has failed
 pub record MemoryBytes : Type 0 where
   pub written : List ℕ
   pub room : ℕ

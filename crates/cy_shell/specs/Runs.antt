@@ -5,7 +5,7 @@ use Rattle.std.specs.Str.Lossy.{utf8_valid_len}
 use Rattle.cy_engine.specs.Step.{EngineState, Step}
 use Rattle.cy_engine.specs.declared.faults.Fault.{Fault}
 use Rattle.cy_engine.specs.declared.replies.Reply.{Reply}
-use Rattle.cy_shell.specs.Lines.{line_limit, whole_lines, lines_of}
+use Rattle.cy_shell.specs.Lines.{line_limit, whole_lines, lines_of, lines_read}
 use Rattle.cy_shell.specs.Printed.{IsAnswerText, IsFaultText}
 use Rattle.cy_shell.specs.Streams.{appended}
 
@@ -42,25 +42,28 @@ pub record WritesBeginning (old : EngineState) (lines : List (List ℕ)) (before
 abbrev pub WritesAll : EngineState → List ℕ → Option (List ℕ) → Option (List ℕ) → Type 0
 WritesAll start input before after = (end : EngineState) × WritesRun start (lines_of input) end before after
 
--- the most bytes of input that are read, but for those of the last piece
+-- the most bytes of input that are read
 abbrev pub input_limit : ℕ
 input_limit = 2 ^ 62
 
 -- A front of the input was read, and a printed run of the lines in it that have ended was written. A read has failed,
--- or the limit is reached.
+-- or as many bytes were read as ever are.
 pub record StopsReading (start : EngineState) (input : List ℕ) (left : Option (List ℕ)) (has_failed : Bool) (before after : Option (List ℕ)) : Type 0 where
   pub front : List ℕ
   pub rest : List ℕ
   pub end : EngineState
   pub read : input ≡ front ++ rest
   pub unread : left ≡ Some rest
-  pub cause : (has_failed ≡ true) ⊎ (input_limit ≤ length front)
+  pub within : length front ≤ input_limit
+  pub cause : (has_failed ≡ true) ⊎ (length front ≡ input_limit)
   pub written : WritesRun start (whole_lines front) end before after
 
--- A front of the input was read, and a beginning of a printed run of its lines was written.
+-- A front of the input was read, and a beginning of a printed run of the lines in it that have ended was written: at the
+-- end of the input, of all its lines.
 pub record StopsWriting (start : EngineState) (input : List ℕ) (left : Option (List ℕ)) (before after : Option (List ℕ)) : Type 0 where
   pub front : List ℕ
   pub rest : List ℕ
   pub read : input ≡ front ++ rest
   pub unread : left ≡ Some rest
-  pub written : WritesBeginning start (lines_of front) before after
+  pub within : length front ≤ input_limit
+  pub written : WritesBeginning start (lines_read front rest) before after

@@ -16,12 +16,13 @@ pub(crate) struct LineBuffer {
 
 impl Model for LineBuffer {
     ghost use Rattle.std.specs.Prelude.{◌≤◌, List, ℕ, Option, Some, None, vec_len, vec_capacity, if◌then◌else◌};
+    ghost use Rattle.cy_shell.specs.Lines.{line_limit};
 
     ghost Value = { Option (List ℕ) };
 
     ghost view = { λ b. if b.is_too_long then None else Some b.bytes.items };
 
-    ghost invariant = { λ b. (65536 ≤ vec_capacity b.bytes) × (vec_len b.bytes ≤ 65536) };
+    ghost invariant = { λ b. (line_limit ≤ vec_capacity b.bytes) × (vec_len b.bytes ≤ line_limit) };
 }
 
 impl LineBuffer {

@@ -1,6 +1,6 @@
 //! Sources and sinks over memory, which tell their bytes.
 
-ghost use Rattle.std.specs.Prelude.{◌≡◌, ◌≤◌, ◌<◌, [], IfOk, OnErr, OnOk, IsOk, Some, true, false, length, take};
+ghost use Rattle.std.specs.Prelude.{◌≡◌, ◌-◌, ◌≤◌, ◌<◌, [], IfOk, OnErr, OnOk, IsOk, Some, true, false, length, min, take};
 ghost use Rattle.cy_shell.specs.Streams.{TakesFront, appended};
 
 use crate::streams::{Failed, Sink, Source};
@@ -37,8 +37,9 @@ impl<'a> Source for MemorySource<'a> {
 
     ghost has_failed = { λ _. false };
 
-    /// Never fails.
+    /// Reads as many bytes as the piece has room for, or all that are left. Never fails.
     fn read(&mut self, piece: &mut [u8]) -> Result<usize, Failed>
+        ensures count { IfOk result (λ count. count ≡ min (length self.old) (length piece.old)) }
         ensures within { IfOk result (λ count. count ≤ length piece.old) }
         ensures front { IfOk result (λ count. TakesFront (Some self.old) (Some self.new) piece.old piece.new count) }
         ensures works { OnOk result (false ≡ false) }
@@ -58,6 +59,7 @@ impl<'a> Source for MemorySource<'a> {
 #[derive(Drop)]
 pub struct MemorySink {
     bytes: Vec<u8>,
+    room: usize,
     has_failed: bool,
 }
 
@@ -67,7 +69,9 @@ impl Model for MemorySink {
 
     ghost Value = { MemoryBytes };
 
-    ghost view = { λ s. record { written = s.bytes.items; room = vec_capacity s.bytes; has_failed = s.has_failed } };
+    ghost view = { λ s. record { written = s.bytes.items; room = s.room; has_failed = s.has_failed } };
+
+    ghost invariant = { λ s. (vec_len s.bytes ≤ s.room) × (s.room ≤ vec_capacity s.bytes) };
 }
 
 impl MemorySink {
@@ -77,6 +81,7 @@ impl MemorySink {
     {
         Ok(MemorySink {
             bytes: Vec::with_capacity(alloc, room)?,
+            room,
             has_failed: false,
         })
     }
@@ -97,18 +102,20 @@ impl Sink for MemorySink {
 
     ghost has_failed = { λ (sink : MemoryBytes). sink.has_failed };
 
-    /// Fails only where there is no room.
+    /// Writes as many bytes as there is room for. Fails only where there is room for none of a piece that is not empty.
     fn write(&mut self, piece: &[u8]) -> Result<usize, Failed>
         requires { self.old.has_failed ≡ false }
+        ensures count { IfOk result (λ count. count ≡ min (length piece.now) (self.old.room - length self.old.written)) }
         ensures within { IfOk result (λ count. count ≤ length piece.now) }
         ensures some { IfOk result (λ count. 0 < length piece.now → 0 < count) }
         ensures front { IfOk result (λ count. Some self.new.written ≡ appended (Some self.old.written) (take count piece.now)) }
         ensures works { OnOk result (self.new.has_failed ≡ false) }
         ensures moves_nothing { OnErr result (Some self.new.written ≡ Some self.old.written) }
         ensures fails { OnErr result (self.new.has_failed ≡ true) }
-        ensures full { OnErr result (self.old.room ≤ length self.old.written) }
+        ensures full { OnErr result ((length self.old.written ≡ self.old.room) × (0 < length piece.now)) }
+        ensures room { self.new.room ≡ self.old.room }
     {
-        let count = piece.len().min(self.bytes.capacity() - self.bytes.len());
+        let count = piece.len().min(self.room - self.bytes.len());
         let is_full = count == 0 && !piece.is_empty();
         if is_full || self.bytes.extend_from_slice(&piece[..count]).is_err() {
             self.has_failed = true;
@@ -117,9 +124,10 @@ impl Sink for MemorySink {
         Ok(count)
     }
 
-    /// Never fails.
+    /// Never fails, and changes nothing.
     fn flush(&mut self) -> Result<(), Failed>
         requires { self.old.has_failed ≡ false }
+        ensures stays { self.new ≡ self.old }
         ensures moves_nothing { Some self.new.written ≡ Some self.old.written }
         ensures works { OnOk result (self.new.has_failed ≡ false) }
         ensures fails { OnErr result (self.new.has_failed ≡ true) }

@@ -1,20 +1,21 @@
 //! The whole of a run: an input is read to its end, and its lines are answered.
 
-ghost use Rattle.std.specs.Prelude.{◌≡◌, ◌≢◌, ◌≤◌, ◌<◌, [], length, ℕ, List, Option, Some, true, false, Err, OnOk, OnErr, IfOk, IfSome};
+ghost use Rattle.std.specs.Prelude.{◌≡◌, ◌≢◌, ◌+◌, ◌≤◌, ◌<◌, [], length, ℕ, List, Option, Some, true, false, Err, OnOk, OnErr, IfOk, IfSome};
 ghost use Rattle.cy_engine.specs.Step.{empty_engine};
 ghost use Rattle.cy_shell.specs.Lines.{kept};
-ghost use Rattle.cy_shell.specs.Runs.{WritesAll, StopsReading, StopsWriting};
+ghost use Rattle.cy_shell.specs.Runs.{input_limit, WritesAll, StopsReading, StopsWriting};
+ghost use Rattle.cy_shell.specs.Streams.{TakesFront};
 ghost use Rattle.cy_shell.specs.declared.serving.RunFault.TheVariants.{Memory};
 
 use crate::session::Session;
-use crate::streams::{Sink, Source};
+use crate::streams::{Failed, Sink, Source};
 use std::alloc::{AllocError, Global};
 use thiserror::Error;
 
 /// How many bytes are read at a time.
 const PIECE: usize = 65_536;
 
-/// After how many bytes of input a run stops.
+/// How many bytes of input are read at most: then a run stops.
 const INPUT_LIMIT: u64 = 1 << 62;
 
 /// How a run is set up.
@@ -70,10 +71,13 @@ impl From<AllocError> for RunFault {
     }
 }
 
-/// Reads an input to its end, and answers each line of it on a line of its own, in order. All memory for reading is
-/// taken at the start.
+/// Reads an input to its end, and answers its lines in order. A line ends at LF, and a last line without LF counts if it
+/// is not empty. A reply or a fault is a JSON object on a line of its own, and is flushed; a line without tokens has no
+/// reply. All memory for reading is taken at the start.
 ///
-/// A read, write or flush that fails ends the run at once, as does an input of 2^62 bytes.
+/// Fails with `Read` where a read fails, or once 2^62 bytes were read: the lines that had ended by then are answered.
+/// Fails with `Write` where a write or a flush fails, and with `Memory` where there is no memory at the start: nothing is
+/// read or written then. Nothing that failed is tried again.
 pub fn run<R: Source, W: Sink>(
     alloc: Global,
     source: &mut R,
@@ -85,12 +89,13 @@ pub fn run<R: Source, W: Sink>(
     requires from { 1 ≤ settings.history }
     requires to { settings.history ≤ 4096 }
 
-    // At the end of the input all was read, and what was written is the printed answers to it, and nothing else.
-    ensures done { OnOk result (IfSome (R.remaining source.old) (λ input. (R.remaining source.new ≡ Some [])
+    // At the end of the input all was read, which is below the limit, and what was written is the printed answers to it,
+    // and nothing else.
+    ensures done { OnOk result (IfSome (R.remaining source.old) (λ input. (R.remaining source.new ≡ Some []) × (length input < input_limit)
         × WritesAll (empty_engine settings.history) input (W.written sink.old) (W.written sink.new))) }
     ensures works { OnOk result ((R.has_failed source.new ≡ false) × (W.has_failed sink.new ≡ false)) }
 
-    // The lines that were read whole are answered, and the source failed, or the input is too long.
+    // The lines that were read whole are answered, and the source failed, or 2^62 bytes were read.
     ensures read { result ≡ Err RunFault.Read → IfSome (R.remaining source.old) (λ input.
         StopsReading (empty_engine settings.history) input (R.remaining source.new) (R.has_failed source.new) (W.written sink.old) (W.written sink.new)) }
     ensures read_works { result ≡ Err RunFault.Read → W.has_failed sink.new ≡ false }
@@ -127,8 +132,7 @@ fn serve<R: Source, W: Sink>(
     requires writable { W.has_failed sink.old ≡ false }
     requires begins { session.old.line ≡ kept [] }
     requires some_room { 0 < length piece.old }
-    requires room { length piece.old ≤ 65536 }
-    ensures done { OnOk result (IfSome (R.remaining source.old) (λ input. (R.remaining source.new ≡ Some [])
+    ensures done { OnOk result (IfSome (R.remaining source.old) (λ input. (R.remaining source.new ≡ Some []) × (length input < input_limit)
         × WritesAll session.old.engine input (W.written sink.old) (W.written sink.new))) }
     ensures works { OnOk result ((R.has_failed source.new ≡ false) × (W.has_failed sink.new ≡ false)) }
     ensures read { result ≡ Err RunFault.Read → IfSome (R.remaining source.old) (λ input.
@@ -142,7 +146,7 @@ fn serve<R: Source, W: Sink>(
 {
     let mut total = 0;
     while total < INPUT_LIMIT {
-        let Ok(count) = source.read(piece) else {
+        let Ok(count) = read_piece(source, piece, total) else {
             return Err(RunFault::Read);
         };
         if count == 0 {
@@ -154,4 +158,21 @@ fn serve<R: Source, W: Sink>(
         total += count as u64;
     }
     Err(RunFault::Read)
+}
+
+// Reads the next bytes of the input into the front of a piece, where a total was read before it. Past the limit nothing
+// is read.
+fn read_piece<R: Source>(source: &mut R, piece: &mut [u8], total: u64) -> Result<usize, Failed>
+    requires readable { R.has_failed source.old ≡ false }
+    requires below { total < input_limit }
+    requires some_room { 0 < length piece.old }
+    ensures within { IfOk result (λ count. count ≤ length piece.old) }
+    ensures limited { IfOk result (λ count. total + count ≤ input_limit) }
+    ensures front { IfOk result (λ count. TakesFront (R.remaining source.old) (R.remaining source.new) piece.old piece.new count) }
+    ensures works { OnOk result (R.has_failed source.new ≡ false) }
+    ensures moves_nothing { OnErr result (R.remaining source.new ≡ R.remaining source.old) }
+    ensures fails { OnErr result (R.has_failed source.new ≡ true) }
+{
+    let most = (INPUT_LIMIT - total).min(piece.len() as u64) as usize;
+    source.read(&mut piece[..most])
 }

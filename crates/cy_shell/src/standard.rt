@@ -15,7 +15,8 @@ impl<R: Read> InputSource<R> {
 
     /// A source that reads from a reader, and has not failed.
     pub fn new(reader: R) -> Self
-        ensures { ⟦<InputSource<R> as Source>⟧.has_failed result ≡ false }
+        ensures works { ⟦<InputSource<R> as Source>⟧.has_failed result ≡ false }
+        ensures reader { result.reader ≡ reader }
     {
         InputSource {
             reader,
@@ -25,13 +26,21 @@ impl<R: Read> InputSource<R> {
 }
 
 impl<R: Read> Source for InputSource<R> {
-    ghost use Rattle.std.specs.Prelude.{None};
+    ghost use Rattle.std.specs.Prelude.{◌≡◌, ◌≤◌, IfOk, OnErr, OnOk, None, true, false, length};
+    ghost use Rattle.std.specs.Io.KnownBytes.{ReadConsumes};
 
     ghost remaining = { λ _. None };
 
     ghost has_failed = { λ source. source.has_failed };
 
-    fn read(&mut self, piece: &mut [u8]) -> Result<usize, Failed> {
+    /// Gives the bytes that the reader gives. A read that the reader refuses has failed.
+    fn read(&mut self, piece: &mut [u8]) -> Result<usize, Failed>
+        requires { self.old.has_failed ≡ false }
+        ensures within { IfOk result (λ count. count ≤ length piece.old) }
+        ensures works { OnOk result (self.new.has_failed ≡ false) }
+        ensures fails { OnErr result (self.new.has_failed ≡ true) }
+        ensures reader { ReadConsumes (R.remaining self.old.reader) (R.remaining self.new.reader) result piece.new }
+    {
         match self.reader.read(piece) {
             Ok(count) => Ok(count),
             Err(_) => {
@@ -54,7 +63,8 @@ impl<W: Write> OutputSink<W> {
 
     /// A sink that writes to a writer, and has not failed.
     pub fn new(writer: W) -> Self
-        ensures { ⟦<OutputSink<W> as Sink>⟧.has_failed result ≡ false }
+        ensures works { ⟦<OutputSink<W> as Sink>⟧.has_failed result ≡ false }
+        ensures writer { result.writer ≡ writer }
     {
         OutputSink {
             writer,
@@ -64,13 +74,23 @@ impl<W: Write> OutputSink<W> {
 }
 
 impl<W: Write> Sink for OutputSink<W> {
-    ghost use Rattle.std.specs.Prelude.{None};
+    ghost use Rattle.std.specs.Prelude.{◌≡◌, ◌≤◌, ◌<◌, IfOk, OnErr, OnOk, None, true, false, length};
+    ghost use Rattle.std.specs.Io.KnownBytes.{Keeps, WriteAppends};
 
     ghost written = { λ _. None };
 
     ghost has_failed = { λ sink. sink.has_failed };
 
-    fn write(&mut self, piece: &[u8]) -> Result<usize, Failed> {
+    /// Writes to the writer. A write that the writer refuses has failed, and so has one that takes no byte of a piece that
+    /// is not empty.
+    fn write(&mut self, piece: &[u8]) -> Result<usize, Failed>
+        requires { self.old.has_failed ≡ false }
+        ensures within { IfOk result (λ count. count ≤ length piece.now) }
+        ensures some { IfOk result (λ count. 0 < length piece.now → 0 < count) }
+        ensures works { OnOk result (self.new.has_failed ≡ false) }
+        ensures fails { OnErr result (self.new.has_failed ≡ true) }
+        ensures writer { WriteAppends (W.contents self.old.writer) (W.contents self.new.writer) result piece.now }
+    {
         match self.writer.write(piece) {
             Ok(count) if count > 0 || piece.is_empty() => Ok(count),
             _ => {
@@ -80,7 +100,12 @@ impl<W: Write> Sink for OutputSink<W> {
         }
     }
 
-    fn flush(&mut self) -> Result<(), Failed> {
+    fn flush(&mut self) -> Result<(), Failed>
+        requires { self.old.has_failed ≡ false }
+        ensures works { OnOk result (self.new.has_failed ≡ false) }
+        ensures fails { OnErr result (self.new.has_failed ≡ true) }
+        ensures writer { Keeps (W.contents self.old.writer) (W.contents self.new.writer) }
+    {
         self.has_failed = self.writer.flush().is_err();
         if self.has_failed {
             return Err(Failed);

@@ -5,9 +5,9 @@ ghost use Rattle.cy_shell.specs.Streams.{TakesFront, appended};
 
 use thiserror::Error;
 
-/// A read or a write failed. It moved no byte, and its stream is not used again.
+/// A read, a write or a flush failed. It moved no byte, and its stream is not used again.
 #[derive(Clone, Copy, Debug, PartialEq, Eq, Error)]
-#[error("a read or a write failed")]
+#[error("a read, a write or a flush failed")]
 pub struct Failed;
 
 /// What bytes are read from.

@@ -1,7 +1,5 @@
 ghost use Rattle.std.specs.Prelude.{◌≡◌, false};
 
-mod streams;
-
 use crate::printing::{Printed, print_fault, print_reply};
 use crate::words::word;
 use crate::{MemorySink, MemorySource, RunFault, Settings, run};
@@ -10,7 +8,6 @@ use cy_values::{Cell, NodeId, RelId, Row, Scalar, Sequence, Text, Value};
 use std::alloc::{AllocError, Global};
 use std::process::Abort;
 use std::test::Fail;
-use streams::{TestSink, TestSource};
 
 const SETTINGS: Settings = Settings {
     history: 64,
@@ -73,68 +70,6 @@ fn tells_lines_that_are_too_long(rt: HostRuntime) -> Result<(), Fail> {
         "{\"at\":65535,\"code\":18,\"error\":\"NotUtf8\"}\n",
         "the longest line",
     )
-}
-
-// Each read gives a byte, and each write takes one.
-#[test]
-fn moves_single_bytes(rt: HostRuntime) -> Result<(), Fail> {
-    let alloc = rt.alloc();
-    let mut source = TestSource::new(NO_TEXTS, 1, 0);
-    let mut sink = TestSink::new(alloc, 1, 0);
-    assert!(rt; run(alloc, &mut source, &mut sink, SETTINGS).is_ok());
-    assert!(rt; sink.written() == NO_TEXT_ANSWERS.as_bytes());
-    Ok(())
-}
-
-// Each of the reads, a byte each, fails in turn: the lines that ended before are answered.
-#[test]
-fn stops_at_a_read_that_fails(rt: HostRuntime) -> Result<(), Fail> {
-    let alloc = rt.alloc();
-    let line = NO_TEXT_ANSWERS.len() / 3;
-    for failing in 1..=NO_TEXTS.len() + 1 {
-        let mut source = TestSource::new(NO_TEXTS, 1, failing);
-        let mut sink = TestSink::new(alloc, 4096, 0);
-        let outcome = run(alloc, &mut source, &mut sink, SETTINGS);
-        let whole = if failing <= 2 {
-            0
-        } else if failing <= 7 {
-            line
-        } else {
-            2 * line
-        };
-        assert!(rt; outcome == Err(RunFault::Read), "read {failing}");
-        assert_eq!(rt; source.calls(), failing, "read {failing}");
-        assert!(rt;
-            sink.written() == &NO_TEXT_ANSWERS.as_bytes()[..whole],
-            "read {failing}"
-        );
-    }
-    Ok(())
-}
-
-// Each of the writes and flushes fails in turn: the bytes that were taken before are the beginning of the answers.
-#[test]
-fn stops_at_a_write_that_fails(rt: HostRuntime) -> Result<(), Fail> {
-    let alloc = rt.alloc();
-    let line = NO_TEXT_ANSWERS.len() / 3;
-    for failing in 1..=NO_TEXT_ANSWERS.len() + 3 {
-        let mut source = TestSource::new(NO_TEXTS, 3, 0);
-        let mut sink = TestSink::new(alloc, 1, failing);
-        let outcome = run(alloc, &mut source, &mut sink, SETTINGS);
-        let flushes = (failing - 1) / (line + 1);
-        assert!(rt; outcome == Err(RunFault::Write), "call {failing}");
-        assert_eq!(rt; sink.calls(), failing, "call {failing}");
-        assert_eq!(rt;
-            sink.written().len(),
-            failing - 1 - flushes,
-            "call {failing}"
-        );
-        assert!(rt;
-            NO_TEXT_ANSWERS.as_bytes().starts_with(sink.written()),
-            "call {failing}"
-        );
-    }
-    Ok(())
 }
 
 #[test]

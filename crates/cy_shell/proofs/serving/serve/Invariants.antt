@@ -1,9 +1,10 @@
-use Rattle.std.proofs.Common.{◌-◌, ◌≡◌, ℕ, List, Some, false}
+use Rattle.std.proofs.Common.{◌-◌, ◌≡◌, ◌≤◌, ℕ, List, Some, false}
 use Rattle.cy_shell.proofs.Reading.{Reads}
 use Rattle.cy_shell.proofs.serving.serve.Given as goal
 
 abbrev pub invariant-loop-total : goal.invariant-loop-total
 invariant-loop-total g l = record {
+  limited : l.total ≤ 4611686018427387904;
   readable : g.R.Source.has_failed l.source ≡ false;
   writable : g.W.Sink.has_failed l.sink ≡ false;
   reads : (input : List ℕ) → g.R.Source.remaining l.initial.source ≡ Some input

@@ -1,13 +1,14 @@
-//! Sources and sinks that move few bytes at a time, and fail at a chosen call.
+//! Sources and sinks that move few bytes at a time, and fail at a chosen call. Readers and writers that fail.
 
 ghost use Rattle.std.specs.Prelude.{◌≡◌, false, None};
 
-use crate::streams::{Failed, Sink, Source};
+use cy_shell::{Failed, Sink, Source};
 use std::alloc::Global;
+use std::io;
 
 /// Gives at most so many bytes a read. The read of this number fails; none does if it is 0.
 #[derive(Drop)]
-pub(super) struct TestSource<'a> {
+pub(crate) struct TestSource<'a> {
     left: &'a [u8],
     most: usize,
     failing: usize,
@@ -16,7 +17,7 @@ pub(super) struct TestSource<'a> {
 }
 
 impl<'a> TestSource<'a> {
-    pub(super) fn new(bytes: &'a [u8], most: usize, failing: usize) -> Self
+    pub(crate) fn new(bytes: &'a [u8], most: usize, failing: usize) -> Self
         ensures { result.has_failed ≡ false }
     {
         TestSource {
@@ -28,7 +29,7 @@ impl<'a> TestSource<'a> {
         }
     }
 
-    pub(super) fn calls(&self) -> usize {
+    pub(crate) fn calls(&self) -> usize {
         self.calls
     }
 }
@@ -56,7 +57,7 @@ impl<'a> Source for TestSource<'a> {
 
 /// Takes at most so many bytes a write. The call of this number, a write or a flush, fails; none does if it is 0.
 #[derive(Drop)]
-pub(super) struct TestSink {
+pub(crate) struct TestSink {
     written: Vec<u8>,
     most: usize,
     failing: usize,
@@ -65,7 +66,7 @@ pub(super) struct TestSink {
 }
 
 impl TestSink {
-    pub(super) fn new(alloc: Global, most: usize, failing: usize) -> Self
+    pub(crate) fn new(alloc: Global, most: usize, failing: usize) -> Self
         ensures { result.has_failed ≡ false }
     {
         TestSink {
@@ -77,11 +78,11 @@ impl TestSink {
         }
     }
 
-    pub(super) fn calls(&self) -> usize {
+    pub(crate) fn calls(&self) -> usize {
         self.calls
     }
 
-    pub(super) fn written(&self) -> &[u8] {
+    pub(crate) fn written(&self) -> &[u8] {
         self.written.as_slice()
     }
 
@@ -113,5 +114,39 @@ impl Sink for TestSink {
             return Err(Failed);
         }
         Ok(())
+    }
+}
+
+/// Refuses each read, as one that was interrupted.
+#[derive(Drop)]
+pub(crate) struct RefusingReader;
+
+impl io::Read for RefusingReader {
+    fn read(&mut self, _piece: &mut [u8]) -> io::Result<usize> {
+        Err(io::Error::from(io::ErrorKind::Interrupted))
+    }
+}
+
+/// Takes at most so many bytes a write, and refuses each write where there is no such number. Refuses to flush, or does not.
+#[derive(Drop)]
+pub(crate) struct RefusingWriter {
+    pub(crate) most: Option<usize>,
+    pub(crate) flushes: bool,
+}
+
+impl io::Write for RefusingWriter {
+    fn write(&mut self, piece: &[u8]) -> io::Result<usize> {
+        match self.most {
+            Some(most) => Ok(piece.len().min(most)),
+            None => Err(io::Error::from(io::ErrorKind::Interrupted)),
+        }
+    }
+
+    fn flush(&mut self) -> io::Result<()> {
+        if self.flushes {
+            Ok(())
+        } else {
+            Err(io::Error::from(io::ErrorKind::Interrupted))
+        }
     }
 }

@@ -7,3 +7,4 @@ pub mod Numbers
 pub mod Quoted
 pub mod Tokens
 pub mod Spans
+pub mod Reading

@@ -1,9 +1,10 @@
 //! The pieces of a line: its tokens, and the gaps between them.
 
 ghost use Rattle.std.specs.Prelude.{◌≡◌, ◌<◌, ◌≤◌, ◌∷◌, ◌++◌, ℕ, List, length, drop, option_map, IfOk, IfSome, chars};
-ghost use Rattle.cy_lexer.specs.Characters.{offset, seen, taken, map_ok};
+ghost use Rattle.cy_lexer.specs.Characters.{offset};
+ghost use Rattle.cy_lexer.specs.Reading.{seen, taken, map_ok, seen_gap, seen_token};
 ghost use Rattle.cy_lexer.specs.Symbols.{symbol};
-ghost use Rattle.cy_lexer.specs.Tokens.{word_piece, number_piece, opens_comment, block_len, block_comment, quoted_name, text_piece, symbol_piece, token_piece, piece, seen_gap, seen_token};
+ghost use Rattle.cy_lexer.specs.Tokens.{word_piece, number_piece, opens_comment, block_len, block_comment, quoted_name, text_piece, symbol_piece, token_piece, piece};
 
 use crate::characters::{Run, after_run, begins_with, split_first, starts_name};
 use crate::faults::LexFault;

@@ -1,7 +1,7 @@
 //! Texts and quoted names.
 
 ghost use Rattle.std.specs.Prelude.{◌≡◌, ◌+◌, string_bytes, encode_utf8_all, ◌<◌, ◌≤◌, ◌^◌, length, drop, option_map, IfSome, IfOk, IfErr, chars};
-ghost use Rattle.cy_lexer.specs.Characters.{seen, taken, map_ok};
+ghost use Rattle.cy_lexer.specs.Reading.{seen, taken, map_ok};
 ghost use Rattle.cy_lexer.specs.Quoted.{plain_escape, coded_escape, escape, closes, character, quoted_len, between_quotes};
 
 use crate::characters::{begins_with, split_first};

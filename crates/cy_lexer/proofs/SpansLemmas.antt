@@ -16,9 +16,12 @@ boundaries bs i j u v some rises within =
     let slice = take (j - i) (drop i bs) in
     let first-is : get_or slice 0 0 ≡ get_or bs i 0 = get_or-take (j - i) (drop i bs) 0 0 (omega arith) ∙ get_or-drop i bs 0 0 ∙ ap (λ (n : ℕ). get_or bs n 0) (add-zero i) in
     let first = IsCharBoundary-start slice v in
-    let front : IsCharBoundary bs i = (omega arith, λ below high.
-      let high-first : 128 ≤ get_or slice 0 0 = rw first-is high in
-      omega (arith, first.1 some high-first, first-is)) in
+    let front : IsCharBoundary bs i = (
+      omega arith,
+      λ below high.
+          let high-first : 128 ≤ get_or slice 0 0 = rw first-is high in
+          omega (arith, first.1 some high-first, first-is),
+    ) in
     let behind = IsCharBoundary-from_take (drop i bs) (j - i) (IsUtf8-drop bs i u front) (omega (arith, length-drop i bs)) v in
     let sum : i + (j - i) ≡ j = omega arith in
     (front, rw sum at (IsCharBoundary-from_rest bs i (j - i) (omega arith) behind))
@@ -33,6 +36,6 @@ pub slice-elsewhere : (line : List ℕ) (token : Token) (found : Option (Bor (Li
 slice-elsewhere line token None other u v got none elsewhere = none
 slice-elsewhere line token (Some x) other u v got none elsewhere =
     empty x.now (λ some.
-      let rises : token.start < token.end = omega (arith, got.1, some) in
-      let ends = boundaries line token.start token.end u (rw got.0 at v) (rw got.0 at some) rises got.2 in
-      elsewhere (rises, ends.0, ends.1))
+    let rises : token.start < token.end = omega (arith, got.1, some) in
+    let ends = boundaries line token.start token.end u (rw got.0 at v) (rw got.0 at some) rises got.2 in
+    elsewhere (rises, ends.0, ends.1))

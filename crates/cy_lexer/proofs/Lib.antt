@@ -3,3 +3,4 @@ pub mod QuotedLemmas
 pub mod PiecesLemmas
 pub mod TokensLemmas
 pub mod SpansLemmas
+pub mod GapsLemmas

@@ -18,7 +18,7 @@ use Rattle.cy_lexer.specs.Spans.{IsSpanOf, AreSpansOf}
 use Rattle.cy_lexer.proofs.CharactersLemmas.{offset-chars, suffix-drop}
 
 -- characters that belong to the piece before them are passed
-tokens_from-skip : (total skip : ℕ) (cs : List ℕ) → tokens_from total skip cs ≡ tokens_from total 0 (drop skip cs)
+pub tokens_from-skip : (total skip : ℕ) (cs : List ℕ) → tokens_from total skip cs ≡ tokens_from total 0 (drop skip cs)
 unfolding tokens_from
 tokens_from-skip total zero [] = refl
 tokens_from-skip total zero (c ∷ cs) = refl
@@ -140,7 +140,7 @@ pub tokens_of-long : (line : List ℕ) → longest_line < length line → tokens
 unfolding tokens_of
 tokens_of-long line long = rw (lt-ltb longest_line (length line) long) refl
 
-tokens_of-short : (line : List ℕ) → length line ≤ longest_line → tokens_of line ≡ tokens_from (length line) 0 (chars line)
+pub tokens_of-short : (line : List ℕ) → length line ≤ longest_line → tokens_of line ≡ tokens_from (length line) 0 (chars line)
 unfolding tokens_of
 tokens_of-short line short = rw (le-ltb longest_line (length line) short) refl
 

@@ -15,17 +15,19 @@ abbrev pub has_comment_end : List ℕ → Bool
 has_comment_end [] = false
 has_comment_end (c ∷ cs) = ((c == 42) && begins_with 47 cs) || has_comment_end cs
 
--- White space and comments, one behind the other. A comment of one line goes on to the next LF, which is white space and
--- stands behind it. The other comment goes on to the next `*/`, and has no such end inside.
+-- White space and comments, one behind the other. A comment of one line goes on to the next LF, which stands behind it.
+-- The other comment goes on to the next `*/`, and has no such end inside.
 pub data IsGap : List ℕ → Type 0 where
   nothing : IsGap []
   blank : (c : ℕ) (gap : List ℕ) → IsTrue (is_whitespace c) → IsGap gap → IsGap (c ∷ gap)
-  line_comment : (inside gap : List ℕ) → IsFalse (has_line_end inside) → IsGap gap → IsGap (47 ∷ 47 ∷ (inside ++ 10 ∷ gap))
-  block_comment : (inside gap : List ℕ) → IsFalse (has_comment_end inside) → IsGap gap → IsGap (47 ∷ 42 ∷ (inside ++ 42 ∷ 47 ∷ gap))
+  line_comment : (inside gap : List ℕ) → IsFalse (has_line_end inside) → IsGap gap
+      → IsGap (47 ∷ 47 ∷ (inside ++ 10 ∷ gap))
+  block_comment : (inside gap : List ℕ) → IsFalse (has_comment_end inside) → IsGap gap
+      → IsGap (47 ∷ 42 ∷ (inside ++ 42 ∷ 47 ∷ gap))
 
--- The characters cs, which begin at a byte offset, are a gap, the characters of the first token, a gap, those of the next
--- one, and so on, and each span is where its token's characters stand. What stands behind the last token is a gap once a
--- LF ends the line, so a comment of one line may go on to the end.
+-- The characters cs, which begin at a byte offset, are a gap, the characters of the first token, a gap, those of the
+-- next one, and so on, and each span is where its token's characters stand. What stands behind the last token is a gap
+-- once a LF ends the line, so a comment of one line may go on to the end.
 abbrev pub LeavesGaps : ℕ → List ℕ → List Token → Type 0
 LeavesGaps at cs [] = IsGap (cs ++ 10 ∷ [])
 LeavesGaps at cs (t ∷ ts) =

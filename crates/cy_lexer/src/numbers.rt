@@ -76,7 +76,8 @@ pub(crate) fn number<'a>(
 ) -> Result<(Kind, &'a str), LexFault>
     requires split { chars text.now ≡ first ∷ chars after.now }
     requires digit { IsTrue (is_ascii_digit first) }
-    ensures value { map_ok (λ p. seen_token p.0 p.1) result ≡ map_ok (taken (chars after.now)) (number_piece at first (chars after.now)) }
+    ensures value { map_ok (λ p. seen_token p.0 p.1) result
+        ≡ map_ok (taken (chars after.now)) (number_piece at first (chars after.now)) }
     ensures shorter { IfOk result (λ p. length p.1.now ≤ length after.now) }
 {
     let left = after_run(Run::Digits, after);

@@ -213,6 +213,46 @@ fn tokens_of_other_lines(rt: HostRuntime) -> Result<(), Fail> {
     Ok(())
 }
 
+#[test]
+fn questions_to_tokens(rt: HostRuntime) {
+    let rows = [
+        (Kind::Name, false, false, None),
+        (Kind::QuotedName, false, false, None),
+        (Kind::Keyword(Keyword::Order), true, false, None),
+        (Kind::Keyword(Keyword::Or), false, false, None),
+        (Kind::Number(7), false, false, Some(7)),
+        (Kind::Text, false, false, None),
+        (Kind::Symbol(Symbol::Less), false, true, None),
+        (Kind::Symbol(Symbol::LessOrEqual), false, false, None),
+    ];
+    for (kind, is_order, is_less, number) in rows {
+        let token = Token {
+            kind,
+            start: 0,
+            end: 1,
+        };
+        assert_eq!(rt; token.is_keyword(Keyword::Order), is_order, "{kind:?}");
+        assert_eq!(rt; token.is_symbol(Symbol::Less), is_less, "{kind:?}");
+        assert_eq!(rt; token.number(), number, "{kind:?}");
+    }
+    assert_eq!(rt; Keyword::Order.spelling(), "ORDER");
+}
+
+#[test]
+fn texts_of_faults(rt: HostRuntime) -> Result<(), Fail> {
+    let rows = [
+        (LexFault::BadCharacter(7), "bad character at byte 7"),
+        (LexFault::LineTooLong, "line too long"),
+        (LexFault::NotUtf8(0), "no UTF-8 from byte 0 on"),
+        (LexFault::NoMemory, "no memory"),
+    ];
+    for (fault, text) in rows {
+        let found = format!(in rt.alloc(); "{fault}")?;
+        assert_eq!(rt; found.as_str(), text);
+    }
+    Ok(())
+}
+
 /// Whether the line begins with the keyword.
 fn is_first(alloc: Global, line: &str, keyword: Keyword) -> Result<bool, LexFault> {
     let tokens = lex(alloc, line)?;
@@ -412,5 +452,6 @@ fn computed_rows()
     ensures empty_name { IsFalse (is_xid_start 96) → tokens_of (codes "``") ≡ Err (LexFault.BadCharacter 0) }
     ensures zero { IsFalse (is_xid_start 48) → tokens_of (codes "01") ≡ Err (LexFault.BadNumber 0) }
     ensures character { IsFalse (is_xid_start 35) → tokens_of (codes "#") ≡ Err (LexFault.BadCharacter 0) }
-    ensures symbols { IsFalse (is_xid_start 60) → tokens_of (codes "< <=") ≡ Ok (record { kind = Kind.Symbol Symbol.Less; start = 0; end = 1 } ∷ record { kind = Kind.Symbol Symbol.LessOrEqual; start = 2; end = 4 } ∷ []) }
+    ensures symbols { IsFalse (is_xid_start 60) → tokens_of (codes "< <=")
+        ≡ Ok (record { kind = Kind.Symbol Symbol.Less; start = 0; end = 1 } ∷ record { kind = Kind.Symbol Symbol.LessOrEqual; start = 2; end = 4 } ∷ []) }
 {}

@@ -7,7 +7,8 @@ use Rattle.std.specs.Str.{chars, IsUtf8, encode_utf8_all}
 use Rattle.std.proofs.lemmas.Bool.{eqb-true, and_parts}
 use Rattle.std.proofs.lemmas.List.{take-append-drop, drop_at, length-drop}
 use Rattle.std.proofs.lemmas.Str.{encodes-append, encodes-chars}
-use Rattle.cy_lexer.proofs.TokensLemmas.{tokens_from-skip, tokens_of-short}
+use Rattle.cy_lexer.proofs.QuotedLemmas.{some_is}
+use Rattle.cy_lexer.proofs.TokensLemmas.{ok_is, tokens_from-skip, tokens_of-short}
 use Rattle.cy_lexer.specs.declared.characters.Run.TheVariants as run
 use Rattle.cy_lexer.specs.declared.faults.LexFault.{LexFault}
 use Rattle.cy_lexer.specs.declared.faults.LexFault.TheVariants.{BadCharacter, UnclosedText, UnclosedComment, UnclosedName}
@@ -59,9 +60,6 @@ begins-slash : (inside rest : List ℕ) → begins_with 47 inside ≡ begins_wit
 begins-slash [] rest = refl
 begins-slash (c ∷ inside) rest = refl
 
-some_number : (x y : ℕ) → Some x ≡ Some y → x ≡ y
-some_number x y e = cc
-
 -- one character more is in a comment
 by_inside : (c n : ℕ) (cs : List ℕ) (found : Option ℕ) → ((c == 42) && begins_with 47 cs) ≡ false → ((m : ℕ) → found ≡ Some m → BlockShape cs m) → option_map suc found ≡ Some n → BlockShape (c ∷ cs) n
 by_inside c n cs None inside more e = absurd cc
@@ -72,7 +70,7 @@ by_inside c n cs (Some m) inside more e =
       c ∷ s.0,
       s.1,
       ap (λ (b : Bool). b || has_comment_end s.0) inner ∙ s.2,
-      omega (arith, some_number (suc m) n e, s.3),
+      omega (arith, some_is (suc m) n e, s.3),
       ap (λ (x : List ℕ). c ∷ x) s.4,
     )
 
@@ -83,7 +81,7 @@ by_comment_end c n cs true ends more e =
       [],
       slash.0,
       refl,
-      sym (some_number 2 n e),
+      sym (some_is 2 n e),
       ap (λ (x : ℕ). x ∷ cs) (eqb-true c 42 both.0) ∙ ap (λ (x : List ℕ). 42 ∷ x) slash.1,
     )
 by_comment_end c n cs false inside more e = by_inside c n cs (block_len cs) inside more e
@@ -212,19 +210,13 @@ with_word total k word rest cs ts split fits known = (
   known,
 )
 
-abbrev all : List Token → Result (List Token) LexFault
-all ts = Ok ts
-
-ok_tokens : (ts us : List Token) → all ts ≡ all us → ts ≡ us
-ok_tokens ts us e = cc
-
 -- the tokens of a text begin with those of its first piece
 abbrev Step : ℕ → ℕ → List ℕ → List Token → Type 0
 Step total c cs ts =
     (p : Piece) × (more : List Token) × IsShaped c cs (Ok p) × (tokens_from total p.1 cs ≡ Ok more) × (ts ≡ with_token total (c ∷ cs) p more)
 
 by_more : (total c : ℕ) (cs : List ℕ) (ts : List Token) (p : Piece) (read : Result (List Token) LexFault) → IsShaped c cs (Ok p) → tokens_from total p.1 cs ≡ read → (read >>= λ more. Ok (with_token total (c ∷ cs) p more)) ≡ Ok ts → Step total c cs ts
-by_more total c cs ts p (Ok more) shaped is e = (p, more, shaped, is, sym (ok_tokens (with_token total (c ∷ cs) p more) ts e))
+by_more total c cs ts p (Ok more) shaped is e = (p, more, shaped, is, sym (ok_is (with_token total (c ∷ cs) p more) ts e))
 by_more total c cs ts p (Err fault) shaped is e = absurd cc
 
 by_front : (total c : ℕ) (cs : List ℕ) (ts : List Token) (read : Result Piece LexFault) → IsShaped c cs read → (read >>= λ p. (tokens_from total p.1 cs >>= λ more. Ok (with_token total (c ∷ cs) p more))) ≡ Ok ts → Step total c cs ts
@@ -246,7 +238,7 @@ tokens_from-line_end total cs = past_line_end (tokens_from total 0 cs)
 
 nothing_left : (total : ℕ) (ts : List Token) → tokens_from total 0 [] ≡ Ok ts → [] ≡ ts
 unfolding tokens_from
-nothing_left total ts e = ok_tokens [] ts e
+nothing_left total ts e = ok_is [] ts e
 
 -- the tokens of fewer characters leave gaps
 abbrev LeavesGapsBelow : ℕ → ℕ → Type 0

@@ -35,7 +35,7 @@ unquoted-skip quote zero (c ∷ cs) = refl
 unquoted-skip quote (suc skip) [] = refl
 unquoted-skip quote (suc skip) (c ∷ cs) = unquoted-skip quote skip cs
 
-some_is : {A : Type 0} (x y : A) → Some x ≡ Some y → x ≡ y
+pub some_is : {A : Type 0} (x y : A) → Some x ≡ Some y → x ≡ y
 some_is x y e = cc
 
 -- a character inside of the quotes, and what it leaves

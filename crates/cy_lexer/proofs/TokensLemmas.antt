@@ -40,7 +40,7 @@ joined total n None cs left c front (Err f) e = refl
 abbrev done : {A : Type 0} → A → Result A LexFault
 done x = Ok x
 
-ok_is : {A : Type 0} (x y : A) → done x ≡ done y → x ≡ y
+pub ok_is : {A : Type 0} (x y : A) → done x ≡ done y → x ≡ y
 ok_is x y e = cc
 
 by_piece : (total c : ℕ) (k : Option Kind) (cs left : List ℕ) (front : List Token) (read : Result Piece LexFault) → Ok (k, left) ≡ map_ok (taken cs) read → map_ok (λ ts. front ++ ts) (read >>= λ p. (tokens_from total p.1 cs >>= λ ts. Ok (with_token total (c ∷ cs) p ts))) ≡ map_ok (λ ts. (front ++ token_of total k (c ∷ cs) left) ++ ts) (tokens_from total 0 left)

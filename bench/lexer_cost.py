@@ -2,8 +2,8 @@
 """Counts the instructions of the lexer on lines of 16,384 and of 65,536 bytes, by valgrind.
 
 Run it at the top of the repository. It builds a program over a copy of the crate in a temporary folder, and prints for
-each shape of line both counts, without those of an empty line, and their ratio. Linear work has a ratio of about 4, and
-a ratio of 4.4 or more ends the script with status 1.
+each shape of line both counts, without those of an empty line, and their ratio. Linear work has a ratio of about 4. A
+ratio of 4.4 or more ends the script with status 1, and so does a line that isn't answered as it should be.
 """
 import os
 import re
@@ -12,19 +12,8 @@ import subprocess
 import sys
 import tempfile
 
-SHAPES = {
-    "one name": lambda n: "x" * n,
-    "names": lambda n: "a " * (n // 2),
-    "one text full of escapes": lambda n: "'" + "\\n" * (n // 2 - 1) + "'",
-    "one quoted name": lambda n: "`" + "``" * (n // 2 - 1) + "`",
-    "one number": lambda n: "1" * n,
-    "symbols": lambda n: "<" * n,
-    "one unclosed comment": lambda n: "/*" + "*" * (n - 2),
-    "one unclosed text": lambda n: "'" + "x" * (n - 1),
-    "characters of three bytes": lambda n: "'" + "\u20ac" * ((n - 2) // 3) + "'",
-}
 LIMIT = 4.4
-# Reads one line, and prints how many tokens it has, or the number of its fault.
+# Reads one line, and prints how many tokens it has, or the number and the offset of its fault.
 PROGRAM = """#![tactic(auto)]
 
 use std::io;
@@ -33,15 +22,72 @@ fn main(rt: HostRuntime) -> io::Result<()> {
     let line = io::read_to_string(rt.alloc(), rt.reader())?;
     match cy_lexer::lex(rt.alloc(), line.as_str()) {
         Ok(tokens) => println!(rt; "{} tokens", tokens.len()),
-        Err(fault) => println!(rt; "fault {}", fault.code()),
+        Err(fault) => println!(rt; "{} at {}", fault.code(), fault.at().unwrap_or(0)),
     }
 }
 """
 
 
-def instructions(program, line):
+def tokens(count):
+    return f"{count} tokens"
+
+
+def fault(code, at):
+    return f"{code} at {at}"
+
+
+def filled(front, piece, back, length):
+    """The front, so many pieces as there is room for, blanks and the back: a line of so many bytes."""
+    room = length - len((front + back).encode())
+    count, blanks = divmod(room, len(piece.encode()))
+    return front + piece * count + " " * blanks + back
+
+
+def shapes(n):
+    """Names of lines of n bytes, each with its line and its answer."""
+    return {
+        "one name": (filled("", "x", "", n), tokens(1)),
+        "one name of four-byte letters": (filled("", "\U00010400", "", n), tokens(1)),
+        "one quoted name": (filled("`", "x", "`", n), tokens(1)),
+        "one name of doubled backticks": (filled("`", "``", "`", n), tokens(1)),
+        "one unclosed name": (filled("`", "x", "", n), fault(14, 0)),
+        "one unclosed name, doubled": (filled("`", "``", "x", n), fault(14, 0)),
+        "one text": (filled("'", "x", "'", n), tokens(1)),
+        "one text of three-byte characters": (filled("'", "\u20ac", "'", n), tokens(1)),
+        "one text full of escapes": (filled("'", "\\n", "'", n), tokens(1)),
+        "one text full of long escapes": (filled("'", "\\U0001F600", "'", n), tokens(1)),
+        "one unclosed text": (filled("'", "x", "", n), fault(11, 0)),
+        "one text with a bad escape": (filled("'", "x", "\\q", n), fault(12, n - 2)),
+        "one number": (filled("", "1", "", n), fault(16, 0)),
+        "one number of zeros": (filled("", "0", "", n), fault(15, 0)),
+        "one number that ends badly": (filled("", "1", "x", n), fault(15, 0)),
+        "one comment": (filled("/*", "*", "*/", n), tokens(0)),
+        "one unclosed comment": (filled("/*", "*", "", n), fault(13, 0)),
+        "one unclosed comment, opened often": (filled("/*", " /*", "", n), fault(13, 0)),
+        "one comment of one line": (filled("//", "/", "", n), tokens(0)),
+        "white space": (filled("", " ", "", n), tokens(0)),
+        "white space and a bad character": (filled("", " ", "#", n), fault(10, n - 1)),
+        "names": (filled("", "a ", "", n), tokens(n // 2)),
+        "quoted names": (filled("", "`a`+", "", n), tokens(n // 2)),
+        "keywords": (filled("", "descending ", "", n), tokens(n // 11)),
+        "texts": (filled("", "'a' ", "", n), tokens(n // 4)),
+        "empty texts": (filled("", '""', "", n), tokens(n // 2)),
+        "numbers": (filled("", "1 ", "", n), tokens(n // 2)),
+        "symbols": (filled("", "<", "", n), tokens(n)),
+        "symbols of two signs": (filled("", "..", "", n), tokens(n // 2)),
+        "slashes": (filled("", "/ ", "", n), tokens(n // 2)),
+        "comments": (filled("", "/**/", "", n), tokens(0)),
+        "comments of one line": (filled("", "//\n", "", n), tokens(0)),
+    }
+
+
+def instructions(program, line, answer):
+    """How many instructions the program takes for the line, which it is to answer so."""
     words = ["valgrind", "--tool=callgrind", "--callgrind-out-file=/dev/null", program]
     run = subprocess.run(words, input=line.encode(), capture_output=True, check=True)
+    found = run.stdout.decode().strip()
+    if found != answer:
+        sys.exit(f"{line[:20]!r}: {found!r} in place of {answer!r}")
     return int(re.search(rb"Collected : (\d+)", run.stderr).group(1))
 
 
@@ -61,12 +107,13 @@ def built(folder):
 def main():
     with tempfile.TemporaryDirectory() as folder:
         program = built(folder)
-        empty = instructions(program, "")
+        empty = instructions(program, "", tokens(0))
+        short, long = shapes(16384), shapes(65536)
         worst = 0.0
-        for name, shape in SHAPES.items():
-            small, large = (instructions(program, shape(n)) - empty for n in (16384, 65536))
+        for name in short:
+            small, large = (instructions(program, *lines[name]) - empty for lines in (short, long))
             worst = max(worst, large / small)
-            print(f"{name:28} {small:12} {large:12} {large / small:6.2f}")
+            print(f"{name:36} {small:12} {large:12} {large / small:6.2f}", flush=True)
         return 0 if worst < LIMIT else 1
 
 

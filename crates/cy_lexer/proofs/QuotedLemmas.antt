@@ -1,12 +1,13 @@
 -- Lemmas on what stands between quotes.
 use Rattle.std.proofs.Common.{◌≡◌, ℕ, zero, suc, ◌+◌, ◌*◌, ◌<◌, true, false, List, [], ◌∷◌, ◌++◌, drop, Option, Some, None, Result, Ok, Err, refl, sym, ap, ◌∙◌, append_assoc, append-nil}
 use Rattle.std.specs.Char.{digit_value, encode_utf8}
-use Rattle.std.specs.Str.{encode_utf8_all}
+use Rattle.std.specs.Str.{chars, encode_utf8_all}
 use Rattle.std.specs.Option.{option_map}
 use Rattle.std.proofs.lemmas.Bool.{lt-ltb}
 use Rattle.cy_lexer.specs.declared.faults.LexFault.{LexFault}
 use Rattle.cy_lexer.specs.declared.faults.LexFault.TheVariants.{BadEscape}
-use Rattle.cy_lexer.specs.Characters.{offset, taken, map_ok}
+use Rattle.cy_lexer.specs.Characters.{offset}
+use Rattle.cy_lexer.specs.Reading.{taken, map_ok}
 use Rattle.cy_lexer.specs.Quoted.{hexadecimal, closes, character, one_more, quoted_len, unquoted, between_quotes}
 
 -- one more hexadecimal digit
@@ -34,7 +35,7 @@ unquoted-skip quote zero (c ∷ cs) = refl
 unquoted-skip quote (suc skip) [] = refl
 unquoted-skip quote (suc skip) (c ∷ cs) = unquoted-skip quote skip cs
 
-some_is : {A : Type 0} (x y : A) → Some x ≡ Some y → x ≡ y
+pub some_is : {A : Type 0} (x y : A) → Some x ≡ Some y → x ≡ y
 some_is x y e = cc
 
 -- a character inside of the quotes, and what it leaves
@@ -88,3 +89,8 @@ unquoted-nil quote whole e = rw e refl
 pub written-all : (quote : ℕ) (old first whole inner rest : List ℕ) → first ≡ [] → whole ≡ quote ∷ inner → unquoted quote 0 rest ≡ [] → old ++ encode_utf8_all (unquoted quote 0 rest) ≡ first ++ encode_utf8_all (unquoted quote 0 inner) → old ≡ encode_utf8_all (between_quotes whole)
 written-all quote old first whole inner rest empty e done known =
     sym (append-nil old) ∙ ap (λ (x : List ℕ). old ++ encode_utf8_all x) (sym done) ∙ known ∙ ap (λ (x : List ℕ). x ++ encode_utf8_all (unquoted quote 0 inner)) empty ∙ ap (λ (x : List ℕ). encode_utf8_all (between_quotes x)) (sym e)
+
+-- a text with nothing in it has nothing between quotes
+pub written-nothing : (written text : List ℕ) → written ≡ encode_utf8_all (between_quotes (chars text)) → text ≡ [] → written ≡ []
+unfolding chars
+written-nothing written text value empty = value ∙ rw empty refl

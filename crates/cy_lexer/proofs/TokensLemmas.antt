@@ -10,13 +10,15 @@ use Rattle.cy_lexer.specs.declared.faults.LexFault.{LexFault}
 use Rattle.cy_lexer.specs.declared.faults.LexFault.TheVariants.{LineTooLong}
 use Rattle.cy_lexer.specs.declared.tokens.Kind.{Kind}
 use Rattle.cy_lexer.specs.declared.tokens.Token.{Token}
-use Rattle.cy_lexer.specs.Characters.{offset, taken, map_ok}
+use Rattle.cy_lexer.specs.Characters.{offset}
+use Rattle.cy_lexer.specs.Line.{longest_line}
+use Rattle.cy_lexer.specs.Reading.{taken, map_ok}
 use Rattle.cy_lexer.specs.Tokens.{Piece, ◌>>=◌, piece, with_token, tokens_from, tokens_of}
 use Rattle.cy_lexer.specs.Spans.{IsSpanOf, AreSpansOf}
 use Rattle.cy_lexer.proofs.CharactersLemmas.{offset-chars, suffix-drop}
 
 -- characters that belong to the piece before them are passed
-tokens_from-skip : (total skip : ℕ) (cs : List ℕ) → tokens_from total skip cs ≡ tokens_from total 0 (drop skip cs)
+pub tokens_from-skip : (total skip : ℕ) (cs : List ℕ) → tokens_from total skip cs ≡ tokens_from total 0 (drop skip cs)
 unfolding tokens_from
 tokens_from-skip total zero [] = refl
 tokens_from-skip total zero (c ∷ cs) = refl
@@ -38,7 +40,7 @@ joined total n None cs left c front (Err f) e = refl
 abbrev done : {A : Type 0} → A → Result A LexFault
 done x = Ok x
 
-ok_is : {A : Type 0} (x y : A) → done x ≡ done y → x ≡ y
+pub ok_is : {A : Type 0} (x y : A) → done x ≡ done y → x ≡ y
 ok_is x y e = cc
 
 by_piece : (total c : ℕ) (k : Option Kind) (cs left : List ℕ) (front : List Token) (read : Result Piece LexFault) → Ok (k, left) ≡ map_ok (taken cs) read → map_ok (λ ts. front ++ ts) (read >>= λ p. (tokens_from total p.1 cs >>= λ ts. Ok (with_token total (c ∷ cs) p ts))) ≡ map_ok (λ ts. (front ++ token_of total k (c ∷ cs) left) ++ ts) (tokens_from total 0 left)
@@ -134,23 +136,23 @@ IsRead-gap line rest left c cs read old u v split value none shorter known =
     )
 
 -- the tokens of a line that is too long, or not
-pub tokens_of-long : (line : List ℕ) → 65536 < length line → tokens_of line ≡ Err LineTooLong
+pub tokens_of-long : (line : List ℕ) → longest_line < length line → tokens_of line ≡ Err LineTooLong
 unfolding tokens_of
-tokens_of-long line long = rw (lt-ltb 65536 (length line) long) refl
+tokens_of-long line long = rw (lt-ltb longest_line (length line) long) refl
 
-tokens_of-short : (line : List ℕ) → length line ≤ 65536 → tokens_of line ≡ tokens_from (length line) 0 (chars line)
+pub tokens_of-short : (line : List ℕ) → length line ≤ longest_line → tokens_of line ≡ tokens_from (length line) 0 (chars line)
 unfolding tokens_of
-tokens_of-short line short = rw (le-ltb 65536 (length line) short) refl
+tokens_of-short line short = rw (le-ltb longest_line (length line) short) refl
 
 -- nothing is left
-pub IsRead-all : (line rest : List ℕ) (ts : List Token) → length line ≤ 65536 → IsRead line rest ts → chars rest ≡ [] → tokens_of line ≡ Ok ts
+pub IsRead-all : (line rest : List ℕ) (ts : List Token) → length line ≤ longest_line → IsRead line rest ts → chars rest ≡ [] → tokens_of line ≡ Ok ts
 IsRead-all line rest ts short known e = tokens_of-short line short ∙ sym known.0 ∙ tokens_from-nil (length line) (chars rest) ts e
 
 pub IsRead-spans : (line rest : List ℕ) (ts : List Token) → IsRead line rest ts → AreSpansOf line 0 ts (length line)
 IsRead-spans line rest ts known = AreSpansOf-widen line 0 (length line - length rest) (length line) ts known.3 (omega arith)
 
 -- the piece at the front of the rest has a fault
-pub IsRead-fault : (line rest : List ℕ) (ts : List Token) (c : ℕ) (cs : List ℕ) (fault : LexFault) → length line ≤ 65536 → IsRead line rest ts → chars rest ≡ c ∷ cs → map_ok (taken cs) (piece (length line) c cs) ≡ Err fault → tokens_of line ≡ Err fault
+pub IsRead-fault : (line rest : List ℕ) (ts : List Token) (c : ℕ) (cs : List ℕ) (fault : LexFault) → length line ≤ longest_line → IsRead line rest ts → chars rest ≡ c ∷ cs → map_ok (taken cs) (piece (length line) c cs) ≡ Err fault → tokens_of line ≡ Err fault
 IsRead-fault line rest ts c cs fault short known split bad = tokens_of-short line short ∙ sym known.0 ∙ tokens_from-fault (length line) c fault (chars rest) cs ts split bad
 
 -- spans that rise in a line are slices of it

@@ -2,6 +2,7 @@
 use Rattle.std.specs.Prelude.{ℕ, Option, Some, None}
 use Rattle.cy_lexer.specs.declared.faults.LexFault.{LexFault}
 use Rattle.cy_lexer.specs.declared.faults.LexFault.TheVariants.{BadCharacter, UnclosedText, BadEscape, UnclosedComment, UnclosedName, BadNumber, NumberTooLarge, LineTooLong, NotUtf8, NoMemory}
+use Rattle.cy_lexer.specs.Line.{longest_line}
 
 abbrev pub code_of : LexFault → ℕ
 code_of (BadCharacter at) = 10
@@ -24,6 +25,6 @@ at_of (UnclosedComment at) = Some at
 at_of (UnclosedName at) = Some at
 at_of (BadNumber at) = Some at
 at_of (NumberTooLarge at) = Some at
-at_of LineTooLong = Some 65536
+at_of LineTooLong = Some longest_line
 at_of (NotUtf8 at) = Some at
 at_of NoMemory = None

@@ -7,3 +7,5 @@ pub mod Numbers
 pub mod Quoted
 pub mod Tokens
 pub mod Spans
+pub mod Gaps
+pub mod Reading

@@ -1,5 +1,5 @@
 -- Numbers: decimal digits. They are ASCII (own).
-use Rattle.std.specs.Prelude.{◌≡◌, ℕ, ◌+◌, ◌-◌, ◌*◌, ◌^◌, ◌≤◌, Option, Some, None, Bool, false, ◌&&◌, ◌||◌, ◌==◌, List, [], ◌∷◌}
+use Rattle.std.specs.Prelude.{ℕ, ◌+◌, ◌-◌, ◌*◌, Bool, false, ◌&&◌, ◌||◌, ◌==◌, List, [], ◌∷◌}
 use Rattle.std.specs.Char.{is_ascii_digit}
 use Rattle.unicode_ident.specs.Ident.{is_xid_continue}
 
@@ -7,11 +7,6 @@ use Rattle.unicode_ident.specs.Ident.{is_xid_continue}
 abbrev pub number_of : ℕ → List ℕ → ℕ
 number_of high [] = high
 number_of high (d ∷ ds) = number_of (high * 10 + (d - 48)) ds
-
--- what 64 bits hold of a number: it, or nothing where it is too large for them
-abbrev pub IsHeld : Option ℕ → ℕ → Type 0
-IsHeld (Some held) n = held ≡ n
-IsHeld None n = 2 ^ 64 ≤ n
 
 -- the greatest number that can be written: the absolute value of the least integer of 64 bits
 abbrev pub greatest_number : ℕ

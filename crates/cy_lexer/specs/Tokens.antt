@@ -1,7 +1,6 @@
 -- The tokens of a text (openCypher 9, lexical rules, narrowed to this profile; the faults and their offsets are own).
 -- A text is the list of its characters. Places in it are byte offsets.
 use Rattle.std.specs.Prelude.{ℕ, zero, suc, Bool, false, ◌&&◌, ◌||◌, ◌==◌, if◌then◌else◌, nat_lt, List, [], ◌∷◌, drop, length, take_while, Option, Some, None, option_map, Result, Ok, Err, chars, encode_utf8_all}
-use Rattle.std.specs.Borrow.{Bor}
 use Rattle.std.specs.Char.{is_whitespace, is_ascii_digit}
 use Rattle.std.specs.List.{prefix_len}
 use Rattle.cy_lexer.specs.declared.characters.Run.TheVariants as run
@@ -11,6 +10,7 @@ use Rattle.cy_lexer.specs.declared.tokens.Kind.{Kind}
 use Rattle.cy_lexer.specs.declared.tokens.Kind.TheVariants as kind
 use Rattle.cy_lexer.specs.declared.tokens.Token.{Token}
 use Rattle.cy_lexer.specs.Keywords.{keyword_of}
+use Rattle.cy_lexer.specs.Line.{longest_line}
 use Rattle.cy_lexer.specs.Symbols.{symbol}
 use Rattle.cy_lexer.specs.Characters.{offset, begins_with, starts_name, goes_on}
 use Rattle.cy_lexer.specs.Numbers.{number_of, greatest_number, is_bad_number}
@@ -110,10 +110,6 @@ tokens_from total skip [] = Ok []
 tokens_from total (suc skip) (c ∷ cs) = tokens_from total skip cs
 tokens_from total zero (c ∷ cs) = piece total c cs >>= λ p. (tokens_from total p.1 cs >>= λ ts. Ok (with_token total (c ∷ cs) p ts))
 
--- the length of the longest line, in bytes
-abbrev pub longest_line : ℕ
-longest_line = 65536
-
 -- the tokens of a line, which is given by its bytes, or its fault
 unfoldable pub tokens_of : List ℕ → Result (List Token) LexFault
 tokens_of line = if nat_lt longest_line (length line) then Err LineTooLong else tokens_from (length line) 0 (chars line)
@@ -129,10 +125,3 @@ abbrev pub denoted : Kind → List ℕ → List ℕ
 denoted kind.QuotedName cs = between_quotes cs
 denoted kind.Text cs = between_quotes cs
 denoted _ cs = cs
-
--- what the code has read at the front: a gap, or a token of a kind, and what is left
-abbrev pub seen_gap : Bor (List ℕ) → Option Kind × List ℕ
-seen_gap left = (None, chars left.now)
-
-abbrev pub seen_token : Kind → Bor (List ℕ) → Option Kind × List ℕ
-seen_token k left = (Some k, chars left.now)

@@ -4,6 +4,7 @@ ghost use Rattle.std.specs.Prelude.{◌≡◌};
 ghost use Rattle.cy_lexer.specs.declared.faults.LexFault.TheVariants.{NoMemory};
 ghost use Rattle.cy_lexer.specs.Faults.{code_of, at_of};
 
+use crate::line::LONGEST_LINE;
 use std::alloc::{AllocError, AllocFailed};
 use thiserror::Error;
 
@@ -74,7 +75,7 @@ impl LexFault {
             | LexFault::BadNumber(at)
             | LexFault::NumberTooLarge(at)
             | LexFault::NotUtf8(at) => Some(*at),
-            LexFault::LineTooLong => Some(65536),
+            LexFault::LineTooLong => Some(LONGEST_LINE),
             LexFault::NoMemory => None,
         }
     }

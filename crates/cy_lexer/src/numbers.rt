@@ -2,9 +2,10 @@
 
 ghost use Rattle.std.specs.Prelude.{IsTrue, ◌≡◌, ℕ, ◌*◌, ◌<◌, ◌≤◌, ◌+◌, ◌^◌, ◌∷◌, length, take_while, drop, MatchOption, IfOk, chars};
 ghost use Rattle.cy_lexer.specs.declared.characters.Run.TheVariants.{Digits};
-ghost use Rattle.cy_lexer.specs.Characters.{goes_on, taken, map_ok};
-ghost use Rattle.cy_lexer.specs.Numbers.{number_of, IsHeld, begins_with_digit, spoils_number, is_bad_number};
-ghost use Rattle.cy_lexer.specs.Tokens.{number_piece, seen_token};
+ghost use Rattle.cy_lexer.specs.Characters.{goes_on};
+ghost use Rattle.cy_lexer.specs.Numbers.{number_of, begins_with_digit, spoils_number, is_bad_number};
+ghost use Rattle.cy_lexer.specs.Reading.{taken, map_ok, seen_token, IsHeld};
+ghost use Rattle.cy_lexer.specs.Tokens.{number_piece};
 ghost use Rattle.std.specs.Char.{is_ascii_digit};
 
 use crate::characters::{Run, after_run, split_first};
@@ -75,7 +76,8 @@ pub(crate) fn number<'a>(
 ) -> Result<(Kind, &'a str), LexFault>
     requires split { chars text.now ≡ first ∷ chars after.now }
     requires digit { IsTrue (is_ascii_digit first) }
-    ensures value { map_ok (λ p. seen_token p.0 p.1) result ≡ map_ok (taken (chars after.now)) (number_piece at first (chars after.now)) }
+    ensures value { map_ok (λ p. seen_token p.0 p.1) result
+        ≡ map_ok (taken (chars after.now)) (number_piece at first (chars after.now)) }
     ensures shorter { IfOk result (λ p. length p.1.now ≤ length after.now) }
 {
     let left = after_run(Run::Digits, after);

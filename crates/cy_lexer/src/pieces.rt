@@ -1,9 +1,10 @@
 //! The pieces of a line: its tokens, and the gaps between them.
 
 ghost use Rattle.std.specs.Prelude.{◌≡◌, ◌<◌, ◌≤◌, ◌∷◌, ◌++◌, ℕ, List, length, drop, option_map, IfOk, IfSome, chars};
-ghost use Rattle.cy_lexer.specs.Characters.{offset, seen, taken, map_ok};
+ghost use Rattle.cy_lexer.specs.Characters.{offset};
+ghost use Rattle.cy_lexer.specs.Reading.{seen, taken, map_ok, seen_gap, seen_token};
 ghost use Rattle.cy_lexer.specs.Symbols.{symbol};
-ghost use Rattle.cy_lexer.specs.Tokens.{word_piece, number_piece, opens_comment, block_len, block_comment, quoted_name, text_piece, symbol_piece, token_piece, piece, seen_gap, seen_token};
+ghost use Rattle.cy_lexer.specs.Tokens.{word_piece, number_piece, opens_comment, block_len, block_comment, quoted_name, text_piece, symbol_piece, token_piece, piece};
 
 use crate::characters::{Run, after_run, begins_with, split_first, starts_name};
 use crate::faults::LexFault;
@@ -17,7 +18,8 @@ use crate::tokens::Kind;
 fn word<'a>(text: &'a str, after: &'a str) -> (Kind, &'a str)
     requires split { (c : ℕ) × (chars text.now ≡ c ∷ chars after.now) }
     requires shorter { length after.now ≤ length text.now }
-    ensures value { (c : ℕ) → chars text.now ≡ c ∷ chars after.now → seen_token result.0 result.1 ≡ taken (chars after.now) (word_piece c (chars after.now)) }
+    ensures value { (c : ℕ) → chars text.now ≡ c ∷ chars after.now → seen_token result.0 result.1
+        ≡ taken (chars after.now) (word_piece c (chars after.now)) }
     ensures shorter { length result.1.now ≤ length after.now }
 {
     let left = after_run(Run::Name, after);
@@ -38,7 +40,8 @@ fn opens_comment(first: char, second: char, after: &str) -> bool
 
 /// What follows the next `*/`, if there is one.
 fn after_block(text: &str) -> Option<&str>
-    ensures value { option_map (λ s. chars s.now) result ≡ option_map (λ n. drop n (chars text.now)) (block_len (chars text.now)) }
+    ensures value { option_map (λ s. chars s.now) result
+        ≡ option_map (λ n. drop n (chars text.now)) (block_len (chars text.now)) }
     ensures shorter { IfSome result (λ s. length s.now ≤ length text.now) }
 {
     let mut rest = text;
@@ -81,7 +84,8 @@ fn symbol(first: char, after: &str) -> Option<(Symbol, &str)>
 /// What follows a quoted name, behind its opening backtick.
 fn after_quoted_name(total: usize, at: usize, text: &str) -> Result<&str, LexFault>
     requires { length text.now ≤ total }
-    ensures value { map_ok (seen_token Kind.QuotedName) result ≡ map_ok (taken (chars text.now)) (quoted_name total at (chars text.now)) }
+    ensures value { map_ok (seen_token Kind.QuotedName) result
+        ≡ map_ok (taken (chars text.now)) (quoted_name total at (chars text.now)) }
     ensures shorter { IfOk result (λ s. length s.now ≤ length text.now) }
 {
     if let Some((second, behind)) = split_first(text)
@@ -95,14 +99,15 @@ fn after_quoted_name(total: usize, at: usize, text: &str) -> Result<&str, LexFau
 /// What follows a text, behind its opening quote.
 fn after_text(total: usize, at: usize, quote: char, text: &str) -> Result<&str, LexFault>
     requires { length text.now ≤ total }
-    ensures value { map_ok (seen_token Kind.Text) result ≡ map_ok (taken (chars text.now)) (text_piece total at quote (chars text.now)) }
+    ensures value { map_ok (seen_token Kind.Text) result
+        ≡ map_ok (taken (chars text.now)) (text_piece total at quote (chars text.now)) }
     ensures shorter { IfOk result (λ s. length s.now ≤ length text.now) }
 {
     after_quoted(total, quote, LexFault::UnclosedText(at), text)
 }
 
-/// The kind of the piece at the front of the text, or no kind for a gap, and what follows the piece. The line has so many
-/// bytes and ends with the text, which begins with the first character and goes on behind it.
+/// The kind of the piece at the front of the text, or no kind for a gap, and what follows the piece. The line has so
+/// many bytes and ends with the text, which begins with the first character and goes on behind it.
 #[tactic(auto, unfolding(crate::specs::Tokens::piece), using(crate::proofs::CharactersLemmas::offset_of_text))]
 pub(crate) fn piece<'a>(
     total: usize,
@@ -140,7 +145,8 @@ fn token<'a>(
     requires within { length text.now ≤ total }
     requires shorter { length after.now ≤ length text.now }
     requires split { chars text.now ≡ first ∷ chars after.now }
-    ensures value { map_ok (λ p. seen_token p.0 p.1) result ≡ map_ok (taken (chars after.now)) (token_piece total at first (chars after.now)) }
+    ensures value { map_ok (λ p. seen_token p.0 p.1) result
+        ≡ map_ok (taken (chars after.now)) (token_piece total at first (chars after.now)) }
     ensures shorter { IfOk result (λ p. length p.1.now ≤ length after.now) }
 {
     if starts_name(first) {

@@ -1,7 +1,7 @@
 //! Texts and quoted names.
 
 ghost use Rattle.std.specs.Prelude.{◌≡◌, ◌+◌, string_bytes, encode_utf8_all, ◌<◌, ◌≤◌, ◌^◌, length, drop, option_map, IfSome, IfOk, IfErr, chars};
-ghost use Rattle.cy_lexer.specs.Characters.{seen, taken, map_ok};
+ghost use Rattle.cy_lexer.specs.Reading.{seen, taken, map_ok};
 ghost use Rattle.cy_lexer.specs.Quoted.{plain_escape, coded_escape, escape, closes, character, quoted_len, between_quotes};
 
 use crate::characters::{begins_with, split_first};
@@ -26,7 +26,8 @@ fn plain_escape(c: char) -> Option<char>
 /// The character whose code so many hexadecimal digits at the front of the text give, and what follows them.
 fn coded_escape(digits: u32, text: &str) -> Option<(char, &str)>
     requires { digits ≤ 8 }
-    ensures value { option_map seen result ≡ option_map (taken (chars text.now)) (coded_escape digits (chars text.now)) }
+    ensures value { option_map seen result
+        ≡ option_map (taken (chars text.now)) (coded_escape digits (chars text.now)) }
     ensures shorter { IfSome result (λ p. length p.1.now ≤ length text.now) }
 {
     let mut code = 0;
@@ -61,7 +62,8 @@ pub(crate) fn closes(quote: char, first: char, after: &str) -> bool
 
 /// The character that stands at the front of a text inside of the quotes, and what follows it.
 fn character(quote: char, first: char, after: &str) -> Option<(char, &str)>
-    ensures value { option_map seen result ≡ option_map (taken (chars after.now)) (character quote first (chars after.now)) }
+    ensures value { option_map seen result
+        ≡ option_map (taken (chars after.now)) (character quote first (chars after.now)) }
     ensures shorter { IfSome result (λ p. length p.1.now ≤ length after.now) }
 {
     if quote == '`' {
@@ -86,7 +88,8 @@ pub(crate) fn after_quoted(
     text: &str,
 ) -> Result<&str, LexFault>
     requires { length text.now ≤ total }
-    ensures value { map_ok (λ s. chars s.now) result ≡ map_ok (λ n. drop n (chars text.now)) (quoted_len total unclosed quote 0 (chars text.now)) }
+    ensures value { map_ok (λ s. chars s.now) result
+        ≡ map_ok (λ n. drop n (chars text.now)) (quoted_len total unclosed quote 0 (chars text.now)) }
     ensures shorter { IfOk result (λ s. length s.now ≤ length text.now) }
 {
     let mut rest = text;

@@ -1,6 +1,8 @@
 //! From a line to its tokens.
 
-ghost use Rattle.std.specs.Prelude.{◌≡◌, ◌≢◌, ◌<◌, length, Err, All, IfOk, IfErr};
+ghost use Rattle.std.specs.Prelude.{◌≡◌, ◌≢◌, ◌<◌, length, Err, All, IfOk, IfErr, chars};
+ghost use Rattle.cy_lexer.specs.Gaps.{LeavesGaps};
+ghost use Rattle.cy_lexer.specs.Line.{longest_line};
 ghost use Rattle.cy_lexer.specs.Tokens.{tokens_of};
 ghost use Rattle.cy_lexer.specs.Spans.{IsSpanOf, AreSpansOf};
 
@@ -12,12 +14,13 @@ use crate::tokens::Token;
 use std::alloc::Global;
 
 /// The tokens of a line, or the first fault that reading it from the left meets. Fails with `LineTooLong` above 65,536
-/// bytes, and may fail with `NoMemory` at any token.
+/// bytes, and may fail with `NoMemory` at any token. Nothing but white space and comments stands between the tokens.
 pub fn lex(alloc: Global, line: &str) -> Result<Vec<Token>, LexFault>
     ensures tokens { IfOk result (λ tokens. tokens_of line.now ≡ Ok tokens.items) }
     ensures fault { IfErr result (λ fault. fault ≢ LexFault.NoMemory → tokens_of line.now ≡ Err fault) }
-    ensures long { 65536 < length line.now → result ≡ Err LexFault.LineTooLong }
+    ensures long { longest_line < length line.now → result ≡ Err LexFault.LineTooLong }
     ensures slices { IfOk result (λ tokens. All (IsSpanOf line.now) tokens.items) }
+    ensures gaps { IfOk result (λ tokens. LeavesGaps 0 (chars line.now) tokens.items) }
     ensures spans { IfOk result (λ tokens. AreSpansOf line.now 0 tokens.items (length line.now)) }
 {
     if line.len() > LONGEST_LINE {

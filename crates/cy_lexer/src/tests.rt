@@ -16,7 +16,7 @@ fn fault_of(alloc: Global, line: &str) -> (u16, Option<usize>) {
     }
 }
 
-/// The line's tokens as their slices, each with a bar behind it; empty where the line has a fault.
+/// The line's tokens as their slices, each with a bar behind it, or the line's fault.
 fn slices_of(alloc: Global, line: &str) -> Result<String, LexFault> {
     let mut slices = String::new(alloc);
     for token in &lex(alloc, line)? {
@@ -40,12 +40,20 @@ fn faults_of_lines(rt: HostRuntime) {
         ("RETURN 1x AS y", 15, 7),
         ("RETURN 1.5 AS x", 15, 7),
         ("RETURN 9223372036854775809", 16, 7),
+        ("99999999999999999999", 16, 0),
+        ("18446744073709551616", 16, 0),
         ("RETURN 99999999999999999999x", 15, 7),
         ("RETURN 9223372036854775809.0", 15, 7),
         (":foo 'abc", 11, 5),
         ("``", 10, 0),
         ("a ``b", 10, 2),
         ("```", 14, 0),
+        ("`", 14, 0),
+        ("'", 11, 0),
+        ("\"", 11, 0),
+        ("'a\"", 11, 0),
+        ("\"a\nb", 11, 0),
+        ("\\", 10, 0),
         ("'\\u12'", 12, 1),
         ("'\\u123", 12, 1),
         ("'\\U00110000'", 12, 1),
@@ -54,11 +62,22 @@ fn faults_of_lines(rt: HostRuntime) {
         ("'a\\'", 11, 0),
         ("é 'ü\\x'", 12, 6),
         ("a €", 10, 2),
+        ("é §", 10, 3),
+        ("变 €", 10, 4),
+        ("𐐀 😀", 10, 5),
+        ("é😀", 10, 2),
+        ("'ü€😀' §", 10, 12),
+        ("`ü€😀` '\\u'", 12, 13),
+        ("// ü\n§", 10, 6),
+        ("\u{85}\u{a0}\u{2028}#", 10, 7),
+        ("\r\n#", 10, 2),
         ("😀", 10, 0),
         ("/* a /* */ */ \u{0}", 10, 14),
         ("1\u{661}", 15, 0),
         ("\u{661}", 10, 0),
+        ("/*", 13, 0),
         ("/*/", 13, 0),
+        ("\u{0}", 10, 0),
         ("a\u{0}", 10, 1),
         ("1__", 15, 0),
         ("$", 10, 0),
@@ -75,6 +94,8 @@ fn tokens_of_lines(rt: HostRuntime) -> Result<(), Fail> {
         ("", ""),
         ("\r", ""),
         (" \t\u{85}\u{a0}\u{2028}\u{3000}", ""),
+        ("a\u{85}b\u{a0}c\u{2028}d\re\r\nf", "a|b|c|d|e|f|"),
+        ("//\r#\n", ""),
         ("// all", ""),
         ("a//b\nc/*d\ne*/f", "a|c|f|"),
         ("a/**/b/***/c", "a|b|c|"),
@@ -96,6 +117,9 @@ fn tokens_of_lines(rt: HostRuntime) -> Result<(), Fail> {
         ("`a``b`'c'\"d\"", "`a``b`|'c'|\"d\"|"),
         ("````", "````|"),
         ("größe _x1 变量", "größe|_x1|变量|"),
+        ("𐐀x a𐐀+ü𐐀变", "𐐀x|a𐐀|+|ü𐐀变|"),
+        ("RETURN 'ab'", "RETURN|'ab'|"),
+        ("RETURN `ab`", "RETURN|`ab`|"),
         ("'a\\'b'", "'a\\'b'|"),
         ("''", "''|"),
         ("a/b", "a|/|b|"),
@@ -121,6 +145,12 @@ fn first_of(alloc: Global, line: &str) -> Result<(Option<Token>, String), LexFau
 fn what_tokens_denote(rt: HostRuntime) -> Result<(), Fail> {
     let rows = [
         ("größe", Kind::Name, "größe"),
+        ("𐐀x", Kind::Name, "𐐀x"),
+        ("a𐐀", Kind::Name, "a𐐀"),
+        ("变量 x", Kind::Name, "变量"),
+        ("ſET", Kind::Name, "ſET"),
+        ("ıN", Kind::Name, "ıN"),
+        ("s\u{212a}ip", Kind::Name, "s\u{212a}ip"),
         ("`a``b`", Kind::QuotedName, "a`b"),
         ("````", Kind::QuotedName, "`"),
         ("`match`", Kind::QuotedName, "match"),
@@ -135,6 +165,12 @@ fn what_tokens_denote(rt: HostRuntime) -> Result<(), Fail> {
         ("'\\U0001F600\\U0010ffff'", Kind::Text, "😀\u{10ffff}"),
         ("'\\uD7FF\\uE000'", Kind::Text, "\u{d7ff}\u{e000}"),
         ("'ü€😀'", Kind::Text, "ü€😀"),
+        ("'a\u{0}\r\nb'", Kind::Text, "a\u{0}\r\nb"),
+        (
+            "\"\\\\\\'\\\"\\b\\f\\n\\r\\t\"",
+            Kind::Text,
+            "\\'\"\u{8}\u{c}\n\r\t",
+        ),
         ("0", Kind::Number(0), "0"),
         (
             "9223372036854775808",
@@ -149,6 +185,70 @@ fn what_tokens_denote(rt: HostRuntime) -> Result<(), Fail> {
         let (token, found) = first_of(rt.alloc(), line)?;
         assert_eq!(rt; token.map(|token| token.kind), Some(kind), "{line}");
         assert_eq!(rt; found.as_str(), denoted, "{line}");
+    }
+    Ok(())
+}
+
+#[test]
+fn tokens_of_other_lines(rt: HostRuntime) -> Result<(), Fail> {
+    let token = Token {
+        kind: Kind::Text,
+        start: 3,
+        end: 7,
+    };
+    let rows = [
+        ("ab 'cd'", "'cd'", "cd"),
+        ("xy \"\\n\"z", "\"\\n\"", "\n"),
+        ("ab_'ü'", "'ü'", "ü"),
+        ("ab 'c'", "", ""),
+        ("", "", ""),
+        ("abü'cd'", "", ""),
+        ("ab 'cdü", "", ""),
+    ];
+    for (line, slice, denoted) in rows {
+        assert_eq!(rt; token.slice(line), slice, "{line}");
+        let found = token.denoted(rt.alloc(), line)?;
+        assert_eq!(rt; found.as_str(), denoted, "{line}");
+    }
+    Ok(())
+}
+
+#[test]
+fn questions_to_tokens(rt: HostRuntime) {
+    let rows = [
+        (Kind::Name, false, false, None),
+        (Kind::QuotedName, false, false, None),
+        (Kind::Keyword(Keyword::Order), true, false, None),
+        (Kind::Keyword(Keyword::Or), false, false, None),
+        (Kind::Number(7), false, false, Some(7)),
+        (Kind::Text, false, false, None),
+        (Kind::Symbol(Symbol::Less), false, true, None),
+        (Kind::Symbol(Symbol::LessOrEqual), false, false, None),
+    ];
+    for (kind, is_order, is_less, number) in rows {
+        let token = Token {
+            kind,
+            start: 0,
+            end: 1,
+        };
+        assert_eq!(rt; token.is_keyword(Keyword::Order), is_order, "{kind:?}");
+        assert_eq!(rt; token.is_symbol(Symbol::Less), is_less, "{kind:?}");
+        assert_eq!(rt; token.number(), number, "{kind:?}");
+    }
+    assert_eq!(rt; Keyword::Order.spelling(), "ORDER");
+}
+
+#[test]
+fn texts_of_faults(rt: HostRuntime) -> Result<(), Fail> {
+    let rows = [
+        (LexFault::BadCharacter(7), "bad character at byte 7"),
+        (LexFault::LineTooLong, "line too long"),
+        (LexFault::NotUtf8(0), "no UTF-8 from byte 0 on"),
+        (LexFault::NoMemory, "no memory"),
+    ];
+    for (fault, text) in rows {
+        let found = format!(in rt.alloc(); "{fault}")?;
+        assert_eq!(rt; found.as_str(), text);
     }
     Ok(())
 }
@@ -229,7 +329,7 @@ fn joined(alloc: Global, parts: &[&str]) -> Result<String, LexFault> {
     Ok(line)
 }
 
-/// The slices of two symbols that stand next to each other, or nothing where they open a comment.
+/// The slices of two symbols that stand next to each other, but of those that open a comment nothing.
 fn neighbours(alloc: Global, first: &str, second: &str) -> Result<String, LexFault> {
     let slices = match (first, second) {
         (".", ".") => "..|",
@@ -238,7 +338,7 @@ fn neighbours(alloc: Global, first: &str, second: &str) -> Result<String, LexFau
         ("<", "=") => "<=|",
         ("<", ">=") => "<>|=|",
         (">", "=") => ">=|",
-        ("/", "/") | ("/", "*") => "",
+        ("/", "/") => "",
         _ => return joined(alloc, &[first, "|", second, "|"]),
     };
     Ok(String::from_str(alloc, slices)?)
@@ -253,8 +353,12 @@ fn symbols_next_to_symbols(rt: HostRuntime) -> Result<(), Fail> {
     for first in symbols {
         for second in symbols {
             let line = joined(rt.alloc(), &[first, second])?;
+            if line.as_str() == "/*" {
+                assert_eq!(rt; fault_of(rt.alloc(), line.as_str()), (13, Some(0)));
+                continue;
+            }
             let slices = neighbours(rt.alloc(), first, second)?;
-            let found = slices_of(rt.alloc(), line.as_str()).unwrap_or(String::new(rt.alloc()));
+            let found = slices_of(rt.alloc(), line.as_str())?;
             assert_eq!(rt; found.as_str(), slices.as_str(), "{line}");
         }
     }
@@ -270,29 +374,47 @@ fn repeated(alloc: Global, piece: &str, times: usize) -> Result<String, LexFault
     Ok(line)
 }
 
+/// How many tokens the line has, and where the last one ends.
+fn extent_of(alloc: Global, line: &str) -> Result<(usize, usize), LexFault> {
+    let tokens = lex(alloc, line)?;
+    let end = tokens.last().map_or(0, |token| token.end);
+    Ok((tokens.len(), end))
+}
+
 #[test]
 fn lines_of_full_length(rt: HostRuntime) -> Result<(), Fail> {
     let rows = [
-        ("x", 65535, 0, None),
-        ("x", 65536, 0, None),
-        ("x", 65537, 17, Some(65536)),
-        ("..", 32768, 0, None),
-        ("..", 32769, 17, Some(65536)),
-        ("€", 21845, 10, Some(0)),
-        ("€", 21846, 17, Some(65536)),
-        ("/*-", 21845, 13, Some(0)),
-        ("/*-", 21846, 17, Some(65536)),
+        ("x", 65535, Ok((1, 65535))),
+        ("x", 65536, Ok((1, 65536))),
+        ("x", 65537, Err(LexFault::LineTooLong)),
+        ("x ", 32768, Ok((32768, 65535))),
+        ("..", 32768, Ok((32768, 65536))),
+        ("..", 32769, Err(LexFault::LineTooLong)),
+        ("`b`c'aa'", 8192, Ok((24576, 65536))),
+        ("'b'c`aa`", 8192, Ok((24576, 65536))),
+        ("€", 21845, Err(LexFault::BadCharacter(0))),
+        ("€", 21846, Err(LexFault::LineTooLong)),
+        ("/*-", 21845, Err(LexFault::UnclosedComment(0))),
+        ("/*-", 21846, Err(LexFault::LineTooLong)),
+        ("1", 65536, Err(LexFault::NumberTooLarge(0))),
     ];
-    for (piece, times, code, at) in rows {
+    for (piece, times, extent) in rows {
         let line = repeated(rt.alloc(), piece, times)?;
         assert_eq!(rt;
-            fault_of(rt.alloc(), line.as_str()),
-            (code, at),
+            extent_of(rt.alloc(), line.as_str()),
+            extent,
             "{piece} {times}"
         );
-        let text = text_of(line.as_bytes());
-        assert_eq!(rt; text.is_ok(), code != 17, "{piece} {times}");
+        let bytes = line.as_bytes();
+        let text = if bytes.len() <= 65536 {
+            Ok(line.as_str())
+        } else {
+            Err(LexFault::LineTooLong)
+        };
+        assert_eq!(rt; text_of(bytes), text, "{piece} {times}");
     }
+    assert_eq!(rt; LexFault::LineTooLong.code(), 17);
+    assert_eq!(rt; LexFault::LineTooLong.at(), Some(65536));
     Ok(())
 }
 
@@ -330,5 +452,6 @@ fn computed_rows()
     ensures empty_name { IsFalse (is_xid_start 96) → tokens_of (codes "``") ≡ Err (LexFault.BadCharacter 0) }
     ensures zero { IsFalse (is_xid_start 48) → tokens_of (codes "01") ≡ Err (LexFault.BadNumber 0) }
     ensures character { IsFalse (is_xid_start 35) → tokens_of (codes "#") ≡ Err (LexFault.BadCharacter 0) }
-    ensures symbols { IsFalse (is_xid_start 60) → tokens_of (codes "< <=") ≡ Ok (record { kind = Kind.Symbol Symbol.Less; start = 0; end = 1 } ∷ record { kind = Kind.Symbol Symbol.LessOrEqual; start = 2; end = 4 } ∷ []) }
+    ensures symbols { IsFalse (is_xid_start 60) → tokens_of (codes "< <=")
+        ≡ Ok (record { kind = Kind.Symbol Symbol.Less; start = 0; end = 1 } ∷ record { kind = Kind.Symbol Symbol.LessOrEqual; start = 2; end = 4 } ∷ []) }
 {}

@@ -1,6 +1,6 @@
 //! Tokens, and what the parser asks of them.
 
-ghost use Rattle.std.specs.Prelude.{◌≡◌, ◌↔◌, IsTrue, IfOk, IfErr, string_bytes, encode_utf8_all, chars};
+ghost use Rattle.std.specs.Prelude.{◌≡◌, ◌↔◌, [], IsTrue, IfOk, IfErr, string_bytes, encode_utf8_all, chars};
 
 use crate::faults::LexFault;
 use crate::keywords::Keyword;
@@ -64,17 +64,21 @@ impl Token {
         }
     }
 
-    /// The text of the token, as it stands in its line. Of a line that has no such slice nothing is promised but a text.
+    /// The text of the token, as it stands in its line. Of a line in which the token has no place it is empty.
     pub fn slice<'a>(&self, line: &'a str) -> &'a str
-        ensures { IsSpanOf line.now self.now → result.now ≡ slice_of line.now self.now }
+        ensures within { IsSpanOf line.now self.now → result.now ≡ slice_of line.now self.now }
+        ensures elsewhere { ¬ (IsSpanOf line.now self.now) → result.now ≡ [] }
     {
         line.get(self.start..self.end).unwrap_or("")
     }
 
     /// What the token denotes: a quoted name without its backticks, a doubled one standing for one, a text without its
-    /// quotes and with its escapes replaced, any other token as it is written. Fails only for want of memory.
+    /// quotes and with its escapes replaced, any other token as it is written. Of a line in which the token has no
+    /// place it is empty. Fails only for want of memory.
     pub fn denoted(&self, alloc: Global, line: &str) -> Result<String, LexFault>
-        ensures value { IsSpanOf line.now self.now → IfOk result (λ s. string_bytes s ≡ encode_utf8_all (denoted self.now.kind (chars (slice_of line.now self.now)))) }
+        ensures value { IsSpanOf line.now self.now → IfOk result
+            (λ s. string_bytes s ≡ encode_utf8_all (denoted self.now.kind (chars (slice_of line.now self.now)))) }
+        ensures elsewhere { ¬ (IsSpanOf line.now self.now) → IfOk result (λ s. string_bytes s ≡ []) }
         ensures memory { IfErr result (λ e. e ≡ LexFault.NoMemory) }
     {
         let slice = self.slice(line);

@@ -2,6 +2,7 @@ use Rattle.std.proofs.Common.{arith, rules, sym}
 use Rattle.std.specs.Str.{IsUtf8}
 use Rattle.std.proofs.lemmas.Result.{err_from_is_err_and}
 use Rattle.cy_lexer.proofs.TokensLemmas.{IsRead-token, IsRead-gap, IsRead-all, IsRead-spans, IsRead-slices, IsRead-fault, tokens_of-long}
+use Rattle.cy_lexer.proofs.GapsLemmas.{tokens_of-leaves_gaps}
 use Rattle.cy_lexer.proofs.reading.lex.Goals as goal
 
 pub loop-first-preserved-in_ok-push : goal.loop-first-preserved-in_ok-push
@@ -30,6 +31,10 @@ returns-in_err-kind-clause-fault c =
 pub returns-clause-tokens : goal.returns-clause-tokens
 returns-clause-tokens c =
     IsRead-all c.args.line.now c.loop-first.rest.now c.loop-first.tokens.items c.if-line-gt-LONGEST_LINE.false c.loop-first.invariant.1 c.in_default.ensures.cases
+
+pub returns-clause-gaps : goal.returns-clause-gaps
+returns-clause-gaps c =
+    tokens_of-leaves_gaps c.args.line.now c.loop-first.tokens.items c.utf8.line c.if-line-gt-LONGEST_LINE.false (IsRead-all c.args.line.now c.loop-first.rest.now c.loop-first.tokens.items c.if-line-gt-LONGEST_LINE.false c.loop-first.invariant.1 c.in_default.ensures.cases)
 
 pub returns-clause-spans : goal.returns-clause-spans
 returns-clause-spans c = IsRead-spans c.args.line.now c.loop-first.rest.now c.loop-first.tokens.items c.loop-first.invariant.1

@@ -1,0 +1,29 @@
+-- How far the code has read. Only contracts of the lexer's private functions cite these words; no definition of the
+-- language does.
+use Rattle.std.specs.Prelude.{◌≡◌, ℕ, ◌≤◌, ◌^◌, List, drop, chars, Option, Some, None, Result, Ok, Err}
+use Rattle.std.specs.Borrow.{Bor}
+use Rattle.cy_lexer.specs.declared.tokens.Kind.{Kind}
+
+-- what was read at the front of a text, and the characters that are left behind it: as the code has it, and by how many
+-- of the text's characters were taken
+abbrev pub seen : {A : Type 0} → A × Bor (List ℕ) → A × List ℕ
+seen p = (p.0, chars p.1.now)
+
+abbrev pub taken : {A : Type 0} → List ℕ → A × ℕ → A × List ℕ
+taken cs p = (p.0, drop p.1 cs)
+
+-- the same of a gap, and of a token of a kind, where the code has what is left alone
+abbrev pub seen_gap : Bor (List ℕ) → Option Kind × List ℕ
+seen_gap left = (None, chars left.now)
+
+abbrev pub seen_token : Kind → Bor (List ℕ) → Option Kind × List ℕ
+seen_token k left = (Some k, chars left.now)
+
+abbrev pub map_ok : {A B E : Type 0} → (A → B) → Result A E → Result B E
+map_ok f (Ok x) = Ok (f x)
+map_ok f (Err e) = Err e
+
+-- what 64 bits hold of a number: it, or nothing where it is too large for them
+abbrev pub IsHeld : Option ℕ → ℕ → Type 0
+IsHeld (Some held) n = held ≡ n
+IsHeld None n = 2 ^ 64 ≤ n

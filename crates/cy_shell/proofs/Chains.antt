@@ -1,12 +1,13 @@
 -- Printed runs, one after another.
-use Rattle.std.proofs.Common.{◌≡◌, ℕ, ◌≤◌, List, [], ◌∷◌, ◌++◌, length, Option, Err, Bool, true, false, refl, sym, ◌∙◌, ap, subst, append_assoc, inr}
+use Rattle.std.proofs.Common.{◌≡◌, ℕ, ◌≤◌, List, [], ◌∷◌, ◌++◌, length, Option, Ok, Err, Bool, true, false, refl, sym, ◌∙◌, ap, subst, append_assoc, inl, inr}
 use Rattle.std.proofs.lemmas.Bool.{leb-true, leb-false}
 use Rattle.std.proofs.lemmas.List.{append-nil}
 use lib.Dec.{leb}
 use Rattle.std.proofs.lemmas.Str.{IsUtf8-from_is_utf8, is_utf8-from_IsUtf8}
-use Rattle.std.specs.Str.{is_utf8}
+use Rattle.std.specs.Str.{IsUtf8, is_utf8}
 use Rattle.cy_engine.specs.Step.{EngineState}
-use Rattle.cy_engine.specs.declared.faults.Fault.TheVariants as fault
+use Rattle.cy_engine.specs.declared.replies.Reply.TheVariants as reply
+use Rattle.cy_engine.proofs.CallerLemmas.{MayBeLeft, may_be_left}
 use Rattle.cy_shell.specs.Lines.{line_limit}
 use Rattle.cy_shell.specs.Printed.{no_memory_text}
 use Rattle.cy_shell.specs.Runs.{Answered, TooLong, NotUtf8, Carried, PrintedRun, WritesRun, WritesBeginning}
@@ -21,22 +22,32 @@ run_append old mid new (x ∷ xs) ys a b (next, first, rest, is, answered, run) 
 run_one : (old new : EngineState) (line text : List ℕ) → Answered old line text new → PrintedRun old (line ∷ []) text new
 run_one old new line text answered = (new, text, [], sym (append-nil text), answered, (refl, refl))
 
--- A line can always be answered: for want of memory.
-short_answer : (state : EngineState) (line : List ℕ) → length line ≤ line_limit → (b : Bool) → is_utf8 line ≡ b → Answered state line no_memory_text state
-short_answer state line short true is = Carried (Err fault.NoMemory) short (IsUtf8-from_is_utf8 line is) (tt, refl) (inr refl)
+-- Every line may be answered so that the engine stays as it is.
+abbrev HasAnswer : EngineState → List ℕ → Type 0
+HasAnswer state line = (text : List ℕ) × Answered state line text state
+
+left_answer : (state : EngineState) (line : List ℕ) → length line ≤ line_limit → IsUtf8 line → MayBeLeft state line → HasAnswer state line
+left_answer state line short utf8 (inl blank) = ([], Carried (Ok reply.Nothing) [] short utf8 (blank, refl, refl) refl)
+left_answer state line short utf8 (inr refused) = (no_memory_text, Carried (Err refused.0) [] short utf8 (refused.1, refl, refl) (inr refl))
+
+short_answer : (state : EngineState) (line : List ℕ) → length line ≤ line_limit → (b : Bool) → is_utf8 line ≡ b → HasAnswer state line
+short_answer state line short true is = left_answer state line short (IsUtf8-from_is_utf8 line is) (may_be_left state line)
 short_answer state line short false is =
-    NotUtf8 short (λ utf8. let opposite : true ≡ false = sym (is_utf8-from_IsUtf8 line utf8) ∙ is in cc) (inr refl)
+    (no_memory_text, NotUtf8 short (λ utf8. let opposite : true ≡ false = sym (is_utf8-from_IsUtf8 line utf8) ∙ is in cc) (inr refl))
 
-some_answer_at : (state : EngineState) (line : List ℕ) (b : Bool) → leb (length line) line_limit ≡ b → Answered state line no_memory_text state
+some_answer_at : (state : EngineState) (line : List ℕ) (b : Bool) → leb (length line) line_limit ≡ b → HasAnswer state line
 some_answer_at state line true is = short_answer state line (leb-true _ _ is) (is_utf8 line) refl
-some_answer_at state line false is = TooLong (leb-false _ _ is) (inr refl)
+some_answer_at state line false is = (no_memory_text, TooLong (leb-false _ _ is) (inr refl))
 
-some_answer : (state : EngineState) (line : List ℕ) → Answered state line no_memory_text state
+some_answer : (state : EngineState) (line : List ℕ) → HasAnswer state line
 some_answer state line = some_answer_at state line (leb (length line) line_limit) refl
 
 some_run : (state : EngineState) (lines : List (List ℕ)) → (text : List ℕ) × PrintedRun state lines text state
 some_run state [] = ([], (refl, refl))
-some_run state (line ∷ lines) = let more = some_run state lines in (no_memory_text ++ more.0, (state, no_memory_text, more.0, refl, some_answer state line, more.1))
+some_run state (line ∷ lines) =
+    let first = some_answer state line in
+    let more = some_run state lines in
+    (first.0 ++ more.0, (state, first.0, more.0, refl, first.1, more.1))
 
 pub no_lines : (state : EngineState) (known : Option (List ℕ)) → WritesRun state [] state known known
 no_lines state known = record { text = []; run = (refl, refl); is = appended-nil known }

@@ -7,6 +7,7 @@ use Rattle.cy_lexer.specs.Line.{IsTextOf}
 use Rattle.cy_lexer.specs.declared.faults.LexFault.{LexFault}
 use Rattle.cy_lexer.specs.declared.faults.LexFault.TheVariants as fault
 use Rattle.cy_engine.specs.Step.{EngineState, Step}
+use Rattle.cy_engine.specs.declared.entries.Entry.{Entry}
 use Rattle.cy_engine.specs.declared.faults.Fault.{Fault}
 use Rattle.cy_engine.specs.declared.replies.Reply.{Reply}
 use Rattle.cy_shell.specs.Lines.{line_limit, kept}
@@ -24,10 +25,10 @@ pub text_kept : (line bytes : List ℕ) (result : Result (Bor (List ℕ)) LexFau
 text_kept line bytes result is text = subst (λ (l : List ℕ). IsTextOf l result) (sym (kept_whole line bytes is).0) text
 
 -- a line that is a text is carried out
-pub carried : (old new : EngineState) (line printed : List ℕ) (text : Bor (List ℕ)) (result : Result Reply Fault)
-    → IsTextOf line (Ok text) → Step old text.now result new → IsAnswerText result printed → Answered old line printed new
-carried old new line printed text result is step shown =
-    Carried result is.0 is.1 (subst (λ (l : List ℕ). Step old l result new) is.2 step) shown
+pub carried : (old new : EngineState) (line printed : List ℕ) (text : Bor (List ℕ)) (result : Result Reply Fault) (entries : List (List ℕ × Entry))
+    → IsTextOf line (Ok text) → Step old text.now result entries new → IsAnswerText result printed → Answered old line printed new
+carried old new line printed text result entries is step shown =
+    Carried result entries is.0 is.1 (subst (λ (l : List ℕ). Step old l result entries new) is.2 step) shown
 
 -- and any other line is not
 pub not_carried : (state : EngineState) (line printed : List ℕ) (fault : LexFault)

@@ -1,6 +1,6 @@
 -- The lines of an input. A line ends at LF, and a last line without LF counts if it isn't empty.
 use Rattle.std.specs.Prelude.{ℕ, ◌==◌, nat_le, List, [], ◌∷◌, ◌++◌, length, Option, Some, None, if◌then◌else◌}
-use Rattle.cy_lexer.specs.Tokens.{longest_line}
+use Rattle.cy_lexer.specs.Line.{longest_line}
 
 -- the most bytes that a line may have, without its LF: those of the longest line that the lexer takes
 abbrev pub line_limit : ℕ

@@ -3,6 +3,7 @@ use Rattle.std.specs.Prelude.{◌≡◌, ℕ, ◌^◌, ◌<◌, ◌≤◌, ◌�
 use Rattle.std.specs.Str.{IsUtf8}
 use Rattle.std.specs.Str.Lossy.{utf8_valid_len}
 use Rattle.cy_engine.specs.Step.{EngineState, Step}
+use Rattle.cy_engine.specs.declared.entries.Entry.{Entry}
 use Rattle.cy_engine.specs.declared.faults.Fault.{Fault}
 use Rattle.cy_engine.specs.declared.replies.Reply.{Reply}
 use Rattle.cy_shell.specs.Lines.{line_limit, whole_lines, lines_of, lines_read}
@@ -16,7 +17,7 @@ pub data Answered : EngineState → List ℕ → List ℕ → EngineState → Ty
   -- nor is a line that isn't UTF-8: 18, at the end of its longest valid beginning
   NotUtf8 : {state : EngineState} {line text : List ℕ} → length line ≤ line_limit → (IsUtf8 line → ⊥) → IsFaultText (Some (utf8_valid_len line)) 18 text → Answered state line text state
   -- any other line is a step of the engine, and its answer is printed
-  Carried : {old new : EngineState} {line text : List ℕ} (result : Result Reply Fault) → length line ≤ line_limit → IsUtf8 line → Step old line result new → IsAnswerText result text → Answered old line text new
+  Carried : {old new : EngineState} {line text : List ℕ} (result : Result Reply Fault) (entries : List (List ℕ × Entry)) → length line ≤ line_limit → IsUtf8 line → Step old line result entries new → IsAnswerText result text → Answered old line text new
 
 -- A printed run: from old, the text may be the answers to the lines, one after another and nothing else.
 abbrev pub PrintedRun : EngineState → List (List ℕ) → List ℕ → EngineState → Type 0

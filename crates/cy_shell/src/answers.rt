@@ -14,7 +14,7 @@ use std::alloc::Global;
 
 /// Answers a line.
 pub(crate) fn answer(alloc: Global, engine: &mut Engine, line: &LineBuffer) -> Printed
-    ensures { (bytes : List ℕ) → line.now ≡ kept bytes → Answered engine.old bytes (printed_text result) engine.new }
+    ensures { (bytes : List ℕ) → line.now ≡ kept bytes → Answered engine.old.state bytes (printed_text result) engine.new.state }
 {
     match line_text(line) {
         Ok(text) => match engine.line(text) {

@@ -133,13 +133,13 @@ fn serve<R: Source, W: Sink>(
     requires begins { session.old.line ≡ kept [] }
     requires some_room { 0 < length piece.old }
     ensures done { OnOk result (IfSome (R.remaining source.old) (λ input. (R.remaining source.new ≡ Some []) × (length input < input_limit)
-        × WritesAll session.old.engine input (W.written sink.old) (W.written sink.new))) }
+        × WritesAll session.old.engine.state input (W.written sink.old) (W.written sink.new))) }
     ensures works { OnOk result ((R.has_failed source.new ≡ false) × (W.has_failed sink.new ≡ false)) }
     ensures read { result ≡ Err RunFault.Read → IfSome (R.remaining source.old) (λ input.
-        StopsReading session.old.engine input (R.remaining source.new) (R.has_failed source.new) (W.written sink.old) (W.written sink.new)) }
+        StopsReading session.old.engine.state input (R.remaining source.new) (R.has_failed source.new) (W.written sink.old) (W.written sink.new)) }
     ensures read_works { result ≡ Err RunFault.Read → W.has_failed sink.new ≡ false }
     ensures write { result ≡ Err RunFault.Write → IfSome (R.remaining source.old) (λ input.
-        StopsWriting session.old.engine input (R.remaining source.new) (W.written sink.old) (W.written sink.new)) }
+        StopsWriting session.old.engine.state input (R.remaining source.new) (W.written sink.old) (W.written sink.new)) }
     ensures write_fails { result ≡ Err RunFault.Write → W.has_failed sink.new ≡ true }
     ensures write_works { result ≡ Err RunFault.Write → R.has_failed source.new ≡ false }
     ensures no_memory { result ≢ Err RunFault.Memory }

@@ -25,7 +25,7 @@ impl Session {
     pub(crate) fn new(alloc: Global, history: usize) -> Result<Self, AllocError>
         requires from { 1 ≤ history }
         requires to { history ≤ 4096 }
-        ensures engine { IfOk result (λ session. session.engine ≡ empty_engine history) }
+        ensures engine { IfOk result (λ session. session.engine.state ≡ empty_engine history) }
         ensures line { IfOk result (λ session. session.line ≡ kept []) }
     {
         Ok(Session {
@@ -40,10 +40,10 @@ impl Session {
         requires { W.has_failed sink.old ≡ false }
         ensures line { OnOk result ((begun : List ℕ) → self.old.line ≡ kept begun → self.new.line ≡ kept (begun_line begun piece.now)) }
         ensures served { OnOk result ((begun : List ℕ) → self.old.line ≡ kept begun
-            → WritesRun self.old.engine (ended_lines begun piece.now) self.new.engine (W.written sink.old) (W.written sink.new)) }
+            → WritesRun self.old.engine.state (ended_lines begun piece.now) self.new.engine.state (W.written sink.old) (W.written sink.new)) }
         ensures works { OnOk result (W.has_failed sink.new ≡ false) }
         ensures broken_off { OnErr result ((begun : List ℕ) → self.old.line ≡ kept begun
-            → WritesBeginning self.old.engine (ended_lines begun piece.now) (W.written sink.old) (W.written sink.new)) }
+            → WritesBeginning self.old.engine.state (ended_lines begun piece.now) (W.written sink.old) (W.written sink.new)) }
         ensures fails { OnErr result (W.has_failed sink.new ≡ true) }
     {
         let mut rest = piece;
@@ -61,10 +61,10 @@ impl Session {
     pub(crate) fn finish<W: Sink>(&mut self, sink: &mut W) -> Result<(), Failed>
         requires { W.has_failed sink.old ≡ false }
         ensures served { OnOk result ((begun : List ℕ) → self.old.line ≡ kept begun
-            → WritesRun self.old.engine (unless_empty begun) self.new.engine (W.written sink.old) (W.written sink.new)) }
+            → WritesRun self.old.engine.state (unless_empty begun) self.new.engine.state (W.written sink.old) (W.written sink.new)) }
         ensures works { OnOk result (W.has_failed sink.new ≡ false) }
         ensures broken_off { OnErr result ((begun : List ℕ) → self.old.line ≡ kept begun
-            → WritesBeginning self.old.engine (unless_empty begun) (W.written sink.old) (W.written sink.new)) }
+            → WritesBeginning self.old.engine.state (unless_empty begun) (W.written sink.old) (W.written sink.new)) }
         ensures fails { OnErr result (W.has_failed sink.new ≡ true) }
     {
         if self.line.is_empty() {
@@ -78,10 +78,10 @@ impl Session {
         requires { W.has_failed sink.old ≡ false }
         ensures line { self.new.line ≡ kept [] }
         ensures served { OnOk result ((line : List ℕ) → self.old.line ≡ kept line
-            → WritesRun self.old.engine (line ∷ []) self.new.engine (W.written sink.old) (W.written sink.new)) }
+            → WritesRun self.old.engine.state (line ∷ []) self.new.engine.state (W.written sink.old) (W.written sink.new)) }
         ensures works { OnOk result (W.has_failed sink.new ≡ false) }
         ensures broken_off { OnErr result ((line : List ℕ) → self.old.line ≡ kept line
-            → WritesBeginning self.old.engine (line ∷ []) (W.written sink.old) (W.written sink.new)) }
+            → WritesBeginning self.old.engine.state (line ∷ []) (W.written sink.old) (W.written sink.new)) }
         ensures fails { OnErr result (W.has_failed sink.new ≡ true) }
     {
         let printed = answer(self.alloc, &mut self.engine, &self.line);

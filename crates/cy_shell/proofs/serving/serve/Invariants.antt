@@ -8,7 +8,7 @@ invariant-loop-total g l = record {
   readable : g.R.Source.has_failed l.source ≡ false;
   writable : g.W.Sink.has_failed l.sink ≡ false;
   reads : (input : List ℕ) → g.R.Source.remaining l.initial.source ≡ Some input
-      → Reads input l.total l.initial.session.engine (g.R.Source.remaining l.source) l.session.line l.session.engine (g.W.Sink.written l.initial.sink) (g.W.Sink.written l.sink);
+      → Reads input l.total l.initial.session.engine.state (g.R.Source.remaining l.source) l.session.line l.session.engine.state (g.W.Sink.written l.initial.sink) (g.W.Sink.written l.sink);
 }
 
 abbrev pub decreases-loop-total : goal.decreases-loop-total

@@ -7,7 +7,7 @@ abbrev pub invariant-loop-end : goal.invariant-loop-end
 invariant-loop-end g l = record {
   works : g.W.Sink.has_failed l.sink ≡ false;
   served : (begun : List ℕ) → l.initial.self.line ≡ kept begun
-      → Served begun l.piece l.initial.self.engine l.self.line l.rest l.self.engine (g.W.Sink.written l.initial.sink) (g.W.Sink.written l.sink);
+      → Served begun l.piece l.initial.self.engine.state l.self.line l.rest l.self.engine.state (g.W.Sink.written l.initial.sink) (g.W.Sink.written l.sink);
 }
 
 abbrev pub decreases-loop-end : goal.decreases-loop-end

@@ -1,2 +1,3 @@
-pub mod NewNode
+pub mod Changes
 pub mod Places
+pub mod Slots

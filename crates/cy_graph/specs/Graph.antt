@@ -1,10 +1,15 @@
 -- The graph and its content, as it is and as it was when the open change began.
-use Rattle.std.specs.Prelude.{ℕ, ◌+◌, ◌^◌, ◌≤◌, ◌<◌, List, [], ◌∷◌, ◌++◌, Option, IsTrue}
+use Rattle.std.specs.Prelude.{ℕ, ◌+◌, ◌^◌, ◌≤◌, ◌<◌, not, List, [], ◌∷◌, ◌++◌, Option, None, Some, IsSome, IsTrue}
+use Rattle.std.specs.Option.{option_map}
 use Rattle.std.specs.List.{AllByRecursion}
 use Rattle.std.specs.declared.cmp.Ordering.{Ordering}
-use Rattle.std.specs.Ordering.{nat_cmp}
+use Rattle.std.specs.Ordering.{nat_cmp, eq_by_cmp}
 use Rattle.std.specs.FinMap.Entries as entries
 use Rattle.cy_values.specs.declared.numbers.NodeId.{NodeId}
+use Rattle.cy_values.specs.declared.numbers.Entity.{Entity}
+use Rattle.cy_values.specs.declared.numbers.Entity.TheVariants as entity
+use Rattle.cy_values.specs.declared.scalars.Value.{Value}
+use Rattle.cy_graph.specs.Maps.{rises, with_value, without}
 use Rattle.cy_graph.specs.declared.nodes.Node.{Node}
 use Rattle.cy_graph.specs.Stored.{IsStorable}
 
@@ -47,11 +52,46 @@ with_node node state = record state {
   next_node = state.next_node + 1;
 }
 
--- every number in use is at least 1 and below the next one, numbers rise, values are such as can be stored, and the
--- next numbers are within bounds
+-- the properties with the value at the key, or with nothing there
+abbrev pub set_or_removed : List ℕ → Option Value → List (List ℕ × Value) → List (List ℕ × Value)
+set_or_removed key None props = without key props
+set_or_removed key (Some value) props = with_value key value props
+
+-- the node with that property
+abbrev pub set_at : List ℕ → Option Value → Node → Node
+set_at key value node = record node { props = set_or_removed key value node.props }
+
+-- the nodes with this one under the number, where it has one already
+abbrev pub replaced : NodeId → Option Node → List (NodeId × Node) → List (NodeId × Node)
+replaced id None nodes = nodes
+replaced id (Some node) nodes = entries.put node_order id node nodes
+
+-- the graph with other nodes, and all else as it was
+abbrev pub with_nodes : List (NodeId × Node) → State → State
+with_nodes nodes state = record state { content = record { nodes = nodes } }
+
+-- whether the entity is in the graph
+abbrev pub IsThere : Entity → State → Type 0
+IsThere (entity.Node id) state = IsSome (node_at id state)
+IsThere (entity.Rel id) state = ⊥
+
+-- the graph with the property of the entity set to the value, or with no such property where none is given, and
+-- all else as it was
+abbrev pub with_prop : Entity → List ℕ → Option Value → State → State
+with_prop (entity.Node id) key value state =
+    with_nodes (replaced id (option_map (set_at key value) (node_at id state)) state.content.nodes) state
+with_prop (entity.Rel id) key value state = state
+
+-- the graph without the node, and all else as it was; its number stays given out
+abbrev pub without_node : NodeId → State → State
+without_node id state = with_nodes (entries.where_key node_order (λ k. not (eq_by_cmp node_order id k)) state.content.nodes) state
+
+-- every number in use is at least 1 and below the next one, numbers rise, the labels and the keys of each node rise, so
+-- that each content has one form, values are such as can be stored, and the next numbers are within bounds
 pub record IsGraph (state : State) : Type 0 where
   pub rising : IsTrue (entries.is_sorted node_order state.content.nodes)
   pub numbered : AllByRecursion (λ (e : NodeId × Node). (1 ≤ e.0.0) × (e.0.0 < state.next_node)) state.content.nodes
+  pub in_form : AllByRecursion (λ (e : NodeId × Node). IsTrue (rises e.1.labels) × IsTrue (rises e.1.props)) state.content.nodes
   pub stored : AllByRecursion (λ (e : NodeId × Node). IsStorable e.1.props) state.content.nodes
   pub node_range : (1 ≤ state.next_node) × (state.next_node ≤ number_end)
   pub rel_range : (1 ≤ state.next_rel) × (state.next_rel ≤ number_end)

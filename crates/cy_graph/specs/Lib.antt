@@ -3,4 +3,5 @@ pub mod Faults
 pub mod Graph
 pub mod Maps
 pub mod Place
+pub mod Slots
 pub mod Stored

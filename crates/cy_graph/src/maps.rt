@@ -87,3 +87,13 @@ impl<V: Drop> TextMap<V> {
         }
     }
 }
+
+impl<V: Duplicate> Duplicate for TextMap<V> {
+    fn copy(&self, alloc: Global) -> Result<Self, Fault> {
+        let mut entries = Vec::new(alloc);
+        for (key, value) in self.entries.iter() {
+            entries.push((key.copy(alloc)?, value.copy(alloc)?))?;
+        }
+        Ok(TextMap { entries })
+    }
+}

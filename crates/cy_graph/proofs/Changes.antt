@@ -20,9 +20,9 @@ use Rattle.cy_graph.specs.declared.graph.Start.{Start}
 use Rattle.cy_graph.specs.Graph.{State, Versions, node_order, with_node, with_prop, without_node, replaced, set_at, number_end, IsGraph}
 use Rattle.cy_graph.specs.Change.{state_of, slots_before, state_before, versions_of, IsKept, IsKeptBefore, Keeps, KeepsNothing, Changes, ChangesNothing}
 use Rattle.cy_graph.specs.Maps.{text_order, rises, with_value}
-use Rattle.cy_graph.specs.Slots.{RiseFrom, standing, kept_at, restored}
+use Rattle.cy_graph.specs.Slots.{RiseFrom, standing, kept_at, slot_at, restored}
 use Rattle.cy_graph.specs.Stored.{is_storable, IsStorable}
-use Rattle.cy_graph.proofs.Slots.{same_look_up, set_rises, filter_rises, standing_rises, restored_rises, rises_push, sorted, numbered, take_set, set_back, standing_push, standing_filter, standing_set, standing_clear, find_at, restored_nothing, keeps, kept_last, restored_set, all_at, all_put, all_where, all_push}
+use Rattle.cy_graph.proofs.Slots.{same_look_up, set_rises, filter_rises, standing_rises, restored_rises, rises_push, sorted, numbered, take_set, set_back, standing_push, standing_filter, standing_set, standing_clear, find_at, restored_nothing, keeps, kept_last, restored_set, all_at, all_put, all_where, all_push, kept_push, slot_within, slot_set}
 use Rattle.cy_graph.proofs.Places.{rises-with_value, rises-without}
 
 -- what holds of the one value holds of the value
@@ -44,6 +44,7 @@ is_kept_begun slots start change kept none all =
       was = only (IsKeptBefore slots) start (record {
         within = omega (arith, all);
         rising = subst (RiseFrom 1 start.next_node) (sym (take_all start.slots slots (omega (arith, all)))) kept.rising;
+        held = λ id there. let no : false ≡ true = sym (ap (λ es. is_some (kept_at id es)) none) ∙ there in cc;
         graph = subst IsGraph (sym (begun slots start none all)) kept.now;
       });
     }
@@ -100,6 +101,7 @@ is_kept_added slots next rel change node kept storable in_form left =
           record {
             within = omega (arith, length-append slots (e ∷ []), before.within);
             rising = subst (RiseFrom 1 start.next_node) same before.rising;
+            held = λ id there. subst (λ es. IsSome (slot_at id es)) same (before.held id there);
             graph = subst (λ es. IsGraph (state_of (standing (restored start.before.entries es)) start.next_node start.next_rel)) same before.graph;
           };
     }
@@ -125,13 +127,13 @@ is_kept_rolled_back slots start before = record {
 }
 
 -- a node that is kept for the first time goes last among those that are
-pub kept_first : (slot : ℕ) (id : NodeId) (node : Node) (old new : Start) → new ≡ record old { before = new.before } → kept_at id old.before.entries ≡ None
+pub kept_first : (slot : ℕ) (id : NodeId) (node : Node) (old new : Start) → new ≡ record old { before = new.before } → (slot < old.slots) × (kept_at id old.before.entries ≡ None)
     → new.before.entries ≡ insert_entry (node_eq.eq-value).it old.before.entries id node → Keeps slot id node old new
-kept_first slot id node old new same none inserted =
-    let entries = inserted ∙ insert_entry-new (node_eq.eq-value).it old.before id node (same_look_up id old.before.entries ∙ none) in
+kept_first slot id node old new same first inserted =
+    let entries = inserted ∙ insert_entry-new (node_eq.eq-value).it old.before id node (same_look_up id old.before.entries ∙ first.1) in
     record {
       same = same;
-      entries = inr entries;
+      entries = inr (first.0, entries);
       known = λ lt. subst (λ kept. IsSome (kept_at id kept)) (sym entries) (kept_last id node old.before.entries);
     }
 
@@ -142,7 +144,7 @@ written_slots slots next i id node w old new up is kept =
     restored_set new.before.entries old.slots i slots id (Some node) w is kept.known
     ∙ elim kept.entries as (λ _. restored new.before.entries (take old.slots slots) ≡ slots_before slots old) [
       | inl same ↦ ap (λ all. restored all (take old.slots slots)) same
-      | inr last ↦ ap (λ all. restored all (take old.slots slots)) last ∙ keeps id node old.before.entries 1 next old.slots i slots up is
+      | inr last ↦ ap (λ all. restored all (take old.slots slots)) last.1 ∙ keeps id node old.before.entries 1 next old.slots i slots up is
     ]
 
 written_before : (slots : List (NodeId × Option Node)) (next i : ℕ) (id : NodeId) (node : Node) (w : Option Node) (old new : Start) → RiseFrom 1 next slots → slice_get slots i ≡ Some (id, Some node) → Keeps i id node old new
@@ -152,6 +154,19 @@ written_before slots next i id node w old new up is kept =
     let first : state_before (set_value_at slots i w) new ≡ state_of (standing (restored new.before.entries (take old.slots (set_value_at slots i w)))) old.next_node old.next_rel =
     λ j. state_of (standing (restored new.before.entries (take (same j).slots (set_value_at slots i w)))) (same j).next_node (same j).next_rel in
     first ∙ ap (λ es. state_of (standing es) old.next_node old.next_rel) (written_slots slots next i id node w old new up is kept)
+
+-- what is kept is still of the first slots
+written_held : (slots : List (NodeId × Option Node)) (i : ℕ) (id : NodeId) (node : Node) (w : Option Node) (old new : Start) → IsKeptBefore slots old → slice_get slots i ≡ Some (id, Some node) → Keeps i id node old new
+    → (q : NodeId) → IsSome (kept_at q new.before.entries) → IsSome (slot_at q (take old.slots (set_value_at slots i w)))
+written_held slots i id node w old new before is kept q there =
+    let moved = ap (λ es. is_some (slot_at q es)) (take_set old.slots i slots w) ∙ slot_set (take old.slots slots) i w q in
+    moved ∙ elim kept.entries as (λ _. IsSome (slot_at q (take old.slots slots))) [
+      | inl same ↦ before.held q (sym (ap (λ es. is_some (kept_at q es)) same) ∙ there)
+      | inr last ↦ elim (kept_push q id node old.before.entries (sym (ap (λ es. is_some (kept_at q es)) last.1) ∙ there)) as (λ _. IsSome (slot_at q (take old.slots slots))) [
+        | inl earlier ↦ before.held q earlier
+        | inr here ↦ subst (λ k. IsSome (slot_at k (take old.slots slots))) (sym here) (slot_within old.slots i slots id (Some node) is last.0)
+      ]
+    ]
 
 -- both versions are graphs after a write into a slot that leaves a graph
 pub is_kept_written : (slots : List (NodeId × Option Node)) (next rel i : ℕ) (id : NodeId) (node : Node) (w : Option Node) (old new : Start) → IsKept slots next rel (Some old) → slice_get slots i ≡ Some (id, Some node) → Keeps i id node old new
@@ -166,6 +181,7 @@ is_kept_written slots next rel i id node w old new all is kept graph =
       was = only (IsKeptBefore (set_value_at slots i w)) new (record {
         within = omega (arith, length-set_value_at slots i w, ap (λ (s : Start). s.slots) same, before.within);
         rising = subst (λ (s : Start). RiseFrom 1 s.next_node (take s.slots (set_value_at slots i w))) (sym same) up;
+        held = λ q there. subst (λ (s : Start). IsSome (slot_at q (take s.slots (set_value_at slots i w)))) (sym same) (written_held slots i id node w old new before is kept q there);
         graph = subst IsGraph (sym (written_before slots next i id node w old new all.rising is kept)) before.graph;
       });
     }
@@ -193,6 +209,7 @@ is_kept_nothing slots next rel old new all kept =
       was = only (IsKeptBefore slots) new (record {
         within = omega (arith, ap (λ (s : Start). s.slots) kept.same, before.within);
         rising = subst (λ (s : Start). RiseFrom 1 s.next_node (take s.slots slots)) (sym kept.same) before.rising;
+        held = λ q there. subst (λ (s : Start). IsSome (slot_at q (take s.slots slots))) (sym kept.same) (before.held q (sym (ap (λ es. is_some (kept_at q es)) kept.entries) ∙ there));
         graph = subst IsGraph (sym (nothing_before slots old new kept)) before.graph;
       });
     }
@@ -265,9 +282,9 @@ is_graph_removed slots next rel i id node up graph is =
 pub keeps_since : (slot : ℕ) (id : NodeId) (node : Node) (old made new : Start) → KeepsNothing old made → Keeps slot id node made new → Keeps slot id node old new
 keeps_since slot id node old made new nothing kept = record {
   same = kept.same ∙ ap (λ (s : Start). let t : Start = record s { before = new.before } in t) nothing.same;
-  entries = elim kept.entries as (λ _. (new.before.entries ≡ old.before.entries) ⊎ (new.before.entries ≡ old.before.entries ++ (id, node) ∷ [])) [
+  entries = elim kept.entries as (λ _. (new.before.entries ≡ old.before.entries) ⊎ ((slot < old.slots) × (new.before.entries ≡ old.before.entries ++ (id, node) ∷ []))) [
     | inl e ↦ inl (e ∙ nothing.entries)
-    | inr e ↦ inr (e ∙ ap (λ es. es ++ (id, node) ∷ []) nothing.entries)
+    | inr e ↦ inr (omega (arith, ap (λ (s : Start). s.slots) nothing.same, e.0), e.1 ∙ ap (λ es. es ++ (id, node) ∷ []) nothing.entries)
   ];
   known = λ lt. kept.known (omega (arith, ap (λ (s : Start). s.slots) nothing.same, lt));
 }

@@ -1,6 +1,6 @@
 -- Slots by rising number: the nodes that stand in them, and what an edit of one does to these.
-use Rattle.std.proofs.Common.{◌≡◌, ℕ, zero, suc, ◌+◌, ◌<◌, ◌≤◌, Bool, true, false, cond, not, eqb, List, [], ◌∷◌, ◌++◌, take, filter, is_some, Option, Some, None, IsSome, IsTrue, refl, sym, ap, subst, ◌∙◌, arith}
-use Rattle.std.specs.Prelude.{slice_get}
+use Rattle.std.proofs.Common.{◌≡◌, ℕ, zero, suc, ◌+◌, ◌<◌, ◌≤◌, Bool, true, false, cond, not, eqb, List, [], ◌∷◌, ◌++◌, take, filter, is_some, Option, Some, None, IsSome, IsTrue, inl, inr, refl, sym, ap, subst, ◌∙◌, arith}
+use Rattle.std.specs.Prelude.{slice_get, ◌⊎◌}
 use Rattle.std.specs.List.{AllByRecursion}
 use Rattle.std.specs.Option.{option_flatten}
 use Rattle.std.specs.Map.{lookup, lookup_key, values_of, set_value}
@@ -14,13 +14,13 @@ use Rattle.indexmap.specs.IndexMap.{set_value_at}
 use Rattle.cy_values.specs.declared.numbers.NodeId.{NodeId}
 use Rattle.cy_graph.specs.declared.nodes.Node.{Node}
 use Rattle.cy_graph.specs.Graph.{node_order}
-use Rattle.cy_graph.specs.Slots.{RiseFrom, with_slot, standing, kept_at, as_it_was, restored}
+use Rattle.cy_graph.specs.Slots.{RiseFrom, with_slot, standing, kept_at, slot_at, as_it_was, restored}
 
 -- what the comparison of two numbers answers
-tied : (m n : ℕ) → m ≡ n → nat_cmp m n ≡ Equal
+pub tied : (m n : ℕ) → m ≡ n → nat_cmp m n ≡ Equal
 tied m n e = grind (arith, nat_tests)
 
-above : (m n : ℕ) → n < m → nat_cmp m n ≡ Greater
+pub above : (m n : ℕ) → n < m → nat_cmp m n ≡ Greater
 above m n lt = grind (arith, nat_tests)
 
 below : (m n : ℕ) → m < n → nat_cmp m n ≡ Less
@@ -373,3 +373,35 @@ not_empty high id es found r there is none =
     let gone : kept_at id (standing es) ≡ None = sym (node_found high id es found r is) ∙ none in
     let no : false ≡ true = sym (ap is_some gone) ∙ there in
     cc
+
+-- a node that is kept was kept before, or is the last
+pub kept_push : (q k : NodeId) (v : Node) (kept : List (NodeId × Node)) → IsSome (kept_at q (kept ++ (k, v) ∷ [])) → IsSome (kept_at q kept) ⊎ (q ≡ k)
+kept_push q k v [] there =
+    elim (eq_by_cmp node_order q k) as (λ b. eq_by_cmp node_order q k ≡ b → IsSome (cond b (Some v) None) → IsSome (kept_at q []) ⊎ (q ≡ k)) [
+      | true ↦ λ t found. inr (same_number q k t)
+      | false ↦ λ t none. inl none
+    ] refl there
+kept_push q k v (e ∷ kept) there =
+    elim (eq_by_cmp node_order q e.0) as (λ b. IsSome (cond b (Some e.1) (kept_at q (kept ++ (k, v) ∷ []))) → IsSome (cond b (Some e.1) (kept_at q kept)) ⊎ (q ≡ k)) [
+      | true ↦ λ found. inl found
+      | false ↦ λ later. kept_push q k v kept later
+    ] there
+
+-- a slot before a place is among the first
+pub slot_within : (k i : ℕ) (es : List (NodeId × Option Node)) (id : NodeId) (v : Option Node) → slice_get es i ≡ Some (id, v) → i < k → IsSome (slot_at id (take k es))
+slot_within zero i es id v is lt = absurd (omega arith)
+slot_within (suc k) i [] id v is lt = cc
+slot_within (suc k) zero (e ∷ es) id v is lt =
+    let key : e.0 ≡ id = cc in
+    ap (λ o. is_some (cond (is_eq o) (Some e.1) (slot_at id (take k es)))) (tied id.0 e.0.0 (ap (λ (x : NodeId). x.0) (sym key)))
+slot_within (suc k) (suc i) (e ∷ es) id v is lt =
+    let rest = slot_within k i es id v is (omega arith) in
+    elim (eq_by_cmp node_order id e.0) as (λ b. IsSome (cond b (Some e.1) (slot_at id (take k es)))) [ true ↦ refl | false ↦ rest ]
+
+-- a write leaves each slot where it is
+pub slot_set : (es : List (NodeId × Option Node)) (i : ℕ) (w : Option Node) (id : NodeId) → is_some (slot_at id (set_value_at es i w)) ≡ is_some (slot_at id es)
+slot_set [] i w id = refl
+slot_set (e ∷ es) zero w id = elim (eq_by_cmp node_order id e.0) as (λ b. is_some (cond b (Some w) (slot_at id es)) ≡ is_some (cond b (Some e.1) (slot_at id es))) [ true ↦ refl | false ↦ refl ]
+slot_set (e ∷ es) (suc i) w id =
+    let rest = slot_set es i w id in
+    elim (eq_by_cmp node_order id e.0) as (λ b. is_some (cond b (Some e.1) (slot_at id (set_value_at es i w))) ≡ is_some (cond b (Some e.1) (slot_at id es))) [ true ↦ refl | false ↦ rest ]

@@ -6,7 +6,7 @@ use Rattle.cy_values.specs.declared.numbers.NodeId.{NodeId}
 use Rattle.cy_graph.specs.declared.nodes.Node.{Node}
 use Rattle.cy_graph.specs.declared.graph.Start.{Start}
 use Rattle.cy_graph.specs.Graph.{State, Versions, IsGraph}
-use Rattle.cy_graph.specs.Slots.{RiseFrom, standing, kept_at, restored}
+use Rattle.cy_graph.specs.Slots.{RiseFrom, standing, kept_at, slot_at, restored}
 
 -- the graph of these nodes and next numbers
 abbrev pub state_of : List (NodeId × Node) → ℕ → ℕ → State
@@ -23,11 +23,12 @@ state_before slots start = state_of (standing (slots_before slots start)) start.
 abbrev pub versions_of : List (NodeId × Option Node) → ℕ → ℕ → Option Start → Versions
 versions_of slots node rel change = record { now = state_of (standing slots) node rel; was = option_map (state_before slots) change }
 
--- the slots of the change's beginning are the first ones, their numbers below the next one of that time, and stand for
--- a graph
+-- the slots of the change's beginning are the first ones, their numbers below the next one of that time; what was kept
+-- is of these slots, and with it they stand for a graph
 pub record IsKeptBefore (slots : List (NodeId × Option Node)) (start : Start) : Type 0 where
   pub within : start.slots ≤ length slots
   pub rising : RiseFrom 1 start.next_node (take start.slots slots)
+  pub held : (id : NodeId) → IsSome (kept_at id start.before.entries) → IsSome (slot_at id (take start.slots slots))
   pub graph : IsGraph (state_before slots start)
 
 -- the numbers of the slots rise from 1 and stay below the next one, and both versions are graphs
@@ -44,7 +45,7 @@ pub record KeepsNothing (old new : Start) : Type 0 where
 -- the start of a change once the node in a slot may be changed: the node was kept, if it had to be, and nothing else
 pub record Keeps (slot : ℕ) (id : NodeId) (node : Node) (old new : Start) : Type 0 where
   pub same : new ≡ record old { before = new.before }
-  pub entries : (new.before.entries ≡ old.before.entries) ⊎ (new.before.entries ≡ old.before.entries ++ (id, node) ∷ [])
+  pub entries : (new.before.entries ≡ old.before.entries) ⊎ ((slot < old.slots) × (new.before.entries ≡ old.before.entries ++ (id, node) ∷ []))
   pub known : slot < old.slots → IsSome (kept_at id new.before.entries)
 
 -- the node under a number is changed, or goes, in its slot, and was kept before if it had to be

@@ -5,3 +5,4 @@ pub mod Maps
 pub mod Place
 pub mod Slots
 pub mod Stored
+pub mod Touched

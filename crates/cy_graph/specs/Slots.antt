@@ -24,6 +24,10 @@ standing (e ∷ es) = with_slot e.0 e.1 (standing es)
 abbrev pub kept_at : NodeId → List (NodeId × Node) → Option Node
 kept_at id kept = entries.find node_order id kept
 
+-- the slot of a number, if there is one
+abbrev pub slot_at : NodeId → List (NodeId × Option Node) → Option (Option Node)
+slot_at id slots = entries.find node_order id slots
+
 -- what stood in a slot: the node that was kept, or where none was, what stands there now
 abbrev pub as_it_was : Option Node → Option Node → Option Node
 as_it_was None slot = slot

@@ -1,15 +1,17 @@
 //! The graph, and one change of it at a time.
 
-ghost use Rattle.std.specs.Prelude.{◌≡◌, ◌≤◌, ◌<◌, ◌↔◌, IsTrue, IsSome, IsNone, IfSome, IfOk, IfErr, OnOk, OnErr, IsErrOf, Some, None, filter, is_some, slice_get};
+ghost use Rattle.std.specs.Prelude.{◌≡◌, ◌≤◌, ◌<◌, ◌↔◌, IsTrue, IsSome, IsNone, IfSome, IfOk, IfErr, OnOk, OnErr, IsErrOf, Some, None, filter, is_some, map, slice_get};
 ghost use Rattle.std.specs.Option.{option_copied, option_map};
 ghost use Rattle.indexmap.specs.IndexMap.{spare};
 ghost use Rattle.cy_graph.specs.Change.{Keeps, KeepsNothing, Changes, ChangesNothing};
 ghost use Rattle.cy_graph.specs.Slots.{RiseFrom, kept_at, standing, restored};
 ghost use Rattle.cy_graph.specs.Graph.{Versions, empty_state, node_at, with_node, set_at, with_prop, without_node, number_end, IsThere, IsGraph};
+ghost use Rattle.cy_graph.specs.Touched.{entry_of, AreTouched};
 ghost use Rattle.cy_graph.specs.Stored.{is_storable, IsStorable};
 
 use crate::faults::GraphFault;
 use crate::nodes::{Labels, Node, Props};
+use crate::touched::{Touched, changed, push_added};
 use crate::walks::Nodes;
 use cy_values::{Duplicate, Entity, Fault, NodeId, Text, Value};
 use indexmap::IndexMap;
@@ -212,6 +214,21 @@ impl Graph {
             self.empty = self.empty.saturating_add(1);
         }
         done
+    }
+
+    /// The entities whose value is another than when the change began, each once, with the value that they had. What
+    /// was changed and changed back, or made and removed, is not among them. Fails only for want of memory.
+    pub fn touched(&self, alloc: Global) -> Result<Vec<Touched<'_>>, GraphFault>
+        requires { IsSome self.now.was }
+        ensures ok { IfOk result (λ touched. IfSome self.now.was (λ before. AreTouched before self.now.now (map entry_of touched.items))) }
+        ensures fault { IfErr result (λ fault. fault ≡ GraphFault.NoMemory) }
+    {
+        let Some(start) = &self.change else {
+            return Ok(Vec::new(alloc));
+        };
+        let mut touched = changed(alloc, self, &start.before)?;
+        push_added(&mut touched, &self.nodes, start.slots)?;
+        Ok(touched)
     }
 
     /// Ends the change: what it did stays.

@@ -7,10 +7,12 @@ mod maps;
 mod nodes;
 #[cfg(test)]
 mod tests;
+mod touched;
 mod walks;
 
 pub use faults::GraphFault;
 pub use graph::Graph;
 pub use maps::TextMap;
 pub use nodes::{Labels, Node, Props};
+pub use touched::{Touched, Was};
 pub use walks::Nodes;

@@ -14,7 +14,7 @@ pub type Labels = TextMap<()>;
 pub type Props = TextMap<Value>;
 
 /// A node: its labels and its properties.
-#[derive(Debug, Drop)]
+#[derive(Debug, Drop, PartialEq, Eq)]
 pub struct Node {
     pub labels: Labels,
     pub props: Props,

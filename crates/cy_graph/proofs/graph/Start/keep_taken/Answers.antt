@@ -6,4 +6,4 @@ pub returns-then-is_first_change : goal.returns-then-is_first_change
 returns-then-is_first_change c =
     let first = c.is_first_change.ensures.0 c.if-is_first_change.true in
     let inserted = rw c.unwrap.ensures at c.insert.ensures.entries in
-    kept_first c.args.slot c.args.id c.args.node c.args.self.now _ refl first.1 inserted
+    kept_first c.args.slot c.args.id c.args.node c.args.self.now _ refl first inserted

@@ -1,2 +1,5 @@
-pub mod NewNode
+pub mod Changes
 pub mod Places
+pub mod Same
+pub mod Slots
+pub mod Touching

@@ -9,7 +9,7 @@ use Rattle.cy_values.specs.declared.numbers.NodeId.{NodeId}
 use Rattle.cy_values.specs.declared.numbers.Entity.{Entity}
 use Rattle.cy_values.specs.declared.numbers.Entity.TheVariants as entity
 use Rattle.cy_values.specs.declared.scalars.Value.{Value}
-use Rattle.cy_graph.specs.Maps.{with_value, without}
+use Rattle.cy_graph.specs.Maps.{rises, with_value, without}
 use Rattle.cy_graph.specs.declared.nodes.Node.{Node}
 use Rattle.cy_graph.specs.Stored.{IsStorable}
 
@@ -86,11 +86,12 @@ with_prop (entity.Rel id) key value state = state
 abbrev pub without_node : NodeId → State → State
 without_node id state = with_nodes (entries.where_key node_order (λ k. not (eq_by_cmp node_order id k)) state.content.nodes) state
 
--- every number in use is at least 1 and below the next one, numbers rise, values are such as can be stored, and the
--- next numbers are within bounds
+-- every number in use is at least 1 and below the next one, numbers rise, the labels and the keys of each node rise, so
+-- that each content has one form, values are such as can be stored, and the next numbers are within bounds
 pub record IsGraph (state : State) : Type 0 where
   pub rising : IsTrue (entries.is_sorted node_order state.content.nodes)
   pub numbered : AllByRecursion (λ (e : NodeId × Node). (1 ≤ e.0.0) × (e.0.0 < state.next_node)) state.content.nodes
+  pub in_form : AllByRecursion (λ (e : NodeId × Node). IsTrue (rises e.1.labels) × IsTrue (rises e.1.props)) state.content.nodes
   pub stored : AllByRecursion (λ (e : NodeId × Node). IsStorable e.1.props) state.content.nodes
   pub node_range : (1 ≤ state.next_node) × (state.next_node ≤ number_end)
   pub rel_range : (1 ≤ state.next_rel) × (state.next_rel ≤ number_end)

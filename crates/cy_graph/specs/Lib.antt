@@ -3,5 +3,6 @@ pub mod Faults
 pub mod Graph
 pub mod Maps
 pub mod Place
+pub mod Slots
 pub mod Stored
 pub mod Touched

@@ -4,6 +4,7 @@ ghost use Rattle.std.specs.Prelude.{◌≡◌, None};
 ghost use Rattle.cy_graph.specs.declared.faults.GraphFault.TheVariants.{NoMemory};
 ghost use Rattle.cy_graph.specs.Faults.{code_of};
 
+use cy_values::Fault;
 use std::alloc::{AllocError, AllocFailed};
 use thiserror::Error;
 
@@ -49,6 +50,14 @@ impl<T: Drop> From<AllocFailed<T>> for GraphFault {
     ghost from_gives = { λ _ fault. fault ≡ NoMemory };
 
     fn from(_failed: AllocFailed<T>) -> GraphFault {
+        GraphFault::NoMemory
+    }
+}
+
+impl From<Fault> for GraphFault {
+    ghost from_gives = { λ _ fault. fault ≡ NoMemory };
+
+    fn from(_fault: Fault) -> GraphFault {
         GraphFault::NoMemory
     }
 }

@@ -87,3 +87,34 @@ impl<V: Drop> TextMap<V> {
         }
     }
 }
+
+impl<V: Duplicate> Duplicate for TextMap<V> {
+    fn copy(&self, alloc: Global) -> Result<Self, Fault> {
+        let mut entries = Vec::new(alloc);
+        for (key, value) in self.entries.iter() {
+            entries.push((key.copy(alloc)?, value.copy(alloc)?))?;
+        }
+        Ok(TextMap { entries })
+    }
+}
+
+impl<V: PartialEq> PartialEq for TextMap<V> {
+    ghost use Rattle.std.specs.Prelude.{nat_eq, ◌&&◌};
+    ghost use Rattle.std.specs.Cmp as laws_of;
+    ghost use Rattle.std.specs.Cmp.Lexicographic.{pointwise, nat_list_eq_equiv, lists_per};
+
+    ghost eq = { pointwise (λ x y. pointwise nat_eq x.0 y.0 && V.eq x.1 y.1) };
+
+    ghost laws = { lists_per (laws_of.and_per (laws_of.on_per (λ t. t.0) (laws_of.partial_equiv_from_equiv nat_list_eq_equiv)) (laws_of.on_per (λ t. t.1) V.laws)) };
+
+    fn eq(&self, other: &TextMap<V>) -> bool {
+        self.entries == other.entries
+    }
+}
+
+impl<V: Eq> Eq for TextMap<V> {
+    ghost use Rattle.std.specs.Cmp.{and_equiv, on_equiv};
+    ghost use Rattle.std.specs.Cmp.Lexicographic.{lists_equiv, nat_list_eq_equiv};
+
+    ghost laws = { lists_equiv (and_equiv (on_equiv (λ t. t.0) nat_list_eq_equiv) (on_equiv (λ t. t.1) V.Eq.laws)) };
+}

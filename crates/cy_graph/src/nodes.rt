@@ -1,7 +1,11 @@
 //! Nodes.
 
+ghost use Rattle.std.specs.Prelude.{◌≡◌, IsTrue};
+ghost use Rattle.cy_graph.specs.Maps.{rises};
+
 use crate::maps::TextMap;
-use cy_values::Value;
+use cy_values::{Duplicate, Fault, Value};
+use std::alloc::Global;
 
 /// A set of labels, by rising bytes: a map with nothing at each of them.
 pub type Labels = TextMap<()>;
@@ -10,8 +14,28 @@ pub type Labels = TextMap<()>;
 pub type Props = TextMap<Value>;
 
 /// A node: its labels and its properties.
-#[derive(Debug, Drop)]
+#[derive(Debug, Drop, PartialEq, Eq)]
 pub struct Node {
     pub labels: Labels,
     pub props: Props,
+}
+
+impl Node {
+    pub(crate) fn new(labels: Labels, props: Props) -> Self
+        ensures node { result ≡ record { labels = labels; props = props } }
+        ensures labels_rise { IsTrue (rises labels) }
+        ensures props_rise { IsTrue (rises props) }
+    {
+        let (_labels, _props) = (labels.entries(), props.entries());
+        Node { labels, props }
+    }
+}
+
+impl Duplicate for Node {
+    fn copy(&self, alloc: Global) -> Result<Self, Fault> {
+        Ok(Node {
+            labels: self.labels.copy(alloc)?,
+            props: self.props.copy(alloc)?,
+        })
+    }
 }

@@ -5,7 +5,8 @@ ghost use Rattle.std.specs.Prelude.{IsSome};
 use crate::faults::GraphFault;
 use crate::graph::Graph;
 use crate::maps::TextMap;
-use cy_values::{NodeId, Text, Value};
+use crate::touched::Was;
+use cy_values::{Entity, NodeId, Text, Value};
 use std::alloc::Global;
 use std::process::Abort;
 use std::test::Fail;
@@ -70,6 +71,137 @@ fn takes_a_change_back(rt: HostRuntime) -> Result<(), Fail> {
     assert!(rt; graph.node(NodeId(2)).is_none());
     graph.begin();
     assert_eq!(rt; add(alloc, &mut graph, "D", "k")?, NodeId(2));
+    Ok(())
+}
+
+// Sets the property of a node to a number, or removes it.
+fn set(
+    alloc: Global,
+    graph: &mut Graph,
+    id: NodeId,
+    key: &str,
+    number: Option<i64>,
+) -> Result<(), Fail>
+    requires { IsSome graph.old.was }
+    ensures { IsSome graph.new.was }
+{
+    if graph.node(id).is_none() {
+        return Err(Fail::from("no node"));
+    }
+    let value = match number {
+        Some(number) => Some(Value::Int(number)),
+        None => None,
+    };
+    Ok(graph.set_prop(alloc, Entity::Node(id), Text::from_str(alloc, key)?, value)?)
+}
+
+// Removes a node.
+fn remove(graph: &mut Graph, id: NodeId) -> Result<(), Fail>
+    requires { IsSome graph.old.was }
+    ensures { IsSome graph.new.was }
+{
+    if graph.node(id).is_none() {
+        return Err(Fail::from("no node"));
+    }
+    Ok(graph.remove_node(id)?)
+}
+
+// The number at a key of a node.
+fn number_at(graph: &Graph, id: NodeId, key: &str) -> Option<i64> {
+    match graph.node(id)?.props.get(key) {
+        Some(Value::Int(number)) => Some(*number),
+        _ => None,
+    }
+}
+
+#[test]
+fn sets_and_removes_and_takes_it_back(rt: HostRuntime) -> Result<(), Fail> {
+    let alloc = rt.alloc();
+    let mut graph = Graph::new(alloc);
+    graph.begin();
+    let first = add(alloc, &mut graph, "A", "k")?;
+    let second = add(alloc, &mut graph, "A", "k")?;
+    graph.commit();
+    graph.begin();
+    set(alloc, &mut graph, first, "k", Some(8))?;
+    set(alloc, &mut graph, first, "m", Some(9))?;
+    set(alloc, &mut graph, second, "k", None)?;
+    assert_eq!(rt; number_at(&graph, first, "k"), Some(8));
+    assert_eq!(rt; number_at(&graph, first, "m"), Some(9));
+    assert_eq!(rt; number_at(&graph, second, "k"), None);
+    remove(&mut graph, second)?;
+    let third = add(alloc, &mut graph, "B", "k")?;
+    assert_eq!(rt;
+        numbers(alloc, &graph)?.as_slice(),
+        [first, third].as_slice()
+    );
+    graph.rollback();
+    assert_eq!(rt;
+        numbers(alloc, &graph)?.as_slice(),
+        [first, second].as_slice()
+    );
+    assert_eq!(rt; number_at(&graph, first, "k"), Some(7));
+    assert_eq!(rt; number_at(&graph, first, "m"), None);
+    assert_eq!(rt; number_at(&graph, second, "k"), Some(7));
+    Ok(())
+}
+
+#[test]
+fn tells_what_a_change_touched(rt: HostRuntime) -> Result<(), Fail> {
+    let alloc = rt.alloc();
+    let mut graph = Graph::new(alloc);
+    graph.begin();
+    let back_and_forth = add(alloc, &mut graph, "A", "k")?;
+    let changed = add(alloc, &mut graph, "A", "k")?;
+    let removed = add(alloc, &mut graph, "A", "k")?;
+    add(alloc, &mut graph, "A", "k")?;
+    graph.commit();
+    graph.begin();
+    set(alloc, &mut graph, back_and_forth, "k", Some(8))?;
+    set(alloc, &mut graph, back_and_forth, "k", Some(7))?;
+    set(alloc, &mut graph, changed, "k", Some(8))?;
+    remove(&mut graph, removed)?;
+    let gone = add(alloc, &mut graph, "B", "k")?;
+    remove(&mut graph, gone)?;
+    let made = add(alloc, &mut graph, "B", "k")?;
+    let mut told = Vec::new(alloc);
+    for touched in graph.touched(alloc)? {
+        let was = match touched.was {
+            Some(Was::Node(node)) => node.props.get("k") == Some(&Value::Int(7)),
+            None => false,
+        };
+        told.push((touched.entity, was))?;
+    }
+    let wanted = [
+        (Entity::Node(changed), true),
+        (Entity::Node(removed), true),
+        (Entity::Node(made), false),
+    ];
+    assert_eq!(rt; told.as_slice(), wanted.as_slice());
+    Ok(())
+}
+
+#[test]
+fn keeps_what_is_left_where_most_nodes_go(rt: HostRuntime) -> Result<(), Fail> {
+    let alloc = rt.alloc();
+    let mut graph = Graph::new(alloc);
+    graph.begin();
+    add(alloc, &mut graph, "A", "k")?;
+    add(alloc, &mut graph, "A", "k")?;
+    add(alloc, &mut graph, "A", "k")?;
+    graph.commit();
+    graph.begin();
+    remove(&mut graph, NodeId(1))?;
+    remove(&mut graph, NodeId(3))?;
+    graph.commit();
+    assert_eq!(rt; numbers(alloc, &graph)?.as_slice(), [NodeId(2)].as_slice());
+    assert!(rt; graph.node(NodeId(3)).is_none());
+    graph.begin();
+    let next = add(alloc, &mut graph, "A", "k")?;
+    assert_eq!(rt; next, NodeId(4));
+    graph.rollback();
+    assert_eq!(rt; numbers(alloc, &graph)?.as_slice(), [NodeId(2)].as_slice());
+    assert_eq!(rt; number_at(&graph, NodeId(2), "k"), Some(7));
     Ok(())
 }
 

@@ -2,6 +2,7 @@
 
 ghost use Rattle.std.specs.Prelude.{◌≡◌};
 ghost use Rattle.std.specs.Iterator.{item_count, YieldsFirstBy};
+ghost use Rattle.cy_graph.specs.Slots.{standing};
 
 use crate::nodes::Node;
 use cy_values::NodeId;
@@ -11,7 +12,7 @@ use std::marker::Model;
 /// The nodes of a graph with their numbers, by rising number.
 #[derive(Drop)]
 pub struct Nodes<'a> {
-    entries: map::Iter<'a, NodeId, Node>,
+    entries: map::Iter<'a, NodeId, Option<Node>>,
 }
 
 impl<'a> Model for Nodes<'a> {
@@ -21,12 +22,14 @@ impl<'a> Model for Nodes<'a> {
 
     ghost Value = { List (NodeId × Node) };
 
-    ghost view = { λ n. n.entries };
+    ghost use Rattle.cy_graph.specs.Slots.{standing};
+
+    ghost view = { λ n. standing n.entries };
 }
 
 impl<'a> Nodes<'a> {
-    pub(crate) fn new(entries: map::Iter<'a, NodeId, Node>) -> Self
-        ensures { result ≡ entries.entry }
+    pub(crate) fn new(entries: map::Iter<'a, NodeId, Option<Node>>) -> Self
+        ensures { result ≡ standing entries.entry }
     {
         Nodes { entries }
     }
@@ -40,7 +43,11 @@ impl<'a> Iterator for Nodes<'a> {
     ghost remaining = { item_count (λ n. n) };
 
     fn next(&mut self) -> Option<(NodeId, &'a Node)> {
-        let (number, node) = self.entries.next()?;
-        Some((*number, node))
+        while let Some((number, slot)) = self.entries.next() {
+            if let Some(node) = slot {
+                return Some((*number, node));
+            }
+        }
+        None
     }
 }

@@ -14,6 +14,12 @@ pub trait Duplicate: Drop {
         ensures { IfOk result (λ twin. twin ≡ self.now) };
 }
 
+impl Duplicate for () {
+    fn copy(&self, _alloc: Global) -> Result<Self, Fault> {
+        Ok(())
+    }
+}
+
 /// A list of values. It is made from a vector, and gives it back.
 #[derive(Debug, Drop)]
 pub struct Sequence<T> {

@@ -1,5 +1,6 @@
 -- Only touched nodes have other rows.
-use Rattle.std.proofs.Common.{◌≡◌, ◌≢◌, ℕ, zero, suc, ◌+◌, ◌<◌, Bool, true, false, cond, List, [], ◌∷◌, ◌++◌, filter, map, length, get_or, Option, refl, sym, ap, subst, ◌∙◌, arith, inl, inr}
+use Rattle.std.specs.FinMap.Entries as entries
+use Rattle.std.proofs.Common.{◌≡◌, ◌≢◌, ℕ, zero, suc, ◌+◌, ◌<◌, Bool, true, false, cond, List, [], ◌∷◌, ◌++◌, filter, map, length, get_or, Option, None, Some, refl, sym, ap, subst, ◌∙◌, arith, inl, inr}
 use Rattle.std.specs.Prelude.{Contains}
 use Rattle.std.specs.List.{AllByRecursion}
 use Rattle.std.specs.Ordering.{eq_by_cmp}
@@ -10,13 +11,15 @@ use Rattle.cy_values.specs.declared.rows.Cell.{Cell}
 use Rattle.cy_values.specs.Bag.{count_of}
 use Rattle.cy_values.specs.Order.{row_cmp}
 use Rattle.cy_graph.specs.declared.nodes.Node.{Node}
-use Rattle.cy_graph.specs.Graph.{State, node_order, node_at, IsGraph}
+use Rattle.cy_graph.specs.contracts.nodes.NodePartialEq.TheImpl as node_eq
+use Rattle.cy_graph.proofs.Same.{same_node, node_itself}
+use Rattle.cy_graph.specs.Graph.{Content, State, node_order, node_at, IsGraph}
 use Rattle.cy_graph.specs.Touched.{Entry, Differs, AreApart, AreTouched}
 use Rattle.cy_engine.specs.declared.trees.Query.{Query}
 use Rattle.cy_engine.specs.Meaning.{has_label, row_of, rows_among, rows_of}
 use Rattle.cy_engine.specs.Touching.{row_if, rows_before, rows_after}
 use Rattle.cy_engine.proofs.Each.{itself}
-use Rattle.cy_engine.proofs.Touching.{is_in, AreDistinct, same_number, total, counted_at, balanced}
+use Rattle.cy_engine.proofs.Touching.{is_in, AreDistinct, same_number, number_order, tied, held, total, counted_at, balanced}
 
 -- the numbers of nodes among them
 abbrev ids_of : List Entry → List NodeId
@@ -64,6 +67,39 @@ first_differs before now e es all = all e (0, omega arith, refl)
 others_differ : (before now : State) (e : Entry) (es : List Entry) → AllDiffer before now (e ∷ es) → AllDiffer before now es
 others_differ before now e es all = λ f here. all f (suc here.0, omega (arith, here.1), here.2)
 
+-- what can't differ is the same
+decided : (m n : Option Node) → (m ≢ n → ⊥) → m ≡ n
+decided None None same = refl
+decided None (Some n) same = absurd (same (λ e. cc))
+decided (Some m) None same = absurd (same (λ e. cc))
+decided (Some m) (Some n) same =
+    elim ((node_eq.eq-value).it m n) as (λ b. (node_eq.eq-value).it m n ≡ b → Some m ≡ Some n) [
+      | true ↦ λ h. ap Some (same_node m n h)
+      | false ↦ λ h. absurd (same (λ e.
+          let nodes : m ≡ n = cc e in
+          let wrong : true ≡ false = sym (node_itself m) ∙ ap (λ (k : Node). (node_eq.eq-value).it m k) nodes ∙ h in
+          cc))
+    ] refl
+
+-- two graphs differ only at touched nodes
+others_same : (before now : State) (es : List Entry) → AreTouched before now es → (x : NodeId) → is_in x (ids_of es) ≡ false → node_at x before ≡ node_at x now
+others_same before now es touched x out = decided (node_at x before) (node_at x now) (λ differ.
+    let here = touched.all x differ in
+    let wrong : true ≡ false = sym (in_listed x (node_at x before) es here.0 here.1 here.2) ∙ out in
+    cc)
+
+-- where nothing is touched, the content is the same
+pub nothing_touched : (before now : State) → AreTouched before now [] → IsGraph before → IsGraph now → now.content ≡ before.content
+nothing_touched before now touched graph_before graph_now =
+    ap (λ (nodes : List (NodeId × Node)). let content : Content = record { nodes = nodes } in content)
+    (entries.same_entries node_order number_order tied now.content.nodes before.content.nodes (held _ graph_now.rising) (held _ graph_before.rising) (λ x. sym (others_same before now [] touched x refl)))
+
+-- where something is, it is another
+pub something_touched : (before now : State) (e : Entry) (es : List Entry) → AreTouched before now (e ∷ es) → now.content ≡ before.content → ⊥
+something_touched before now (entity.Node id, old) es touched same =
+    (first_differs before now (entity.Node id, old) es touched.differ).1 (ap (λ (content : Content). entries.find node_order id content.nodes) (sym same))
+something_touched before now (entity.Rel id, old) es touched same = first_differs before now (entity.Rel id, old) es touched.differ
+
 module _ (query : Query) (row : List Cell) where
   -- how often the row of a node counts
   abbrev counts : Option Node → ℕ
@@ -100,17 +136,14 @@ module _ (query : Query) (row : List Cell) where
       omega (arith, rest, apart_count (row_if query (node_at id now)) (rows_after query now es))
   counted_after before now ((entity.Rel id, old) ∷ es) all = absurd (first_differs before now (entity.Rel id, old) es all)
 
-  -- where two graphs differ only at touched nodes
-  others_same : (before now : State) (es : List Entry) → AreTouched before now es → (x : NodeId) → is_in x (ids_of es) ≡ false → node_at x before ≡ node_at x now
-  others_same before now es touched x out =
-      elim (touched.all x) [
-        | inl same ↦ same
-        | inr here ↦ let wrong : true ≡ false = sym (in_listed x (node_at x before) es here.0 here.1 here.2) ∙ out in absurd (cc)
-      ]
-
   -- the rows before and those of touched nodes now are, as a bag, the rows now and those of touched nodes before
   pub rows_balanced : (before now : State) (es : List Entry) → AreTouched before now es → IsGraph before → IsGraph now
       → count_of row (rows_of query before.content) + count_of row (rows_after query now es) ≡ count_of row (rows_of query now.content) + count_of row (rows_before query es)
   rows_balanced before now es touched graph_before graph_now =
       let even = balanced counts refl (ids_of es) before.content.nodes now.content.nodes graph_before.rising graph_now.rising (distinct es touched.once) (others_same before now es touched) in
       omega (arith, even, total_rows before.content.nodes, total_rows now.content.nodes, counted_before before now es touched.differ, counted_after before now es touched.differ)
+
+-- so the contents differ where something is touched
+pub touched_differs : (before now : State) (es : List Entry) → AreTouched before now es → (es ≡ [] → ⊥) → now.content ≢ before.content
+touched_differs before now [] touched some = λ same. some refl
+touched_differs before now (e ∷ es) touched some = something_touched before now e es touched

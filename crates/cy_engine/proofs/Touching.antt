@@ -34,7 +34,7 @@ same_number x y h =
 other_way : (x y : NodeId) → eq_by_cmp node_order x y ≡ false → eq_by_cmp node_order y x ≡ false
 other_way x y h = grind (arith, nat_tests)
 
-number_order : IsTotalOrder node_order
+pub number_order : IsTotalOrder node_order
 number_order = record {
   antisymm = λ x y. nat_cmp_total.antisymm x.0 y.0;
   trans = λ x y z. nat_cmp_total.trans x.0 y.0 z.0;
@@ -42,14 +42,14 @@ number_order = record {
 }
 
 -- a test in its two forms
-held : (b : Bool) → b ≡ true → T b
+pub held : (b : Bool) → b ≡ true → T b
 held b e = subst T (sym e) tt
 
 holds : (b : Bool) → T b → b ≡ true
 holds true t = refl
 holds false t = absurd t
 
-tied : (x y : NodeId) → node_order x y ≡ Equal → x ≡ y
+pub tied : (x y : NodeId) → node_order x y ≡ Equal → x ≡ y
 tied x y h = same_number x y (ap is_eq h)
 
 -- what is left of nodes in order is in order

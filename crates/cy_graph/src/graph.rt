@@ -221,6 +221,7 @@ impl Graph {
     pub fn touched(&self, alloc: Global) -> Result<Vec<Touched<'_>>, GraphFault>
         requires { IsSome self.now.was }
         ensures ok { IfOk result (λ touched. IfSome self.now.was (λ before. AreTouched before self.now.now (map entry_of touched.items))) }
+        ensures graphs { OnOk result (IsGraph self.now.now × IfSome self.now.was (λ before. IsGraph before)) }
         ensures fault { IfErr result (λ fault. fault ≡ GraphFault.NoMemory) }
     {
         let Some(start) = &self.change else {

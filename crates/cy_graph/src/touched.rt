@@ -12,7 +12,7 @@ use indexmap::IndexMap;
 use std::alloc::Global;
 
 /// An entity whose value is another than before the change: made, changed or removed.
-#[derive(Clone, Copy, Debug)]
+#[derive(Clone, Copy, Debug, Drop)]
 pub struct Touched<'a> {
     pub entity: Entity,
     /// Its value before the change, if it was there.
@@ -20,7 +20,7 @@ pub struct Touched<'a> {
 }
 
 /// The value that an entity had.
-#[derive(Clone, Copy, Debug)]
+#[derive(Clone, Copy, Debug, Drop)]
 pub enum Was<'a> {
     Node(&'a Node),
 }

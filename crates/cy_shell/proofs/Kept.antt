@@ -1,18 +1,16 @@
 -- What is kept of a line, and the answer to it.
-use Rattle.std.proofs.Common.{◌≡◌, ℕ, ◌<◌, ◌≤◌, List, length, Some, None, Result, Ok, Err, Bor, sym, subst, arith}
+use Rattle.std.proofs.Common.{◌≡◌, ℕ, ◌<◌, ◌≤◌, List, length, Some, None, Result, Ok, Err, true, Bor, sym, subst, arith}
 use Rattle.std.proofs.lemmas.Bool.Decides.{nat_tests}
 use Rattle.std.proofs.lemmas.Str.{utf8_valid_len-IsValidUpTo}
 use Rattle.cy_lexer.specs.Faults.{at_of, code_of}
 use Rattle.cy_lexer.specs.Line.{IsTextOf}
 use Rattle.cy_lexer.specs.declared.faults.LexFault.{LexFault}
 use Rattle.cy_lexer.specs.declared.faults.LexFault.TheVariants as fault
-use Rattle.cy_engine.specs.Step.{EngineState, Step}
-use Rattle.cy_engine.specs.declared.entries.Entry.{Entry}
-use Rattle.cy_engine.specs.declared.faults.Fault.{Fault}
-use Rattle.cy_engine.specs.declared.replies.Reply.{Reply}
+use Rattle.cy_engine.specs.Step.{EngineState, Machine}
+use Rattle.cy_shell.specs.Feeding.{Answers, IsAnswer}
 use Rattle.cy_shell.specs.Lines.{line_limit, kept}
-use Rattle.cy_shell.specs.Printed.{IsAnswerText, IsFaultText}
-use Rattle.cy_shell.specs.Runs.{Answered, TooLong, NotUtf8, Carried}
+use Rattle.cy_shell.specs.Printed.{IsFaultText}
+use Rattle.cy_shell.specs.Runs.{Serving, Answered, TooLong, NotUtf8}
 
 kept_whole : (line bytes : List ℕ) → kept line ≡ Some bytes → (line ≡ bytes) × (length line ≤ line_limit)
 kept_whole line bytes is = (grind (arith, nat_tests), grind (arith, nat_tests))
@@ -24,14 +22,12 @@ kept_past line is = grind (arith, nat_tests)
 pub text_kept : (line bytes : List ℕ) (result : Result (Bor (List ℕ)) LexFault) → kept line ≡ Some bytes → IsTextOf bytes result → IsTextOf line result
 text_kept line bytes result is text = subst (λ (l : List ℕ). IsTextOf l result) (sym (kept_whole line bytes is).0) text
 
--- a line that is a text is carried out
-pub carried : (old new : EngineState) (line printed : List ℕ) (text : Bor (List ℕ)) (result : Result Reply Fault) (entries : List (List ℕ × Entry))
-    → IsTextOf line (Ok text) → Step old text.now result entries new → IsAnswerText result printed → Answered old line printed new
-carried old new line printed text result entries is step shown =
-    Carried result entries is.0 is.1 (subst (λ (l : List ℕ). Step old l result entries new) is.2 step) shown
+-- a line that is a text is answered as that text
+pub carried : (old : EngineState) (line printed : List ℕ) (text : Bor (List ℕ)) (new : Machine) → IsTextOf line (Ok text) → Answers old text.now printed new → IsAnswer old line printed true new
+carried old line printed text new is answers = (is.0, is.1, subst (λ (l : List ℕ). Answers old l printed new) is.2 answers)
 
 -- and any other line is not
-pub not_carried : (state : EngineState) (line printed : List ℕ) (fault : LexFault)
+pub not_carried : (state : Serving) (line printed : List ℕ) (fault : LexFault)
     → IsTextOf line (Err fault) → IsFaultText (at_of fault) (code_of fault) printed → Answered state line printed state
 not_carried state line printed fault.LineTooLong is shown = TooLong is shown
 not_carried state line printed (fault.NotUtf8 at) is shown =

@@ -12,7 +12,8 @@ use Rattle.cy_values.specs.declared.rows.Cell.TheVariants as cell
 use Rattle.cy_engine.specs.declared.replies.Reply.{Reply}
 use Rattle.cy_engine.specs.declared.replies.Reply.TheVariants as reply
 use Rattle.cy_shell.specs.Json.{list_json, scalar_json, value_json, rel_json, cell_json, row_json, counted_json}
-use Rattle.cy_shell.specs.Replies.{columns_json, statement_json, made_json, rows_json, reply_json}
+use Rattle.cy_engine.specs.declared.entries.Entry.{Entry}
+use Rattle.cy_shell.specs.Replies.{entry_json, columns_json, statement_json, made_json, rows_json, reply_json}
 
 list_float : {A : Type 0} (json : A → Data) (xs : List A) → ((x : A) → has_float (json x) ≡ false) → has_float (list_json json xs) ≡ false
 list_float json [] each = refl
@@ -64,3 +65,7 @@ made_float (reply.Rows rows tick name) (Some d) is =
 -- the object of a reply has no float
 pub reply_float : (r : Reply) (d : Data) → reply_json r ≡ Some d → has_float d ≡ false
 reply_float r d is = made_float r (Some d) is
+
+-- nor has that of an entry
+pub entry_float : (e : List ℕ × Entry) → has_float (entry_json e) ≡ false
+entry_float e = rw (list_float counted_json e.1.change.added counted_float, list_float counted_json e.1.change.removed counted_float) refl

@@ -2,15 +2,14 @@
 use Rattle.std.proofs.Common.{◌≡◌, ℕ, ◌+◌, ◌≤◌, ◌<◌, List, [], ◌∷◌, ◌++◌, length, take, drop, Bool, true, Option, Some, None, IfSome, Result, Ok, Err, IfOk, refl, sym, ◌∙◌, ap, subst, append_assoc, ◌⊎◌, inl, inr, arith, length-drop}
 use Rattle.std.proofs.lemmas.List.{append-nil, take-append-drop, take_all, take-append-le, drop-append-le, drop-drop, length-take-le}
 use Rattle.std.proofs.Math.Seq.{take-add}
-use Rattle.cy_engine.specs.Step.{EngineState}
 use Rattle.cy_shell.specs.Lines.{kept, ended_lines, begun_line, whole_lines, last_line, unless_empty, lines_of, lines_read}
-use Rattle.cy_shell.specs.Runs.{WritesRun, WritesBeginning, WritesAll, input_limit, StopsReading, StopsWriting}
+use Rattle.cy_shell.specs.Runs.{Serving, WritesRun, WritesBeginning, WritesAll, input_limit, StopsReading, StopsWriting}
 use Rattle.cy_shell.specs.Streams.{TakesFront}
 use Rattle.cy_shell.proofs.Chains.{no_lines, more_lines, breaks_later, breaks_before}
 use Rattle.cy_shell.proofs.Cuts.{ended-append, begun-append}
 
 -- so many bytes of the input are read, and the lines that have ended in them are answered
-pub record Reads (input : List ℕ) (total : ℕ) (start : EngineState) (left line : Option (List ℕ)) (engine : EngineState) (before after : Option (List ℕ)) : Type 0 where
+pub record Reads (input : List ℕ) (total : ℕ) (start : Serving) (left line : Option (List ℕ)) (engine : Serving) (before after : Option (List ℕ)) : Type 0 where
   pub within : total ≤ length input
   pub unread : left ≡ Some (drop total input)
   pub keeps : line ≡ kept (last_line (take total input))
@@ -20,7 +19,7 @@ pub known_input : (left : Option (List ℕ)) {P : List ℕ → Type 0} → ((inp
 known_input None each = tt
 known_input (Some input) each = each input refl
 
-pub reads_first : (input : List ℕ) (start : EngineState) (left line known : Option (List ℕ)) → left ≡ Some input → line ≡ kept [] → Reads input 0 start left line start known known
+pub reads_first : (input : List ℕ) (start : Serving) (left line known : Option (List ℕ)) → left ≡ Some input → line ≡ kept [] → Reads input 0 start left line start known known
 reads_first input start left line known is keeps = record {
   within = omega arith;
   unread = is;
@@ -84,7 +83,7 @@ last_more : (front chunk : List ℕ) → last_line (front ++ chunk) ≡ begun_li
 last_more front chunk = begun-append [] front chunk
 
 -- one more piece
-pub reads_more : (input : List ℕ) (total count : ℕ) (start mid new : EngineState) (left left' line line' : Option (List ℕ)) (old_piece piece chunk : List ℕ) (before between after : Option (List ℕ))
+pub reads_more : (input : List ℕ) (total count : ℕ) (start mid new : Serving) (left left' line line' : Option (List ℕ)) (old_piece piece chunk : List ℕ) (before between after : Option (List ℕ))
     → Reads input total start left line mid before between → TakesFront left left' old_piece piece count → chunk ≡ take count piece
     → ((begun : List ℕ) → line ≡ kept begun → line' ≡ kept (begun_line begun chunk))
     → ((begun : List ℕ) → line ≡ kept begun → WritesRun mid (ended_lines begun chunk) new between after)
@@ -101,7 +100,7 @@ reads_more input total count start mid new left left' line line' old_piece piece
     }
 
 -- a read that fails, or as many bytes as are read at most
-pub stops_reading : (input : List ℕ) (total : ℕ) (start engine : EngineState) (left left' line : Option (List ℕ)) (has_failed : Bool) (before after : Option (List ℕ))
+pub stops_reading : (input : List ℕ) (total : ℕ) (start engine : Serving) (left left' line : Option (List ℕ)) (has_failed : Bool) (before after : Option (List ℕ))
     → Reads input total start left line engine before after → left' ≡ left → total ≤ input_limit → (has_failed ≡ true) ⊎ (total ≡ input_limit) → StopsReading start input left' has_failed before after
 stops_reading input total start engine left left' line has_failed before after reads same limited cause = record {
   front = take total input;
@@ -115,12 +114,12 @@ stops_reading input total start engine left left' line has_failed before after r
 }
 
 -- what breaks the answers off, whether the input is at its end or not
-breaks_off : (front rest : List ℕ) (start : EngineState) (before after : Option (List ℕ)) → WritesBeginning start (whole_lines front) before after → WritesBeginning start (lines_read front rest) before after
+breaks_off : (front rest : List ℕ) (start : Serving) (before after : Option (List ℕ)) → WritesBeginning start (whole_lines front) before after → WritesBeginning start (lines_read front rest) before after
 breaks_off front [] start before after broken = breaks_before start (whole_lines front) (unless_empty (last_line front)) before after broken
 breaks_off front (c ∷ rest) start before after broken = broken
 
 -- a piece that was broken off
-pub stops_in_piece : (input : List ℕ) (total count : ℕ) (start mid : EngineState) (left left' line : Option (List ℕ)) (old_piece piece chunk : List ℕ) (before between after : Option (List ℕ))
+pub stops_in_piece : (input : List ℕ) (total count : ℕ) (start mid : Serving) (left left' line : Option (List ℕ)) (old_piece piece chunk : List ℕ) (before between after : Option (List ℕ))
     → Reads input total start left line mid before between → TakesFront left left' old_piece piece count → total + count ≤ input_limit → chunk ≡ take count piece
     → ((begun : List ℕ) → line ≡ kept begun → WritesBeginning mid (ended_lines begun chunk) between after)
     → StopsWriting start input left' before after
@@ -150,7 +149,7 @@ all_read input total left left' old_piece piece within is taken room =
 size_read : (input : List ℕ) (total : ℕ) → total ≤ length input → take total input ≡ input → length input ≡ total
 size_read input total within all = ap length (sym all) ∙ length-take-le total input within
 
-pub ends_well : (input : List ℕ) (total : ℕ) (start mid new : EngineState) (left left' line : Option (List ℕ)) (old_piece piece : List ℕ) (before between after : Option (List ℕ))
+pub ends_well : (input : List ℕ) (total : ℕ) (start mid new : Serving) (left left' line : Option (List ℕ)) (old_piece piece : List ℕ) (before between after : Option (List ℕ))
     → Reads input total start left line mid before between → TakesFront left left' old_piece piece 0 → 0 < length old_piece → total < input_limit
     → ((begun : List ℕ) → line ≡ kept begun → WritesRun mid (unless_empty begun) new between after)
     → (left' ≡ Some []) × (length input < input_limit) × WritesAll start input before after
@@ -165,7 +164,7 @@ ends_well input total start mid new left left' line old_piece piece before betwe
       ),
     )
 
-pub stops_at_end : (input : List ℕ) (total : ℕ) (start mid : EngineState) (left left' line : Option (List ℕ)) (old_piece piece : List ℕ) (before between after : Option (List ℕ))
+pub stops_at_end : (input : List ℕ) (total : ℕ) (start mid : Serving) (left left' line : Option (List ℕ)) (old_piece piece : List ℕ) (before between after : Option (List ℕ))
     → Reads input total start left line mid before between → TakesFront left left' old_piece piece 0 → 0 < length old_piece → total ≤ input_limit
     → ((begun : List ℕ) → line ≡ kept begun → WritesBeginning mid (unless_empty begun) between after)
     → StopsWriting start input left' before after

@@ -1,4 +1,5 @@
 pub mod Faults
+pub mod Feeding
 pub mod Json
 pub mod Lines
 pub mod Memory

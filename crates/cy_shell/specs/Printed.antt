@@ -1,11 +1,12 @@
 -- The text of what is answered to a line.
-use Rattle.std.specs.Prelude.{◌≡◌, ℕ, List, [], ◌∷◌, ◌++◌, ◌⊎◌, Option, Some, None, Result, Ok, Err, string_bytes}
+use Rattle.std.specs.Prelude.{◌≡◌, ℕ, Bool, true, false, List, [], ◌∷◌, ◌++◌, ◌⊎◌, Option, Some, None, Result, Ok, Err, string_bytes}
 use Rattle.serde_json.specs.Data.{Data}
 use Rattle.serde_json.specs.Written.{compact_text}
 use Rattle.cy_engine.specs.Faults.{code_of, offset_of}
+use Rattle.cy_engine.specs.declared.entries.Entry.{Entry}
 use Rattle.cy_engine.specs.declared.faults.Fault.{Fault}
 use Rattle.cy_engine.specs.declared.replies.Reply.{Reply}
-use Rattle.cy_shell.specs.Replies.{reply_json, fault_json}
+use Rattle.cy_shell.specs.Replies.{reply_json, entry_json, fault_json}
 use Rattle.cy_shell.specs.declared.printing.Printed.{Printed}
 use Rattle.cy_shell.specs.declared.printing.Printed.TheVariants as printed
 
@@ -37,6 +38,24 @@ IsReplyText reply text = IsObjectText (reply_json reply) text
 abbrev pub IsAnswerText : Result Reply Fault → List ℕ → Type 0
 IsAnswerText (Ok reply) text = IsReplyText reply text
 IsAnswerText (Err fault) text = IsFaultText (offset_of fault) (code_of fault) text
+
+-- the texts of entries, one after another, and nothing else
+abbrev pub IsFeedText : List (List ℕ × Entry) → List ℕ → Type 0
+IsFeedText [] text = text ≡ []
+IsFeedText (e ∷ es) text = (first : List ℕ) × (rest : List ℕ) × (text ≡ first ++ rest) × IsObjectText (Some (entry_json e)) first × IsFeedText es rest
+
+-- the entries that are printed: all of them, or none
+abbrev pub fed : Bool → List (List ℕ × Entry) → List (List ℕ × Entry)
+fed true entries = entries
+fed false entries = []
+
+-- the text of what the engine answered and, with the feed, of the entries that the line made
+pub record IsLineText (feed : Bool) (result : Result Reply Fault) (entries : List (List ℕ × Entry)) (text : List ℕ) : Type 0 where
+  pub answer : List ℕ
+  pub told : List ℕ
+  pub is : text ≡ answer ++ told
+  pub answered : IsAnswerText result answer
+  pub feeds : IsFeedText (fed feed entries) told
 
 -- the text that the program has for a line
 abbrev pub printed_text : Printed → List ℕ

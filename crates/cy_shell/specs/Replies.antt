@@ -1,7 +1,8 @@
--- The JSON of replies and faults, with keys in the order of their letters.
+-- The JSON of replies, entries and faults, with keys in the order of their letters.
 use Rattle.std.specs.Prelude.{ℕ, List, codes, Option, Some, None}
 use Rattle.serde_json.specs.Data.{Data, null, number, unsigned, string, array, object, item, no_items, member, no_members}
 use Rattle.cy_values.specs.declared.rows.Cell.{Cell}
+use Rattle.cy_engine.specs.declared.entries.Entry.{Entry}
 use Rattle.cy_engine.specs.declared.replies.Changed.{Changed}
 use Rattle.cy_engine.specs.declared.replies.Reply.{Reply}
 use Rattle.cy_engine.specs.declared.replies.Reply.TheVariants as reply
@@ -41,6 +42,12 @@ reply_json reply.Nothing = None
 reply_json (reply.Statement changed columns rows) = Some (statement_json changed columns rows)
 reply_json (reply.Made columns tick name) = Some (made_json columns tick name)
 reply_json (reply.Rows rows tick name) = Some (rows_json rows tick name)
+
+-- {"added":[..],"removed":[..],"tick":t,"view":name}
+abbrev pub entry_json : List ℕ × Entry → Data
+entry_json e =
+    object (member (codes "added") (list_json counted_json e.1.change.added) (member (codes "removed") (list_json counted_json e.1.change.removed)
+    (member (codes "tick") (number (unsigned e.1.tick)) (member (codes "view") (string e.0) no_members))))
 
 abbrev pub offset_json : Option ℕ → Data
 offset_json None = null

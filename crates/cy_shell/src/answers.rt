@@ -4,7 +4,7 @@ ghost use Rattle.std.specs.Prelude.{◌≡◌, ℕ, List};
 ghost use Rattle.cy_lexer.specs.Line.{IsTextOf};
 ghost use Rattle.cy_shell.specs.Lines.{kept};
 ghost use Rattle.cy_shell.specs.Printed.{printed_text};
-ghost use Rattle.cy_shell.specs.Runs.{Answered};
+ghost use Rattle.cy_shell.specs.Feeding.{Answers, IsAnswer};
 
 use crate::buffer::LineBuffer;
 use crate::printing::{Printed, print_fault, print_reply};
@@ -12,15 +12,35 @@ use cy_engine::Engine;
 use cy_lexer::{LexFault, text_of};
 use std::alloc::Global;
 
+/// What is printed for a line, and whether the engine answered it.
+#[derive(Drop)]
+pub(crate) struct Told {
+    pub(crate) printed: Printed,
+    pub(crate) is_carried: bool,
+}
+
 /// Answers a line.
-pub(crate) fn answer(alloc: Global, engine: &mut Engine, line: &LineBuffer) -> Printed
-    ensures { (bytes : List ℕ) → line.now ≡ kept bytes → Answered engine.old.state bytes (printed_text result) engine.new.state }
+pub(crate) fn answer(alloc: Global, engine: &mut Engine, line: &LineBuffer) -> Told
+    ensures { (bytes : List ℕ) → line.now ≡ kept bytes → IsAnswer engine.old.state bytes (printed_text result.printed) result.is_carried engine.new }
 {
     match line_text(line) {
-        Ok(text) => match engine.line(text) {
-            Ok(reply) => print_reply(alloc, &reply),
-            Err(fault) => print_fault(alloc, fault.at(), fault.code()),
+        Ok(text) => Told {
+            printed: answer_text(alloc, engine, text),
+            is_carried: true,
         },
+        Err(fault) => Told {
+            printed: print_fault(alloc, fault.at(), fault.code()),
+            is_carried: false,
+        },
+    }
+}
+
+// Answers a line that is a text.
+fn answer_text(alloc: Global, engine: &mut Engine, text: &str) -> Printed
+    ensures { Answers engine.old.state text.now (printed_text result) engine.new }
+{
+    match engine.line(text) {
+        Ok(reply) => print_reply(alloc, &reply),
         Err(fault) => print_fault(alloc, fault.at(), fault.code()),
     }
 }

@@ -3,6 +3,7 @@
 
 mod answers;
 mod buffer;
+mod feeding;
 mod json;
 mod memory;
 mod printing;

@@ -1,13 +1,14 @@
 //! The text of what is answered.
 
-ghost use Rattle.std.specs.Prelude.{◌≡◌, ◌++◌, ◌∷◌, [], ℕ, false, IfOk, OnErr, IsSome, option_map, string_bytes};
+ghost use Rattle.std.specs.Prelude.{◌≡◌, ◌++◌, ◌∷◌, [], ℕ, false, Some, IfOk, OnErr, IsSome, option_map, string_bytes};
 ghost use Rattle.serde_json.specs.View.{view};
 ghost use Rattle.serde_json.specs.Written.{compact_text, has_float};
-ghost use Rattle.cy_shell.specs.Replies.{reply_json, fault_json};
-ghost use Rattle.cy_shell.specs.Printed.{text_of, IsReplyText, IsFaultText, printed_text};
+ghost use Rattle.cy_shell.specs.Replies.{reply_json, entry_json, fault_json};
+ghost use Rattle.cy_shell.specs.Printed.{text_of, IsObjectText, IsReplyText, IsFaultText, printed_text};
 
-use crate::replies::{fault_to_json, reply_to_json};
-use cy_engine::Reply;
+use crate::replies::{entry_to_json, fault_to_json, reply_to_json};
+use cy_engine::{Entry, Reply};
+use cy_values::Text;
 use serde_json::Value as Json;
 use std::alloc::{AllocError, Global};
 
@@ -51,6 +52,16 @@ pub(crate) fn print_reply(alloc: Global, reply: &Reply) -> Printed
     }
 }
 
+/// What is printed for an entry of a view.
+pub(crate) fn print_entry(alloc: Global, name: &Text, entry: &Entry) -> Printed
+    ensures { IsObjectText (Some (entry_json (name.now, entry.now))) (printed_text result) }
+{
+    match entry_text(alloc, name, entry) {
+        Ok(text) => Printed::Text(text),
+        Err(AllocError) => Printed::ReplyLost,
+    }
+}
+
 /// What is printed for a fault. That no memory was left is told without taking any.
 pub(crate) fn print_fault(alloc: Global, at: Option<usize>, code: u16) -> Printed
     ensures { IsFaultText at code (printed_text result) }
@@ -72,6 +83,13 @@ fn reply_text(alloc: Global, reply: &Reply) -> Result<Option<String>, AllocError
         Some(made) => Ok(Some(line_of(alloc, &made)?)),
         None => Ok(None),
     }
+}
+
+fn entry_text(alloc: Global, name: &Text, entry: &Entry) -> Result<String, AllocError>
+    ensures { IfOk result (λ text. string_bytes text ≡ text_of (entry_json (name.now, entry.now))) }
+{
+    let made = entry_to_json(alloc, name, entry)?;
+    line_of(alloc, &made)
 }
 
 fn fault_text(alloc: Global, at: Option<usize>, code: u16) -> Result<String, AllocError>

@@ -1,12 +1,12 @@
-//! The JSON of replies and faults.
+//! The JSON of replies, entries and faults.
 
 ghost use Rattle.std.specs.Prelude.{◌≡◌, ℕ, IfOk, OnErr, IsSome, option_map};
 ghost use Rattle.serde_json.specs.View.{view};
-ghost use Rattle.cy_shell.specs.Replies.{changed_json, statement_json, made_json, rows_json, reply_json, fault_json};
+ghost use Rattle.cy_shell.specs.Replies.{changed_json, statement_json, made_json, rows_json, reply_json, entry_json, fault_json};
 
 use crate::json::ToJson;
 use crate::words::word;
-use cy_engine::{Changed, Reply};
+use cy_engine::{Changed, Entry, Reply};
 use cy_values::{Row, Sequence, Text};
 use serde_json::{Value as Json, json};
 use std::alloc::{AllocError, Global};
@@ -75,6 +75,15 @@ fn rows_to_json(
 {
     let rows = rows.to_json(alloc)?;
     json!(in alloc; {"rows": rows, "tick": tick, "view": name.as_str()})
+}
+
+/// The JSON of an entry with the name of its view. Fails only for want of memory.
+pub(crate) fn entry_to_json(alloc: Global, name: &Text, entry: &Entry) -> Result<Json, AllocError>
+    ensures { IfOk result (λ made. view made ≡ entry_json (name.now, entry.now)) }
+{
+    let added = entry.change.added.to_json(alloc)?;
+    let removed = entry.change.removed.to_json(alloc)?;
+    json!(in alloc; {"added": added, "removed": removed, "tick": entry.tick, "view": name.as_str()})
 }
 
 /// The JSON of a fault with its offset and its number. Fails only for want of memory.

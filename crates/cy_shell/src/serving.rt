@@ -1,9 +1,8 @@
 //! The whole of a run: an input is read to its end, and its lines are answered.
 
 ghost use Rattle.std.specs.Prelude.{◌≡◌, ◌≢◌, ◌+◌, ◌≤◌, ◌<◌, [], length, ℕ, List, Option, Some, true, false, Err, OnOk, OnErr, IfOk, IfSome};
-ghost use Rattle.cy_engine.specs.Step.{empty_engine};
 ghost use Rattle.cy_shell.specs.Lines.{kept};
-ghost use Rattle.cy_shell.specs.Runs.{input_limit, WritesAll, StopsReading, StopsWriting};
+ghost use Rattle.cy_shell.specs.Runs.{input_limit, WritesAll, StopsReading, StopsWriting, beginning, serving};
 ghost use Rattle.cy_shell.specs.Streams.{TakesFront};
 ghost use Rattle.cy_shell.specs.declared.serving.RunFault.TheVariants.{Memory};
 
@@ -23,7 +22,7 @@ const INPUT_LIMIT: u64 = 1 << 62;
 pub struct Settings {
     /// How many entries a view's history has: 1 to 4096.
     pub history: usize,
-    /// Whether the entries of a line follow its reply. It has no effect yet.
+    /// Whether the entries that a line makes are printed behind its reply.
     pub feed: bool,
 }
 
@@ -92,17 +91,17 @@ pub fn run<R: Source, W: Sink>(
     // At the end of the input all was read, which is below the limit, and what was written is the printed answers to it,
     // and nothing else.
     ensures done { OnOk result (IfSome (R.remaining source.old) (λ input. (R.remaining source.new ≡ Some []) × (length input < input_limit)
-        × WritesAll (empty_engine settings.history) input (W.written sink.old) (W.written sink.new))) }
+        × WritesAll (beginning settings.history settings.feed) input (W.written sink.old) (W.written sink.new))) }
     ensures works { OnOk result ((R.has_failed source.new ≡ false) × (W.has_failed sink.new ≡ false)) }
 
     // The lines that were read whole are answered, and the source failed, or 2^62 bytes were read.
     ensures read { result ≡ Err RunFault.Read → IfSome (R.remaining source.old) (λ input.
-        StopsReading (empty_engine settings.history) input (R.remaining source.new) (R.has_failed source.new) (W.written sink.old) (W.written sink.new)) }
+        StopsReading (beginning settings.history settings.feed) input (R.remaining source.new) (R.has_failed source.new) (W.written sink.old) (W.written sink.new)) }
     ensures read_works { result ≡ Err RunFault.Read → W.has_failed sink.new ≡ false }
 
     // The sink failed at the answers to what was read.
     ensures write { result ≡ Err RunFault.Write → IfSome (R.remaining source.old) (λ input.
-        StopsWriting (empty_engine settings.history) input (R.remaining source.new) (W.written sink.old) (W.written sink.new)) }
+        StopsWriting (beginning settings.history settings.feed) input (R.remaining source.new) (W.written sink.old) (W.written sink.new)) }
     ensures write_fails { result ≡ Err RunFault.Write → W.has_failed sink.new ≡ true }
     ensures write_works { result ≡ Err RunFault.Write → R.has_failed source.new ≡ false }
 
@@ -110,7 +109,7 @@ pub fn run<R: Source, W: Sink>(
     ensures memory { result ≡ Err RunFault.Memory → (source.new ≡ source.old) × (sink.new ≡ sink.old) }
 {
     let mut piece = new_piece(alloc)?;
-    let mut session = Session::new(alloc, settings.history)?;
+    let mut session = Session::new(alloc, settings.history, settings.feed)?;
     serve(&mut session, piece.as_mut_slice(), source, sink)
 }
 
@@ -133,13 +132,13 @@ fn serve<R: Source, W: Sink>(
     requires begins { session.old.line ≡ kept [] }
     requires some_room { 0 < length piece.old }
     ensures done { OnOk result (IfSome (R.remaining source.old) (λ input. (R.remaining source.new ≡ Some []) × (length input < input_limit)
-        × WritesAll session.old.engine.state input (W.written sink.old) (W.written sink.new))) }
+        × WritesAll (serving session.old.engine session.old.feed) input (W.written sink.old) (W.written sink.new))) }
     ensures works { OnOk result ((R.has_failed source.new ≡ false) × (W.has_failed sink.new ≡ false)) }
     ensures read { result ≡ Err RunFault.Read → IfSome (R.remaining source.old) (λ input.
-        StopsReading session.old.engine.state input (R.remaining source.new) (R.has_failed source.new) (W.written sink.old) (W.written sink.new)) }
+        StopsReading (serving session.old.engine session.old.feed) input (R.remaining source.new) (R.has_failed source.new) (W.written sink.old) (W.written sink.new)) }
     ensures read_works { result ≡ Err RunFault.Read → W.has_failed sink.new ≡ false }
     ensures write { result ≡ Err RunFault.Write → IfSome (R.remaining source.old) (λ input.
-        StopsWriting session.old.engine.state input (R.remaining source.new) (W.written sink.old) (W.written sink.new)) }
+        StopsWriting (serving session.old.engine session.old.feed) input (R.remaining source.new) (W.written sink.old) (W.written sink.new)) }
     ensures write_fails { result ≡ Err RunFault.Write → W.has_failed sink.new ≡ true }
     ensures write_works { result ≡ Err RunFault.Write → R.has_failed source.new ≡ false }
     ensures no_memory { result ≢ Err RunFault.Memory }

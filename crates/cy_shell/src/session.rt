@@ -1,15 +1,17 @@
 //! An engine with the line that is being read for it.
 
-ghost use Rattle.std.specs.Prelude.{◌≡◌, ◌==◌, [], ◌∷◌, ℕ, List, true, false, OnOk, OnErr, position, length, ◌<◌, ◌≤◌, IfOk, IfSome};
-ghost use Rattle.cy_engine.specs.Step.{empty_engine};
+ghost use Rattle.std.specs.Prelude.{◌≡◌, ◌&&◌, ◌==◌, [], ◌∷◌, ℕ, List, true, false, OnOk, OnErr, position, length, ◌<◌, ◌≤◌, IfOk, IfSome};
 ghost use Rattle.cy_shell.specs.Lines.{kept, ended_lines, begun_line, unless_empty};
-ghost use Rattle.cy_shell.specs.Runs.{WritesRun, WritesBeginning};
+ghost use Rattle.cy_shell.specs.Printed.{fed};
+ghost use Rattle.cy_shell.specs.Runs.{WritesRun, WritesBeginning, beginning, serving};
 
 use crate::answers::answer;
+use crate::feeding::write_feed;
 use crate::buffer::LineBuffer;
 use crate::streams::{Failed, Sink};
 use crate::writing::write_text;
-use cy_engine::Engine;
+use cy_engine::{Engine, Entry};
+use cy_values::Text;
 use std::alloc::{AllocError, Global};
 
 /// An engine, and what was read of a line that has not ended.
@@ -18,20 +20,23 @@ pub(crate) struct Session {
     alloc: Global,
     pub(crate) engine: Engine,
     pub(crate) line: LineBuffer,
+    /// Whether the entries that a line makes are printed behind its answer.
+    pub(crate) feed: bool,
 }
 
 impl Session {
     /// An engine that is empty, and no line begun. Fails only for want of memory.
-    pub(crate) fn new(alloc: Global, history: usize) -> Result<Self, AllocError>
+    pub(crate) fn new(alloc: Global, history: usize, feed: bool) -> Result<Self, AllocError>
         requires from { 1 ≤ history }
         requires to { history ≤ 4096 }
-        ensures engine { IfOk result (λ session. session.engine.state ≡ empty_engine history) }
+        ensures begins { IfOk result (λ session. serving session.engine session.feed ≡ beginning history feed) }
         ensures line { IfOk result (λ session. session.line ≡ kept []) }
     {
         Ok(Session {
             alloc,
             line: LineBuffer::new(alloc)?,
             engine: Engine::new(alloc, history),
+            feed,
         })
     }
 
@@ -40,10 +45,10 @@ impl Session {
         requires { W.has_failed sink.old ≡ false }
         ensures line { OnOk result ((begun : List ℕ) → self.old.line ≡ kept begun → self.new.line ≡ kept (begun_line begun piece.now)) }
         ensures served { OnOk result ((begun : List ℕ) → self.old.line ≡ kept begun
-            → WritesRun self.old.engine.state (ended_lines begun piece.now) self.new.engine.state (W.written sink.old) (W.written sink.new)) }
+            → WritesRun (serving self.old.engine self.old.feed) (ended_lines begun piece.now) (serving self.new.engine self.new.feed) (W.written sink.old) (W.written sink.new)) }
         ensures works { OnOk result (W.has_failed sink.new ≡ false) }
         ensures broken_off { OnErr result ((begun : List ℕ) → self.old.line ≡ kept begun
-            → WritesBeginning self.old.engine.state (ended_lines begun piece.now) (W.written sink.old) (W.written sink.new)) }
+            → WritesBeginning (serving self.old.engine self.old.feed) (ended_lines begun piece.now) (W.written sink.old) (W.written sink.new)) }
         ensures fails { OnErr result (W.has_failed sink.new ≡ true) }
     {
         let mut rest = piece;
@@ -61,10 +66,10 @@ impl Session {
     pub(crate) fn finish<W: Sink>(&mut self, sink: &mut W) -> Result<(), Failed>
         requires { W.has_failed sink.old ≡ false }
         ensures served { OnOk result ((begun : List ℕ) → self.old.line ≡ kept begun
-            → WritesRun self.old.engine.state (unless_empty begun) self.new.engine.state (W.written sink.old) (W.written sink.new)) }
+            → WritesRun (serving self.old.engine self.old.feed) (unless_empty begun) (serving self.new.engine self.new.feed) (W.written sink.old) (W.written sink.new)) }
         ensures works { OnOk result (W.has_failed sink.new ≡ false) }
         ensures broken_off { OnErr result ((begun : List ℕ) → self.old.line ≡ kept begun
-            → WritesBeginning self.old.engine.state (unless_empty begun) (W.written sink.old) (W.written sink.new)) }
+            → WritesBeginning (serving self.old.engine self.old.feed) (unless_empty begun) (W.written sink.old) (W.written sink.new)) }
         ensures fails { OnErr result (W.has_failed sink.new ≡ true) }
     {
         if self.line.is_empty() {
@@ -78,15 +83,27 @@ impl Session {
         requires { W.has_failed sink.old ≡ false }
         ensures line { self.new.line ≡ kept [] }
         ensures served { OnOk result ((line : List ℕ) → self.old.line ≡ kept line
-            → WritesRun self.old.engine.state (line ∷ []) self.new.engine.state (W.written sink.old) (W.written sink.new)) }
+            → WritesRun (serving self.old.engine self.old.feed) (line ∷ []) (serving self.new.engine self.new.feed) (W.written sink.old) (W.written sink.new)) }
         ensures works { OnOk result (W.has_failed sink.new ≡ false) }
         ensures broken_off { OnErr result ((line : List ℕ) → self.old.line ≡ kept line
-            → WritesBeginning self.old.engine.state (line ∷ []) (W.written sink.old) (W.written sink.new)) }
+            → WritesBeginning (serving self.old.engine self.old.feed) (line ∷ []) (W.written sink.old) (W.written sink.new)) }
         ensures fails { OnErr result (W.has_failed sink.new ≡ true) }
     {
-        let printed = answer(self.alloc, &mut self.engine, &self.line);
+        let told = answer(self.alloc, &mut self.engine, &self.line);
         self.line.clear();
-        write_text(sink, printed.as_str())
+        write_text(sink, told.printed.as_str())?;
+        write_feed(self.alloc, sink, self.fed_entries(told.is_carried))
+    }
+
+    // The entries that are printed behind an answer: those of the line, if the engine answered it and there is a feed.
+    fn fed_entries(&self, is_carried: bool) -> &[(Text, Entry)]
+        ensures { result.now ≡ fed (self.now.feed && is_carried) self.now.engine.entries }
+    {
+        if self.feed && is_carried {
+            self.engine.entries()
+        } else {
+            &[]
+        }
     }
 }
 

@@ -1,4 +1,5 @@
 use Rattle.std.proofs.Common.{◌-◌, ◌≡◌, ◌≤◌, ℕ, List, Some, false}
+use Rattle.cy_shell.specs.Runs.{serving}
 use Rattle.cy_shell.specs.Runs.{input_limit}
 use Rattle.cy_shell.proofs.Reading.{Reads}
 use Rattle.cy_shell.proofs.serving.serve.Given as goal
@@ -9,7 +10,7 @@ invariant-loop-total g l = record {
   readable : g.R.Source.has_failed l.source ≡ false;
   writable : g.W.Sink.has_failed l.sink ≡ false;
   reads : (input : List ℕ) → g.R.Source.remaining l.initial.source ≡ Some input
-      → Reads input l.total l.initial.session.engine.state (g.R.Source.remaining l.source) l.session.line l.session.engine.state (g.W.Sink.written l.initial.sink) (g.W.Sink.written l.sink);
+      → Reads input l.total (serving l.initial.session.engine l.initial.session.feed) (g.R.Source.remaining l.source) l.session.line (serving l.session.engine l.session.feed) (g.W.Sink.written l.initial.sink) (g.W.Sink.written l.sink);
 }
 
 abbrev pub decreases-loop-total : goal.decreases-loop-total

@@ -1,5 +1,6 @@
 use Rattle.std.proofs.Common.{◌≡◌, ℕ, List, false, length}
 use Rattle.cy_shell.specs.Lines.{kept}
+use Rattle.cy_shell.specs.Runs.{serving}
 use Rattle.cy_shell.proofs.Progress.{Served}
 use Rattle.cy_shell.proofs.session.Session.serve_piece.Given as goal
 
@@ -7,7 +8,7 @@ abbrev pub invariant-loop-end : goal.invariant-loop-end
 invariant-loop-end g l = record {
   works : g.W.Sink.has_failed l.sink ≡ false;
   served : (begun : List ℕ) → l.initial.self.line ≡ kept begun
-      → Served begun l.piece l.initial.self.engine.state l.self.line l.rest l.self.engine.state (g.W.Sink.written l.initial.sink) (g.W.Sink.written l.sink);
+      → Served begun l.piece (serving l.initial.self.engine l.initial.self.feed) l.self.line l.rest (serving l.self.engine l.self.feed) (g.W.Sink.written l.initial.sink) (g.W.Sink.written l.sink);
 }
 
 abbrev pub decreases-loop-end : goal.decreases-loop-end

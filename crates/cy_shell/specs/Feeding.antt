@@ -1,0 +1,33 @@
+-- A line is answered, and then its entries are printed. No public call is stated in these terms.
+use Rattle.std.specs.Prelude.{◌≡◌, ℕ, ◌≤◌, Bool, true, false, List, ◌++◌, length, Option, Result}
+use Rattle.std.specs.Str.{IsUtf8}
+use Rattle.cy_engine.specs.Step.{EngineState, Machine, Step}
+use Rattle.cy_engine.specs.declared.entries.Entry.{Entry}
+use Rattle.cy_engine.specs.declared.faults.Fault.{Fault}
+use Rattle.cy_engine.specs.declared.replies.Reply.{Reply}
+use Rattle.cy_shell.specs.Lines.{line_limit}
+use Rattle.cy_shell.specs.Printed.{IsAnswerText, IsFeedText}
+use Rattle.cy_shell.specs.Runs.{Answered, serving}
+use Rattle.cy_shell.specs.Streams.{appended}
+
+-- the engine answered a text so, and has the entries that it made
+abbrev pub Answers : EngineState → List ℕ → List ℕ → Machine → Type 0
+Answers old line text new = (result : Result Reply Fault) × Step old line result new.entries new.state × IsAnswerText result text
+
+-- the engine answered a line, and has the entries that it made, or the line is none for the engine
+abbrev pub IsAnswer : EngineState → List ℕ → List ℕ → Bool → Machine → Type 0
+IsAnswer old line text true new = (length line ≤ line_limit) × IsUtf8 line × Answers old line text new
+IsAnswer old line text false new = (feed : Bool) → Answered (record { engine = old; feed = feed }) line text (serving new feed)
+
+-- the texts of the entries were written
+pub record WritesFeed (entries : List (List ℕ × Entry)) (before after : Option (List ℕ)) : Type 0 where
+  pub text : List ℕ
+  pub told : IsFeedText entries text
+  pub is : after ≡ appended before text
+
+-- a beginning of them was written
+pub record BeginsFeed (entries : List (List ℕ × Entry)) (before after : Option (List ℕ)) : Type 0 where
+  pub text : List ℕ
+  pub unwritten : List ℕ
+  pub told : IsFeedText entries (text ++ unwritten)
+  pub is : after ≡ appended before text

@@ -1,0 +1,29 @@
+//! The entries of a line, printed behind its answer.
+
+ghost use Rattle.std.specs.Prelude.{◌≡◌, true, false, OnOk, OnErr};
+ghost use Rattle.cy_shell.specs.Feeding.{WritesFeed, BeginsFeed};
+
+use crate::printing::print_entry;
+use crate::streams::{Failed, Sink};
+use crate::writing::write_text;
+use cy_engine::Entry;
+use cy_values::Text;
+use std::alloc::Global;
+
+/// Writes the entries with the names of their views, each an object on a line of its own, in their order.
+pub(crate) fn write_feed<W: Sink>(
+    alloc: Global,
+    sink: &mut W,
+    entries: &[(Text, Entry)],
+) -> Result<(), Failed>
+    requires { W.has_failed sink.old ≡ false }
+    ensures written { OnOk result (WritesFeed entries.now (W.written sink.old) (W.written sink.new)) }
+    ensures works { OnOk result (W.has_failed sink.new ≡ false) }
+    ensures begun { OnErr result (BeginsFeed entries.now (W.written sink.old) (W.written sink.new)) }
+    ensures fails { OnErr result (W.has_failed sink.new ≡ true) }
+{
+    for (name, entry) in entries.iter() {
+        write_text(sink, print_entry(alloc, name, entry).as_str())?;
+    }
+    Ok(())
+}

@@ -38,7 +38,8 @@ struct Start {
 }
 
 impl Start {
-    // Whether the node in this slot is as it was when the change began, so that its value has to be kept before it is changed.
+    // Whether the node in this slot is as it was when the change began, so that its value has to be kept before it
+    // is changed.
     fn is_first_change(&self, slot: usize, id: NodeId) -> bool
         ensures { IsTrue result ↔ ((slot < self.now.slots) × (kept_at id self.now.before.entries ≡ None)) }
     {

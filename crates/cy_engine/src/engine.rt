@@ -80,8 +80,9 @@ impl Engine {
 
     /// Answers a line. A refused line leaves the engine as it was.
     ///
-    /// A statement is `Unexpected` where it isn't one of the language, and `Full` where number 2^40 or the last tick was
-    /// given out. A view is, in this order, `Unexpected` where its query isn't one of the language, `UnknownVariable`
+    /// A statement is, in this order, `Unexpected` where it isn't one of the language, `UnknownVariable` where it sets or
+    /// removes another variable than it matches, or `Full` where number 2^40 was given out, or where it would change the
+    /// content of the graph and the tick is the last. A view is, in this order, `Unexpected` where its query isn't one of the language, `UnknownVariable`
     /// where it returns another variable than it matches, `ViewNameTaken`, `TooManyViews`, or `Full` where the last tick
     /// was given out. Rows are refused as `NoSuchView`; other commands as `UnknownCommand`, and a command whose
     /// arguments are missing or too many as `BadArgument`. `NoMemory` comes only of a statement, a view to be made, or

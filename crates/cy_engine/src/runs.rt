@@ -25,9 +25,9 @@ pub fn answer_all(
     Ok(results)
 }
 
-/// The headline. After any list of lines a view's rows are, as a bag, exactly what its query means on the current graph,
-/// and a refused line leaves all as it was: every run has the answers and the end that it would have without its
-/// refused lines.
+/// The headline. After any list of lines a view's rows are, as a bag, exactly what its query means on the current graph;
+/// the entries of a line are the exact differences that it made in the rows of views; and a refused line leaves all as it
+/// was: every run has the answers and the end that it would have without its refused lines.
 pub fn headline()
     ensures rows { RowsAreTheQuerys }
     ensures entries { EntriesAreTheDifferences }

@@ -58,7 +58,7 @@ pub(crate) fn print_entry(alloc: Global, name: &Text, entry: &Entry) -> Printed
 {
     match entry_text(alloc, name, entry) {
         Ok(text) => Printed::Text(text),
-        Err(AllocError) => Printed::ReplyLost,
+        Err(_) => Printed::ReplyLost,
     }
 }
 

@@ -1,9 +1,9 @@
 -- For callers: every line may be answered in some way that leaves the state as it is.
-use Rattle.std.proofs.Common.{◌≡◌, ◌⊎◌, ℕ, ◌==◌, true, false, cond, codes, List, [], ◌∷◌, Option, None, Some, IsSome, refl, sym, inl, inr}
+use Rattle.std.proofs.Common.{◌≡◌, ◌⊎◌, ℕ, ◌==◌, true, false, cond, codes, List, [], ◌∷◌, Option, None, Some, IsSome, refl, inl, inr}
 use Rattle.cy_engine.specs.declared.faults.Fault.{Fault}
 use Rattle.cy_engine.specs.declared.faults.Fault.TheVariants as fault
 use Rattle.cy_engine.specs.Asked.{Asked, asked, asked_at, command_asked, view_asked, rows_asked, nothing_more, Blank, StatementOf, ViewOf, RowsOf, Wrong}
-use Rattle.cy_engine.specs.Step.{EngineState, View, Refused, TakesMemory, view_at}
+use Rattle.cy_engine.specs.Step.{EngineState, View, Refused, view_at}
 use Rattle.cy_engine.specs.Words.{skip, first_word, is_alike}
 
 -- a command is refused with one of two numbers

@@ -104,16 +104,18 @@ module _ (graph : State) where
       let rest = without_labelled label es parts.1 in
       let above = above_numbers label e.0 es parts.0 in
       elim (has_label label e) as (λ b. WithoutLabelled label (map (λ (f : NodeId × Node). f.0) (cond b (e ∷ filter (has_label label) es) (filter (has_label label) es))) (e ∷ es)
-        (cond (not b) (e ∷ filter (λ (f : NodeId × Node). not (has_label label f)) es) (filter (λ (f : NodeId × Node). not (has_label label f)) es))) [
+      (cond (not b) (e ∷ filter (λ (f : NodeId × Node). not (has_label label f)) es) (filter (λ (f : NodeId × Node). not (has_label label f)) es))) [
         | true ↦ (
-            (subst (λ (o : Option Node). IsSome o) (sym (found_first e es)) refl,
-            subst (λ (fs : List (NodeId × Node)). CanRemove (numbers label es) (with fs)) (sym (remove_first e es parts.0)) rest.0),
-            ap (λ (fs : List (NodeId × Node)). without_each (numbers label es) (with fs)) (remove_first e es parts.0) ∙ rest.1,
-          )
+          (
+            subst (λ (o : Option Node). IsSome o) (sym (found_first e es)) refl,
+            subst (λ (fs : List (NodeId × Node)). CanRemove (numbers label es) (with fs)) (sym (remove_first e es parts.0)) rest.0,
+          ),
+          ap (λ (fs : List (NodeId × Node)). without_each (numbers label es) (with fs)) (remove_first e es parts.0) ∙ rest.1,
+        )
         | false ↦ (
-            can_remove_behind (numbers label es) e es above rest.0,
-            removed_behind (numbers label es) e es above ∙ ap (λ (g : State). with (e ∷ g.content.nodes)) rest.1,
-          )
+          can_remove_behind (numbers label es) e es above rest.0,
+          removed_behind (numbers label es) e es above ∙ ap (λ (g : State). with (e ∷ g.content.nodes)) rest.1,
+        )
       ]
 
   -- ---- setting
@@ -166,13 +168,15 @@ module _ (graph : State) where
         let above = above_numbers tree.label e.0 es parts.0 in
         elim (has_label tree.label e) as (λ b. SetsLabelled (map (λ (f : NodeId × Node). f.0) (cond b (e ∷ filter (has_label tree.label) es) (filter (has_label tree.label) es))) (e ∷ es) (cond b (set_node e) e ∷ map (set_at_label tree) es)) [
           | true ↦ (
-              (subst (λ (o : Option Node). IsSome o) (sym (found_first e es)) refl,
-              subst (λ (fs : List (NodeId × Node)). CanSet tree.key stored (numbers tree.label es) (with fs)) (sym (set_first e es)) (can_set_behind (numbers tree.label es) (set_node e) es above rest.0)),
-              ap (λ (fs : List (NodeId × Node)). set_each tree.key stored (numbers tree.label es) (with fs)) (set_first e es)
-              ∙ is_set_behind (numbers tree.label es) (set_node e) es above ∙ ap (λ (g : State). with (set_node e ∷ g.content.nodes)) rest.1,
-            )
+            (
+              subst (λ (o : Option Node). IsSome o) (sym (found_first e es)) refl,
+              subst (λ (fs : List (NodeId × Node)). CanSet tree.key stored (numbers tree.label es) (with fs)) (sym (set_first e es)) (can_set_behind (numbers tree.label es) (set_node e) es above rest.0),
+            ),
+            ap (λ (fs : List (NodeId × Node)). set_each tree.key stored (numbers tree.label es) (with fs)) (set_first e es)
+                ∙ is_set_behind (numbers tree.label es) (set_node e) es above ∙ ap (λ (g : State). with (set_node e ∷ g.content.nodes)) rest.1,
+          )
           | false ↦ (
-              can_set_behind (numbers tree.label es) e es above rest.0,
-              is_set_behind (numbers tree.label es) e es above ∙ ap (λ (g : State). with (e ∷ g.content.nodes)) rest.1,
-            )
+            can_set_behind (numbers tree.label es) e es above rest.0,
+            is_set_behind (numbers tree.label es) e es above ∙ ap (λ (g : State). with (e ∷ g.content.nodes)) rest.1,
+          )
         ]

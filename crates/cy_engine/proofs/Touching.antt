@@ -115,10 +115,10 @@ module _ (c : Option Node → ℕ) (nothing : c None ≡ 0) where
       let es_left = removed_at id es in
       let fs_left = removed_at id fs in
       let agree : (x : NodeId) → is_in x ids ≡ false → entries.find node_order x es_left ≡ entries.find node_order x fs_left =
-        λ x h. found_removed x id es ∙ elim (eq_by_cmp node_order id x) as (λ b. eq_by_cmp node_order id x ≡ b → cond (not b) (entries.find node_order x es) None ≡ cond (not b) (entries.find node_order x fs) None) [
-          | true ↦ λ t. refl
-          | false ↦ λ t. same x (ap (λ b. cond b true (is_in x ids)) (other_way id x t) ∙ h)
-        ] refl ∙ sym (found_removed x id fs) in
+      λ x h. found_removed x id es ∙ elim (eq_by_cmp node_order id x) as (λ b. eq_by_cmp node_order id x ≡ b → cond (not b) (entries.find node_order x es) None ≡ cond (not b) (entries.find node_order x fs) None) [
+        | true ↦ λ t. refl
+        | false ↦ λ t. same x (ap (λ b. cond b true (is_in x ids)) (other_way id x t) ∙ h)
+      ] refl ∙ sym (found_removed x id fs) in
       let left : total es_left + counted_at fs_left ids ≡ total fs_left + counted_at es_left ids = balanced ids es_left fs_left (sorted_removed id es sorted_es) (sorted_removed id fs sorted_fs) distinct.1 agree in
       let in_es : counted_at es_left ids ≡ counted_at es ids = counted_same ids es_left es (λ x h. still_found x id es (apart_in x id ids h distinct.0)) in
       let in_fs : counted_at fs_left ids ≡ counted_at fs ids = counted_same ids fs_left fs (λ x h. still_found x id fs (apart_in x id ids h distinct.0)) in

@@ -70,7 +70,7 @@ AreEntries [] before after tick entries = entries ≡ []
 AreEntries (view ∷ views) before after tick entries =
     (IsSameBag (rows_of view.query before) (rows_of view.query after) × AreEntries views before after tick entries)
     ⊎ ((entry : Entry) × (others : List (List ℕ × Entry)) × (entries ≡ (view.name, entry) ∷ others)
-        × IsEntry view.query before after tick entry × AreEntries views before after tick others)
+    × IsEntry view.query before after tick entry × AreEntries views before after tick others)
 
 -- the line is a statement, and the text of it is this tree's
 pub record IsStatement (line : List ℕ) (tree : Tree) : Type 0 where

@@ -28,11 +28,7 @@ pub(crate) fn difference(
 }
 
 // What the first rows have above the second ones, both with their counts, in canonical order.
-fn excess(
-    alloc: Global,
-    more: &[(Row, u64)],
-    less: &[(Row, u64)],
-) -> Result<Vec<(Row, u64)>, Fault>
+fn excess(alloc: Global, more: &[(Row, u64)], less: &[(Row, u64)]) -> Result<Vec<(Row, u64)>, Fault>
     requires more { IsCanonical more.now }
     requires less { IsCanonical less.now }
     ensures excess { IfOk result (λ excess. IsExcess more.now less.now excess.items) }

@@ -148,18 +148,14 @@ impl Engine {
             Err(unread) => return Err(unread_fault(unread, line, text)),
         };
         self.graph.begin();
-        match change(
-            self.alloc,
-            &mut self.graph,
-            &self.views,
-            tree,
-            self.tick,
-        ) {
-            Ok(Effect {
-                changed,
-                tick,
-                entries,
-            }) => {
+        match change(self.alloc, &mut self.graph, &self.views, tree, self.tick) {
+            Ok(
+                Effect {
+                    changed,
+                    tick,
+                    entries,
+                },
+            ) => {
                 self.graph.commit();
                 self.tick = tick;
                 self.entries = entries;

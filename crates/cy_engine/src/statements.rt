@@ -131,7 +131,13 @@ fn labelled(alloc: Global, graph: &Graph, label: &Text) -> Result<Vec<NodeId>, F
 }
 
 // Sets a property of each of these nodes, or removes it where the value is null.
-fn set_nodes(alloc: Global, graph: &mut Graph, ids: Vec<NodeId>, key: &Text, value: &Value) -> Result<(), Fault>
+fn set_nodes(
+    alloc: Global,
+    graph: &mut Graph,
+    ids: Vec<NodeId>,
+    key: &Text,
+    value: &Value,
+) -> Result<(), Fault>
     requires open { IsSome graph.old.was }
     requires there { CanSet key.now (unless_null value.now) ids.items graph.old.now }
     requires literal { IsTrue (is_literal value.now) }

@@ -72,10 +72,7 @@ pub(crate) fn rows_with_counts(
 }
 
 /// Rows, each once with its count, in canonical order.
-pub(crate) fn counted_in_order(
-    alloc: Global,
-    mut rows: Vec<Row>,
-) -> Result<Vec<(Row, u64)>, Fault>
+pub(crate) fn counted_in_order(alloc: Global, mut rows: Vec<Row>) -> Result<Vec<(Row, u64)>, Fault>
     ensures bag { IfOk result (λ pairs. IsBagOf rows.items pairs.items) }
     ensures canonical { IfOk result (λ pairs. IsCanonical pairs.items) }
     ensures memory { IfErr result (λ fault. fault ≡ Fault.NoMemory) }

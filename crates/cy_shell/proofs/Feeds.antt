@@ -49,7 +49,7 @@ pub fed_begun : (entries left rest : Entries) (e : List ℕ × Entry) (before mi
 fed_begun entries left rest e before mid after text next so_far object front =
     let more = some_feed rest in
     let whole : (so_far.text ++ front.front) ++ (front.rest ++ more.0) ≡ so_far.text ++ (text ++ more.0) =
-      append_assoc so_far.text front.front (front.rest ++ more.0) ∙ ap (λ t. so_far.text ++ t) (sym (append_assoc front.front front.rest more.0) ∙ ap (λ t. t ++ more.0) (sym front.whole)) in
+    append_assoc so_far.text front.front (front.rest ++ more.0) ∙ ap (λ t. so_far.text ++ t) (sym (append_assoc front.front front.rest more.0) ∙ ap (λ t. t ++ more.0) (sym front.whole)) in
     record {
       text = so_far.text ++ front.front;
       unwritten = front.rest ++ more.0;

@@ -6,8 +6,8 @@ ghost use Rattle.cy_shell.specs.Printed.{fed};
 ghost use Rattle.cy_shell.specs.Runs.{WritesRun, WritesBeginning, beginning, serving};
 
 use crate::answers::answer;
-use crate::feeding::write_feed;
 use crate::buffer::LineBuffer;
+use crate::feeding::write_feed;
 use crate::streams::{Failed, Sink};
 use crate::writing::write_text;
 use cy_engine::{Engine, Entry};

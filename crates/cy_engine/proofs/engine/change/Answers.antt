@@ -20,8 +20,7 @@ returns-then-is_empty-clause-changes c =
     let told = subst (λ (o : Option State). IfSome o (λ (before : State). AreTouched before now (map entry_of items))) was c.in_ok-touched.ensures.ok in
     let nothing = subst (λ (es : List Entry). AreTouched c.args.graph.now.now now es) (ap (map entry_of) none) told in
     let graphs = subst (λ (o : Option State). IsGraph now × IfSome o (λ (before : State). IsGraph before)) was c.in_ok-touched.ensures.graphs in
-    let same : now.content ≡ c.args.graph.now.now.content = nothing_touched c.args.graph.now.now now nothing graphs.1 graphs.0 in
-    (
+    let same : now.content ≡ c.args.graph.now.now.content = nothing_touched c.args.graph.now.now now nothing graphs.1 graphs.0 in (
       c.in_ok-changed.ensures.meaning,
       inl (same, refl),
       rw (same, c.new-then-is_empty.ensures ∙ c.new.ensures.items) (nothing_changed _ _ _),
@@ -45,8 +44,7 @@ returns-then-tick-eq-LAST_TICK-clause-changes c =
 pub returns-clause-changes : goal.returns-clause-changes
 returns-clause-changes c =
     let was : c.carry_out.new.graph.was ≡ Some c.args.graph.now.now = c.in_ok-changed.ensures.open ∙ c.requires.open in
-    let entries = subst (λ (o : Option State). IfSome o (λ (before : State). AreEntries (map view_of c.args.views.now.entries) before.content c.carry_out.new.graph.now.content (c.args.tick + 1) c.in_ok-entries.entries.items)) was c.in_ok-entries.ensures.entries in
-    (
+    let entries = subst (λ (o : Option State). IfSome o (λ (before : State). AreEntries (map view_of c.args.views.now.entries) before.content c.carry_out.new.graph.now.content (c.args.tick + 1) c.in_ok-entries.entries.items)) was c.in_ok-entries.ensures.entries in (
       c.in_ok-changed.ensures.meaning,
       inr (differs c.args.graph.now.now c.carry_out.new.graph.now c.carry_out.new.graph.was c.in_ok-touched.touched was c.in_ok-touched.ensures.ok (sym c.is_empty.ensures ∙ c.if-is_empty.false), omega (arith, c.requires.in_time, c.if-tick-eq-LAST_TICK.false), refl),
       rw c.new-2.ensures entries,

@@ -30,8 +30,7 @@ returns-in-Err-change c =
     let was : c.change.new.graph.was ≡ Some before = c.in-Err-change.ensures.open ∙ ap (λ (g : Versions). g.was) c.begin.ensures in
     let same : Versions = record { now = before; was = None } in
     let back : c.rollback.new.self ≡ same = rw was at c.rollback.ensures in
-    let changes = subst (λ (g : Versions). Changes c.in-Ok.tree (map view_of c.self.inside.views.entries) g.now c.self.inside.tick (Err c.in-Err-change.fault) c.change.new.graph.now) c.begin.ensures c.in-Err-change.ensures.changes in
-    (
+    let changes = subst (λ (g : Versions). Changes c.in-Ok.tree (map view_of c.self.inside.views.entries) g.now c.self.inside.tick (Err c.in-Err-change.fault) c.change.new.graph.now) c.begin.ensures c.in-Err-change.ensures.changes in (
       rw (← c.self.view_is) (change_refused (state_of c.self.inside.graph c.self.inside.views.entries c.self.inside.tick c.self.inside.history) c.args.line.now c.args.text.now c.in-Ok.tree c.requires.asks c.in-Ok.ensures.found c.in-Err-change.fault c.change.new.graph.now changes),
       ap (λ (m : Machine). m.entries) c.self.view_is ∙ c.requires.no_entries,
       ap (λ (g : Versions). state_of g c.self.inside.views.entries c.self.inside.tick c.self.inside.history) back ∙ ap (λ (m : Machine). m.state) c.self.view_is,

@@ -14,7 +14,7 @@ pub returns-clause-served : goal.returns-clause-served
 returns-clause-served g c =
     on_ok_weaker c.write_feed.result
     (λ written line keeps. line_served _ line _ _ _ c.args.self.now.feed _ _ _ (c.answer-told.ensures line keeps)
-      (c.in_ok-write_text.ensures.written ∙ ap (appended _) c.as_str.ensures) c.fed_entries.result.now c.fed_entries.ensures written)
+    (c.in_ok-write_text.ensures.written ∙ ap (appended _) c.as_str.ensures) c.fed_entries.result.now c.fed_entries.ensures written)
     c.write_feed.ensures.written
 
 -- the entries behind it broke off
@@ -22,5 +22,5 @@ pub returns-clause-broken_off : goal.returns-clause-broken_off
 returns-clause-broken_off g c =
     on_err_weaker c.write_feed.result
     (λ begun line keeps. line_feeding _ line _ _ _ c.args.self.now.feed _ _ _ (c.answer-told.ensures line keeps)
-      (c.in_ok-write_text.ensures.written ∙ ap (appended _) c.as_str.ensures) c.fed_entries.result.now c.fed_entries.ensures begun)
+    (c.in_ok-write_text.ensures.written ∙ ap (appended _) c.as_str.ensures) c.fed_entries.result.now c.fed_entries.ensures begun)
     c.write_feed.ensures.begun

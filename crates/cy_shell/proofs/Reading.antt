@@ -46,6 +46,7 @@ front_taken (Some left) after old_piece piece most count some fits within taken 
       taken.1,
     )
 
+-- the same whatever the outcome
 pub takes_into_front : {E : Type 0} (r : Result ℕ E) (left after : Option (List ℕ)) (old_piece piece : List ℕ) (most : ℕ) → 0 < most → most ≤ length old_piece
     → IfOk r (λ count. count ≤ length (take most old_piece)) → IfOk r (λ count. TakesFront left after (take most old_piece) piece count)
     → IfOk r (λ count. TakesFront left after old_piece (piece ++ drop most old_piece) count)
@@ -99,7 +100,7 @@ reads_more input total count start mid new left left' line line' old_piece piece
           (more_lines start mid new _ _ before between after reads.written (answers (last_line (take total input)) reads.keeps));
     }
 
--- a read that fails, or one too many
+-- a read that fails, or as many bytes as are read at most
 pub stops_reading : (input : List ℕ) (total : ℕ) (start engine : EngineState) (left left' line : Option (List ℕ)) (has_failed : Bool) (before after : Option (List ℕ))
     → Reads input total start left line engine before after → left' ≡ left → total ≤ input_limit → (has_failed ≡ true) ⊎ (total ≡ input_limit) → StopsReading start input left' has_failed before after
 stops_reading input total start engine left left' line has_failed before after reads same limited cause = record {
@@ -145,6 +146,7 @@ all_read input total left left' old_piece piece within is taken room =
     let nothing : drop total input ≡ [] = parts.0.end refl room in
     (sym (append-nil (take total input)) ∙ ap (λ bytes. take total input ++ bytes) (sym nothing) ∙ take-append-drop total input, parts.1 ∙ ap Some nothing)
 
+-- how many bytes of the input were read, where all were
 size_read : (input : List ℕ) (total : ℕ) → total ≤ length input → take total input ≡ input → length input ≡ total
 size_read input total within all = ap length (sym all) ∙ length-take-le total input within
 

@@ -1,10 +1,11 @@
 use Rattle.std.proofs.Common.{◌-◌, ◌≡◌, ◌≤◌, ℕ, List, Some, false}
+use Rattle.cy_shell.specs.Runs.{input_limit}
 use Rattle.cy_shell.proofs.Reading.{Reads}
 use Rattle.cy_shell.proofs.serving.serve.Given as goal
 
 abbrev pub invariant-loop-total : goal.invariant-loop-total
 invariant-loop-total g l = record {
-  limited : l.total ≤ 4611686018427387904;
+  limited : l.total ≤ input_limit;
   readable : g.R.Source.has_failed l.source ≡ false;
   writable : g.W.Sink.has_failed l.sink ≡ false;
   reads : (input : List ℕ) → g.R.Source.remaining l.initial.source ≡ Some input
@@ -12,4 +13,4 @@ invariant-loop-total g l = record {
 }
 
 abbrev pub decreases-loop-total : goal.decreases-loop-total
-decreases-loop-total g l = 4611686018427387904 - l.total
+decreases-loop-total g l = input_limit - l.total

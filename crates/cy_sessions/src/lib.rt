@@ -6,6 +6,8 @@ mod engine;
 #[cfg(test)]
 mod plain;
 #[cfg(test)]
+mod refused;
+#[cfg(test)]
 mod stops;
 #[cfg(test)]
 mod streams;

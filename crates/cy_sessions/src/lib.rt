@@ -4,6 +4,8 @@
 #[cfg(test)]
 mod engine;
 #[cfg(test)]
+mod entries;
+#[cfg(test)]
 mod plain;
 #[cfg(test)]
 mod refused;

@@ -4,7 +4,11 @@
 #[cfg(test)]
 mod engine;
 #[cfg(test)]
+mod entries;
+#[cfg(test)]
 mod plain;
+#[cfg(test)]
+mod refused;
 #[cfg(test)]
 mod stops;
 #[cfg(test)]

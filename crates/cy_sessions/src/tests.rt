@@ -10,8 +10,13 @@ const CREATED: &str = "{\"changed\":[1,0,0,0],\"columns\":[],\"rows\":[]}\n";
 
 const ROOM: usize = 400_000;
 
-// What is written for an input, with ample memory.
-fn written(rt: &impl Abort, alloc: Global, input: &[u8], what: &str) -> Result<MemorySink, Fail> {
+/// What is written for an input, with ample memory.
+pub(crate) fn written(
+    rt: &impl Abort,
+    alloc: Global,
+    input: &[u8],
+    what: &str,
+) -> Result<MemorySink, Fail> {
     let mut source = MemorySource::new(input);
     let mut sink = MemorySink::new(alloc, ROOM)?;
     let settings = Settings {
@@ -29,7 +34,8 @@ fn expect(rt: &impl Abort, alloc: Global, input: &str, output: &str) -> Result<(
     Ok(())
 }
 
-fn fault(alloc: Global, at: &str, code: u16, word: &str) -> Result<String, AllocError> {
+/// What is written for a fault.
+pub(crate) fn fault(alloc: Global, at: &str, code: u16, word: &str) -> Result<String, AllocError> {
     format!(in alloc; "{{\"at\":{at},\"code\":{code},\"error\":\"{word}\"}}\n")
 }
 
@@ -168,6 +174,11 @@ fn counts_views(rt: HostRuntime) -> Result<(), Fail> {
     }
     input.push_str(":view w MATCH (n:A) RETURN n.k\n")?;
     output.push_str(fault(alloc, "null", 68, "TooManyViews")?.as_str())?;
+    // The lines behind it find all as it was.
+    input.push_str(":rows w\nCREATE (:A)\n:rows v256\n")?;
+    output.push_str(fault(alloc, "null", 61, "NoSuchView")?.as_str())?;
+    output.push_str(CREATED)?;
+    output.push_str("{\"rows\":[[[null],1]],\"tick\":257,\"view\":\"v256\"}\n")?;
     expect(&rt, alloc, input.as_str(), output.as_str())
 }
 

@@ -14,7 +14,7 @@ pub fn answer_all(
     engine: &mut Engine,
     lines: &[&str],
 ) -> Result<Vec<Result<Reply, Fault>>, Fault>
-    ensures run { IfOk result (λ results. Run engine.old.state (map (λ line. line.now) lines.now) results.items engine.new.state) }
+    ensures run { IfOk result (λ results. Run engine.old (map (λ line. line.now) lines.now) results.items engine.new) }
     ensures refused { IfErr result (λ fault. fault ≡ Fault.NoMemory) }
     ensures err { OnErr result (engine.new ≡ engine.old) }
 {

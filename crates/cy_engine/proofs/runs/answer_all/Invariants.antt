@@ -6,7 +6,7 @@ use Rattle.cy_engine.proofs.runs.answer_all.Given as goal
 -- the lines so far are run, and there is room for the answers to all
 abbrev pub invariant-loop-line : goal.invariant-loop-line
 invariant-loop-line l = record {
-  run : Run l.fn.engine.state (take l.line-index (map (λ line. line.now) l.lines)) l.results.items l.engine.state;
+  run : Run l.fn.engine (take l.line-index (map (λ line. line.now) l.lines)) l.results.items l.engine;
   count : vec_len l.results ≡ l.line-index;
   room : length l.lines ≤ vec_capacity l.results;
 }

@@ -11,6 +11,11 @@ const SETTINGS: Settings = Settings {
     feed: false,
 };
 
+const FEEDING: Settings = Settings {
+    history: 64,
+    feed: true,
+};
+
 // A view and its rows: the lines, and what is written for each.
 const VIEW: [(&[u8], &str); 3] = [
     (
@@ -37,6 +42,48 @@ const NO_TEXTS: [(&[u8], &str); 3] = [
     (
         b"cd\xE2\x82",
         "{\"at\":2,\"code\":18,\"error\":\"NotUtf8\"}\n",
+    ),
+];
+
+// Two views with a feed: each object that follows a reply stands by itself, behind no line. A line that is no text has no
+// entries, though the line before it had.
+const FED: [(&[u8], &str); 10] = [
+    (
+        b"CREATE (:A {k: 7})\n",
+        "{\"changed\":[1,0,0,0],\"columns\":[],\"rows\":[]}\n",
+    ),
+    (
+        b":view v MATCH (n:A) RETURN n.k\n",
+        "{\"columns\":[\"n.k\"],\"tick\":2,\"view\":\"v\"}\n",
+    ),
+    (
+        b":view w MATCH (n:A) RETURN n.j\n",
+        "{\"columns\":[\"n.j\"],\"tick\":3,\"view\":\"w\"}\n",
+    ),
+    (
+        b"MATCH (n:A) SET n.k = 8\n",
+        "{\"changed\":[0,0,0,0],\"columns\":[],\"rows\":[]}\n",
+    ),
+    (
+        b"",
+        "{\"added\":[[[8],1]],\"removed\":[[[7],1]],\"tick\":4,\"view\":\"v\"}\n",
+    ),
+    (b"\xFF\n", "{\"at\":0,\"code\":18,\"error\":\"NotUtf8\"}\n"),
+    (
+        b"MATCH (n:A) SET n.k = 8\n",
+        "{\"changed\":[0,0,0,0],\"columns\":[],\"rows\":[]}\n",
+    ),
+    (
+        b"MATCH (n:A) DETACH DELETE n\n",
+        "{\"changed\":[0,1,0,0],\"columns\":[],\"rows\":[]}\n",
+    ),
+    (
+        b"",
+        "{\"added\":[],\"removed\":[[[8],1]],\"tick\":5,\"view\":\"v\"}\n",
+    ),
+    (
+        b"",
+        "{\"added\":[],\"removed\":[[[null],1]],\"tick\":5,\"view\":\"w\"}\n",
     ),
 ];
 
@@ -74,11 +121,16 @@ fn output_after(
 }
 
 // Each read gives a byte, and each write takes one.
-fn move_single_bytes(rt: &impl Abort, alloc: Global, lines: &[(&[u8], &str)]) -> Result<(), Fail> {
+fn move_single_bytes(
+    rt: &impl Abort,
+    alloc: Global,
+    settings: Settings,
+    lines: &[(&[u8], &str)],
+) -> Result<(), Fail> {
     let input = input_of(alloc, lines)?;
     let mut source = TestSource::new(input.as_slice(), 1, 0);
     let mut sink = TestSink::new(alloc, 1, 0);
-    assert!(rt; run(alloc, &mut source, &mut sink, SETTINGS).is_ok());
+    assert!(rt; run(alloc, &mut source, &mut sink, settings).is_ok());
     assert!(rt; sink.written() == output_of(alloc, lines)?.as_bytes());
     Ok(())
 }
@@ -101,7 +153,12 @@ fn stop_at_each_read(rt: &impl Abort, alloc: Global, lines: &[(&[u8], &str)]) ->
 
 // The write behind each of the bytes, or the flush behind an answer, fails in turn: what was taken before is the beginning
 // of the answers, and it is not tried again.
-fn stop_at_each_write(rt: &impl Abort, alloc: Global, lines: &[(&[u8], &str)]) -> Result<(), Fail> {
+fn stop_at_each_write(
+    rt: &impl Abort,
+    alloc: Global,
+    settings: Settings,
+    lines: &[(&[u8], &str)],
+) -> Result<(), Fail> {
     let input = input_of(alloc, lines)?;
     let output = output_of(alloc, lines)?;
     let mut failing = 0usize;
@@ -111,7 +168,7 @@ fn stop_at_each_write(rt: &impl Abort, alloc: Global, lines: &[(&[u8], &str)]) -
             failing = failing.saturating_add(1);
             let mut source = TestSource::new(input.as_slice(), 1, 0);
             let mut sink = TestSink::new(alloc, 1, failing);
-            let outcome = run(alloc, &mut source, &mut sink, SETTINGS);
+            let outcome = run(alloc, &mut source, &mut sink, settings);
             assert!(rt; outcome == Err(RunFault::Write), "call {failing}");
             assert_eq!(rt; sink.calls(), failing, "call {failing}");
             assert_eq!(rt;
@@ -131,8 +188,9 @@ fn stop_at_each_write(rt: &impl Abort, alloc: Global, lines: &[(&[u8], &str)]) -
 
 #[test]
 fn moves_single_bytes(rt: HostRuntime) -> Result<(), Fail> {
-    move_single_bytes(&rt, rt.alloc(), &VIEW)?;
-    move_single_bytes(&rt, rt.alloc(), &NO_TEXTS)
+    move_single_bytes(&rt, rt.alloc(), SETTINGS, &VIEW)?;
+    move_single_bytes(&rt, rt.alloc(), SETTINGS, &NO_TEXTS)?;
+    move_single_bytes(&rt, rt.alloc(), FEEDING, &FED)
 }
 
 #[test]
@@ -143,8 +201,9 @@ fn stops_at_a_read_that_fails(rt: HostRuntime) -> Result<(), Fail> {
 
 #[test]
 fn stops_at_a_write_that_fails(rt: HostRuntime) -> Result<(), Fail> {
-    stop_at_each_write(&rt, rt.alloc(), &VIEW)?;
-    stop_at_each_write(&rt, rt.alloc(), &NO_TEXTS)
+    stop_at_each_write(&rt, rt.alloc(), SETTINGS, &VIEW)?;
+    stop_at_each_write(&rt, rt.alloc(), SETTINGS, &NO_TEXTS)?;
+    stop_at_each_write(&rt, rt.alloc(), FEEDING, &FED)
 }
 
 // A reader and a writer of which a call fails, or a write takes no byte: none is tried again.

@@ -8,6 +8,7 @@ pub mod Excesses
 pub mod Items
 pub mod Literals
 pub mod Maps
+pub mod Names
 pub mod Numbers
 pub mod Registry
 pub mod Sentences

@@ -1,10 +1,10 @@
 -- Runs of the engine: a list of lines, answered one after another.
-use Rattle.std.specs.Prelude.{◌≡◌, ℕ, List, [], ◌∷◌, Result, Ok, Err}
+use Rattle.std.specs.Prelude.{◌≡◌, ℕ, List, [], ◌∷◌, Contains, Some, Result, Ok, Err}
 use Rattle.cy_values.specs.declared.rows.Cell.{Cell}
 use Rattle.cy_engine.specs.declared.faults.Fault.{Fault}
 use Rattle.cy_engine.specs.declared.replies.Reply.{Reply}
 use Rattle.cy_engine.specs.declared.replies.Reply.TheVariants as reply
-use Rattle.cy_engine.specs.Step.{Machine, new_machine, AreEntries, AreRows, Step}
+use Rattle.cy_engine.specs.Step.{Machine, View, new_machine, view_at, AreEntries, AreRows, Step}
 
 -- from old, the lines may be answered so, one step after another, and lead to new
 abbrev pub Run : Machine → List (List ℕ) → List (Result Reply Fault) → Machine → Type 0
@@ -23,6 +23,12 @@ abbrev pub accepted : List (Result Reply Fault) → List (Result Reply Fault)
 accepted [] = []
 accepted (Ok reply ∷ results) = Ok reply ∷ accepted results
 accepted (Err fault ∷ results) = accepted results
+
+-- Views are told apart by their names: after any list of lines, each view is the one that its name finds.
+abbrev pub ViewsHaveNames : Type 0
+ViewsHaveNames =
+    (history : ℕ) (lines : List (List ℕ)) (results : List (Result Reply Fault)) (now : Machine) (view : View)
+    → Run (new_machine history) lines results now → Contains now.state.views view → view_at view.name now.state ≡ Some view
 
 -- The headline, in three parts. After any list of lines, which an empty engine answered, the rows that answer the next
 -- line are, as a bag, exactly what the query of the view means on the current graph.

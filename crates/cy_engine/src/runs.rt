@@ -1,7 +1,7 @@
 //! Runs over lists of lines.
 
 ghost use Rattle.std.specs.Prelude.{◌≡◌, IfErr, IfOk, OnErr, map};
-ghost use Rattle.cy_engine.specs.Run.{Run, RowsAreTheQuerys, EntriesAreTheDifferences, RefusedLinesChangeNothing, RefusedLinesLeaveNoTrace};
+ghost use Rattle.cy_engine.specs.Run.{Run, ViewsHaveNames, RowsAreTheQuerys, EntriesAreTheDifferences, RefusedLinesChangeNothing, RefusedLinesLeaveNoTrace};
 
 use crate::engine::Engine;
 use crate::faults::Fault;
@@ -25,10 +25,11 @@ pub fn answer_all(
     Ok(results)
 }
 
-/// The headline. After any list of lines a view's rows are, as a bag, exactly what its query means on the current graph;
-/// the entries of a line are the exact differences that it made in the rows of views; and a refused line leaves all as it
+/// The headline. After any list of lines each view is found by its name; its rows are, as a bag, exactly what its query
+/// means on the current graph; the entries of a line are the exact differences that it made in the rows of views; and a refused line leaves all as it
 /// was: every run has the answers and the end that it would have without its refused lines.
 pub fn headline()
+    ensures names { ViewsHaveNames }
     ensures rows { RowsAreTheQuerys }
     ensures entries { EntriesAreTheDifferences }
     ensures refused { RefusedLinesChangeNothing }

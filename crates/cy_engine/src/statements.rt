@@ -147,7 +147,7 @@ fn set_nodes(
 {
     for id in ids {
         let stored = stored(alloc, value)?;
-        graph.set_prop(alloc, Entity::Node(id), key.copy(alloc)?, stored)?;
+        graph.set_prop(Entity::Node(id), key.copy(alloc)?, stored)?;
     }
     Ok(())
 }

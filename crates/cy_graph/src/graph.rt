@@ -175,7 +175,6 @@ impl Graph {
     /// Sets the property of an entity at a key, or removes it where no value is given. Fails only for want of memory.
     pub fn set_prop(
         &mut self,
-        alloc: Global,
         entity: Entity,
         key: Text,
         value: Option<Value>,
@@ -190,6 +189,7 @@ impl Graph {
         let Entity::Node(id) = entity else {
             return Ok(());
         };
+        let alloc = *self.nodes.allocator();
         let Some(mut start) = self.change.take() else {
             return Ok(());
         };

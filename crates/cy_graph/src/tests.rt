@@ -92,7 +92,7 @@ fn set(
         Some(number) => Some(Value::Int(number)),
         None => None,
     };
-    Ok(graph.set_prop(alloc, Entity::Node(id), Text::from_str(alloc, key)?, value)?)
+    Ok(graph.set_prop(Entity::Node(id), Text::from_str(alloc, key)?, value)?)
 }
 
 // Removes a node.

@@ -11,11 +11,6 @@ const SETTINGS: Settings = Settings {
     feed: false,
 };
 
-const FEEDING: Settings = Settings {
-    history: 64,
-    feed: true,
-};
-
 // A view and its rows: the lines, and what is written for each.
 const VIEW: [(&[u8], &str); 3] = [
     (
@@ -124,13 +119,21 @@ fn output_after(
 fn move_single_bytes(
     rt: &impl Abort,
     alloc: Global,
-    settings: Settings,
+    feed: bool,
     lines: &[(&[u8], &str)],
 ) -> Result<(), Fail> {
     let input = input_of(alloc, lines)?;
     let mut source = TestSource::new(input.as_slice(), 1, 0);
     let mut sink = TestSink::new(alloc, 1, 0);
-    assert!(rt; run(alloc, &mut source, &mut sink, settings).is_ok());
+    assert!(rt;
+        run(
+            alloc,
+            &mut source,
+            &mut sink,
+            Settings { history: 64, feed }
+        )
+        .is_ok()
+    );
     assert!(rt; sink.written() == output_of(alloc, lines)?.as_bytes());
     Ok(())
 }
@@ -156,7 +159,7 @@ fn stop_at_each_read(rt: &impl Abort, alloc: Global, lines: &[(&[u8], &str)]) ->
 fn stop_at_each_write(
     rt: &impl Abort,
     alloc: Global,
-    settings: Settings,
+    feed: bool,
     lines: &[(&[u8], &str)],
 ) -> Result<(), Fail> {
     let input = input_of(alloc, lines)?;
@@ -168,7 +171,12 @@ fn stop_at_each_write(
             failing = failing.saturating_add(1);
             let mut source = TestSource::new(input.as_slice(), 1, 0);
             let mut sink = TestSink::new(alloc, 1, failing);
-            let outcome = run(alloc, &mut source, &mut sink, settings);
+            let outcome = run(
+                alloc,
+                &mut source,
+                &mut sink,
+                Settings { history: 64, feed },
+            );
             assert!(rt; outcome == Err(RunFault::Write), "call {failing}");
             assert_eq!(rt; sink.calls(), failing, "call {failing}");
             assert_eq!(rt;
@@ -188,9 +196,9 @@ fn stop_at_each_write(
 
 #[test]
 fn moves_single_bytes(rt: HostRuntime) -> Result<(), Fail> {
-    move_single_bytes(&rt, rt.alloc(), SETTINGS, &VIEW)?;
-    move_single_bytes(&rt, rt.alloc(), SETTINGS, &NO_TEXTS)?;
-    move_single_bytes(&rt, rt.alloc(), FEEDING, &FED)
+    move_single_bytes(&rt, rt.alloc(), false, &VIEW)?;
+    move_single_bytes(&rt, rt.alloc(), false, &NO_TEXTS)?;
+    move_single_bytes(&rt, rt.alloc(), true, &FED)
 }
 
 #[test]
@@ -201,9 +209,9 @@ fn stops_at_a_read_that_fails(rt: HostRuntime) -> Result<(), Fail> {
 
 #[test]
 fn stops_at_a_write_that_fails(rt: HostRuntime) -> Result<(), Fail> {
-    stop_at_each_write(&rt, rt.alloc(), SETTINGS, &VIEW)?;
-    stop_at_each_write(&rt, rt.alloc(), SETTINGS, &NO_TEXTS)?;
-    stop_at_each_write(&rt, rt.alloc(), FEEDING, &FED)
+    stop_at_each_write(&rt, rt.alloc(), false, &VIEW)?;
+    stop_at_each_write(&rt, rt.alloc(), false, &NO_TEXTS)?;
+    stop_at_each_write(&rt, rt.alloc(), true, &FED)
 }
 
 // A reader and a writer of which a call fails, or a write takes no byte: none is tried again.

@@ -1,0 +1,12 @@
+//! The trees of statements: a line's tokens become one tree, and a tree becomes text again.
+#![tactic(auto)]
+
+mod building;
+mod clauses;
+mod expressions;
+
+pub use clauses::{
+    Clause, Delete, Direction, Entry, Item, Key, Length, Match, NodePattern, Path, Projection,
+    RelationshipPattern, RemoveItem, SetItem, Statement, Step, Unwind, With,
+};
+pub use expressions::{Arm, BinaryOperator, Comparator, Expr, Link, UnaryOperator, Variable};

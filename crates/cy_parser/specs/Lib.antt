@@ -1,2 +1,5 @@
 pub mod Trees
 pub mod Views
+pub mod Depth
+pub mod Words
+pub mod internal

@@ -3,7 +3,10 @@
 
 mod building;
 mod clauses;
+mod cursor;
 mod expressions;
+mod refusals;
+mod words;
 
 pub use clauses::{
     Clause, Delete, Direction, Entry, Item, Key, Length, Match, NodePattern, Path, Projection,

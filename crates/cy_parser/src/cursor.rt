@@ -1,0 +1,146 @@
+//! The tokens that are left to be read.
+
+ghost use Rattle.cy_parser.specs.declared.refusals.Refusal.TheVariants.{NoMemory};
+ghost use Rattle.std.specs.Prelude.{◌≡◌, ◌≢◌, length, List, Some, None, [], ◌∷◌};
+ghost use Rattle.cy_parser.specs.internal.Reader as reader;
+ghost use Rattle.cy_parser.specs.internal.Reader.{Reads};
+
+use crate::refusals::Refusal;
+use crate::words::{is_name, is_word, text_of};
+use cy_lexer::{Keyword, Kind, Symbol, Token};
+use cy_values::Text;
+use std::alloc::Global;
+use std::marker::Model;
+
+/// A place between the tokens of a line, which a contract sees as the tokens from there on.
+#[derive(Drop)]
+pub(crate) struct Cursor<'a> {
+    left: &'a [Token],
+}
+
+impl<'a> Model for Cursor<'a> {
+    ghost use Rattle.std.specs.Prelude.{List};
+    ghost use Rattle.cy_lexer.specs.declared.tokens.Token.{Token};
+
+    ghost Value = { List Token };
+
+    ghost view = { λ c. c.left.now };
+}
+
+impl<'a> Cursor<'a> {
+    pub(crate) fn new(tokens: &'a [Token]) -> Cursor<'a>
+        ensures { result ≡ tokens.now }
+    {
+        Cursor { left: tokens }
+    }
+
+    /// How many tokens are left.
+    pub(crate) fn count(&self) -> usize
+        ensures { result ≡ length self.now }
+    {
+        self.left.len()
+    }
+
+    /// The kind of the next token.
+    pub(crate) fn peek(&self) -> Option<Kind>
+        ensures { result ≡ reader.kind_ahead self.now }
+    {
+        Some(self.left.first()?.kind)
+    }
+
+    /// Passes the next token.
+    pub(crate) fn skip(&mut self)
+        ensures { self.new ≡ reader.past self.old }
+    {
+        if let Some((_, left)) = self.left.split_first() {
+            self.left = left;
+        }
+    }
+
+    /// Passes the keyword, if it comes next.
+    #[tactic(auto, unfolding(crate::specs::internal::Reader::sees_keyword))]
+    pub(crate) fn eat_keyword(&mut self, keyword: Keyword) -> bool
+        ensures { reader.eat_keyword keyword self.old ≡ Some (result, self.new) }
+    {
+        let is_next = self.peek().is_some_and(|kind| kind == Kind::Keyword(keyword));
+        if is_next {
+            self.skip();
+        }
+        is_next
+    }
+
+    /// Passes the symbol, if it comes next.
+    #[tactic(auto, unfolding(crate::specs::internal::Reader::sees_symbol))]
+    pub(crate) fn eat_symbol(&mut self, symbol: Symbol) -> bool
+        ensures { reader.eat_symbol symbol self.old ≡ Some (result, self.new) }
+    {
+        let is_next = self.peek().is_some_and(|kind| kind == Kind::Symbol(symbol));
+        if is_next {
+            self.skip();
+        }
+        is_next
+    }
+
+    /// Passes the keyword, which has to come next.
+    #[tactic(auto, unfolding(crate::specs::internal::Reader::expect_keyword))]
+    pub(crate) fn expect_keyword(&mut self, keyword: Keyword) -> Result<(), Refusal>
+        ensures { Reads (λ u. u) (reader.expect_keyword keyword self.old) result self.new }
+    {
+        if self.eat_keyword(keyword) {
+            Ok(())
+        } else {
+            Err(self.unexpected())
+        }
+    }
+
+    /// Passes the symbol, which has to come next.
+    #[tactic(auto, unfolding(crate::specs::internal::Reader::expect_symbol))]
+    pub(crate) fn expect_symbol(&mut self, symbol: Symbol) -> Result<(), Refusal>
+        ensures { Reads (λ u. u) (reader.expect_symbol symbol self.old) result self.new }
+    {
+        if self.eat_symbol(symbol) {
+            Ok(())
+        } else {
+            Err(self.unexpected())
+        }
+    }
+
+    /// The refusal of the next token, or of the text's end.
+    pub(crate) fn unexpected(&self) -> Refusal
+        ensures { result ≢ NoMemory }
+    {
+        Refusal::Unexpected(self.count())
+    }
+
+    /// What a name denotes, which has to come next and be no keyword.
+    #[tactic(auto, unfolding(crate::specs::internal::Reader::denoting))]
+    pub(crate) fn name(&mut self, alloc: Global, line: &str) -> Result<Text, Refusal>
+        ensures { Reads (λ t. t) (reader.name line.now self.old) result self.new }
+    {
+        let Some((token, left)) = self.left.split_first() else {
+            return Err(self.unexpected());
+        };
+        if !is_name(token.kind) {
+            return Err(self.unexpected());
+        }
+        let name = text_of(alloc, line, token)?;
+        self.left = left;
+        Ok(name)
+    }
+
+    /// What a name denotes, which has to come next and may be a keyword.
+    #[tactic(auto, unfolding(crate::specs::internal::Reader::denoting))]
+    pub(crate) fn word(&mut self, alloc: Global, line: &str) -> Result<Text, Refusal>
+        ensures { Reads (λ t. t) (reader.word line.now self.old) result self.new }
+    {
+        let Some((token, left)) = self.left.split_first() else {
+            return Err(self.unexpected());
+        };
+        if !is_word(token.kind) {
+            return Err(self.unexpected());
+        }
+        let name = text_of(alloc, line, token)?;
+        self.left = left;
+        Ok(name)
+    }
+}

@@ -1,0 +1,99 @@
+//! What single tokens stand for.
+
+ghost use Rattle.std.specs.Prelude.{◌≡◌, ◌<◌, IfOk, OnErr};
+ghost use Rattle.cy_parser.specs.declared.refusals.Refusal.TheVariants.{NoMemory};
+ghost use Rattle.cy_parser.specs.Words as spec;
+
+use crate::expressions::{BinaryOperator, Comparator};
+use crate::refusals::Refusal;
+use cy_lexer::{Keyword, Kind, Symbol, Token};
+use cy_values::Text;
+use std::alloc::Global;
+
+/// A name that is no keyword.
+pub(crate) fn is_name(kind: Kind) -> bool
+    ensures { result ≡ spec.is_name kind }
+{
+    matches!(kind, Kind::Name | Kind::QuotedName)
+}
+
+/// A name, which may be a keyword.
+pub(crate) fn is_word(kind: Kind) -> bool
+    ensures { result ≡ spec.is_word kind }
+{
+    matches!(kind, Kind::Name | Kind::QuotedName | Kind::Keyword(_))
+}
+
+/// What the token of the line denotes. Fails only for want of memory.
+#[tactic(auto, unfolding(crate::specs::Words::denotes))]
+pub(crate) fn text_of(alloc: Global, line: &str, token: &Token) -> Result<Text, Refusal>
+    ensures value { IfOk result (λ t. t ≡ spec.denotes line.now token.now) }
+    ensures memory { OnErr result (result ≡ Err NoMemory) }
+{
+    match token.denoted(alloc, line) {
+        Ok(string) => Ok(Text::new(string)),
+        Err(_) => Err(Refusal::NoMemory),
+    }
+}
+
+pub(crate) fn disjunction_operator(kind: Kind) -> Option<BinaryOperator>
+    ensures { result ≡ spec.disjunction_operator kind }
+{
+    match kind {
+        Kind::Keyword(Keyword::Or) => Some(BinaryOperator::Or),
+        _ => None,
+    }
+}
+
+pub(crate) fn exclusion_operator(kind: Kind) -> Option<BinaryOperator>
+    ensures { result ≡ spec.exclusion_operator kind }
+{
+    match kind {
+        Kind::Keyword(Keyword::Xor) => Some(BinaryOperator::Xor),
+        _ => None,
+    }
+}
+
+pub(crate) fn conjunction_operator(kind: Kind) -> Option<BinaryOperator>
+    ensures { result ≡ spec.conjunction_operator kind }
+{
+    match kind {
+        Kind::Keyword(Keyword::And) => Some(BinaryOperator::And),
+        _ => None,
+    }
+}
+
+pub(crate) fn comparator_of(kind: Kind) -> Option<Comparator>
+    ensures { result ≡ spec.comparator_of kind }
+{
+    match kind {
+        Kind::Symbol(Symbol::Equal) => Some(Comparator::Equal),
+        Kind::Symbol(Symbol::NotEqual) => Some(Comparator::NotEqual),
+        Kind::Symbol(Symbol::Less) => Some(Comparator::Less),
+        Kind::Symbol(Symbol::LessOrEqual) => Some(Comparator::LessOrEqual),
+        Kind::Symbol(Symbol::Greater) => Some(Comparator::Greater),
+        Kind::Symbol(Symbol::GreaterOrEqual) => Some(Comparator::GreaterOrEqual),
+        _ => None,
+    }
+}
+
+pub(crate) fn sum_operator(kind: Kind) -> Option<BinaryOperator>
+    ensures { result ≡ spec.sum_operator kind }
+{
+    match kind {
+        Kind::Symbol(Symbol::Plus) => Some(BinaryOperator::Add),
+        Kind::Symbol(Symbol::Minus) => Some(BinaryOperator::Subtract),
+        _ => None,
+    }
+}
+
+pub(crate) fn product_operator(kind: Kind) -> Option<BinaryOperator>
+    ensures { result ≡ spec.product_operator kind }
+{
+    match kind {
+        Kind::Symbol(Symbol::Star) => Some(BinaryOperator::Multiply),
+        Kind::Symbol(Symbol::Slash) => Some(BinaryOperator::Divide),
+        Kind::Symbol(Symbol::Percent) => Some(BinaryOperator::Remainder),
+        _ => None,
+    }
+}

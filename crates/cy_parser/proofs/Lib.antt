@@ -1,1 +1,2 @@
 pub mod WithinLemmas
+pub mod ViewsLemmas

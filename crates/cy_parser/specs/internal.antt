@@ -1,1 +1,4 @@
 pub mod Reader
+pub mod Expressions
+pub mod Nests
+pub mod Operands

@@ -1,34 +1,166 @@
-//! Expressions made of their parts. Each fails only for want of memory.
+//! Expressions made of their parts, none too deep. Each fails for that, or for want of memory.
 
-ghost use Rattle.std.specs.Prelude.{◌≡◌, IfOk};
+ghost use Rattle.std.specs.Prelude.{◌≡◌, ◌≢◌, ◌≤◌, suc, MatchResult};
+ghost use Rattle.cy_parser.specs.declared.refusals.Refusal.TheVariants.{NoMemory};
+ghost use Rattle.cy_parser.specs.Depth as spec;
 ghost use Rattle.cy_parser.specs.Trees as tree;
 ghost use Rattle.cy_parser.specs.Views.{expression_of, expressions_of, links_of, arms_of};
+ghost use Rattle.cy_parser.specs.internal.Operands.{otherwise_of};
+ghost use Rattle.cy_parser.specs.internal.Reader.{Reads, checked};
 
-use crate::expressions::{BinaryOperator, Expr, Link, UnaryOperator};
+use crate::cursor::Cursor;
+use crate::expressions::{Arm, BinaryOperator, Expr, Link, UnaryOperator};
+use crate::operands::{Gathered, Operand};
+use crate::refusals::Refusal;
 use cy_values::Text;
-use std::alloc::{AllocError, Global};
+use std::alloc::Global;
 
-pub(crate) fn binary(
-    alloc: Global,
-    operator: BinaryOperator,
-    left: Expr,
-    right: Expr,
-) -> Result<Expr, AllocError>
-    ensures { IfOk result (λ e. expression_of e ≡ tree.binary operator (expression_of left) (expression_of right)) }
+/// The greatest depth that an expression may have (own).
+const GREATEST_DEPTH: usize = 64;
+
+/// The depth of an expression whose deepest part has the depth. Fails where it is too great.
+pub(crate) fn deeper(depth: usize, tokens: &Cursor<'_>) -> Result<usize, Refusal>
+    requires { depth ≤ 64 }
+    ensures { MatchResult result (λ d. (d ≡ suc depth) × (d ≤ 64)) (λ e. (e ≢ NoMemory) × (64 ≤ depth)) }
 {
-    Ok(Expr::Binary(
-        operator,
-        Box::new(alloc, left)?,
-        Box::new(alloc, right)?,
-    ))
+    if depth < GREATEST_DEPTH {
+        Ok(depth + 1)
+    } else {
+        Err(Refusal::TooDeep(tokens.count()))
+    }
 }
 
+/// An expression that has no parts.
+pub(crate) fn leaf(tree: Expr) -> Operand
+    requires { spec.depth (expression_of tree) ≡ 1 }
+    ensures { result.tree ≡ tree }
+{
+    Operand { tree, depth: 1 }
+}
+
+#[tactic(auto, unfolding(crate::specs::internal::Reader::checked))]
+pub(crate) fn unary(
+    alloc: Global,
+    tokens: &Cursor<'_>,
+    operator: UnaryOperator,
+    operand: Operand,
+) -> Result<Operand, Refusal>
+    ensures { Reads (λ o. expression_of o.tree) (checked (tree.unary operator (expression_of operand.tree)) tokens.now) result tokens.now }
+{
+    let depth = deeper(operand.depth, tokens)?;
+    let tree = Expr::Unary(operator, Box::new(alloc, operand.tree)?);
+    Ok(Operand { tree, depth })
+}
+
+#[tactic(auto, unfolding(crate::specs::internal::Reader::checked))]
+pub(crate) fn binary(
+    alloc: Global,
+    tokens: &Cursor<'_>,
+    operator: BinaryOperator,
+    left: Operand,
+    right: Operand,
+) -> Result<Operand, Refusal>
+    ensures { Reads (λ o. expression_of o.tree) (checked (tree.binary operator (expression_of left.tree) (expression_of right.tree)) tokens.now) result tokens.now }
+{
+    let depth = deeper(left.depth.max(right.depth), tokens)?;
+    let left = Box::new(alloc, left.tree)?;
+    let tree = Expr::Binary(operator, left, Box::new(alloc, right.tree)?);
+    Ok(Operand { tree, depth })
+}
+
+#[tactic(auto, unfolding(crate::specs::internal::Reader::checked))]
+pub(crate) fn property(
+    alloc: Global,
+    tokens: &Cursor<'_>,
+    owner: Operand,
+    key: Text,
+) -> Result<Operand, Refusal>
+    ensures { Reads (λ o. expression_of o.tree) (checked (tree.property (expression_of owner.tree) key) tokens.now) result tokens.now }
+{
+    let depth = deeper(owner.depth, tokens)?;
+    let tree = Expr::Property(Box::new(alloc, owner.tree)?, key);
+    Ok(Operand { tree, depth })
+}
+
+#[tactic(auto, unfolding(crate::specs::internal::Reader::checked))]
+pub(crate) fn has_labels(
+    alloc: Global,
+    tokens: &Cursor<'_>,
+    node: Operand,
+    labels: Vec<Text>,
+) -> Result<Operand, Refusal>
+    ensures { Reads (λ o. expression_of o.tree) (checked (tree.has_labels (expression_of node.tree) labels.items) tokens.now) result tokens.now }
+{
+    let depth = deeper(node.depth, tokens)?;
+    let tree = Expr::HasLabels(Box::new(alloc, node.tree)?, labels);
+    Ok(Operand { tree, depth })
+}
+
+#[tactic(auto, unfolding(crate::specs::internal::Reader::checked))]
 pub(crate) fn comparison(
     alloc: Global,
-    first: Expr,
-    links: Vec<Link>,
-) -> Result<Expr, AllocError>
-    ensures { IfOk result (λ e. expression_of e ≡ tree.comparison (expression_of first) (links_of links)) }
+    tokens: &Cursor<'_>,
+    first: Operand,
+    links: Gathered<Link>,
+) -> Result<Operand, Refusal>
+    requires deepest { links.depth ≡ spec.links_depth (links_of links.items) }
+    requires shallow { links.depth ≤ 64 }
+    ensures { Reads (λ o. expression_of o.tree) (checked (tree.comparison (expression_of first.tree) (links_of links.items)) tokens.now) result tokens.now }
 {
-    Ok(Expr::Comparison(Box::new(alloc, first)?, links))
+    let depth = deeper(first.depth.max(links.depth), tokens)?;
+    let tree = Expr::Comparison(Box::new(alloc, first.tree)?, links.items);
+    Ok(Operand { tree, depth })
+}
+
+#[tactic(auto, unfolding(crate::specs::internal::Reader::checked))]
+pub(crate) fn list(tokens: &Cursor<'_>, elements: Gathered<Expr>) -> Result<Operand, Refusal>
+    requires deepest { elements.depth ≡ spec.deepest (expressions_of elements.items) }
+    requires shallow { elements.depth ≤ 64 }
+    ensures { Reads (λ o. expression_of o.tree) (checked (tree.list (expressions_of elements.items)) tokens.now) result tokens.now }
+{
+    let depth = deeper(elements.depth, tokens)?;
+    let tree = Expr::List(elements.items);
+    Ok(Operand { tree, depth })
+}
+
+#[tactic(auto, unfolding(crate::specs::internal::Reader::checked))]
+pub(crate) fn call(
+    tokens: &Cursor<'_>,
+    function: Text,
+    distinct: bool,
+    arguments: Gathered<Expr>,
+) -> Result<Operand, Refusal>
+    requires deepest { arguments.depth ≡ spec.deepest (expressions_of arguments.items) }
+    requires shallow { arguments.depth ≤ 64 }
+    ensures { Reads (λ o. expression_of o.tree) (checked (tree.call function distinct (expressions_of arguments.items)) tokens.now) result tokens.now }
+{
+    let depth = deeper(arguments.depth, tokens)?;
+    let tree = Expr::Call(function, distinct, arguments.items);
+    Ok(Operand { tree, depth })
+}
+
+/// A CASE of its arms and what stands after ELSE.
+#[tactic(auto, using(crate::proofs::ViewsLemmas::case_otherwise), unfolding(crate::specs::internal::Reader::checked))]
+pub(crate) fn case(
+    alloc: Global,
+    tokens: &Cursor<'_>,
+    arms: Gathered<Arm>,
+    otherwise: Option<Operand>,
+) -> Result<Operand, Refusal>
+    requires deepest { arms.depth ≡ spec.arms_depth (arms_of arms.items) }
+    requires shallow { arms.depth ≤ 64 }
+    ensures { Reads (λ o. expression_of o.tree) (checked (tree.case (arms_of arms.items) (otherwise_of otherwise)) tokens.now) result tokens.now }
+{
+    match otherwise {
+        None => {
+            let depth = deeper(arms.depth, tokens)?;
+            let tree = Expr::Case(arms.items, None);
+            Ok(Operand { tree, depth })
+        }
+        Some(last) => {
+            let depth = deeper(arms.depth.max(last.depth), tokens)?;
+            let tree = Expr::Case(arms.items, Some(Box::new(alloc, last.tree)?));
+            Ok(Operand { tree, depth })
+        }
+    }
 }

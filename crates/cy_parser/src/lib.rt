@@ -5,6 +5,8 @@ mod building;
 mod clauses;
 mod cursor;
 mod expressions;
+mod grammar;
+mod operands;
 mod refusals;
 mod words;
 

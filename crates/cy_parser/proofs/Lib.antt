@@ -1,2 +1,4 @@
 pub mod WithinLemmas
 pub mod ViewsLemmas
+pub mod DepthLemmas
+pub mod Turns

@@ -1,15 +1,15 @@
 //! Expressions made of their parts, none too deep. Each fails for that, or for want of memory.
 
-ghost use Rattle.std.specs.Prelude.{◌≡◌, ◌≢◌, ◌≤◌, suc, MatchResult};
+ghost use Rattle.std.specs.Prelude.{◌≡◌, ◌≢◌, ◌≤◌, ◌++◌, ◌∷◌, [], suc, MatchResult, OnOk, IfErr};
 ghost use Rattle.cy_parser.specs.declared.refusals.Refusal.TheVariants.{NoMemory};
 ghost use Rattle.cy_parser.specs.Depth as spec;
 ghost use Rattle.cy_parser.specs.Trees as tree;
 ghost use Rattle.cy_parser.specs.Views.{expression_of, expressions_of, links_of, arms_of};
-ghost use Rattle.cy_parser.specs.internal.Operands.{otherwise_of};
+ghost use Rattle.cy_parser.specs.internal.Operands.{operand_of, otherwise_of, elements_of, arms_in, links_in, AreMeasured, ArmsAreMeasured, LinksAreMeasured};
 ghost use Rattle.cy_parser.specs.internal.Reader.{Reads, checked};
 
 use crate::cursor::Cursor;
-use crate::expressions::{Arm, BinaryOperator, Expr, Link, UnaryOperator};
+use crate::expressions::{Arm, BinaryOperator, Comparator, Expr, Link, UnaryOperator};
 use crate::operands::{Gathered, Operand};
 use crate::refusals::Refusal;
 use cy_values::Text;
@@ -45,7 +45,7 @@ pub(crate) fn unary(
     operator: UnaryOperator,
     operand: Operand,
 ) -> Result<Operand, Refusal>
-    ensures { Reads (λ o. expression_of o.tree) (checked (tree.unary operator (expression_of operand.tree)) tokens.now) result tokens.now }
+    ensures { Reads operand_of (checked (tree.unary operator (expression_of operand.tree)) tokens.now) result tokens.now }
 {
     let depth = deeper(operand.depth, tokens)?;
     let tree = Expr::Unary(operator, Box::new(alloc, operand.tree)?);
@@ -60,7 +60,7 @@ pub(crate) fn binary(
     left: Operand,
     right: Operand,
 ) -> Result<Operand, Refusal>
-    ensures { Reads (λ o. expression_of o.tree) (checked (tree.binary operator (expression_of left.tree) (expression_of right.tree)) tokens.now) result tokens.now }
+    ensures { Reads operand_of (checked (tree.binary operator (expression_of left.tree) (expression_of right.tree)) tokens.now) result tokens.now }
 {
     let depth = deeper(left.depth.max(right.depth), tokens)?;
     let left = Box::new(alloc, left.tree)?;
@@ -75,7 +75,7 @@ pub(crate) fn property(
     owner: Operand,
     key: Text,
 ) -> Result<Operand, Refusal>
-    ensures { Reads (λ o. expression_of o.tree) (checked (tree.property (expression_of owner.tree) key) tokens.now) result tokens.now }
+    ensures { Reads operand_of (checked (tree.property (expression_of owner.tree) key) tokens.now) result tokens.now }
 {
     let depth = deeper(owner.depth, tokens)?;
     let tree = Expr::Property(Box::new(alloc, owner.tree)?, key);
@@ -89,7 +89,7 @@ pub(crate) fn has_labels(
     node: Operand,
     labels: Vec<Text>,
 ) -> Result<Operand, Refusal>
-    ensures { Reads (λ o. expression_of o.tree) (checked (tree.has_labels (expression_of node.tree) labels.items) tokens.now) result tokens.now }
+    ensures { Reads operand_of (checked (tree.has_labels (expression_of node.tree) labels.items) tokens.now) result tokens.now }
 {
     let depth = deeper(node.depth, tokens)?;
     let tree = Expr::HasLabels(Box::new(alloc, node.tree)?, labels);
@@ -103,9 +103,8 @@ pub(crate) fn comparison(
     first: Operand,
     links: Gathered<Link>,
 ) -> Result<Operand, Refusal>
-    requires deepest { links.depth ≡ spec.links_depth (links_of links.items) }
-    requires shallow { links.depth ≤ 64 }
-    ensures { Reads (λ o. expression_of o.tree) (checked (tree.comparison (expression_of first.tree) (links_of links.items)) tokens.now) result tokens.now }
+    requires { LinksAreMeasured links }
+    ensures { Reads operand_of (checked (tree.comparison (expression_of first.tree) (links_of links.items)) tokens.now) result tokens.now }
 {
     let depth = deeper(first.depth.max(links.depth), tokens)?;
     let tree = Expr::Comparison(Box::new(alloc, first.tree)?, links.items);
@@ -114,9 +113,8 @@ pub(crate) fn comparison(
 
 #[tactic(auto, unfolding(crate::specs::internal::Reader::checked))]
 pub(crate) fn list(tokens: &Cursor<'_>, elements: Gathered<Expr>) -> Result<Operand, Refusal>
-    requires deepest { elements.depth ≡ spec.deepest (expressions_of elements.items) }
-    requires shallow { elements.depth ≤ 64 }
-    ensures { Reads (λ o. expression_of o.tree) (checked (tree.list (expressions_of elements.items)) tokens.now) result tokens.now }
+    requires { AreMeasured elements }
+    ensures { Reads operand_of (checked (tree.list (expressions_of elements.items)) tokens.now) result tokens.now }
 {
     let depth = deeper(elements.depth, tokens)?;
     let tree = Expr::List(elements.items);
@@ -130,9 +128,8 @@ pub(crate) fn call(
     distinct: bool,
     arguments: Gathered<Expr>,
 ) -> Result<Operand, Refusal>
-    requires deepest { arguments.depth ≡ spec.deepest (expressions_of arguments.items) }
-    requires shallow { arguments.depth ≤ 64 }
-    ensures { Reads (λ o. expression_of o.tree) (checked (tree.call function distinct (expressions_of arguments.items)) tokens.now) result tokens.now }
+    requires { AreMeasured arguments }
+    ensures { Reads operand_of (checked (tree.call function distinct (expressions_of arguments.items)) tokens.now) result tokens.now }
 {
     let depth = deeper(arguments.depth, tokens)?;
     let tree = Expr::Call(function, distinct, arguments.items);
@@ -147,9 +144,8 @@ pub(crate) fn case(
     arms: Gathered<Arm>,
     otherwise: Option<Operand>,
 ) -> Result<Operand, Refusal>
-    requires deepest { arms.depth ≡ spec.arms_depth (arms_of arms.items) }
-    requires shallow { arms.depth ≤ 64 }
-    ensures { Reads (λ o. expression_of o.tree) (checked (tree.case (arms_of arms.items) (otherwise_of otherwise)) tokens.now) result tokens.now }
+    requires { ArmsAreMeasured arms }
+    ensures { Reads operand_of (checked (tree.case (arms_of arms.items) (otherwise_of otherwise)) tokens.now) result tokens.now }
 {
     match otherwise {
         None => {
@@ -162,5 +158,66 @@ pub(crate) fn case(
             let tree = Expr::Case(arms.items, Some(Box::new(alloc, last.tree)?));
             Ok(Operand { tree, depth })
         }
+    }
+}
+
+impl<T: Drop> Gathered<T> {
+    /// No parts.
+    pub(crate) fn new(alloc: Global) -> Gathered<T>
+        ensures items { result.items.items ≡ [] }
+        ensures depth { result.depth ≡ 0 }
+    {
+        Gathered {
+            items: Vec::new(alloc),
+            depth: 0,
+        }
+    }
+}
+
+impl Gathered<Expr> {
+    /// Puts an element at the end.
+    pub(crate) fn push(&mut self, element: Operand) -> Result<(), Refusal>
+        requires { AreMeasured self.old }
+        ensures added { OnOk result (elements_of self.new ≡ elements_of self.old ++ operand_of element ∷ []) }
+        ensures measured { OnOk result (AreMeasured self.new) }
+        ensures memory { IfErr result (λ e. e ≡ NoMemory) }
+    {
+        self.depth = self.depth.max(element.depth);
+        self.items.push(element.tree)?;
+        Ok(())
+    }
+}
+
+impl Gathered<Arm> {
+    /// Puts an arm at the end.
+    pub(crate) fn push_arm(&mut self, condition: Operand, outcome: Operand) -> Result<(), Refusal>
+        requires { ArmsAreMeasured self.old }
+        ensures added { OnOk result (arms_in self.new ≡ arms_in self.old ++ (operand_of condition, operand_of outcome) ∷ []) }
+        ensures measured { OnOk result (ArmsAreMeasured self.new) }
+        ensures memory { IfErr result (λ e. e ≡ NoMemory) }
+    {
+        self.depth = self.depth.max(condition.depth.max(outcome.depth));
+        self.items.push(Arm {
+            condition: condition.tree,
+            outcome: outcome.tree,
+        })?;
+        Ok(())
+    }
+}
+
+impl Gathered<Link> {
+    /// Puts a comparator and its operand at the end.
+    pub(crate) fn push_link(&mut self, comparator: Comparator, operand: Operand) -> Result<(), Refusal>
+        requires { LinksAreMeasured self.old }
+        ensures added { OnOk result (links_in self.new ≡ links_in self.old ++ (comparator, operand_of operand) ∷ []) }
+        ensures measured { OnOk result (LinksAreMeasured self.new) }
+        ensures memory { IfErr result (λ e. e ≡ NoMemory) }
+    {
+        self.depth = self.depth.max(operand.depth);
+        self.items.push(Link {
+            comparator,
+            operand: operand.tree,
+        })?;
+        Ok(())
     }
 }

@@ -1,28 +1,39 @@
 //! The levels of expressions. What stands inside of one more bracket, list, CASE, NOT or sign is read by a function that
 //! each level is given, so that each is proved by itself.
 
+ghost use Rattle.cy_parser.specs.internal.Operands.{operand_of};
+ghost use Rattle.cy_parser.specs.internal.Reader.{Reads};
+ghost use Rattle.cy_parser.specs.internal.Expressions as spec;
+ghost use Rattle.cy_parser.specs.internal.Nests.{Nests};
+
 use crate::cursor::Cursor;
 use crate::operands::Operand;
+use crate::places::Nested;
 use crate::refusals::Refusal;
 use std::alloc::Global;
-
-/// What may stand inside of one more level.
-#[derive(Clone, Copy, Debug, PartialEq, Eq)]
-pub(crate) enum Nested {
-    /// A whole expression.
-    Whole,
-    /// What stands after NOT.
-    Negation,
-    /// What stands after a sign.
-    Sign,
-}
 
 /// A reader of expressions in a line, and of what stands inside of one more level.
 #[derive(Clone, Copy)]
 pub(crate) struct Grammar<'l, F> {
     pub(crate) alloc: Global,
     pub(crate) line: &'l str,
-    /// How many levels may still be opened, that of `inner` counted.
+    /// How many levels may still be open, that of `inner` counted.
     pub(crate) levels: usize,
     pub(crate) inner: F,
+}
+
+impl<'l, F: Fn(Global, &str, &mut Cursor<'_>, usize, Nested) -> Result<Operand, Refusal>>
+    Grammar<'l, F>
+{
+    /// What stands inside of one more level.
+    pub(crate) fn inside(
+        &self,
+        tokens: &mut Cursor<'_>,
+        place: Nested,
+    ) -> Result<Operand, Refusal>
+        requires { Nests self.now.levels (F.pre self.now.inner) (F.post self.now.inner) }
+        ensures { Reads operand_of (spec.nesting self.now.line.now self.now.levels place tokens.old) result tokens.new }
+    {
+        (self.inner)(self.alloc, self.line, tokens, self.levels, place)
+    }
 }

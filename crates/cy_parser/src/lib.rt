@@ -7,6 +7,8 @@ mod cursor;
 mod expressions;
 mod grammar;
 mod operands;
+mod places;
+mod primary;
 mod refusals;
 mod words;
 

@@ -8,7 +8,7 @@ use crate::expressions::{BinaryOperator, Comparator};
 use crate::refusals::Refusal;
 use cy_lexer::{Keyword, Kind, Symbol, Token};
 use cy_values::Text;
-use std::alloc::Global;
+use std::alloc::{AllocError, Global};
 
 /// A name that is no keyword.
 pub(crate) fn is_name(kind: Kind) -> bool
@@ -96,4 +96,11 @@ pub(crate) fn product_operator(kind: Kind) -> Option<BinaryOperator>
         Kind::Symbol(Symbol::Percent) => Some(BinaryOperator::Remainder),
         _ => None,
     }
+}
+
+/// The text with its ASCII letters in lower case.
+pub(crate) fn lowered(alloc: Global, text: &Text) -> Result<Text, AllocError>
+    ensures { IfOk result (λ t. t ≡ spec.lowered text.now) }
+{
+    Ok(Text::new(text.as_str().to_ascii_lowercase(alloc)?))
 }

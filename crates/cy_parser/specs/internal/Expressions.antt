@@ -9,8 +9,8 @@ use Rattle.cy_parser.specs.declared.expressions.UnaryOperator.TheVariants as una
 use Rattle.cy_parser.specs.declared.expressions.BinaryOperator.{BinaryOperator}
 use Rattle.cy_parser.specs.declared.expressions.BinaryOperator.TheVariants as operator
 use Rattle.cy_parser.specs.declared.expressions.Comparator.{Comparator}
-use Rattle.cy_parser.specs.declared.grammar.Nested.{Nested}
-use Rattle.cy_parser.specs.declared.grammar.Nested.TheVariants as nested
+use Rattle.cy_parser.specs.declared.places.Nested.{Nested}
+use Rattle.cy_parser.specs.declared.places.Nested.TheVariants as nested
 use Rattle.cy_parser.specs.Trees.{Name, Expression, null, boolean, integer, text, variable, property, has_labels, unary, binary, comparison, list, case, call, call_star, Expressions, no_more, more, Links, no_links, link, Arms, no_arms, arm, Otherwise, nothing, otherwise}
 use Rattle.cy_parser.specs.Views.{expressions_from, links_from, arms_from}
 use Rattle.cy_parser.specs.Words.{is_name, lowered, denotes, negated, number_limit, disjunction_operator, exclusion_operator, conjunction_operator, comparator_of, sum_operator, product_operator}

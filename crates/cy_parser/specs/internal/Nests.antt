@@ -6,8 +6,8 @@ use denote.Ref.{MutBor}
 use Rattle.cy_lexer.specs.declared.tokens.Token.{Token}
 use Rattle.cy_parser.specs.declared.operands.Operand.{Operand}
 use Rattle.cy_parser.specs.declared.refusals.Refusal.{Refusal}
-use Rattle.cy_parser.specs.declared.grammar.Nested.{Nested}
-use Rattle.cy_parser.specs.Views.{expression_of}
+use Rattle.cy_parser.specs.declared.places.Nested.{Nested}
+use Rattle.cy_parser.specs.internal.Operands.{operand_of}
 use Rattle.cy_parser.specs.internal.Reader.{Reads}
 use Rattle.cy_parser.specs.internal.Expressions.{nesting}
 
@@ -15,4 +15,4 @@ pub record Nests (levels : ℕ) (pre : Global → Bor (List ℕ) → MutBor (Lis
     (post : Global → Bor (List ℕ) → MutBor (List Token) → ℕ → Nested → Result Operand Refusal → MutBor (List Token) → Type 0) : Type 0 where
   pub callable : (alloc : Global) (line : Bor (List ℕ)) (old : MutBor (List Token)) (place : Nested) → pre alloc line old levels place
   pub reads : (alloc : Global) (line : Bor (List ℕ)) (old new : MutBor (List Token)) (place : Nested) (r : Result Operand Refusal) →
-      post alloc line old levels place r new → Reads (λ o. expression_of o.tree) (nesting line.now levels place old.now) r new.now
+      post alloc line old levels place r new → Reads operand_of (nesting line.now levels place old.now) r new.now

@@ -1,0 +1,170 @@
+//! Literals, lists, CASE, names, calls and brackets, and what stands after them.
+
+ghost use Rattle.std.specs.Prelude.{◌≡◌, ◌∷◌, [], ◌≤◌, map, IfOk, pos};
+ghost use Rattle.cy_parser.specs.Depth.{deepest, arms_depth};
+ghost use Rattle.cy_parser.specs.Views.{expression_of, expressions_of, arm_of, arms_of};
+ghost use Rattle.cy_parser.specs.Words.{negated};
+ghost use Rattle.cy_parser.specs.internal.Expressions as spec;
+ghost use Rattle.cy_parser.specs.internal.Nests.{Nests};
+ghost use Rattle.cy_parser.specs.internal.Operands.{operand_of, otherwise_of, elements_of, arms_in, AreMeasured, ArmsAreMeasured};
+ghost use Rattle.cy_parser.specs.internal.Reader.{Reads};
+
+use crate::building::{call, case, has_labels, leaf, list, property};
+use crate::cursor::Cursor;
+use crate::expressions::{Arm, Expr, Variable};
+use crate::grammar::Grammar;
+use crate::operands::{Gathered, Operand};
+use crate::places::Nested;
+use crate::refusals::Refusal;
+use crate::words::lowered;
+use cy_lexer::{Keyword, Kind, Symbol};
+use cy_values::Text;
+use std::alloc::Global;
+
+/// Names after a `:`, one or more, with a `:` between.
+pub(crate) fn labels(
+    alloc: Global,
+    line: &str,
+    tokens: &mut Cursor<'_>,
+) -> Result<Vec<Text>, Refusal>
+    ensures { Reads (λ ls. ls.items) (spec.labels line.now tokens.old) result tokens.new }
+{
+    let mut found = Vec::new(alloc);
+    for _turn in 0..tokens.count() {
+        found.push(tokens.word(alloc, line)?)?;
+        if !tokens.eat_symbol(Symbol::Colon) {
+            return Ok(found);
+        }
+    }
+    Err(tokens.unexpected())
+}
+
+impl<'l, F: Fn(Global, &str, &mut Cursor<'_>, usize, Nested) -> Result<Operand, Refusal>>
+    Grammar<'l, F>
+{
+    /// Expressions, one or more, with commas between.
+    fn elements(&self, tokens: &mut Cursor<'_>) -> Result<Gathered<Expr>, Refusal>
+        requires { Nests self.now.levels (F.pre self.now.inner) (F.post self.now.inner) }
+        ensures read { Reads elements_of (spec.elements self.now.line.now (spec.nesting self.now.line.now self.now.levels) tokens.old) result tokens.new }
+        ensures measured { IfOk result (λ g. AreMeasured g) }
+    {
+        let mut found = Gathered::<Expr>::new(self.alloc);
+        for _turn in 0..tokens.count() {
+            found.push(self.inside(tokens, Nested::Whole)?)?;
+            if !tokens.eat_symbol(Symbol::Comma) {
+                return Ok(found);
+            }
+        }
+        Err(tokens.unexpected())
+    }
+
+    /// A list, after its `[`.
+    #[tactic(auto, unfolding(crate::specs::internal::Expressions::listed))]
+    fn listed(&self, tokens: &mut Cursor<'_>) -> Result<Operand, Refusal>
+        requires { Nests self.now.levels (F.pre self.now.inner) (F.post self.now.inner) }
+        ensures { Reads operand_of (spec.listed self.now.line.now (spec.nesting self.now.line.now self.now.levels) tokens.old) result tokens.new }
+    {
+        if tokens.eat_symbol(Symbol::RightBracket) {
+            return Ok(leaf(Expr::List(Vec::new(self.alloc))));
+        }
+        let elements = self.elements(tokens)?;
+        tokens.expect_symbol(Symbol::RightBracket)?;
+        list(tokens, elements)
+    }
+
+    /// An expression in brackets, after the opening one.
+    #[tactic(auto, unfolding(crate::specs::internal::Expressions::bracketed))]
+    fn bracketed(&self, tokens: &mut Cursor<'_>) -> Result<Operand, Refusal>
+        requires { Nests self.now.levels (F.pre self.now.inner) (F.post self.now.inner) }
+        ensures { Reads operand_of (spec.bracketed self.now.line.now (spec.nesting self.now.line.now self.now.levels) tokens.old) result tokens.new }
+    {
+        let found = self.inside(tokens, Nested::Whole)?;
+        tokens.expect_symbol(Symbol::RightParenthesis)?;
+        Ok(found)
+    }
+
+    /// The arguments of a call that has no `*`.
+    #[tactic(auto, unfolding(crate::specs::internal::Expressions::arguments))]
+    fn arguments(&self, tokens: &mut Cursor<'_>, function: Text) -> Result<Operand, Refusal>
+        requires { Nests self.now.levels (F.pre self.now.inner) (F.post self.now.inner) }
+        ensures { Reads operand_of (spec.arguments self.now.line.now (spec.nesting self.now.line.now self.now.levels) function tokens.old) result tokens.new }
+    {
+        if tokens.eat_symbol(Symbol::RightParenthesis) {
+            return Ok(leaf(Expr::Call(function, false, Vec::new(self.alloc))));
+        }
+        let distinct = tokens.eat_keyword(Keyword::Distinct);
+        let arguments = self.elements(tokens)?;
+        tokens.expect_symbol(Symbol::RightParenthesis)?;
+        call(tokens, function, distinct, arguments)
+    }
+
+    /// A call, after the function's name and the opening bracket.
+    #[tactic(auto, unfolding(crate::specs::internal::Expressions::called))]
+    fn called(&self, tokens: &mut Cursor<'_>, function: Text) -> Result<Operand, Refusal>
+        requires { Nests self.now.levels (F.pre self.now.inner) (F.post self.now.inner) }
+        ensures { Reads operand_of (spec.called self.now.line.now (spec.nesting self.now.line.now self.now.levels) function tokens.old) result tokens.new }
+    {
+        if !tokens.eat_symbol(Symbol::Star) {
+            return self.arguments(tokens, function);
+        }
+        tokens.expect_symbol(Symbol::RightParenthesis)?;
+        Ok(leaf(Expr::CallStar(function)))
+    }
+
+    /// A variable, or a call.
+    #[tactic(auto, unfolding(crate::specs::internal::Expressions::named))]
+    fn named(&self, tokens: &mut Cursor<'_>) -> Result<Operand, Refusal>
+        requires { Nests self.now.levels (F.pre self.now.inner) (F.post self.now.inner) }
+        ensures { Reads operand_of (spec.named self.now.line.now (spec.nesting self.now.line.now self.now.levels) tokens.old) result tokens.new }
+    {
+        let name = tokens.name(self.alloc, self.line)?;
+        if tokens.eat_symbol(Symbol::LeftParenthesis) {
+            return self.called(tokens, lowered(self.alloc, &name)?);
+        }
+        Ok(leaf(Expr::Variable(Variable { name, column: None })))
+    }
+
+    /// Each WHEN with its THEN, one or more, after the first WHEN.
+    fn arms(&self, tokens: &mut Cursor<'_>) -> Result<Gathered<Arm>, Refusal>
+        requires { Nests self.now.levels (F.pre self.now.inner) (F.post self.now.inner) }
+        ensures read { Reads arms_in (spec.arms self.now.line.now (spec.nesting self.now.line.now self.now.levels) tokens.old) result tokens.new }
+        ensures measured { IfOk result (λ g. ArmsAreMeasured g) }
+    {
+        let mut found = Gathered::<Arm>::new(self.alloc);
+        for _turn in 0..tokens.count() {
+            let condition = self.inside(tokens, Nested::Whole)?;
+            tokens.expect_keyword(Keyword::Then)?;
+            found.push_arm(condition, self.inside(tokens, Nested::Whole)?)?;
+            if !tokens.eat_keyword(Keyword::When) {
+                return Ok(found);
+            }
+        }
+        Err(tokens.unexpected())
+    }
+
+    /// What stands after ELSE, if that comes next.
+    #[tactic(auto, unfolding(crate::specs::internal::Expressions::else_read))]
+    fn otherwise(&self, tokens: &mut Cursor<'_>) -> Result<Option<Operand>, Refusal>
+        requires { Nests self.now.levels (F.pre self.now.inner) (F.post self.now.inner) }
+        ensures { Reads otherwise_of (spec.else_read self.now.line.now (spec.nesting self.now.line.now self.now.levels) tokens.old) result tokens.new }
+    {
+        if tokens.eat_keyword(Keyword::Else) {
+            Ok(Some(self.inside(tokens, Nested::Whole)?))
+        } else {
+            Ok(None)
+        }
+    }
+
+    /// A CASE, after that word.
+    #[tactic(auto, unfolding(crate::specs::internal::Expressions::cases))]
+    fn cases(&self, tokens: &mut Cursor<'_>) -> Result<Operand, Refusal>
+        requires { Nests self.now.levels (F.pre self.now.inner) (F.post self.now.inner) }
+        ensures { Reads operand_of (spec.cases self.now.line.now (spec.nesting self.now.line.now self.now.levels) tokens.old) result tokens.new }
+    {
+        tokens.expect_keyword(Keyword::When)?;
+        let arms = self.arms(tokens)?;
+        let otherwise = self.otherwise(tokens)?;
+        tokens.expect_keyword(Keyword::End)?;
+        case(self.alloc, tokens, arms, otherwise)
+    }
+}

@@ -1,7 +1,9 @@
 //! The tokens that are left to be read.
 
 ghost use Rattle.cy_parser.specs.declared.refusals.Refusal.TheVariants.{NoMemory};
-ghost use Rattle.std.specs.Prelude.{◌≡◌, ◌≢◌, length, List, Some, None, [], ◌∷◌};
+ghost use Rattle.std.specs.Prelude.{◌≡◌, ◌≢◌, ◌<◌, ◌≤◌, pos, MatchResult, length, List, Some, None, [], ◌∷◌};
+ghost use Rattle.cy_parser.specs.Words.{number_limit};
+ghost use Rattle.cy_parser.specs.internal.Expressions as spec;
 ghost use Rattle.cy_parser.specs.internal.Reader as reader;
 ghost use Rattle.cy_parser.specs.internal.Reader.{Reads};
 
@@ -142,5 +144,29 @@ impl<'a> Cursor<'a> {
         let name = text_of(alloc, line, token)?;
         self.left = left;
         Ok(name)
+    }
+
+    /// The number as an integer, if one holds it.
+    #[tactic(auto, unfolding(crate::specs::internal::Expressions::counted))]
+    pub(crate) fn integer(&self, number: u64) -> Result<i64, Refusal>
+        ensures { MatchResult result (λ n. (number < number_limit) × (n ≡ pos number)) (λ e. (e ≢ NoMemory) × (number_limit ≤ number)) }
+    {
+        match i64::try_from(number) {
+            Ok(integer) => Ok(integer),
+            Err(_) => Err(Refusal::NumberTooLarge(self.count())),
+        }
+    }
+
+    /// What a text denotes, which comes next.
+    #[tactic(auto, unfolding(crate::specs::internal::Expressions::quoted))]
+    pub(crate) fn quoted(&mut self, alloc: Global, line: &str) -> Result<Text, Refusal>
+        ensures { Reads (λ t. t) (spec.quoted line.now self.old) result self.new }
+    {
+        let Some((token, left)) = self.left.split_first() else {
+            return Err(self.unexpected());
+        };
+        let text = text_of(alloc, line, token)?;
+        self.left = left;
+        Ok(text)
     }
 }

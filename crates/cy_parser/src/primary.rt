@@ -167,4 +167,99 @@ impl<'l, F: Fn(Global, &str, &mut Cursor<'_>, usize, Nested) -> Result<Operand, 
         tokens.expect_keyword(Keyword::End)?;
         case(self.alloc, tokens, arms, otherwise)
     }
+
+    /// The properties after the owner: a `.` and a key for each.
+    fn properties(
+        &self,
+        tokens: &mut Cursor<'_>,
+        mut owner: Operand,
+    ) -> Result<Operand, Refusal>
+        ensures { Reads operand_of (spec.properties self.now.line.now (operand_of owner) tokens.old) result tokens.new }
+    {
+        for _turn in 0..tokens.count() {
+            if !tokens.eat_symbol(Symbol::Dot) {
+                return Ok(owner);
+            }
+            let key = tokens.word(self.alloc, self.line)?;
+            owner = property(self.alloc, tokens, owner, key)?;
+        }
+        Ok(owner)
+    }
+
+    /// The test for labels after the node, if one comes next.
+    #[tactic(auto, unfolding(crate::specs::internal::Expressions::labelled))]
+    fn labelled(&self, tokens: &mut Cursor<'_>, node: Operand) -> Result<Operand, Refusal>
+        ensures { Reads operand_of (spec.labelled self.now.line.now (operand_of node) tokens.old) result tokens.new }
+    {
+        if !tokens.eat_symbol(Symbol::Colon) {
+            return Ok(node);
+        }
+        let labels = labels(self.alloc, self.line, tokens)?;
+        has_labels(self.alloc, tokens, node, labels)
+    }
+
+    /// What may stand after a name, a call and a bracket.
+    #[tactic(auto, unfolding(crate::specs::internal::Expressions::attributes))]
+    fn attributes(&self, tokens: &mut Cursor<'_>, owner: Operand) -> Result<Operand, Refusal>
+        ensures { Reads operand_of (spec.attributes self.now.line.now (operand_of owner) tokens.old) result tokens.new }
+    {
+        let owner = self.properties(tokens, owner)?;
+        self.labelled(tokens, owner)
+    }
+
+    /// What stands without an operator: a literal, a list, a CASE, or a name, call or bracket with what follows it.
+    #[tactic(auto, unfolding(crate::specs::internal::Expressions::postfix))]
+    pub(crate) fn postfix(&self, tokens: &mut Cursor<'_>) -> Result<Operand, Refusal>
+        requires { Nests self.now.levels (F.pre self.now.inner) (F.post self.now.inner) }
+        ensures { Reads operand_of (spec.postfix self.now.line.now (spec.nesting self.now.line.now self.now.levels) tokens.old) result tokens.new }
+    {
+        match tokens.peek() {
+            Some(Kind::Name | Kind::QuotedName) => {
+                let owner = self.named(tokens)?;
+                self.attributes(tokens, owner)
+            }
+            Some(Kind::Symbol(Symbol::LeftParenthesis)) => {
+                tokens.skip();
+                let owner = self.bracketed(tokens)?;
+                self.attributes(tokens, owner)
+            }
+            Some(Kind::Symbol(Symbol::LeftBracket)) => {
+                tokens.skip();
+                self.listed(tokens)
+            }
+            Some(Kind::Keyword(Keyword::Case)) => {
+                tokens.skip();
+                self.cases(tokens)
+            }
+            _ => literal(self.alloc, self.line, tokens),
+        }
+    }
+}
+
+/// A literal that has no `-` before it.
+#[tactic(auto, unfolding(crate::specs::internal::Expressions::literal, crate::specs::internal::Expressions::counted))]
+fn literal(alloc: Global, line: &str, tokens: &mut Cursor<'_>) -> Result<Operand, Refusal>
+    ensures { Reads operand_of (spec.literal line.now tokens.old) result tokens.new }
+{
+    match tokens.peek() {
+        Some(Kind::Keyword(Keyword::True)) => {
+            tokens.skip();
+            Ok(leaf(Expr::Boolean(true)))
+        }
+        Some(Kind::Keyword(Keyword::False)) => {
+            tokens.skip();
+            Ok(leaf(Expr::Boolean(false)))
+        }
+        Some(Kind::Keyword(Keyword::Null)) => {
+            tokens.skip();
+            Ok(leaf(Expr::Null))
+        }
+        Some(Kind::Number(number)) => {
+            let integer = tokens.integer(number)?;
+            tokens.skip();
+            Ok(leaf(Expr::Integer(integer)))
+        }
+        Some(Kind::Text) => Ok(leaf(Expr::Text(tokens.quoted(alloc, line)?))),
+        _ => Err(tokens.unexpected()),
+    }
 }

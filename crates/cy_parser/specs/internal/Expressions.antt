@@ -28,6 +28,51 @@ module _ (line : List ℕ) where
   unfoldable pub labels : Reader (List Name)
   labels = λ ts. labels_from (length ts) [] ts
 
+  -- the properties after an owner
+  unfoldable pub properties_from : ℕ → Expression → Reader Expression
+  properties_from zero e = pure e
+  properties_from (suc n) e = do
+    is_there ← eat_symbol sign.Dot
+    if is_there then (do
+      key ← any_word line
+      further ← checked (property e key)
+      properties_from n further) else pure e
+
+  unfoldable pub properties : Expression → Reader Expression
+  properties e = λ ts. properties_from (length ts) e ts
+
+  unfoldable pub labelled : Expression → Reader Expression
+  labelled e = do
+    is_there ← eat_symbol sign.Colon
+    if is_there then (do
+      found ← labels
+      checked (has_labels e found)) else pure e
+
+  -- what may stand after a name, a call and a bracket
+  unfoldable pub attributes : Expression → Reader Expression
+  attributes e = properties e >>= labelled
+
+  -- a number that an integer holds
+  unfoldable pub counted : ℕ → Reader Expression
+  counted n = if nat_lt n number_limit then pure (integer (pos n)) else refuse
+
+  -- a text, which was seen
+  unfoldable pub quoted : Reader Name
+  quoted [] = None
+  quoted (t ∷ ts) = Some (denotes line t, ts)
+
+  abbrev pub literal_by : Option Kind → Reader Expression
+  literal_by (Some (kind.Keyword word.True)) = skip >> pure (boolean true)
+  literal_by (Some (kind.Keyword word.False)) = skip >> pure (boolean false)
+  literal_by (Some (kind.Keyword word.Null)) = skip >> pure null
+  literal_by (Some (kind.Number n)) = skip >> counted n
+  literal_by (Some kind.Text) = text <$> quoted
+  literal_by _ = refuse
+
+  -- a literal that has no `-` before it
+  unfoldable pub literal : Reader Expression
+  literal = peek >>= literal_by
+
   -- `inner` reads what stands inside of one more level
   module _ (inner : Nested → Reader Expression) where
     abbrev pub whole : Reader Expression
@@ -108,47 +153,13 @@ module _ (line : List ℕ) where
       expect_keyword word.End
       checked (case (arms_from found) last)
 
-    unfoldable pub properties_from : ℕ → Expression → Reader Expression
-    properties_from zero e = refuse
-    properties_from (suc n) e = do
-      is_there ← eat_symbol sign.Dot
-      if is_there then (do
-        key ← any_word line
-        further ← checked (property e key)
-        properties_from n further) else pure e
-
-    unfoldable pub labelled : Expression → Reader Expression
-    labelled e = do
-      is_there ← eat_symbol sign.Colon
-      if is_there then (do
-        found ← labels
-        checked (has_labels e found)) else pure e
-
-    -- what may stand after a name, a call and a bracket
-    unfoldable pub attributes : Expression → Reader Expression
-    attributes e = (λ ts. properties_from (suc (length ts)) e ts) >>= labelled
-
-    -- a number, which was taken
-    unfoldable pub counted : ℕ → Reader Expression
-    counted n = if nat_lt n number_limit then pure (integer (pos n)) else refuse
-
-    unfoldable pub quoted : Reader Expression
-    quoted [] = None
-    quoted (t ∷ ts) = Some (text (denotes line t), ts)
-
     abbrev pub postfix_by : Option Kind → Reader Expression
-    postfix_by None = refuse
     postfix_by (Some kind.Name) = named >>= attributes
     postfix_by (Some kind.QuotedName) = named >>= attributes
     postfix_by (Some (kind.Symbol sign.LeftParenthesis)) = skip >> (bracketed >>= attributes)
     postfix_by (Some (kind.Symbol sign.LeftBracket)) = skip >> listed
     postfix_by (Some (kind.Keyword word.Case)) = skip >> cases
-    postfix_by (Some (kind.Keyword word.True)) = skip >> pure (boolean true)
-    postfix_by (Some (kind.Keyword word.False)) = skip >> pure (boolean false)
-    postfix_by (Some (kind.Keyword word.Null)) = skip >> pure null
-    postfix_by (Some (kind.Number n)) = skip >> counted n
-    postfix_by (Some kind.Text) = quoted
-    postfix_by (Some _) = refuse
+    postfix_by _ = literal
 
     unfoldable pub postfix : Reader Expression
     postfix = peek >>= postfix_by

@@ -2,3 +2,4 @@ pub mod Reader
 pub mod Expressions
 pub mod Nests
 pub mod Operands
+pub mod Clauses

@@ -2,7 +2,7 @@
 
 ghost use Rattle.cy_parser.specs.declared.refusals.Refusal.TheVariants.{NoMemory};
 ghost use Rattle.std.specs.Prelude.{◌≡◌, ◌≢◌, ◌<◌, ◌≤◌, pos, MatchResult, length, List, Some, None, [], ◌∷◌};
-ghost use Rattle.cy_parser.specs.Words.{number_limit};
+ghost use Rattle.cy_parser.specs.Words.{number_limit, negated};
 ghost use Rattle.cy_parser.specs.internal.Expressions as spec;
 ghost use Rattle.cy_parser.specs.internal.Reader as reader;
 ghost use Rattle.cy_parser.specs.internal.Reader.{Reads};
@@ -13,6 +13,9 @@ use cy_lexer::{Keyword, Kind, Symbol, Token};
 use cy_values::Text;
 use std::alloc::Global;
 use std::marker::Model;
+
+/// The first number that no literal without a `-` stands for.
+const NUMBER_LIMIT: u64 = 9223372036854775808;
 
 /// A place between the tokens of a line, which a contract sees as the tokens from there on.
 #[derive(Drop)]
@@ -153,6 +156,17 @@ impl<'a> Cursor<'a> {
     {
         match i64::try_from(number) {
             Ok(integer) => Ok(integer),
+            Err(_) => Err(Refusal::NumberTooLarge(self.count())),
+        }
+    }
+
+    /// The integer that the number after a `-` makes, if one holds it.
+    pub(crate) fn negated(&self, number: u64) -> Result<i64, Refusal>
+        ensures { MatchResult result (λ n. (number ≤ number_limit) × (n ≡ negated number)) (λ e. (e ≢ NoMemory) × (number_limit < number)) }
+    {
+        match i64::try_from(number) {
+            Ok(integer) => Ok(-integer),
+            Err(_) if number == NUMBER_LIMIT => Ok(i64::MIN),
             Err(_) => Err(Refusal::NumberTooLarge(self.count())),
         }
     }

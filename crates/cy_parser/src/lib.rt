@@ -6,10 +6,14 @@ mod clauses;
 mod cursor;
 mod expressions;
 mod grammar;
+mod levels;
+mod nesting;
 mod operands;
+mod order;
 mod places;
 mod primary;
 mod refusals;
+mod stages;
 mod words;
 
 pub use clauses::{

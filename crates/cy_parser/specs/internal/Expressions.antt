@@ -1,5 +1,5 @@
 -- How expressions are read, level by level. Each level answers one tree, and there is no way back.
-use Rattle.std.specs.Prelude.{ℕ, zero, suc, ℤ, pos, ◌+◌, Bool, true, false, if◌then◌else◌, nat_lt, List, [], ◌∷◌, ◌++◌, length, Option, Some, None}
+use Rattle.std.specs.Prelude.{ℕ, zero, suc, ℤ, pos, ◌+◌, Bool, true, false, if◌then◌else◌, nat_lt, nat_le, List, [], ◌∷◌, ◌++◌, length, Option, Some, None}
 use Rattle.cy_lexer.specs.declared.tokens.Kind.{Kind}
 use Rattle.cy_lexer.specs.declared.tokens.Kind.TheVariants as kind
 use Rattle.cy_lexer.specs.declared.tokens.Token.{Token}
@@ -15,6 +15,34 @@ use Rattle.cy_parser.specs.Trees.{Name, Expression, null, boolean, integer, text
 use Rattle.cy_parser.specs.Views.{expressions_from, links_from, arms_from}
 use Rattle.cy_parser.specs.Words.{is_name, lowered, denotes, negated, number_limit, disjunction_operator, exclusion_operator, conjunction_operator, comparator_of, sum_operator, product_operator}
 use Rattle.cy_parser.specs.internal.Reader.{Reader, ◌>>=◌, ◌>>◌, ◌<$>◌, pure, refuse, peek, skip, at_kind, eat_keyword, eat_symbol, expect_keyword, expect_symbol, name, word as any_word, checked}
+
+-- after IS
+unfoldable pub null_test : Expression → Reader Expression
+null_test left = do
+  is_not ← eat_keyword word.Not
+  expect_keyword word.Null
+  checked (unary (if is_not then unary_operator.IsNotNull else unary_operator.IsNull) left)
+
+abbrev pub begins_predicate : Option Kind → Bool
+begins_predicate (Some (kind.Keyword word.Is)) = true
+begins_predicate (Some (kind.Keyword word.In)) = true
+begins_predicate (Some (kind.Keyword word.Contains)) = true
+begins_predicate (Some (kind.Keyword word.Starts)) = true
+begins_predicate (Some (kind.Keyword word.Ends)) = true
+begins_predicate _ = false
+
+-- operands with operators between, grouped to the left
+unfoldable pub chain_from : (Kind → Option BinaryOperator) → Reader Expression → ℕ → Expression → Reader Expression
+chain_from operators operand zero left = pure left
+chain_from operators operand (suc n) left = do
+  next ← peek
+  elim (at_kind operators next) [
+    | None ↦ pure left
+    | Some found ↦ skip >> (operand >>= (λ right. checked (binary found left right)) >>= chain_from operators operand n)
+  ]
+
+abbrev pub chain : (Kind → Option BinaryOperator) → Reader Expression → Reader Expression
+chain operators operand = operand >>= (λ left ts. chain_from operators operand (length ts) left ts)
 
 module _ (line : List ℕ) where
   -- names with a `:` before each, one or more, after the first `:`
@@ -166,7 +194,7 @@ module _ (line : List ℕ) where
 
     -- after a `-`
     abbrev pub minus_by : Option Kind → Reader Expression
-    minus_by (Some (kind.Number n)) = skip >> pure (integer (negated n))
+    minus_by (Some (kind.Number n)) = if nat_le n number_limit then skip >> pure (integer (negated n)) else refuse
     minus_by _ = inner nested.Sign >>= (λ e. checked (unary unary_operator.Minus e))
 
     unfoldable pub minus : Reader Expression
@@ -182,42 +210,14 @@ module _ (line : List ℕ) where
         is_plus ← eat_symbol sign.Plus
         if is_plus then plus else postfix)
 
-    -- operands with operators between, grouped to the left
-    unfoldable pub chain_from : (Kind → Option BinaryOperator) → Reader Expression → ℕ → Expression → Reader Expression
-    chain_from operators operand zero left = pure left
-    chain_from operators operand (suc n) left = do
-      next ← peek
-      elim (at_kind operators next) [
-        | None ↦ pure left
-        | Some found ↦ skip >> (operand >>= (λ right. checked (binary found left right)) >>= chain_from operators operand n)
-      ]
-
-    abbrev pub chain : (Kind → Option BinaryOperator) → Reader Expression → Reader Expression
-    chain operators operand = operand >>= (λ left ts. chain_from operators operand (length ts) left ts)
-
     unfoldable pub product : Reader Expression
     product = chain product_operator signed
 
     unfoldable pub sum : Reader Expression
     sum = chain sum_operator product
 
-    -- after IS
-    unfoldable pub null_test : Expression → Reader Expression
-    null_test left = do
-      is_not ← eat_keyword word.Not
-      expect_keyword word.Null
-      checked (unary (if is_not then unary_operator.IsNotNull else unary_operator.IsNull) left)
-
     unfoldable pub tested : BinaryOperator → Expression → Reader Expression
     tested found left = sum >>= (λ right. checked (binary found left right))
-
-    abbrev pub begins_predicate : Option Kind → Bool
-    begins_predicate (Some (kind.Keyword word.Is)) = true
-    begins_predicate (Some (kind.Keyword word.In)) = true
-    begins_predicate (Some (kind.Keyword word.Contains)) = true
-    begins_predicate (Some (kind.Keyword word.Starts)) = true
-    begins_predicate (Some (kind.Keyword word.Ends)) = true
-    begins_predicate _ = false
 
     -- the predicate that the next token begins
     abbrev pub predicate_by : Expression → Option Kind → Reader Expression
@@ -253,11 +253,14 @@ module _ (line : List ℕ) where
     compared first [] = pure first
     compared first (l ∷ ls) = checked (comparison first (links_from (l ∷ ls)))
 
+    unfoldable pub links : Reader (List (Comparator × Expression))
+    links = λ ts. links_read (length ts) [] ts
+
     unfoldable pub comparisons : Reader Expression
     comparisons = do
       first ← predicate
-      links ← (λ ts. links_read (length ts) [] ts)
-      compared first links
+      found ← links
+      compared first found
 
     unfoldable pub negation : Reader Expression
     negation = do

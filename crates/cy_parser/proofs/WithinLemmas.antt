@@ -4,7 +4,7 @@ use Rattle.std.proofs.lemmas.Bool.Decides.{nat_tests}
 use Rattle.cy_lexer.specs.declared.tokens.Token.{Token}
 use Rattle.cy_lexer.specs.Spans.{IsSpanOf, slice_of}
 use Rattle.cy_lexer.specs.Tokens.{denoted}
-use Rattle.cy_parser.specs.Words.{is_boundary, is_within, denotes}
+use Rattle.cy_parser.specs.Words.{is_boundary, is_within, denotes, slice_in}
 
 pub boundary-true : (line : List ℕ) (at : ℕ) → is_boundary line at ≡ true → IsCharBoundary line at
 boundary-true line at e = grind (arith, nat_tests)
@@ -36,3 +36,9 @@ pub denoted-denotes : (line : List ℕ) (t : Token) (found : List ℕ) (b : Bool
 unfolding denotes
 denoted-denotes line t found true e value elsewhere = rw e (value (span-within line t e))
 denoted-denotes line t found false e value elsewhere = rw e (elsewhere (not-span line t e))
+
+pub sliced : (line : List ℕ) (t : Token) (found : List ℕ) (b : Bool) → is_within line t ≡ b →
+    (IsSpanOf line t → found ≡ slice_of line t) → (¬ (IsSpanOf line t) → found ≡ []) → found ≡ slice_in line t
+unfolding slice_in
+sliced line t found true e within elsewhere = rw e (within (span-within line t e))
+sliced line t found false e within elsewhere = rw e (elsewhere (not-span line t e))

@@ -1,5 +1,5 @@
 -- What single tokens of a line stand for. The line is its bytes.
-use Rattle.std.specs.Prelude.{ℕ, zero, suc, ℤ, pos, negsuc, Bool, true, false, not, ◌&&◌, ◌||◌, if◌then◌else◌, nat_lt, nat_le, List, [], length, map, slice_index, Option, Some, None, chars, encode_utf8_all}
+use Rattle.std.specs.Prelude.{ℕ, zero, suc, ℤ, pos, negsuc, Bool, true, false, not, ◌&&◌, ◌||◌, if◌then◌else◌, nat_lt, nat_le, ◌-◌, List, [], length, map, slice_index, slice_get, Option, Some, None, chars, encode_utf8_all}
 use Rattle.std.specs.Char.{to_ascii_lowercase}
 use Rattle.cy_lexer.specs.declared.tokens.Kind.{Kind}
 use Rattle.cy_lexer.specs.declared.tokens.Kind.TheVariants as kind
@@ -83,3 +83,15 @@ product_operator (kind.Symbol sign.Star) = Some operator.Multiply
 product_operator (kind.Symbol sign.Slash) = Some operator.Divide
 product_operator (kind.Symbol sign.Percent) = Some operator.Remainder
 product_operator _ = None
+
+-- the text of a token as it stands in the line; nothing, where it has no place in the line
+unfoldable pub slice_in : List ℕ → Token → Name
+slice_in line t = if is_within line t then slice_of line t else []
+
+abbrev pub spanning : List ℕ → Option Token → Option Token → Name
+spanning line (Some first) (Some last) = slice_in line (record { kind = first.kind; start = first.start; end = last.end })
+spanning line _ _ = []
+
+-- the text of the line from the first of the tokens to the last one
+abbrev pub written : List ℕ → List Token → Name
+written line own = spanning line (slice_get own 0) (slice_get own (length own - 1))

@@ -46,6 +46,13 @@ impl<'a> Cursor<'a> {
         self.left.len()
     }
 
+    /// The tokens that are left.
+    pub(crate) fn rest(&self) -> &'a [Token]
+        ensures { result.now ≡ self.now }
+    {
+        self.left
+    }
+
     /// The kind of the next token.
     pub(crate) fn peek(&self) -> Option<Kind>
         ensures { result ≡ reader.kind_ahead self.now }

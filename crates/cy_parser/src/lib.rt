@@ -6,14 +6,20 @@ mod clauses;
 mod cursor;
 mod expressions;
 mod grammar;
+mod lengths;
 mod levels;
 mod nesting;
 mod operands;
 mod order;
+mod patterns;
 mod places;
 mod primary;
+mod projections;
 mod refusals;
+mod source;
 mod stages;
+mod statements;
+mod updates;
 mod words;
 
 pub use clauses::{

@@ -12,7 +12,7 @@ use crate::refusals::Refusal;
 use std::alloc::Global;
 
 /// An expression with so many levels, its own counted, open at most.
-fn nesting(
+pub(crate) fn nesting(
     alloc: Global,
     line: &str,
     tokens: &mut Cursor<'_>,

@@ -39,3 +39,11 @@ impl<T: Drop> From<AllocFailed<T>> for Refusal {
         Refusal::NoMemory
     }
 }
+
+impl From<Fault> for Refusal {
+    ghost from_gives = { λ _ refusal. refusal ≡ NoMemory };
+
+    fn from(_fault: Fault) -> Refusal {
+        Refusal::NoMemory
+    }
+}

@@ -104,3 +104,10 @@ pub(crate) fn lowered(alloc: Global, text: &Text) -> Result<Text, AllocError>
 {
     Ok(Text::new(text.as_str().to_ascii_lowercase(alloc)?))
 }
+
+/// The text of the token as it stands in the line; nothing, where it has no place in it.
+pub(crate) fn slice_in<'a>(line: &'a str, token: &Token) -> &'a str
+    ensures { result.now ≡ spec.slice_in line.now token.now }
+{
+    token.slice(line)
+}

@@ -3,9 +3,9 @@ use Rattle.std.specs.Prelude.{ℕ, zero, suc, Bool, true, false, not, ◌&&◌, 
 use Rattle.cy_lexer.specs.declared.tokens.Kind.{Kind}
 use Rattle.cy_lexer.specs.declared.tokens.Kind.TheVariants as kind
 use Rattle.cy_lexer.specs.declared.tokens.Token.{Token}
+use Rattle.cy_lexer.specs.declared.keywords.Keyword.{Keyword}
 use Rattle.cy_lexer.specs.declared.keywords.Keyword.TheVariants as word
 use Rattle.cy_lexer.specs.declared.symbols.Symbol.TheVariants as sign
-use Rattle.cy_lexer.specs.Spans.{slice_of}
 use Rattle.cy_parser.specs.declared.expressions.Variable.{Variable}
 use Rattle.cy_parser.specs.declared.clauses.Direction.{Direction}
 use Rattle.cy_parser.specs.declared.clauses.Direction.TheVariants as direction
@@ -15,7 +15,7 @@ use Rattle.cy_parser.specs.declared.stages.Opening.TheVariants as opening
 use Rattle.cy_parser.specs.declared.stages.Stage.{Stage}
 use Rattle.cy_parser.specs.declared.stages.Stage.TheVariants as stage
 use Rattle.cy_parser.specs.Trees.{Name, Expression, variable, Entry, NodePattern, RelationshipPattern, Step, Path, Item, Key, Projection, SetItem, set_property, set_labels, RemoveItem, remove_property, remove_labels, Clause, «match», unwind, «with», «return», create, set, remove, delete, Statement}
-use Rattle.cy_parser.specs.Words.{is_name, is_within, number_limit}
+use Rattle.cy_parser.specs.Words.{number_limit, written}
 use Rattle.cy_parser.specs.internal.Reader.{Reader, ◌>>=◌, ◌>>◌, ◌<$>◌, pure, refuse, peek, skip, past, kind_ahead, at_kind, sees_symbol, eat_keyword, eat_symbol, expect_keyword, expect_symbol, name, word as any_word}
 use Rattle.cy_parser.specs.internal.Expressions.{labels, expression}
 
@@ -27,8 +27,11 @@ separated_from item (suc n) found = do
   goes_on ← eat_symbol sign.Comma
   if goes_on then separated_from item n (found ++ x ∷ []) else pure (found ++ x ∷ [])
 
-unfoldable pub separated : {A : Type 0} → Reader A → Reader (List A)
+abbrev pub separated : {A : Type 0} → Reader A → Reader (List A)
 separated item = λ ts. separated_from item (length ts) [] ts
+
+abbrev pub Tokens : Type 0
+Tokens = List Token
 
 abbrev pub named_variable : Name → Variable
 named_variable n = record { name = n; column = None }
@@ -42,6 +45,19 @@ number_by _ = pure None
 -- a number, if one comes next
 unfoldable pub number_if_any : Reader (Option ℕ)
 number_if_any = peek >>= number_by
+
+-- a number, which has to come next
+abbrev pub count_by : Option Kind → Reader ℕ
+count_by (Some (kind.Number n)) = if nat_lt n number_limit then skip >> pure n else refuse
+count_by _ = refuse
+
+unfoldable pub count : Reader ℕ
+count = peek >>= count_by
+
+unfoldable pub number_after : Keyword → Reader (Option ℕ)
+number_after k = do
+  is_there ← eat_keyword k
+  if is_there then Some <$> count else pure None
 
 -- the greatest bound of a length (own)
 abbrev pub greatest_bound : ℕ
@@ -123,15 +139,43 @@ direction_of true false = direction.Left
 direction_of false true = direction.Right
 direction_of false false = direction.Either
 
+-- the end of the tokens, which a `;` may stand before
+abbrev pub nothing_left : Reader (Unit {0})
+nothing_left [] = Some (tt, [])
+nothing_left (t ∷ ts) = None
+
+unfoldable pub end_read : Stage → Reader (Unit {0})
+end_read s = if may_end s then (eat_symbol sign.Semicolon >> nothing_left) else refuse
+
+-- whether a key's order falls
+abbrev pub descends : Option Kind → Reader Bool
+descends (Some (kind.Keyword word.Asc)) = skip >> pure false
+descends (Some (kind.Keyword word.Ascending)) = skip >> pure false
+descends (Some (kind.Keyword word.Desc)) = skip >> pure true
+descends (Some (kind.Keyword word.Descending)) = skip >> pure true
+descends _ = pure false
+
+unfoldable pub is_descending : Reader Bool
+is_descending = peek >>= descends
+
+-- a relationship begins with the token
+abbrev pub begins_step : Option Kind → Bool
+begins_step (Some (kind.Symbol sign.Less)) = true
+begins_step (Some (kind.Symbol sign.Minus)) = true
+begins_step _ = false
+
 module _ (line : List ℕ) where
   abbrev pub whole : Reader Expression
   whole = expression line
 
+  abbrev pub variable_read : Reader Variable
+  variable_read = named_variable <$> name line
+
   -- ---- patterns
 
   abbrev pub variable_by : Option Kind → Reader (Option Variable)
-  variable_by (Some kind.Name) = (λ n. Some (named_variable n)) <$> name line
-  variable_by (Some kind.QuotedName) = (λ n. Some (named_variable n)) <$> name line
+  variable_by (Some kind.Name) = Some <$> variable_read
+  variable_by (Some kind.QuotedName) = Some <$> variable_read
   variable_by _ = pure None
 
   unfoldable pub variable_if_any : Reader (Option Variable)
@@ -218,12 +262,16 @@ module _ (line : List ℕ) where
     is_right ← eat_symbol sign.Greater
     pure (record r { direction = direction_of is_left is_right })
 
+  unfoldable pub step : Reader Step
+  step = do
+    r ← relationship
+    (λ to. record { relationship = r; node = to }) <$> node
+
   unfoldable pub steps_from : ℕ → List Step → Reader (List Step)
   steps_from zero found = pure found
-  steps_from (suc n) found = λ ts.
-      if sees_symbol sign.Less ts || sees_symbol sign.Minus ts then
-        (relationship >>= (λ r. node >>= (λ to. steps_from n (found ++ record { relationship = r; node = to } ∷ [])))) ts
-      else Some (found, ts)
+  steps_from (suc n) found = do
+    next ← peek
+    if begins_step next then (step >>= (λ s. steps_from n (found ++ s ∷ []))) else pure found
 
   unfoldable pub steps : Reader (List Step)
   steps = λ ts. steps_from (length ts) [] ts
@@ -238,43 +286,22 @@ module _ (line : List ℕ) where
 
   -- ---- projections
 
-  -- the text from the first of the tokens to where the second list begins
-  abbrev pub spanned : Token → List Token → Name
-  spanned first [] = []
-  spanned first (last ∷ []) =
-      let t = record first { end = last.end } in if is_within line t then slice_of line t else []
-  spanned first (t ∷ ts) = spanned first ts
-
-  abbrev pub written : List Token → List Token → Name
-  written [] after = []
-  written (t ∷ ts) after = spanned t (take (length (t ∷ ts) - length after) (t ∷ ts))
-
-  -- the column of an item without AS
-  abbrev pub column_of : Expression → List Token → List Token → Name
-  column_of (variable v) before after = v.name
-  column_of _ before after = written before after
+  -- the column of an item without AS, which these tokens spell
+  abbrev pub column_of : Expression → List Token → Name
+  column_of (variable v) own = v.name
+  column_of _ own = written line own
 
   unfoldable pub column : Expression → List Token → Reader Item
   column e before = λ after. (do
     is_named ← eat_keyword word.As
     if is_named then (λ c. record { expression = e; column = c; named = true }) <$> name line
-      else pure (record { expression = e; column = column_of e before after; named = false })) after
+      else pure (record { expression = e; column = column_of e (take (length before - length after) before); named = false })) after
 
   unfoldable pub item : Reader Item
   item = λ ts. (whole >>= (λ e. column e ts)) ts
 
   unfoldable pub items : Reader (List Item)
   items = separated item
-
-  abbrev pub descends : Option Kind → Reader Bool
-  descends (Some (kind.Keyword word.Asc)) = skip >> pure false
-  descends (Some (kind.Keyword word.Ascending)) = skip >> pure false
-  descends (Some (kind.Keyword word.Desc)) = skip >> pure true
-  descends (Some (kind.Keyword word.Descending)) = skip >> pure true
-  descends _ = pure false
-
-  unfoldable pub is_descending : Reader Bool
-  is_descending = peek >>= descends
 
   unfoldable pub key : Reader Key
   key = do
@@ -289,30 +316,13 @@ module _ (line : List ℕ) where
     is_there ← eat_keyword word.Order
     if is_there then expect_keyword word.By >> keys else pure []
 
-  abbrev pub count_by : Option Kind → Reader ℕ
-  count_by (Some (kind.Number n)) = if nat_lt n number_limit then skip >> pure n else refuse
-  count_by _ = refuse
-
-  unfoldable pub count : Reader ℕ
-  count = peek >>= count_by
-
-  unfoldable pub skip_if_any : Reader (Option ℕ)
-  skip_if_any = do
-    is_there ← eat_keyword word.Skip
-    if is_there then Some <$> count else pure None
-
-  unfoldable pub limit_if_any : Reader (Option ℕ)
-  limit_if_any = do
-    is_there ← eat_keyword word.Limit
-    if is_there then Some <$> count else pure None
-
   unfoldable pub projection : Reader Projection
   projection = do
     distinct ← eat_keyword word.Distinct
     is ← items
     ks ← keys_if_any
-    skipped ← skip_if_any
-    most ← limit_if_any
+    skipped ← number_after word.Skip
+    most ← number_after word.Limit
     pure (record { distinct = distinct; items = is; order = ks; skip = skipped; limit = most })
 
   unfoldable pub filter_if_any : Reader (Option Expression)
@@ -331,25 +341,24 @@ module _ (line : List ℕ) where
 
   unfoldable pub set_item : Reader SetItem
   set_item = do
-    n ← name line
+    v ← variable_read
     is_property ← eat_symbol sign.Dot
-    if is_property then assignment (named_variable n) else (expect_symbol sign.Colon >> set_labels (named_variable n) <$> labels line)
+    if is_property then assignment v else (expect_symbol sign.Colon >> set_labels v <$> labels line)
 
   unfoldable pub set_items : Reader (List SetItem)
   set_items = separated set_item
 
   unfoldable pub remove_item : Reader RemoveItem
   remove_item = do
-    n ← name line
+    v ← variable_read
     is_property ← eat_symbol sign.Dot
-    if is_property then remove_property (named_variable n) <$> any_word line
-      else (expect_symbol sign.Colon >> remove_labels (named_variable n) <$> labels line)
+    if is_property then remove_property v <$> any_word line else (expect_symbol sign.Colon >> remove_labels v <$> labels line)
 
   unfoldable pub remove_items : Reader (List RemoveItem)
   remove_items = separated remove_item
 
   unfoldable pub variables : Reader (List Variable)
-  variables = separated (named_variable <$> name line)
+  variables = separated variable_read
 
   -- ---- clauses, each after its first keyword
 
@@ -362,7 +371,7 @@ module _ (line : List ℕ) where
   unwind_read = do
     e ← whole
     expect_keyword word.As
-    (λ n. unwind e (named_variable n)) <$> name line
+    unwind e <$> variable_read
 
   unfoldable pub with_read : Reader Clause
   with_read = do
@@ -384,13 +393,9 @@ module _ (line : List ℕ) where
   clause_by opening.Delete = delete_read false
   clause_by opening.Detach = expect_keyword word.Delete >> delete_read true
 
-  -- the end of the tokens, which a `;` may stand before
-  abbrev pub nothing_left : Reader (Unit {0})
-  nothing_left [] = Some (tt, [])
-  nothing_left (t ∷ ts) = None
-
-  unfoldable pub end_read : Stage → Reader (Unit {0})
-  end_read s = if may_end s then (eat_symbol sign.Semicolon >> nothing_left) else refuse
+  -- the clause that the next token begins, if it may stand here
+  unfoldable pub clause_in : Stage → Opening → Reader Clause
+  clause_in s o = if allows s o then skip >> clause_by o else refuse
 
   unfoldable pub clauses_from : ℕ → Stage → List Clause → Reader (List Clause)
   clauses_from zero s found = end_read s >> pure found
@@ -398,8 +403,11 @@ module _ (line : List ℕ) where
     next ← peek
     elim (at_kind opening_of next) [
       | None ↦ end_read s >> pure found
-      | Some o ↦ if allows s o then skip >> (clause_by o >>= (λ c. clauses_from n (stage_after o) (found ++ c ∷ []))) else refuse
+      | Some o ↦ clause_in s o >>= (λ c. clauses_from n (stage_after o) (found ++ c ∷ []))
     ]
 
+  unfoldable pub clauses : Reader (List Clause)
+  clauses = λ ts. clauses_from (length ts) stage.Reading [] ts
+
   unfoldable pub statement : Reader Statement
-  statement = λ ts. ((λ cs. record { clauses = cs }) <$> clauses_from (length ts) stage.Reading []) ts
+  statement = (λ cs. record { clauses = cs }) <$> clauses

@@ -1,0 +1,7 @@
+use Rattle.std.proofs.Common.{◌≡◌, ◌-◌, map}
+use Rattle.cy_parser.specs.Views.{path_of}
+use Rattle.cy_parser.specs.internal.Clauses.{path, paths, separated_from}
+use Rattle.cy_parser.proofs.source.Source.paths.Given as goal
+
+abbrev pub invariant-loop-turn : goal.invariant-loop-turn
+invariant-loop-turn l = paths l.self.line.now l.fn.tokens ≡ separated_from (path l.self.line.now) (l._turn-end - l._turn) (map path_of l.found.items) l.tokens

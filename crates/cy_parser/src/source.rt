@@ -1,0 +1,47 @@
+//! The line that tokens are read from.
+
+ghost use Rattle.std.specs.Prelude.{◌≡◌};
+ghost use Rattle.cy_parser.specs.Views.{expression_of};
+ghost use Rattle.cy_parser.specs.internal.Clauses as clauses;
+ghost use Rattle.cy_parser.specs.internal.Expressions as spec;
+ghost use Rattle.cy_parser.specs.internal.Operands.{operand_of};
+ghost use Rattle.cy_parser.specs.internal.Reader.{Reads};
+
+use crate::cursor::Cursor;
+use crate::expressions::{Expr, Variable};
+use crate::nesting::nesting;
+use crate::places::Nested;
+use crate::refusals::Refusal;
+use std::alloc::Global;
+
+/// How many levels may be open in an expression at one place, and one for the expression itself (own).
+const MOST_LEVELS: usize = 257;
+
+/// A line, and where its trees take their memory from.
+#[derive(Clone, Copy)]
+pub(crate) struct Source<'l> {
+    pub(crate) alloc: Global,
+    pub(crate) line: &'l str,
+}
+
+impl<'l> Source<'l> {
+    /// A whole expression. One that is too deep is refused at its first token.
+    pub(crate) fn expression(&self, tokens: &mut Cursor<'_>) -> Result<Expr, Refusal>
+        ensures { Reads expression_of (spec.expression self.now.line.now tokens.old) result tokens.new }
+    {
+        let first = tokens.count();
+        match nesting(self.alloc, self.line, tokens, MOST_LEVELS, Nested::Whole) {
+            Ok(found) => Ok(found.tree),
+            Err(Refusal::TooDeep(_)) => Err(Refusal::TooDeep(first)),
+            Err(refusal) => Err(refusal),
+        }
+    }
+
+    /// A variable.
+    pub(crate) fn variable(&self, tokens: &mut Cursor<'_>) -> Result<Variable, Refusal>
+        ensures { Reads (λ v. v) (clauses.variable_read self.now.line.now tokens.old) result tokens.new }
+    {
+        let name = tokens.name(self.alloc, self.line)?;
+        Ok(Variable { name, column: None })
+    }
+}

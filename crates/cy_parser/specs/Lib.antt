@@ -1,5 +1,6 @@
 pub mod Trees
 pub mod Views
+pub mod Faults
 pub mod Depth
 pub mod Words
 pub mod internal

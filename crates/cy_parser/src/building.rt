@@ -207,7 +207,11 @@ impl Gathered<Arm> {
 
 impl Gathered<Link> {
     /// Puts a comparator and its operand at the end.
-    pub(crate) fn push_link(&mut self, comparator: Comparator, operand: Operand) -> Result<(), Refusal>
+    pub(crate) fn push_link(
+        &mut self,
+        comparator: Comparator,
+        operand: Operand,
+    ) -> Result<(), Refusal>
         requires { LinksAreMeasured self.old }
         ensures added { OnOk result (links_in self.new ≡ links_in self.old ++ (comparator, operand_of operand) ∷ []) }
         ensures measured { OnOk result (LinksAreMeasured self.new) }

@@ -74,7 +74,9 @@ impl<'a> Cursor<'a> {
     pub(crate) fn eat_keyword(&mut self, keyword: Keyword) -> bool
         ensures { reader.eat_keyword keyword self.old ≡ Some (result, self.new) }
     {
-        let is_next = self.peek().is_some_and(|kind| kind == Kind::Keyword(keyword));
+        let is_next = self
+            .peek()
+            .is_some_and(|kind| kind == Kind::Keyword(keyword));
         if is_next {
             self.skip();
         }

@@ -22,15 +22,12 @@ pub(crate) struct Grammar<'l, F> {
     pub(crate) inner: F,
 }
 
-impl<'l, F: Fn(Global, &str, &mut Cursor<'_>, usize, Nested) -> Result<Operand, Refusal>>
-    Grammar<'l, F>
-{
+impl<'l, F: Fn(Global, &str, &mut Cursor<'_>, usize, Nested) -> Result<Operand, Refusal>> Grammar<
+    'l,
+    F,
+> {
     /// What stands inside of one more level.
-    pub(crate) fn inside(
-        &self,
-        tokens: &mut Cursor<'_>,
-        place: Nested,
-    ) -> Result<Operand, Refusal>
+    pub(crate) fn inside(&self, tokens: &mut Cursor<'_>, place: Nested) -> Result<Operand, Refusal>
         requires { Nests self.now.levels (F.pre self.now.inner) (F.post self.now.inner) }
         ensures { Reads operand_of (spec.nesting self.now.line.now self.now.levels place tokens.old) result tokens.new }
     {

@@ -20,9 +20,10 @@ use crate::words::{
 use cy_lexer::{Keyword, Kind, Symbol};
 use std::alloc::Global;
 
-impl<'l, F: Fn(Global, &str, &mut Cursor<'_>, usize, Nested) -> Result<Operand, Refusal>>
-    Grammar<'l, F>
-{
+impl<'l, F: Fn(Global, &str, &mut Cursor<'_>, usize, Nested) -> Result<Operand, Refusal>> Grammar<
+    'l,
+    F,
+> {
     /// What stands after a sign `-`, which directly before a number makes a literal of it.
     #[tactic(auto, unfolding(crate::specs::internal::Expressions::minus))]
     fn minus(&self, tokens: &mut Cursor<'_>) -> Result<Operand, Refusal>
@@ -119,11 +120,7 @@ impl<'l, F: Fn(Global, &str, &mut Cursor<'_>, usize, Nested) -> Result<Operand, 
 
     /// The predicate that the next token begins.
     #[tactic(auto, unfolding(crate::specs::internal::Expressions::predicate_step))]
-    fn predicate_step(
-        &self,
-        tokens: &mut Cursor<'_>,
-        left: Operand,
-    ) -> Result<Operand, Refusal>
+    fn predicate_step(&self, tokens: &mut Cursor<'_>, left: Operand) -> Result<Operand, Refusal>
         requires { Nests self.now.levels (F.pre self.now.inner) (F.post self.now.inner) }
         ensures { Reads operand_of (spec.predicate_step self.now.line.now (spec.nesting self.now.line.now self.now.levels) (operand_of left) tokens.old) result tokens.new }
     {

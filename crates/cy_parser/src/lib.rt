@@ -5,12 +5,14 @@ mod building;
 mod clauses;
 mod cursor;
 mod expressions;
+mod faults;
 mod grammar;
 mod lengths;
 mod levels;
 mod nesting;
 mod operands;
 mod order;
+mod parsing;
 mod patterns;
 mod places;
 mod primary;
@@ -27,3 +29,5 @@ pub use clauses::{
     RelationshipPattern, RemoveItem, SetItem, Statement, Step, Unwind, With,
 };
 pub use expressions::{Arm, BinaryOperator, Comparator, Expr, Link, UnaryOperator, Variable};
+pub use faults::ParseFault;
+pub use parsing::parse;

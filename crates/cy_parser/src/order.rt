@@ -33,7 +33,10 @@ impl Stage {
         match self {
             Stage::Reading => true,
             Stage::Updating => {
-                !matches!(opening, Opening::Match | Opening::Optional | Opening::Unwind)
+                !matches!(
+                    opening,
+                    Opening::Match | Opening::Optional | Opening::Unwind
+                )
             }
             Stage::Ended => false,
         }

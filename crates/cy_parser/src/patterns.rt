@@ -5,9 +5,7 @@ ghost use Rattle.cy_parser.specs.Views.{expression_of, entry_of, properties_of, 
 ghost use Rattle.cy_parser.specs.internal.Clauses as spec;
 ghost use Rattle.cy_parser.specs.internal.Reader.{Reads};
 
-use crate::clauses::{
-    Direction, Entry, Length, NodePattern, Path, RelationshipPattern, Step,
-};
+use crate::clauses::{Direction, Entry, Length, NodePattern, Path, RelationshipPattern, Step};
 use crate::cursor::Cursor;
 use crate::expressions::Variable;
 use crate::primary::labels;
@@ -170,10 +168,7 @@ impl<'l> Source<'l> {
 
     /// The square brackets of a relationship, if they come next.
     #[tactic(auto, unfolding(crate::specs::internal::Clauses::relationship_if_any))]
-    fn relationship_if_any(
-        &self,
-        tokens: &mut Cursor<'_>,
-    ) -> Result<RelationshipPattern, Refusal>
+    fn relationship_if_any(&self, tokens: &mut Cursor<'_>) -> Result<RelationshipPattern, Refusal>
         ensures { Reads relationship_of (spec.relationship_if_any self.now.line.now tokens.old) result tokens.new }
     {
         if tokens.eat_symbol(Symbol::LeftBracket) {

@@ -39,9 +39,10 @@ pub(crate) fn labels(
     Err(tokens.unexpected())
 }
 
-impl<'l, F: Fn(Global, &str, &mut Cursor<'_>, usize, Nested) -> Result<Operand, Refusal>>
-    Grammar<'l, F>
-{
+impl<'l, F: Fn(Global, &str, &mut Cursor<'_>, usize, Nested) -> Result<Operand, Refusal>> Grammar<
+    'l,
+    F,
+> {
     /// Expressions, one or more, with commas between.
     fn elements(&self, tokens: &mut Cursor<'_>) -> Result<Gathered<Expr>, Refusal>
         requires { Nests self.now.levels (F.pre self.now.inner) (F.post self.now.inner) }
@@ -169,11 +170,7 @@ impl<'l, F: Fn(Global, &str, &mut Cursor<'_>, usize, Nested) -> Result<Operand, 
     }
 
     /// The properties after the owner: a `.` and a key for each.
-    fn properties(
-        &self,
-        tokens: &mut Cursor<'_>,
-        mut owner: Operand,
-    ) -> Result<Operand, Refusal>
+    fn properties(&self, tokens: &mut Cursor<'_>, mut owner: Operand) -> Result<Operand, Refusal>
         ensures { Reads operand_of (spec.properties self.now.line.now (operand_of owner) tokens.old) result tokens.new }
     {
         for _turn in 0..tokens.count() {

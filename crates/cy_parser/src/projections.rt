@@ -53,12 +53,7 @@ impl<'l> Source<'l> {
     }
 
     /// The column of an item without AS: a variable's name, or the expression as it is written.
-    fn column_of(
-        &self,
-        expression: &Expr,
-        before: &[Token],
-        after: usize,
-    ) -> Result<Text, Refusal>
+    fn column_of(&self, expression: &Expr, before: &[Token], after: usize) -> Result<Text, Refusal>
         ensures value { IfOk result (λ t. t ≡ spec.column_of self.now.line.now (expression_of expression.now) (take (length before.now - after) before.now)) }
         ensures memory { IfErr result (λ e. e ≡ NoMemory) }
     {

@@ -16,11 +16,7 @@ use cy_lexer::Symbol;
 impl<'l> Source<'l> {
     /// A property and its value, after the variable and the `.`.
     #[tactic(auto, unfolding(crate::specs::internal::Clauses::assignment))]
-    fn assignment(
-        &self,
-        tokens: &mut Cursor<'_>,
-        variable: Variable,
-    ) -> Result<SetItem, Refusal>
+    fn assignment(&self, tokens: &mut Cursor<'_>, variable: Variable) -> Result<SetItem, Refusal>
         ensures { Reads set_item_of (spec.assignment self.now.line.now variable tokens.old) result tokens.new }
     {
         let key = tokens.word(self.alloc, self.line)?;

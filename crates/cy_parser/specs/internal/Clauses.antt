@@ -295,7 +295,7 @@ module _ (line : List ℕ) where
   column e before = λ after. (do
     is_named ← eat_keyword word.As
     if is_named then (λ c. record { expression = e; column = c; named = true }) <$> name line
-      else pure (record { expression = e; column = column_of e (take (length before - length after) before); named = false })) after
+        else pure (record { expression = e; column = column_of e (take (length before - length after) before); named = false })) after
 
   unfoldable pub item : Reader Item
   item = λ ts. (whole >>= (λ e. column e ts)) ts

@@ -1,0 +1,54 @@
+//! A statement from the tokens of a line.
+
+ghost use Rattle.std.specs.Prelude.{◌≡◌, ◌≢◌, ◌≤◌, length, Some, None, IfOk, IfErr, MatchResult};
+ghost use Rattle.cy_parser.specs.declared.faults.ParseFault.TheVariants.{NoMemory};
+ghost use Rattle.cy_parser.specs.Faults.{PointsAtPlace, IsPlace};
+ghost use Rattle.cy_parser.specs.Views.{statement_of};
+ghost use Rattle.cy_parser.specs.internal.Clauses as spec;
+
+use crate::clauses::Statement;
+use crate::cursor::Cursor;
+use crate::faults::ParseFault;
+use crate::refusals::Refusal;
+use crate::source::Source;
+use cy_lexer::Token;
+use std::alloc::Global;
+
+/// Where the token begins that so many are left from, or the length of the line.
+fn offset_of(tokens: &[Token], line: &str, left: usize) -> usize
+    ensures { IsPlace tokens.now (length line.now) result }
+{
+    match tokens.get(tokens.len().saturating_sub(left)) {
+        Some(token) => token.start,
+        None => line.len(),
+    }
+}
+
+/// The fault that the refusal becomes.
+fn fault_of(tokens: &[Token], line: &str, refusal: Refusal) -> ParseFault
+    ensures { PointsAtPlace tokens.now (length line.now) result }
+{
+    let place = |left| offset_of(tokens, line, left);
+    match refusal {
+        Refusal::NumberTooLarge(left) => ParseFault::NumberTooLarge(place(left)),
+        Refusal::Unexpected(left) => ParseFault::Unexpected(place(left)),
+        Refusal::TooDeep(left) => ParseFault::TooDeep(place(left)),
+        Refusal::ClauseOrder(left) => ParseFault::ClauseOrder(place(left)),
+        Refusal::BadRange(left) => ParseFault::BadRange(place(left)),
+        Refusal::NoMemory => ParseFault::NoMemory,
+    }
+}
+
+/// The statement that the tokens of a line spell.
+pub fn parse(alloc: Global, tokens: &[Token], line: &str) -> Result<Statement, ParseFault>
+    ensures places { IfErr result (λ fault. PointsAtPlace tokens.now (length line.now) fault) }
+{
+    let source = Source { alloc, line };
+    if tokens.is_empty() {
+        return Err(ParseFault::Unexpected(line.len()));
+    }
+    match source.statement(&mut Cursor::new(tokens)) {
+        Ok(statement) => Ok(statement),
+        Err(refusal) => Err(fault_of(tokens, line, refusal)),
+    }
+}

@@ -159,7 +159,7 @@ impl<'a> Cursor<'a> {
     }
 
     /// The number as an integer, if one holds it.
-    #[tactic(auto, unfolding(crate::specs::internal::Expressions::counted))]
+    #[tactic(auto, unfolding(crate::specs::internal::Reader::and_then, crate::specs::internal::Expressions::counted))]
     pub(crate) fn integer(&self, number: u64) -> Result<i64, Refusal>
         ensures { MatchResult result (λ n. (number < number_limit) × (n ≡ pos number)) (λ e. (e ≢ NoMemory) × (number_limit ≤ number)) }
     {
@@ -181,7 +181,7 @@ impl<'a> Cursor<'a> {
     }
 
     /// What a text denotes, which comes next.
-    #[tactic(auto, unfolding(crate::specs::internal::Expressions::quoted))]
+    #[tactic(auto, unfolding(crate::specs::internal::Reader::and_then, crate::specs::internal::Expressions::quoted))]
     pub(crate) fn quoted(&mut self, alloc: Global, line: &str) -> Result<Text, Refusal>
         ensures { Reads (λ t. t) (spec.quoted line.now self.old) result self.new }
     {

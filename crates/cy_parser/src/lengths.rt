@@ -14,7 +14,7 @@ const NUMBER_LIMIT: u64 = 9223372036854775808;
 
 impl<'a> Cursor<'a> {
     /// A number, if one comes next.
-    #[tactic(auto, unfolding(crate::specs::internal::Clauses::number_if_any))]
+    #[tactic(auto, unfolding(crate::specs::internal::Reader::and_then, crate::specs::internal::Clauses::number_if_any))]
     pub(crate) fn number_if_any(&mut self) -> Result<Option<u64>, Refusal>
         ensures { Reads (λ n. n) (spec.number_if_any self.old) result self.new }
     {
@@ -29,7 +29,7 @@ impl<'a> Cursor<'a> {
     }
 
     /// A number, which has to come next.
-    #[tactic(auto, unfolding(crate::specs::internal::Clauses::count))]
+    #[tactic(auto, unfolding(crate::specs::internal::Reader::and_then, crate::specs::internal::Clauses::count))]
     pub(crate) fn number(&mut self) -> Result<u64, Refusal>
         ensures { Reads (λ n. n) (spec.count self.old) result self.new }
     {
@@ -44,7 +44,7 @@ impl<'a> Cursor<'a> {
     }
 
     /// The number after the keyword, if that comes next.
-    #[tactic(auto, unfolding(crate::specs::internal::Clauses::number_after))]
+    #[tactic(auto, unfolding(crate::specs::internal::Reader::and_then, crate::specs::internal::Clauses::number_after))]
     pub(crate) fn number_after(&mut self, keyword: Keyword) -> Result<Option<u64>, Refusal>
         ensures { Reads (λ n. n) (spec.number_after keyword self.old) result self.new }
     {
@@ -56,7 +56,7 @@ impl<'a> Cursor<'a> {
     }
 
     /// The bounds of a length, after its `*`. Bad ones are refused at the last that is written.
-    #[tactic(auto, unfolding(crate::specs::internal::Clauses::bounds))]
+    #[tactic(auto, unfolding(crate::specs::internal::Reader::and_then, crate::specs::internal::Clauses::bounds))]
     fn bounds(&mut self) -> Result<Length, Refusal>
         ensures { Reads (λ l. l) (spec.bounds self.old) result self.new }
     {
@@ -77,7 +77,7 @@ impl<'a> Cursor<'a> {
     }
 
     /// A length, if a `*` comes next.
-    #[tactic(auto, unfolding(crate::specs::internal::Clauses::length_if_any))]
+    #[tactic(auto, unfolding(crate::specs::internal::Reader::and_then, crate::specs::internal::Clauses::length_if_any))]
     pub(crate) fn length_if_any(&mut self) -> Result<Option<Length>, Refusal>
         ensures { Reads (λ l. l) (spec.length_if_any self.old) result self.new }
     {

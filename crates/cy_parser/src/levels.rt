@@ -25,7 +25,7 @@ impl<'l, F: Fn(Global, &str, &mut Cursor<'_>, usize, Nested) -> Result<Operand, 
     F,
 > {
     /// What stands after a sign `-`, which directly before a number makes a literal of it.
-    #[tactic(auto, unfolding(crate::specs::internal::Expressions::minus))]
+    #[tactic(auto, unfolding(crate::specs::internal::Reader::and_then, crate::specs::internal::Expressions::minus))]
     fn minus(&self, tokens: &mut Cursor<'_>) -> Result<Operand, Refusal>
         requires { Nests self.now.levels (F.pre self.now.inner) (F.post self.now.inner) }
         ensures { Reads operand_of (spec.minus self.now.line.now (spec.nesting self.now.line.now self.now.levels) tokens.old) result tokens.new }
@@ -40,7 +40,7 @@ impl<'l, F: Fn(Global, &str, &mut Cursor<'_>, usize, Nested) -> Result<Operand, 
     }
 
     /// Signs, and what they stand before.
-    #[tactic(auto, unfolding(crate::specs::internal::Expressions::signed, crate::specs::internal::Expressions::plus))]
+    #[tactic(auto, unfolding(crate::specs::internal::Reader::and_then, crate::specs::internal::Expressions::signed, crate::specs::internal::Expressions::plus))]
     pub(crate) fn signed(&self, tokens: &mut Cursor<'_>) -> Result<Operand, Refusal>
         requires { Nests self.now.levels (F.pre self.now.inner) (F.post self.now.inner) }
         ensures { Reads operand_of (spec.signed self.now.line.now (spec.nesting self.now.line.now self.now.levels) tokens.old) result tokens.new }
@@ -90,7 +90,7 @@ impl<'l, F: Fn(Global, &str, &mut Cursor<'_>, usize, Nested) -> Result<Operand, 
     }
 
     /// A test for null, after IS.
-    #[tactic(auto, unfolding(crate::specs::internal::Expressions::null_test))]
+    #[tactic(auto, unfolding(crate::specs::internal::Reader::and_then, crate::specs::internal::Expressions::null_test))]
     fn null_test(&self, tokens: &mut Cursor<'_>, left: Operand) -> Result<Operand, Refusal>
         ensures { Reads operand_of (spec.null_test (operand_of left) tokens.old) result tokens.new }
     {
@@ -104,7 +104,7 @@ impl<'l, F: Fn(Global, &str, &mut Cursor<'_>, usize, Nested) -> Result<Operand, 
     }
 
     /// A predicate's right side, after its words.
-    #[tactic(auto, unfolding(crate::specs::internal::Expressions::tested))]
+    #[tactic(auto, unfolding(crate::specs::internal::Reader::and_then, crate::specs::internal::Expressions::tested))]
     fn tested(
         &self,
         tokens: &mut Cursor<'_>,
@@ -119,7 +119,7 @@ impl<'l, F: Fn(Global, &str, &mut Cursor<'_>, usize, Nested) -> Result<Operand, 
     }
 
     /// The predicate that the next token begins.
-    #[tactic(auto, unfolding(crate::specs::internal::Expressions::predicate_step))]
+    #[tactic(auto, unfolding(crate::specs::internal::Reader::and_then, crate::specs::internal::Expressions::predicate_step))]
     fn predicate_step(&self, tokens: &mut Cursor<'_>, left: Operand) -> Result<Operand, Refusal>
         requires { Nests self.now.levels (F.pre self.now.inner) (F.post self.now.inner) }
         ensures { Reads operand_of (spec.predicate_step self.now.line.now (spec.nesting self.now.line.now self.now.levels) (operand_of left) tokens.old) result tokens.new }
@@ -184,7 +184,7 @@ impl<'l, F: Fn(Global, &str, &mut Cursor<'_>, usize, Nested) -> Result<Operand, 
     }
 
     /// An operand, or a chain of comparisons.
-    #[tactic(auto, unfolding(crate::specs::internal::Expressions::comparisons))]
+    #[tactic(auto, unfolding(crate::specs::internal::Reader::and_then, crate::specs::internal::Expressions::comparisons))]
     pub(crate) fn comparisons(&self, tokens: &mut Cursor<'_>) -> Result<Operand, Refusal>
         requires { Nests self.now.levels (F.pre self.now.inner) (F.post self.now.inner) }
         ensures { Reads operand_of (spec.comparisons self.now.line.now (spec.nesting self.now.line.now self.now.levels) tokens.old) result tokens.new }
@@ -198,7 +198,7 @@ impl<'l, F: Fn(Global, &str, &mut Cursor<'_>, usize, Nested) -> Result<Operand, 
     }
 
     /// NOT and what it denies, or a comparison.
-    #[tactic(auto, unfolding(crate::specs::internal::Expressions::negation))]
+    #[tactic(auto, unfolding(crate::specs::internal::Reader::and_then, crate::specs::internal::Expressions::negation))]
     pub(crate) fn negation(&self, tokens: &mut Cursor<'_>) -> Result<Operand, Refusal>
         requires { Nests self.now.levels (F.pre self.now.inner) (F.post self.now.inner) }
         ensures { Reads operand_of (spec.negation self.now.line.now (spec.nesting self.now.line.now self.now.levels) tokens.old) result tokens.new }

@@ -27,7 +27,7 @@ fn direction_of(is_left: bool, is_right: bool) -> Direction
 
 impl<'l> Source<'l> {
     /// A variable, if a name comes next.
-    #[tactic(auto, unfolding(crate::specs::internal::Clauses::variable_if_any))]
+    #[tactic(auto, unfolding(crate::specs::internal::Reader::and_then, crate::specs::internal::Clauses::variable_if_any))]
     fn variable_if_any(&self, tokens: &mut Cursor<'_>) -> Result<Option<Variable>, Refusal>
         ensures { Reads (λ v. v) (spec.variable_if_any self.now.line.now tokens.old) result tokens.new }
     {
@@ -38,7 +38,7 @@ impl<'l> Source<'l> {
     }
 
     /// Labels, if a `:` comes next.
-    #[tactic(auto, unfolding(crate::specs::internal::Clauses::labels_if_any))]
+    #[tactic(auto, unfolding(crate::specs::internal::Reader::and_then, crate::specs::internal::Clauses::labels_if_any))]
     fn labels_if_any(&self, tokens: &mut Cursor<'_>) -> Result<Vec<Text>, Refusal>
         ensures { Reads (λ ls. ls.items) (spec.labels_if_any self.now.line.now tokens.old) result tokens.new }
     {
@@ -50,7 +50,7 @@ impl<'l> Source<'l> {
     }
 
     /// An entry of a map.
-    #[tactic(auto, unfolding(crate::specs::internal::Clauses::entry))]
+    #[tactic(auto, unfolding(crate::specs::internal::Reader::and_then, crate::specs::internal::Clauses::entry))]
     fn entry(&self, tokens: &mut Cursor<'_>) -> Result<Entry, Refusal>
         ensures { Reads entry_of (spec.entry self.now.line.now tokens.old) result tokens.new }
     {
@@ -75,7 +75,7 @@ impl<'l> Source<'l> {
     }
 
     /// A map, after its `{`.
-    #[tactic(auto, unfolding(crate::specs::internal::Clauses::map_read))]
+    #[tactic(auto, unfolding(crate::specs::internal::Reader::and_then, crate::specs::internal::Clauses::map_read))]
     fn map_read(&self, tokens: &mut Cursor<'_>) -> Result<Vec<Entry>, Refusal>
         ensures { Reads (λ es. map entry_of es.items) (spec.map_read self.now.line.now tokens.old) result tokens.new }
     {
@@ -88,7 +88,7 @@ impl<'l> Source<'l> {
     }
 
     /// A map, if a `{` comes next.
-    #[tactic(auto, unfolding(crate::specs::internal::Clauses::map_if_any))]
+    #[tactic(auto, unfolding(crate::specs::internal::Reader::and_then, crate::specs::internal::Clauses::map_if_any))]
     fn map_if_any(&self, tokens: &mut Cursor<'_>) -> Result<Option<Vec<Entry>>, Refusal>
         ensures { Reads properties_of (spec.map_if_any self.now.line.now tokens.old) result tokens.new }
     {
@@ -100,7 +100,7 @@ impl<'l> Source<'l> {
     }
 
     /// A node of a pattern.
-    #[tactic(auto, unfolding(crate::specs::internal::Clauses::node))]
+    #[tactic(auto, unfolding(crate::specs::internal::Reader::and_then, crate::specs::internal::Clauses::node))]
     fn node(&self, tokens: &mut Cursor<'_>) -> Result<NodePattern, Refusal>
         ensures { Reads node_of (spec.node self.now.line.now tokens.old) result tokens.new }
     {
@@ -132,7 +132,7 @@ impl<'l> Source<'l> {
     }
 
     /// Types, if a `:` comes next.
-    #[tactic(auto, unfolding(crate::specs::internal::Clauses::types_if_any))]
+    #[tactic(auto, unfolding(crate::specs::internal::Reader::and_then, crate::specs::internal::Clauses::types_if_any))]
     fn types_if_any(&self, tokens: &mut Cursor<'_>) -> Result<Vec<Text>, Refusal>
         ensures { Reads (λ ts. ts.items) (spec.types_if_any self.now.line.now tokens.old) result tokens.new }
     {
@@ -144,7 +144,7 @@ impl<'l> Source<'l> {
     }
 
     /// What stands in the square brackets of a relationship, after the opening one.
-    #[tactic(auto, unfolding(crate::specs::internal::Clauses::relationship_body))]
+    #[tactic(auto, unfolding(crate::specs::internal::Reader::and_then, crate::specs::internal::Clauses::relationship_body))]
     fn relationship_body(
         &self,
         tokens: &mut Cursor<'_>,
@@ -167,7 +167,7 @@ impl<'l> Source<'l> {
     }
 
     /// The square brackets of a relationship, if they come next.
-    #[tactic(auto, unfolding(crate::specs::internal::Clauses::relationship_if_any))]
+    #[tactic(auto, unfolding(crate::specs::internal::Reader::and_then, crate::specs::internal::Clauses::relationship_if_any))]
     fn relationship_if_any(&self, tokens: &mut Cursor<'_>) -> Result<RelationshipPattern, Refusal>
         ensures { Reads relationship_of (spec.relationship_if_any self.now.line.now tokens.old) result tokens.new }
     {
@@ -184,7 +184,7 @@ impl<'l> Source<'l> {
     }
 
     /// A relationship, from its left arrow or first `-` on.
-    #[tactic(auto, unfolding(crate::specs::internal::Clauses::relationship))]
+    #[tactic(auto, unfolding(crate::specs::internal::Reader::and_then, crate::specs::internal::Clauses::relationship))]
     fn relationship(&self, tokens: &mut Cursor<'_>) -> Result<RelationshipPattern, Refusal>
         ensures { Reads relationship_of (spec.relationship self.now.line.now tokens.old) result tokens.new }
     {
@@ -198,7 +198,7 @@ impl<'l> Source<'l> {
     }
 
     /// A relationship and the node at its other end.
-    #[tactic(auto, unfolding(crate::specs::internal::Clauses::step))]
+    #[tactic(auto, unfolding(crate::specs::internal::Reader::and_then, crate::specs::internal::Clauses::step))]
     fn step(&self, tokens: &mut Cursor<'_>) -> Result<Step, Refusal>
         ensures { Reads step_of (spec.step self.now.line.now tokens.old) result tokens.new }
     {
@@ -222,7 +222,7 @@ impl<'l> Source<'l> {
     }
 
     /// A path of a pattern.
-    #[tactic(auto, unfolding(crate::specs::internal::Clauses::path))]
+    #[tactic(auto, unfolding(crate::specs::internal::Reader::and_then, crate::specs::internal::Clauses::path))]
     fn path(&self, tokens: &mut Cursor<'_>) -> Result<Path, Refusal>
         ensures { Reads path_of (spec.path self.now.line.now tokens.old) result tokens.new }
     {

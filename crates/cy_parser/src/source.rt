@@ -38,6 +38,7 @@ impl<'l> Source<'l> {
     }
 
     /// A variable.
+    #[tactic(auto, unfolding(crate::specs::internal::Reader::and_then))]
     pub(crate) fn variable(&self, tokens: &mut Cursor<'_>) -> Result<Variable, Refusal>
         ensures { Reads (λ v. v) (clauses.variable_read self.now.line.now tokens.old) result tokens.new }
     {

@@ -15,7 +15,7 @@ use cy_lexer::{Keyword, Kind, Symbol};
 
 impl<'l> Source<'l> {
     /// A MATCH, after that word.
-    #[tactic(auto, unfolding(crate::specs::internal::Clauses::match_read))]
+    #[tactic(auto, unfolding(crate::specs::internal::Reader::and_then, crate::specs::internal::Clauses::match_read))]
     fn match_read(&self, tokens: &mut Cursor<'_>, optional: bool) -> Result<Clause, Refusal>
         ensures { Reads clause_of (spec.match_read self.now.line.now optional tokens.old) result tokens.new }
     {
@@ -29,7 +29,7 @@ impl<'l> Source<'l> {
     }
 
     /// An UNWIND, after that word.
-    #[tactic(auto, unfolding(crate::specs::internal::Clauses::unwind_read))]
+    #[tactic(auto, unfolding(crate::specs::internal::Reader::and_then, crate::specs::internal::Clauses::unwind_read))]
     fn unwind_read(&self, tokens: &mut Cursor<'_>) -> Result<Clause, Refusal>
         ensures { Reads clause_of (spec.unwind_read self.now.line.now tokens.old) result tokens.new }
     {
@@ -40,7 +40,7 @@ impl<'l> Source<'l> {
     }
 
     /// A WITH, after that word.
-    #[tactic(auto, unfolding(crate::specs::internal::Clauses::with_read))]
+    #[tactic(auto, unfolding(crate::specs::internal::Reader::and_then, crate::specs::internal::Clauses::with_read))]
     fn with_read(&self, tokens: &mut Cursor<'_>) -> Result<Clause, Refusal>
         ensures { Reads clause_of (spec.with_read self.now.line.now tokens.old) result tokens.new }
     {
@@ -50,7 +50,7 @@ impl<'l> Source<'l> {
     }
 
     /// A DELETE, after that word.
-    #[tactic(auto, unfolding(crate::specs::internal::Clauses::delete_read))]
+    #[tactic(auto, unfolding(crate::specs::internal::Reader::and_then, crate::specs::internal::Clauses::delete_read))]
     fn delete_read(&self, tokens: &mut Cursor<'_>, detach: bool) -> Result<Clause, Refusal>
         ensures { Reads clause_of (spec.delete_read self.now.line.now detach tokens.old) result tokens.new }
     {
@@ -59,6 +59,7 @@ impl<'l> Source<'l> {
     }
 
     /// The clause after its first word.
+    #[tactic(auto, unfolding(crate::specs::internal::Reader::and_then))]
     fn clause(&self, tokens: &mut Cursor<'_>, opening: Opening) -> Result<Clause, Refusal>
         ensures { Reads clause_of (spec.clause_by self.now.line.now opening tokens.old) result tokens.new }
     {
@@ -83,7 +84,7 @@ impl<'l> Source<'l> {
     }
 
     /// The clause that the next token begins, if it may stand here.
-    #[tactic(auto, unfolding(crate::specs::internal::Clauses::clause_in))]
+    #[tactic(auto, unfolding(crate::specs::internal::Reader::and_then, crate::specs::internal::Clauses::clause_in))]
     fn clause_in(
         &self,
         tokens: &mut Cursor<'_>,
@@ -118,7 +119,7 @@ impl<'l> Source<'l> {
     }
 
     /// A statement: all that is left.
-    #[tactic(auto, unfolding(crate::specs::internal::Clauses::statement))]
+    #[tactic(auto, unfolding(crate::specs::internal::Reader::and_then, crate::specs::internal::Clauses::statement))]
     pub(crate) fn statement(&self, tokens: &mut Cursor<'_>) -> Result<Statement, Refusal>
         ensures { Reads statement_of (spec.statement self.now.line.now tokens.old) result tokens.new }
     {
@@ -129,7 +130,7 @@ impl<'l> Source<'l> {
 
 impl<'a> Cursor<'a> {
     /// The end of a statement, which a `;` may stand before, after clauses that lead to the stage.
-    #[tactic(auto, unfolding(crate::specs::internal::Clauses::end_read))]
+    #[tactic(auto, unfolding(crate::specs::internal::Reader::and_then, crate::specs::internal::Clauses::end_read))]
     fn end(&mut self, stage: Stage) -> Result<(), Refusal>
         ensures { Reads (λ u. u) (spec.end_read stage self.old) result self.new }
     {

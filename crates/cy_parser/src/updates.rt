@@ -15,7 +15,7 @@ use cy_lexer::Symbol;
 
 impl<'l> Source<'l> {
     /// A property and its value, after the variable and the `.`.
-    #[tactic(auto, unfolding(crate::specs::internal::Clauses::assignment))]
+    #[tactic(auto, unfolding(crate::specs::internal::Reader::and_then, crate::specs::internal::Clauses::assignment))]
     fn assignment(&self, tokens: &mut Cursor<'_>, variable: Variable) -> Result<SetItem, Refusal>
         ensures { Reads set_item_of (spec.assignment self.now.line.now variable tokens.old) result tokens.new }
     {
@@ -26,7 +26,7 @@ impl<'l> Source<'l> {
     }
 
     /// An item of SET.
-    #[tactic(auto, unfolding(crate::specs::internal::Clauses::set_item))]
+    #[tactic(auto, unfolding(crate::specs::internal::Reader::and_then, crate::specs::internal::Clauses::set_item))]
     fn set_item(&self, tokens: &mut Cursor<'_>) -> Result<SetItem, Refusal>
         ensures { Reads set_item_of (spec.set_item self.now.line.now tokens.old) result tokens.new }
     {
@@ -54,7 +54,7 @@ impl<'l> Source<'l> {
     }
 
     /// An item of REMOVE.
-    #[tactic(auto, unfolding(crate::specs::internal::Clauses::remove_item))]
+    #[tactic(auto, unfolding(crate::specs::internal::Reader::and_then, crate::specs::internal::Clauses::remove_item))]
     fn remove_item(&self, tokens: &mut Cursor<'_>) -> Result<RemoveItem, Refusal>
         ensures { Reads remove_item_of (spec.remove_item self.now.line.now tokens.old) result tokens.new }
     {

@@ -20,7 +20,7 @@ Outcome A = Option (A × List Token)
 abbrev pub Reader : Type 0 → Type 0
 Reader A = List Token → Outcome A
 
-abbrev pub and_then : {A B : Type 0} → Outcome A → (A → Reader B) → Outcome B
+unfoldable pub and_then : {A B : Type 0} → Outcome A → (A → Reader B) → Outcome B
 and_then (Some p) f = f p.0 p.1
 and_then None f = None
 

@@ -1,9 +1,14 @@
 -- Lemmas on the characters of a line.
-use Rattle.std.proofs.Common.{◌≡◌, ℕ, ◌+◌, ◌-◌, List, ◌∷◌, ◌++◌, length, take, drop, sym, ap, ◌∙◌, arith}
+use Rattle.std.proofs.Common.{◌≡◌, ℕ, ◌+◌, ◌-◌, Bool, true, ◌||◌, ◌==◌, List, ◌∷◌, ◌++◌, length, take, drop, sym, ap, ◌∙◌, arith}
+use Rattle.std.specs.Char.{is_ascii, is_ascii_alphabetic, is_ascii_alphanumeric}
 use Rattle.std.specs.Str.{chars, IsUtf8, encode_utf8_all, IsCharBoundary}
 use Rattle.std.proofs.lemmas.Str.{encodes-chars, encodes-append, IsCharBoundary-at_seam}
 use Rattle.std.proofs.lemmas.List.{drop-drop, take-append-drop, length-append, take_at, drop_at}
-use Rattle.cy_lexer.specs.Characters.{offset}
+use borrow.Author.Tests.{ltb-true}
+use Rattle.unicode_ident.proofs.IdentLemmas.{is_xid_start-ascii, is_xid_continue-ascii}
+use Rattle.cy_lexer.specs.declared.characters.Run.{Run}
+use Rattle.cy_lexer.specs.declared.characters.Run.TheVariants.{Name}
+use Rattle.cy_lexer.specs.Characters.{offset, starts_name, goes_on}
 
 -- where the text bs begins, which ends a line of total bytes
 pub offset-chars : (total : ℕ) (bs : List ℕ) → IsUtf8 bs → offset total (chars bs) ≡ total - length bs
@@ -44,3 +49,10 @@ pub suffix-boundary : (bs ds : List ℕ) (n : ℕ) → IsUtf8 bs → IsUtf8 ds �
 suffix-boundary bs ds n u v e =
     let parts = front_bytes bs ds n u v e in
     rw (front_len bs (encode_utf8_all (take n (chars bs))) ds parts) (IsCharBoundary-at_seam bs (encode_utf8_all (take n (chars bs))) ds parts v)
+
+-- names of ASCII characters
+pub starts_name-ascii : (c : ℕ) (letter : Bool) → is_ascii c ≡ true → letter ≡ is_ascii_alphabetic c → letter || (c == 95) ≡ starts_name c
+starts_name-ascii c letter small e = ap (λ (b : Bool). b || (c == 95)) (e ∙ sym (is_xid_start-ascii c (ltb-true c 128 small)))
+
+pub goes_on-ascii : (run : Run) (c : ℕ) (letter : Bool) → run ≡ Name → is_ascii c ≡ true → letter ≡ is_ascii_alphanumeric c → letter || (c == 95) ≡ goes_on run c
+goes_on-ascii run c letter name small e = rw name (ap (λ (b : Bool). b || (c == 95)) e ∙ sym (is_xid_continue-ascii c (ltb-true c 128 small)))

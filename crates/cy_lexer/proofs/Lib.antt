@@ -1,3 +1,4 @@
+pub mod KeywordsLemmas
 pub mod CharactersLemmas
 pub mod QuotedLemmas
 pub mod PiecesLemmas

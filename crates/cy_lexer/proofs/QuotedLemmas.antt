@@ -7,7 +7,7 @@ use Rattle.std.proofs.lemmas.Bool.{lt-ltb}
 use Rattle.cy_lexer.specs.declared.faults.LexFault.{LexFault}
 use Rattle.cy_lexer.specs.declared.faults.LexFault.TheVariants.{BadEscape}
 use Rattle.cy_lexer.specs.Characters.{offset}
-use Rattle.cy_lexer.specs.Reading.{taken, map_ok}
+use Rattle.cy_lexer.specs.internal.Reading.{taken, map_ok}
 use Rattle.cy_lexer.specs.Quoted.{hexadecimal, closes, character, one_more, quoted_len, unquoted, between_quotes}
 
 -- one more hexadecimal digit

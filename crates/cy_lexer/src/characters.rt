@@ -18,6 +18,7 @@ impl Run {
         ensures { result ≡ goes_on self c }
     {
         match self {
+            Run::Name if c.is_ascii() => c.is_ascii_alphanumeric() || c == '_',
             Run::Name => unicode_ident::is_xid_continue(c),
             Run::Digits => c.is_ascii_digit(),
             Run::Line => c != '\n',
@@ -29,7 +30,11 @@ impl Run {
 pub(crate) fn starts_name(c: char) -> bool
     ensures { result ≡ starts_name c }
 {
-    unicode_ident::is_xid_start(c) || c == '_'
+    if c.is_ascii() {
+        c.is_ascii_alphabetic() || c == '_'
+    } else {
+        unicode_ident::is_xid_start(c)
+    }
 }
 
 /// The first character of a text, and what follows it.

@@ -1,7 +1,7 @@
 //! Texts and quoted names.
 
 ghost use Rattle.std.specs.Prelude.{◌≡◌, ◌+◌, string_bytes, encode_utf8_all, ◌<◌, ◌≤◌, ◌^◌, length, drop, option_map, IfSome, IfOk, IfErr, chars};
-ghost use Rattle.cy_lexer.specs.Reading.{seen, taken, map_ok};
+ghost use Rattle.cy_lexer.specs.internal.Reading.{seen, taken, map_ok};
 ghost use Rattle.cy_lexer.specs.Quoted.{plain_escape, coded_escape, escape, closes, character, quoted_len, between_quotes};
 
 use crate::characters::{begins_with, split_first};
@@ -66,17 +66,14 @@ fn character(quote: char, first: char, after: &str) -> Option<(char, &str)>
         ≡ option_map (taken (chars after.now)) (character quote first (chars after.now)) }
     ensures shorter { IfSome result (λ p. length p.1.now ≤ length after.now) }
 {
-    if quote == '`' {
-        let left = match split_first(after) {
-            Some((_, behind)) if first == '`' => behind,
-            _ => after,
-        };
-        return Some((first, left));
+    match first {
+        '\\' if quote != '`' => escape(after),
+        '`' if quote == '`' => match split_first(after) {
+            Some((_, behind)) => Some((first, behind)),
+            None => Some((first, after)),
+        },
+        _ => Some((first, after)),
     }
-    if first == '\\' {
-        return escape(after);
-    }
-    Some((first, after))
 }
 
 /// What follows the quote that closes what the quote before the text opened. Fails with `BadEscape`, by its offset in a

@@ -1,3 +1,5 @@
+pub mod WordsPiecesLemmas
+pub mod WordsQuotedLemmas
 pub mod KeywordsLemmas
 pub mod CharactersLemmas
 pub mod QuotedLemmas

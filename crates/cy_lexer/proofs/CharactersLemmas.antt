@@ -10,6 +10,10 @@ use Rattle.cy_lexer.specs.declared.characters.Run.{Run}
 use Rattle.cy_lexer.specs.declared.characters.Run.TheVariants.{Name}
 use Rattle.cy_lexer.specs.Characters.{offset, starts_name, goes_on}
 
+-- how many bytes characters take, part by part
+pub size_of : (part rest : List ℕ) → length (encode_utf8_all (part ++ rest)) ≡ length (encode_utf8_all part) + length (encode_utf8_all rest)
+size_of part rest = ap length (encodes-append part rest) ∙ length-append (encode_utf8_all part) (encode_utf8_all rest)
+
 -- where the text bs begins, which ends a line of total bytes
 pub offset-chars : (total : ℕ) (bs : List ℕ) → IsUtf8 bs → offset total (chars bs) ≡ total - length bs
 offset-chars total bs u = ap (λ (x : List ℕ). total - length x) (encodes-chars bs u)

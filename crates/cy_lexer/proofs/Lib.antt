@@ -1,3 +1,4 @@
+pub mod WordsLemmas
 pub mod WordsPiecesLemmas
 pub mod WordsQuotedLemmas
 pub mod KeywordsLemmas

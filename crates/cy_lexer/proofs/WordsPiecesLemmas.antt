@@ -77,10 +77,10 @@ keyword_of-spelling keyword.All = refl
 keyword_of-spelling k = refl
 
 -- an ASCII letter, by which a name begins
-abbrev IsLetter : ℕ → Type 0
+abbrev pub IsLetter : ℕ → Type 0
 IsLetter c = (is_ascii c ≡ true) × (is_ascii_alphabetic c ≡ true) × (is_whitespace c ≡ false) × ((c == 47) ≡ false)
 
-spelling-front : (k : Keyword) → (c : ℕ) × (more : List ℕ) × (spelling k ≡ c ∷ more) × IsLetter c × (list_all (λ d. is_ascii d && is_ascii_alphanumeric d) more ≡ true)
+pub spelling-front : (k : Keyword) → (c : ℕ) × (more : List ℕ) × (spelling k ≡ c ∷ more) × IsLetter c × (list_all (λ d. is_ascii d && is_ascii_alphanumeric d) more ≡ true)
 spelling-front keyword.All = (_, _, refl, (refl, refl, refl, refl), refl)
 spelling-front k = (_, _, refl, (refl, refl, refl, refl), refl)
 
@@ -282,3 +282,12 @@ piece-number n rest fits stops =
       piece-token total front.0 (front.1 ++ rest) s.3 (no_slash 47) (no_slash 42)
       ∙ rw (starts, all.0) (number_piece-whole (offset total (front.0 ∷ (front.1 ++ rest))) n front.0 front.1 rest all.1 (rw front.2 at digits.1) small (lead n front.0 front.1 rest held front.2 (no_digits rest stops)) stops),
     )
+
+-- a number begins with a digit
+pub decimal-front : (n : ℕ) → is_word (word.number n) ≡ true → (c : ℕ) × (more : List ℕ) × (decimal n ≡ c ∷ more) × (is_ascii_digit c ≡ true) × (list_all is_ascii_digit more ≡ true)
+decimal-front n fits =
+    let small : n ≤ 9223372036854775808 = leb-true n greatest_number fits in
+    let held : n < 2 ^ 64 = omega arith in
+    let front = uncons (decimal n) (decimal_nonempty n held) in
+    let all = and_parts (is_ascii_digit front.0) (list_all is_ascii_digit front.1) (rw front.2 at (decimal_is n held).0) in
+    (front.0, front.1, front.2, all.0, all.1)

@@ -1,6 +1,6 @@
 -- Words: tokens that are written in one way each, and texts that are made of words.
 -- 32 is the space, 39 the single quote, 92 the backslash and 96 the backtick.
-use Rattle.std.specs.Prelude.{ℕ, Bool, true, false, not, ◌&&◌, ◌||◌, ◌==◌, if◌then◌else◌, nat_le, List, [], ◌∷◌, ◌++◌, map, codes, encode_utf8_all}
+use Rattle.std.specs.Prelude.{ℕ, Bool, true, false, not, ◌&&◌, ◌||◌, ◌==◌, if◌then◌else◌, nat_le, List, [], ◌∷◌, ◌++◌, ◌+◌, length, codes, encode_utf8_all}
 use Rattle.std.specs.Fmt.{decimal}
 use Rattle.std.specs.Str.{all_scalars}
 use Rattle.cy_lexer.specs.declared.keywords.Keyword.{Keyword}
@@ -8,6 +8,7 @@ use Rattle.cy_lexer.specs.declared.symbols.Symbol.{Symbol}
 use Rattle.cy_lexer.specs.declared.symbols.Symbol.TheVariants as sign
 use Rattle.cy_lexer.specs.declared.tokens.Kind.{Kind}
 use Rattle.cy_lexer.specs.declared.tokens.Kind.TheVariants as kind
+use Rattle.cy_lexer.specs.declared.tokens.Token.{Token}
 use Rattle.cy_lexer.specs.Keywords.{spelling}
 use Rattle.cy_lexer.specs.Numbers.{greatest_number}
 
@@ -122,9 +123,20 @@ abbrev pub are_words : List (Word × Bool) → Bool
 are_words [] = true
 are_words (w ∷ ws) = is_word w.0 && ((w.1 || may_touch_next w.0 ws) && are_words ws)
 
--- the kinds of the words, and their characters in bytes
-abbrev pub kinds : List (Word × Bool) → List Kind
-kinds ws = map (λ w. kind_of w.0) ws
+-- the characters that a word stands for: a name and a text without their quotes, each other word as it is written
+abbrev pub meant : Word → List ℕ
+meant (keyword k) = spelling k
+meant (name cs) = cs
+meant (text cs) = cs
+meant (number n) = decimal n
+meant (symbol s) = signs s
 
-abbrev pub slices : List (Word × Bool) → List (List ℕ)
-slices ws = map (λ w. encode_utf8_all (characters w.0)) ws
+-- the tokens of words that begin at a byte offset, one for each word, in order
+abbrev pub bytes_of : Word → List ℕ
+bytes_of w = encode_utf8_all (characters w)
+
+abbrev pub tokens_at : ℕ → List (Word × Bool) → List Token
+tokens_at at [] = []
+tokens_at at (w ∷ ws) =
+    let end = at + length (bytes_of w.0) in
+    record { kind = kind_of w.0; start = at; end = end } ∷ tokens_at (end + length (space w.1)) ws

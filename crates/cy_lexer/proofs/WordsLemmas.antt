@@ -1,24 +1,20 @@
 -- Lemmas on texts that are made of words: their tokens are those of the words, one for each, in order.
-use Rattle.std.proofs.Common.{◌≡◌, ◌⊎◌, inl, inr, ℕ, zero, suc, ◌+◌, ◌-◌, ◌<◌, ◌≤◌, ◌^◌, Bool, true, false, not, ◌&&◌, ◌||◌, ◌==◌, List, [], ◌∷◌, ◌++◌, drop, take, length, map, Option, Some, None, Result, Ok, Err, refl, sym, subst, ap, ◌∙◌, append_assoc, append-nil, arith, length-append}
+use Rattle.std.proofs.Common.{◌≡◌, ℕ, ◌+◌, ◌-◌, ◌≤◌, Bool, true, false, not, ◌&&◌, ◌||◌, ◌==◌, List, [], ◌∷◌, ◌++◌, drop, take, length, map, Some, Result, Ok, Err, refl, sym, ap, ◌∙◌, append_assoc, arith, length-append}
 use lib.Utf8.{scalar}
-use Rattle.std.specs.Char.{is_ascii, is_whitespace, is_ascii_digit, is_ascii_alphabetic, is_ascii_alphanumeric, encode_utf8}
+use Rattle.std.specs.Char.{is_ascii_digit, is_ascii_alphabetic, is_ascii_alphanumeric, encode_utf8}
 use Rattle.std.specs.Fmt.{decimal}
 use Rattle.std.specs.List.{list_all}
 use Rattle.std.specs.Str.{all_scalars, encode_utf8_all, chars}
-use Rattle.std.proofs.lemmas.Bool.{and_parts, and_from, or_cases, or_parts, or_from, ltb-true}
+use Rattle.std.proofs.lemmas.Bool.{and_parts, and_from, or_from}
 use Rattle.std.proofs.lemmas.Bool.Decides.{nat_tests}
-use Rattle.std.proofs.lemmas.Fmt.{decimal_nonempty}
 use Rattle.std.proofs.lemmas.List.{take_at, drop_at}
 use Rattle.std.proofs.lemmas.Str.{encodes-append, chars-encodes}
-use Rattle.unicode_ident.specs.Ident.{is_xid_continue}
 use Rattle.unicode_ident.proofs.Computing.{unicode_ident}
-use Rattle.unicode_ident.proofs.IdentLemmas.{is_xid_continue-ascii}
 use Rattle.cy_lexer.specs.declared.keywords.Keyword.{Keyword}
 use Rattle.cy_lexer.specs.declared.keywords.Keyword.TheVariants as keyword
 use Rattle.cy_lexer.specs.declared.symbols.Symbol.{Symbol}
 use Rattle.cy_lexer.specs.declared.symbols.Symbol.TheVariants as sign
 use Rattle.cy_lexer.specs.declared.tokens.Kind.{Kind}
-use Rattle.cy_lexer.specs.declared.tokens.Kind.TheVariants as kind
 use Rattle.cy_lexer.specs.declared.tokens.Token.{Token}
 use Rattle.cy_lexer.specs.Characters.{offset, begins_with}
 use Rattle.cy_lexer.specs.Keywords.{spelling}
@@ -27,12 +23,12 @@ use Rattle.cy_lexer.specs.Numbers.{spoils_number}
 use Rattle.cy_lexer.specs.Spans.{slice_of}
 use Rattle.cy_lexer.specs.declared.faults.LexFault.{LexFault}
 use Rattle.cy_lexer.specs.Tokens.{◌>>=◌, piece, tokens_from, tokens_of, denoted}
-use Rattle.cy_lexer.specs.internal.Words.{Word, kind_of, doubled, escaped, signs, characters, is_word, join, may_touch, space, written, may_touch_next, are_words, meant, bytes_of, tokens_at}
+use Rattle.cy_lexer.specs.internal.Words.{Word, kind_of, doubled, escaped, signs, characters, is_word, join, may_touch, space, written, may_touch_next, are_words, may_follow_last, may_follow, meant, bytes_of, tokens_at}
 use Rattle.cy_lexer.specs.internal.Words as word
 use Rattle.cy_lexer.proofs.CharactersLemmas.{size_of}
 use Rattle.cy_lexer.proofs.TokensLemmas.{tokens_from-skip, tokens_of-short}
 use Rattle.cy_lexer.proofs.WordsQuotedLemmas.{unquoted-doubled, unquoted-escaped}
-use Rattle.cy_lexer.proofs.WordsPiecesLemmas.{IsPiece, continues, joins_on, piece-keyword, piece-name, piece-text, piece-symbol, piece-number, IsLetter, spelling-front, decimal-front}
+use Rattle.cy_lexer.proofs.WordsPiecesLemmas.{IsPiece, continues, joins_on, piece-keyword, piece-name, piece-text, piece-symbol, piece-number, spelling-front, decimal-front}
 
 -- ---- what may stand after a word
 
@@ -355,3 +351,26 @@ denoted-characters (word.symbol s) = refl
 
 pub denoted-word : (w : Word) → is_word w ≡ true → denoted (kind_of w) (chars (bytes_of w)) ≡ meant w
 denoted-word w is = ap (λ (x : List ℕ). denoted (kind_of w) x) (chars-encodes (characters w) (all_scalars-word w is)) ∙ denoted-characters w
+
+-- ---- words after words
+
+pub written-append : (ws vs : List (Word × Bool)) → written (ws ++ vs) ≡ written ws ++ written vs
+written-append [] vs = refl
+written-append (w ∷ ws) vs =
+    ap (λ (x : List ℕ). characters w.0 ++ (space w.1 ++ x)) (written-append ws vs)
+    ∙ ap (λ (x : List ℕ). characters w.0 ++ x) (sym (append_assoc (space w.1) (written ws) (written vs)))
+    ∙ sym (append_assoc (characters w.0) (space w.1 ++ written ws) (written vs))
+
+are_words-after : (w : Word × Bool) (ws vs : List (Word × Bool)) → are_words (w ∷ ws) ≡ true → are_words vs ≡ true → may_follow_last w ws vs ≡ true → are_words (w ∷ (ws ++ vs)) ≡ true
+are_words-after w [] vs are others follow =
+    let is = (and_parts (is_word w.0) ((w.1 || may_touch_next w.0 []) && true) are).0 in
+    and_from (is_word w.0) ((w.1 || may_touch_next w.0 vs) && are_words vs) is (and_from (w.1 || may_touch_next w.0 vs) (are_words vs) follow others)
+are_words-after w (u ∷ us) vs are others follow =
+    let both = and_parts (is_word w.0) ((w.1 || may_touch w.0 u.0) && are_words (u ∷ us)) are in
+    let more = and_parts (w.1 || may_touch w.0 u.0) (are_words (u ∷ us)) both.1 in
+    and_from (is_word w.0) ((w.1 || may_touch w.0 u.0) && are_words (u ∷ (us ++ vs))) both.0
+    (and_from (w.1 || may_touch w.0 u.0) (are_words (u ∷ (us ++ vs))) more.0 (are_words-after u us vs more.1 others follow))
+
+pub are_words-append : (ws vs : List (Word × Bool)) → are_words ws ≡ true → are_words vs ≡ true → may_follow ws vs ≡ true → are_words (ws ++ vs) ≡ true
+are_words-append [] vs are others follow = others
+are_words-append (w ∷ ws) vs are others follow = are_words-after w ws vs are others follow

@@ -1,7 +1,8 @@
 //! What no clause says: that ample memory is enough, and that the definitions mean the language.
 
-ghost use Rattle.std.specs.Prelude.{◌≡◌, [], ◌∷◌, Ok, Err, codes};
+ghost use Rattle.std.specs.Prelude.{◌≡◌, true, false, [], ◌∷◌, Ok, Err, codes};
 ghost use Rattle.cy_lexer.specs.Tokens.{tokens_of};
+ghost use Rattle.cy_lexer.specs.internal.Words.{keyword, name, text, number, symbol, written};
 
 use super::*;
 use std::alloc::Global;
@@ -415,5 +416,7 @@ fn computed_rows()
     ensures unclosed_name { tokens_of (codes "`a") ≡ Err (LexFault.UnclosedName 0) }
     ensures empty_name { tokens_of (codes "``") ≡ Err (LexFault.BadCharacter 0) }
     ensures zero { tokens_of (codes "01") ≡ Err (LexFault.BadNumber 0) }
+    ensures words { written ((keyword Keyword.Match, true) ∷ (symbol Symbol.LeftParenthesis, false) ∷ (name (codes "a`b"), false) ∷ (symbol Symbol.RightParenthesis, true) ∷ (text (codes "it's"), false) ∷ (symbol Symbol.Plus, false) ∷ (number 120, false) ∷ [])
+        ≡ codes "MATCH (`a``b`) 'it\\'s'+120" }
     ensures character { tokens_of (codes "#") ≡ Err (LexFault.BadCharacter 0) }
 {}

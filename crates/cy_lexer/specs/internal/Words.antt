@@ -123,6 +123,16 @@ abbrev pub are_words : List (Word × Bool) → Bool
 are_words [] = true
 are_words (w ∷ ws) = is_word w.0 && ((w.1 || may_touch_next w.0 ws) && are_words ws)
 
+-- the words vs may stand after the word w and the words ws
+abbrev pub may_follow_last : Word × Bool → List (Word × Bool) → List (Word × Bool) → Bool
+may_follow_last w [] vs = w.1 || may_touch_next w.0 vs
+may_follow_last w (u ∷ us) vs = may_follow_last u us vs
+
+-- the words vs may stand after the words ws
+abbrev pub may_follow : List (Word × Bool) → List (Word × Bool) → Bool
+may_follow [] vs = true
+may_follow (w ∷ ws) vs = may_follow_last w ws vs
+
 -- the characters that a word stands for: a name and a text without their quotes, each other word as it is written
 abbrev pub meant : Word → List ℕ
 meant (keyword k) = spelling k

@@ -1,6 +1,7 @@
 use Rattle.std.proofs.Common.{refl}
 use Rattle.std.specs.Str.{chars}
 use Rattle.std.specs.Char.{encode_utf8}
+use Rattle.std.specs.Fmt.{digits}
 use Rattle.unicode_ident.proofs.Computing.{unicode_ident}
 use Rattle.cy_lexer.specs.Keywords.{keyword_of}
 use Rattle.cy_lexer.specs.Symbols.{symbol}
@@ -62,6 +63,10 @@ returns-clause-empty_name c = refl
 pub returns-clause-zero : goal.returns-clause-zero
 unfolding tokens_of tokens_from piece symbol keyword_of chars encode_utf8 unicode_ident
 returns-clause-zero c = refl
+
+pub returns-clause-words : goal.returns-clause-words
+unfolding digits
+returns-clause-words c = refl
 
 pub returns-clause-character : goal.returns-clause-character
 unfolding tokens_of tokens_from piece symbol keyword_of chars encode_utf8 unicode_ident

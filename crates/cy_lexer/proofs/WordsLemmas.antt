@@ -26,6 +26,7 @@ use Rattle.cy_lexer.specs.Tokens.{◌>>=◌, piece, tokens_from, tokens_of, deno
 use Rattle.cy_lexer.specs.internal.Words.{Word, kind_of, doubled, escaped, signs, characters, is_word, join, may_touch, space, written, may_touch_next, are_words, may_follow_last, may_follow, meant, bytes_of, tokens_at}
 use Rattle.cy_lexer.specs.internal.Words as word
 use Rattle.cy_lexer.proofs.CharactersLemmas.{size_of}
+use Rattle.cy_lexer.proofs.QuotedLemmas.{not_is}
 use Rattle.cy_lexer.proofs.TokensLemmas.{tokens_from-skip, tokens_of-short}
 use Rattle.cy_lexer.proofs.WordsQuotedLemmas.{unquoted-doubled, unquoted-escaped}
 use Rattle.cy_lexer.proofs.WordsPiecesLemmas.{IsPiece, continues, joins_on, piece-keyword, piece-name, piece-text, piece-symbol, piece-number, spelling-front, decimal-front}
@@ -38,10 +39,6 @@ may_precede (word.name cs) rest = not (begins_with 96 rest)
 may_precede (word.text cs) rest = true
 may_precede (word.number n) rest = not (spoils_number rest)
 may_precede (word.symbol s) rest = not (joins_on s rest)
-
-not_is : (b : Bool) → not b ≡ true → b ≡ false
-not_is true e = absurd cc
-not_is false e = refl
 
 piece-word : (w : Word) (rest : List ℕ) → is_word w ≡ true → may_precede w rest ≡ true → IsPiece w rest
 piece-word (word.keyword k) rest is stands = piece-keyword k rest (not_is _ stands)

@@ -100,10 +100,10 @@ piece-keyword k rest stops =
       front.1,
       front.2,
       λ total.
-      piece-letter total front.0 (front.1 ++ rest) front.3
-      ∙ ap (λ (x : List ℕ). Ok (Some (word_kind (front.0 ∷ x)), prefix_len (goes_on run.Name) (front.1 ++ rest))) (take_while-whole (goes_on run.Name) front.1 rest all (stops_name rest stops))
-      ∙ ap (λ (n : ℕ). Ok (Some (word_kind (front.0 ∷ front.1)), n)) (prefix_len-whole (goes_on run.Name) front.1 rest all (stops_name rest stops))
-      ∙ rw kind-is refl,
+          piece-letter total front.0 (front.1 ++ rest) front.3
+          ∙ ap (λ (x : List ℕ). Ok (Some (word_kind (front.0 ∷ x)), prefix_len (goes_on run.Name) (front.1 ++ rest))) (take_while-whole (goes_on run.Name) front.1 rest all (stops_name rest stops))
+          ∙ ap (λ (n : ℕ). Ok (Some (word_kind (front.0 ∷ front.1)), n)) (prefix_len-whole (goes_on run.Name) front.1 rest all (stops_name rest stops))
+          ∙ rw kind-is refl,
     )
 
 -- ---- quoted names and texts
@@ -122,13 +122,13 @@ piece-name (c ∷ cs) rest some stops = (
   doubled (c ∷ cs) ++ 96 ∷ [],
   refl,
   λ total.
-  let at = offset total (96 ∷ ((doubled (c ∷ cs) ++ 96 ∷ []) ++ rest)) in
-  let split : (doubled (c ∷ cs) ++ 96 ∷ []) ++ rest ≡ doubled (c ∷ cs) ++ 96 ∷ rest = append_assoc (doubled (c ∷ cs)) (96 ∷ []) rest in
-  let inside = closes_at_once-doubled c cs (96 ∷ rest) in
-  let size = sym (length-append (doubled (c ∷ cs)) (96 ∷ [])) in
-  piece-token total 96 ((doubled (c ∷ cs) ++ 96 ∷ []) ++ rest) refl refl refl
-  ∙ ap (λ (x : List ℕ). token_piece total at 96 x) split
-  ∙ rw (no_name 96 (refl, refl, refl, refl)) (rw inside (rw (quoted_len-doubled total (UnclosedName at) (c ∷ cs) rest stops) (ap (λ (n : ℕ). Ok (Some kind.QuotedName, n)) size))),
+      let at = offset total (96 ∷ ((doubled (c ∷ cs) ++ 96 ∷ []) ++ rest)) in
+      let split : (doubled (c ∷ cs) ++ 96 ∷ []) ++ rest ≡ doubled (c ∷ cs) ++ 96 ∷ rest = append_assoc (doubled (c ∷ cs)) (96 ∷ []) rest in
+      let inside = closes_at_once-doubled c cs (96 ∷ rest) in
+      let size = sym (length-append (doubled (c ∷ cs)) (96 ∷ [])) in
+      piece-token total 96 ((doubled (c ∷ cs) ++ 96 ∷ []) ++ rest) refl refl refl
+      ∙ ap (λ (x : List ℕ). token_piece total at 96 x) split
+      ∙ rw (no_name 96 (refl, refl, refl, refl)) (rw inside (rw (quoted_len-doubled total (UnclosedName at) (c ∷ cs) rest stops) (ap (λ (n : ℕ). Ok (Some kind.QuotedName, n)) size))),
 )
 
 pub piece-text : (cs rest : List ℕ) → IsPiece (word.text cs) rest
@@ -137,12 +137,12 @@ piece-text cs rest = (
   escaped cs ++ 39 ∷ [],
   refl,
   λ total.
-  let at = offset total (39 ∷ ((escaped cs ++ 39 ∷ []) ++ rest)) in
-  let split : (escaped cs ++ 39 ∷ []) ++ rest ≡ escaped cs ++ 39 ∷ rest = append_assoc (escaped cs) (39 ∷ []) rest in
-  let size = sym (length-append (escaped cs) (39 ∷ [])) in
-  piece-token total 39 ((escaped cs ++ 39 ∷ []) ++ rest) refl refl refl
-  ∙ ap (λ (x : List ℕ). token_piece total at 39 x) split
-  ∙ rw (no_name 39 (refl, refl, refl, refl)) (rw (quoted_len-escaped total (UnclosedText at) cs rest) (ap (λ (n : ℕ). Ok (Some kind.Text, n)) size)),
+      let at = offset total (39 ∷ ((escaped cs ++ 39 ∷ []) ++ rest)) in
+      let split : (escaped cs ++ 39 ∷ []) ++ rest ≡ escaped cs ++ 39 ∷ rest = append_assoc (escaped cs) (39 ∷ []) rest in
+      let size = sym (length-append (escaped cs) (39 ∷ [])) in
+      piece-token total 39 ((escaped cs ++ 39 ∷ []) ++ rest) refl refl refl
+      ∙ ap (λ (x : List ℕ). token_piece total at 39 x) split
+      ∙ rw (no_name 39 (refl, refl, refl, refl)) (rw (quoted_len-escaped total (UnclosedText at) cs rest) (ap (λ (n : ℕ). Ok (Some kind.Text, n)) size)),
 )
 
 -- ---- symbols
@@ -182,8 +182,8 @@ piece-symbol s rest free =
       front.1,
       is.0,
       λ total.
-      piece-token total front.0 (front.1 ++ rest) is.2.2 (sym is.5) (sym is.6)
-      ∙ rw (no_name front.0 is.2, is.2.3, is.3, is.4) (rw (is.1, symbol_piece) refl),
+          piece-token total front.0 (front.1 ++ rest) is.2.2 (sym is.5) (sym is.6)
+          ∙ rw (no_name front.0 is.2, is.2.3, is.3, is.4) (rw (is.1, symbol_piece) refl),
     )
 
 -- ---- numbers
@@ -279,8 +279,8 @@ piece-number n rest fits stops =
       front.1,
       front.2,
       λ total.
-      piece-token total front.0 (front.1 ++ rest) s.3 (no_slash 47) (no_slash 42)
-      ∙ rw (starts, all.0) (number_piece-whole (offset total (front.0 ∷ (front.1 ++ rest))) n front.0 front.1 rest all.1 (rw front.2 at digits.1) small (lead n front.0 front.1 rest held front.2 (no_digits rest stops)) stops),
+          piece-token total front.0 (front.1 ++ rest) s.3 (no_slash 47) (no_slash 42)
+          ∙ rw (starts, all.0) (number_piece-whole (offset total (front.0 ∷ (front.1 ++ rest))) n front.0 front.1 rest all.1 (rw front.2 at digits.1) small (lead n front.0 front.1 rest held front.2 (no_digits rest stops)) stops),
     )
 
 -- a number begins with a digit

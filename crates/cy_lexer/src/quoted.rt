@@ -4,7 +4,7 @@ ghost use Rattle.std.specs.Prelude.{◌≡◌, ◌+◌, string_bytes, encode_utf
 ghost use Rattle.cy_lexer.specs.internal.Reading.{seen, taken, map_ok};
 ghost use Rattle.cy_lexer.specs.Quoted.{plain_escape, coded_escape, escape, closes, character, quoted_len, between_quotes};
 
-use crate::characters::{begins_with, split_first};
+use crate::characters::{Run, after_run, begins_with, split_first};
 use crate::faults::LexFault;
 use std::alloc::Global;
 
@@ -89,7 +89,7 @@ pub(crate) fn after_quoted(
         ≡ map_ok (λ n. drop n (chars text.now)) (quoted_len total unclosed quote 0 (chars text.now)) }
     ensures shorter { IfOk result (λ s. length s.now ≤ length text.now) }
 {
-    let mut rest = text;
+    let mut rest = after_run(Run::Quoted(quote), text);
     while let Some((first, after)) = split_first(rest) {
         if closes(quote, first, after) {
             return Ok(after);
@@ -97,7 +97,7 @@ pub(crate) fn after_quoted(
         let Some((_, left)) = character(quote, first, after) else {
             return Err(LexFault::BadEscape(total - rest.len()));
         };
-        rest = left;
+        rest = after_run(Run::Quoted(quote), left);
     }
     Err(unclosed)
 }

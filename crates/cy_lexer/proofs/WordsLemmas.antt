@@ -23,7 +23,7 @@ use Rattle.cy_lexer.specs.Numbers.{spoils_number}
 use Rattle.cy_lexer.specs.Spans.{slice_of}
 use Rattle.cy_lexer.specs.declared.faults.LexFault.{LexFault}
 use Rattle.cy_lexer.specs.Tokens.{◌>>=◌, piece, tokens_from, tokens_of, denoted}
-use Rattle.cy_lexer.specs.internal.Words.{Word, kind_of, doubled, escaped, signs, characters, is_word, join, may_touch, space, written, may_touch_next, are_words, may_follow_last, may_follow, meant, bytes_of, tokens_at}
+use Rattle.cy_lexer.specs.internal.Words.{Word, kind_of, doubled, escaped, signs, characters, is_word, join, may_touch, space, written, may_touch_next, are_words, may_follow_last, may_follow, meant, bytes_of, tokens_at, IsTokenOf, AreTokensOf}
 use Rattle.cy_lexer.specs.internal.Words as word
 use Rattle.cy_lexer.proofs.CharactersLemmas.{size_of}
 use Rattle.cy_lexer.proofs.QuotedLemmas.{not_is}
@@ -301,12 +301,7 @@ tokens_of-words ws are short =
     ∙ ap (λ (x : List ℕ). tokens_from (length line) 0 x) (chars-encodes (written ws) (all_scalars-written ws are))
     ∙ tokens_from-words (length line) 0 ws are (omega arith)
 
--- their kinds are those of the words
-pub kinds-words : (at : ℕ) (ws : List (Word × Bool)) → map (λ t. t.kind) (tokens_at at ws) ≡ map (λ w. kind_of w.0) ws
-kinds-words at [] = refl
-kinds-words at (w ∷ ws) = ap (λ (x : List Kind). kind_of w.0 ∷ x) (kinds-words (at + length (bytes_of w.0) + length (space w.1)) ws)
-
--- and their slices are the words as they are written
+-- they are the words' tokens: their kinds are those of the words, and their slices the words as they are written
 bytes_of_space : (spaced : Bool) → encode_utf8_all (space spaced) ≡ space spaced
 unfolding encode_utf8
 bytes_of_space true = refl
@@ -316,9 +311,9 @@ slice_front : (front part rest : List ℕ) (end : ℕ) → end ≡ length front 
 slice_front front part rest end e =
     rw (drop_at front (part ++ rest) (length front) refl) (take_at part rest (end - length front) (omega arith))
 
-slices_from : (line front : List ℕ) (at : ℕ) (ws : List (Word × Bool)) → at ≡ length front → line ≡ front ++ encode_utf8_all (written ws) → map (slice_of line) (tokens_at at ws) ≡ map (λ w. bytes_of w.0) ws
-slices_from line front at [] e split = refl
-slices_from line front at (w ∷ ws) e split =
+AreTokensOf-from : (line front : List ℕ) (at : ℕ) (ws : List (Word × Bool)) → at ≡ length front → line ≡ front ++ encode_utf8_all (written ws) → AreTokensOf line (tokens_at at ws) ws
+AreTokensOf-from line front at [] e split = tt
+AreTokensOf-from line front at (w ∷ ws) e split =
     let rest = encode_utf8_all (written ws) in
     let end = at + length (bytes_of w.0) in
     let parts : line ≡ front ++ (bytes_of w.0 ++ (space w.1 ++ rest)) =
@@ -332,11 +327,31 @@ slices_from line front at (w ∷ ws) e split =
     ∙ sym (append_assoc front (bytes_of w.0 ++ space w.1) rest) in
     let next_at : end + length (space w.1) ≡ length next = omega (arith, length-append front (bytes_of w.0 ++ space w.1), length-append (bytes_of w.0) (space w.1)) in
     let first : take (end - at) (drop at line) ≡ bytes_of w.0 = rw (parts, e) (slice_front front (bytes_of w.0) (space w.1 ++ rest) (length front + length (bytes_of w.0)) refl) in
-    ap (λ (x : List ℕ). x ∷ map (slice_of line) (tokens_at (end + length (space w.1)) ws)) first
-    ∙ ap (λ (x : List (List ℕ)). bytes_of w.0 ∷ x) (slices_from line next (end + length (space w.1)) ws next_at onward)
+    ((refl, first), AreTokensOf-from line next (end + length (space w.1)) ws next_at onward)
 
-pub slices-words : (ws : List (Word × Bool)) → map (slice_of (encode_utf8_all (written ws))) (tokens_at 0 ws) ≡ map (λ w. bytes_of w.0) ws
-slices-words ws = slices_from (encode_utf8_all (written ws)) [] 0 ws refl refl
+pub AreTokensOf-words : (ws : List (Word × Bool)) → AreTokensOf (encode_utf8_all (written ws)) (tokens_at 0 ws) ws
+AreTokensOf-words ws = AreTokensOf-from (encode_utf8_all (written ws)) [] 0 ws refl refl
+
+-- the law in one: a text of words, where it isn't too long, has tokens, which are those of the words
+pub written-is_read : (ws : List (Word × Bool)) → are_words ws ≡ true → length (encode_utf8_all (written ws)) ≤ longest_line → (ts : List Token) × (tokens_of (encode_utf8_all (written ws)) ≡ Ok ts) × AreTokensOf (encode_utf8_all (written ws)) ts ws
+written-is_read ws are short = (tokens_at 0 ws, tokens_of-words ws are short, AreTokensOf-words ws)
+
+-- all kinds and all slices at once
+pub AreTokensOf-kinds : (line : List ℕ) (ts : List Token) (ws : List (Word × Bool)) → AreTokensOf line ts ws → map (λ t. t.kind) ts ≡ map (λ w. kind_of w.0) ws
+AreTokensOf-kinds line [] [] are = refl
+AreTokensOf-kinds line [] (w ∷ ws) are = absurd are
+AreTokensOf-kinds line (t ∷ ts) [] are = absurd are
+AreTokensOf-kinds line (t ∷ ts) (w ∷ ws) are =
+    ap (λ (k : Kind). k ∷ map (λ x. x.kind) ts) are.0.0
+    ∙ ap (λ (ks : List Kind). kind_of w.0 ∷ ks) (AreTokensOf-kinds line ts ws are.1)
+
+pub AreTokensOf-slices : (line : List ℕ) (ts : List Token) (ws : List (Word × Bool)) → AreTokensOf line ts ws → map (slice_of line) ts ≡ map (λ w. bytes_of w.0) ws
+AreTokensOf-slices line [] [] are = refl
+AreTokensOf-slices line [] (w ∷ ws) are = absurd are
+AreTokensOf-slices line (t ∷ ts) [] are = absurd are
+AreTokensOf-slices line (t ∷ ts) (w ∷ ws) are =
+    ap (λ (x : List ℕ). x ∷ map (slice_of line) ts) are.0.1
+    ∙ ap (λ (xs : List (List ℕ)). bytes_of w.0 ∷ xs) (AreTokensOf-slices line ts ws are.1)
 
 -- what they denote is what the words mean
 pub denoted-characters : (w : Word) → denoted (kind_of w) (characters w) ≡ meant w
@@ -348,6 +363,12 @@ denoted-characters (word.symbol s) = refl
 
 pub denoted-word : (w : Word) → is_word w ≡ true → denoted (kind_of w) (chars (bytes_of w)) ≡ meant w
 denoted-word w is = ap (λ (x : List ℕ). denoted (kind_of w) x) (chars-encodes (characters w) (all_scalars-word w is)) ∙ denoted-characters w
+
+pub denoted-token : (line : List ℕ) (t : Token) (w : Word) → is_word w ≡ true → IsTokenOf line t w → denoted t.kind (chars (slice_of line t)) ≡ meant w
+denoted-token line t w is token =
+    ap (λ (k : Kind). denoted k (chars (slice_of line t))) token.0
+    ∙ ap (λ (x : List ℕ). denoted (kind_of w) (chars x)) token.1
+    ∙ denoted-word w is
 
 -- ---- words after words
 

@@ -1,6 +1,6 @@
 -- Words: tokens that are written in one way each, and texts that are made of words.
 -- 32 is the space, 39 the single quote, 92 the backslash and 96 the backtick.
-use Rattle.std.specs.Prelude.{ℕ, Bool, true, false, not, ◌&&◌, ◌||◌, ◌==◌, if◌then◌else◌, nat_le, List, [], ◌∷◌, ◌++◌, ◌+◌, length, codes, encode_utf8_all}
+use Rattle.std.specs.Prelude.{◌≡◌, ⊤, ℕ, Bool, true, false, not, ◌&&◌, ◌||◌, ◌==◌, if◌then◌else◌, nat_le, List, [], ◌∷◌, ◌++◌, ◌+◌, length, codes, encode_utf8_all}
 use Rattle.std.specs.Fmt.{decimal}
 use Rattle.std.specs.Str.{all_scalars}
 use Rattle.cy_lexer.specs.declared.keywords.Keyword.{Keyword}
@@ -11,6 +11,7 @@ use Rattle.cy_lexer.specs.declared.tokens.Kind.TheVariants as kind
 use Rattle.cy_lexer.specs.declared.tokens.Token.{Token}
 use Rattle.cy_lexer.specs.Keywords.{spelling}
 use Rattle.cy_lexer.specs.Numbers.{greatest_number}
+use Rattle.cy_lexer.specs.Spans.{slice_of}
 
 -- a keyword, a name by its characters, a text by its characters, a number, or a symbol
 pub data Word : Type 0 where
@@ -150,3 +151,13 @@ tokens_at at [] = []
 tokens_at at (w ∷ ws) =
     let end = at + length (bytes_of w.0) in
     record { kind = kind_of w.0; start = at; end = end } ∷ tokens_at (end + length (space w.1)) ws
+
+-- the token of a line is that of the word: its kind, and the slice that it spans
+abbrev pub IsTokenOf : List ℕ → Token → Word → Type 0
+IsTokenOf line token w = (token.kind ≡ kind_of w) × (slice_of line token ≡ bytes_of w)
+
+-- the tokens of a line are those of the words, one for each, in order
+abbrev pub AreTokensOf : List ℕ → List Token → List (Word × Bool) → Type 0
+AreTokensOf line [] [] = ⊤
+AreTokensOf line (t ∷ ts) (w ∷ ws) = IsTokenOf line t w.0 × AreTokensOf line ts ws
+AreTokensOf line ts ws = ⊥

@@ -271,11 +271,11 @@ fn keywords_in_any_case(rt: HostRuntime) -> Result<(), Fail> {
         "ALL AND AS ASC ASCENDING BY CASE CONTAINS CREATE DELETE DESC DESCENDING DETACH DISTINCT \
         ELSE END ENDS FALSE IN IS LIMIT MATCH NOT NULL OPTIONAL OR ORDER REMOVE RETURN SET SKIP STARTS THEN \
         TRUE UNION UNWIND WHEN WHERE WITH XOR ";
+    let found = spellings_of(rt.alloc(), capitals)?;
+    assert_eq!(rt; found.as_str(), capitals);
     let small = capitals.to_ascii_lowercase(rt.alloc())?;
-    for line in [capitals, small.as_str()] {
-        let found = spellings_of(rt.alloc(), line)?;
-        assert_eq!(rt; found.as_str(), capitals);
-    }
+    let found = spellings_of(rt.alloc(), small.as_str())?;
+    assert_eq!(rt; found.as_str(), capitals);
     Ok(())
 }
 

@@ -392,3 +392,16 @@ are_words-after w (u ∷ us) vs are others follow =
 pub are_words-append : (ws vs : List (Word × Bool)) → are_words ws ≡ true → are_words vs ≡ true → may_follow ws vs ≡ true → are_words (ws ++ vs) ≡ true
 are_words-append [] vs are others follow = others
 are_words-append (w ∷ ws) vs are others follow = are_words-after w ws vs are others follow
+
+pub AreTokensOf-append : (line : List ℕ) (ts us : List Token) (ws vs : List (Word × Bool)) → AreTokensOf line ts ws → AreTokensOf line us vs → AreTokensOf line (ts ++ us) (ws ++ vs)
+AreTokensOf-append line [] us [] vs are others = others
+AreTokensOf-append line [] us (w ∷ ws) vs are others = absurd are
+AreTokensOf-append line (t ∷ ts) us [] vs are others = absurd are
+AreTokensOf-append line (t ∷ ts) us (w ∷ ws) vs are others = (are.0, AreTokensOf-append line ts us ws vs are.1 others)
+
+pub AreTokensOf-split : (line : List ℕ) (ts : List Token) (ws vs : List (Word × Bool)) → AreTokensOf line ts (ws ++ vs) → (front : List Token) × (back : List Token) × (ts ≡ front ++ back) × AreTokensOf line front ws × AreTokensOf line back vs
+AreTokensOf-split line ts [] vs are = ([], ts, refl, tt, are)
+AreTokensOf-split line [] (w ∷ ws) vs are = absurd are
+AreTokensOf-split line (t ∷ ts) (w ∷ ws) vs are =
+    let more = AreTokensOf-split line ts ws vs are.1 in
+    (t ∷ more.0, more.1, ap (λ (x : List Token). t ∷ x) more.2, (are.0, more.3), more.4)

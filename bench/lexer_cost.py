@@ -1,9 +1,11 @@
 #!/usr/bin/env python3
-"""Counts the instructions of the lexer on lines of 16,384 and of 65,536 bytes, by valgrind.
+"""Counts the instructions of the lexer on typical statements and on lines of 16,384 and of 65,536 bytes, by valgrind.
 
-Run it at the top of the repository. It builds a program over a copy of the crate in a temporary folder, and prints for
-each shape of line both counts, without those of an empty line, and their ratio. Linear work has a ratio of about 4. A
-ratio of 4.4 or more ends the script with status 1, and so does a line that isn't answered as it should be.
+Run it at the top of the repository. It builds two programs over a copy of the crate in a temporary folder. Of the
+statements in bench/statements.cypher it prints the instructions a byte: what the file takes twice less what it takes
+once. More than 70 end the script with status 1. Then it prints for each shape of line both counts, without those of an
+empty line, and their ratio. Linear work has a ratio of about 4. A ratio of 4.4 or more ends the script with status 1,
+and so does a line that isn't answered as it should be.
 """
 import os
 import re
@@ -13,6 +15,10 @@ import sys
 import tempfile
 
 LIMIT = 4.4
+# Instructions a byte of typical statements.
+STATEMENTS_LIMIT = 70
+# The tokens of bench/statements.cypher.
+STATEMENTS_TOKENS = 1944
 # Reads one line, and prints how many tokens it has, or the number and the offset of its fault.
 PROGRAM = """#![tactic(auto)]
 
@@ -24,6 +30,23 @@ fn main(rt: HostRuntime) -> io::Result<()> {
         Ok(tokens) => println!(rt; "{} tokens", tokens.len()),
         Err(fault) => println!(rt; "{} at {}", fault.code(), fault.at().unwrap_or(0)),
     }
+}
+"""
+# Reads lines, and prints how many tokens they have.
+STATEMENTS_PROGRAM = """#![tactic(auto)]
+
+use std::io;
+
+fn main(rt: HostRuntime) -> io::Result<()> {
+    let lines = io::read_to_string(rt.alloc(), rt.reader())?;
+    let mut count: u64 = 0;
+    for line in lines.as_str().lines() {
+        match cy_lexer::lex(rt.alloc(), line) {
+            Ok(tokens) => count = count.wrapping_add(tokens.len() as u64),
+            Err(fault) => println!(rt; "{} at {}", fault.code(), fault.at().unwrap_or(0))?,
+        }
+    }
+    println!(rt; "{count} tokens")
 }
 """
 
@@ -91,22 +114,33 @@ def instructions(program, line, answer):
     return int(re.search(rb"Collected : (\d+)", run.stderr).group(1))
 
 
-def built(folder):
-    shutil.copytree("crates/cy_lexer", f"{folder}/crates/cy_lexer", ignore=shutil.ignore_patterns("out"))
-    os.makedirs(f"{folder}/crates/lexer_cost/src")
-    with open(f"{folder}/crates/lexer_cost/src/main.rt", "w") as it:
-        it.write(PROGRAM)
-    with open(f"{folder}/crates.txt", "w") as it:
-        it.write("cy_lexer: thiserror unicode_ident\nlexer_cost: cy_lexer\n")
-    subprocess.run(["rt", "run"], cwd=f"{folder}/crates/lexer_cost", stdin=subprocess.DEVNULL, check=True)
-    found = [f"{at}/{it}" for at, _, files in os.walk(f"{folder}/crates/lexer_cost/out") for it in files]
-    programs = [it for it in found if os.access(it, os.X_OK) and open(it, "rb").read(4) == b"\x7fELF"]
-    return programs[0]
+def built(folder, name, program):
+    """The program over the crate in the folder, by its path."""
+    os.makedirs(f"{folder}/crates/{name}/src")
+    with open(f"{folder}/crates/{name}/src/main.rt", "w") as it:
+        it.write(program)
+    with open(f"{folder}/crates.txt", "a") as it:
+        it.write(f"{name}: cy_lexer\n")
+    subprocess.run(["rt", "run"], cwd=f"{folder}/crates/{name}", stdin=subprocess.DEVNULL, check=True)
+    return f"{folder}/crates/{name}/out/{name}"
+
+
+def of_statements(program):
+    """How many instructions a byte of typical statements takes."""
+    with open("bench/statements.cypher") as it:
+        statements = it.read()
+    once, twice = (instructions(program, statements * times, tokens(STATEMENTS_TOKENS * times)) for times in (1, 2))
+    return (twice - once) / len(statements.encode())
 
 
 def main():
     with tempfile.TemporaryDirectory() as folder:
-        program = built(folder)
+        shutil.copytree("crates/cy_lexer", f"{folder}/crates/cy_lexer", ignore=shutil.ignore_patterns("out"))
+        with open(f"{folder}/crates.txt", "w") as it:
+            it.write("cy_lexer: thiserror unicode_ident\n")
+        a_byte = of_statements(built(folder, "statements_cost", STATEMENTS_PROGRAM))
+        print(f"{'typical statements, a byte':36} {a_byte:12.1f}", flush=True)
+        program = built(folder, "lexer_cost", PROGRAM)
         empty = instructions(program, "", tokens(0))
         short, long = shapes(16384), shapes(65536)
         worst = 0.0
@@ -114,7 +148,7 @@ def main():
             small, large = (instructions(program, *lines[name]) - empty for lines in (short, long))
             worst = max(worst, large / small)
             print(f"{name:36} {small:12} {large:12} {large / small:6.2f}", flush=True)
-        return 0 if worst < LIMIT else 1
+        return 0 if worst < LIMIT and a_byte <= STATEMENTS_LIMIT else 1
 
 
 if __name__ == "__main__":

@@ -1,9 +1,20 @@
 -- Lemmas on the characters of a line.
-use Rattle.std.proofs.Common.{◌≡◌, ℕ, ◌+◌, ◌-◌, List, ◌∷◌, ◌++◌, length, take, drop, sym, ap, ◌∙◌, arith}
+use Rattle.std.proofs.Common.{◌≡◌, ℕ, suc, ◌+◌, ◌-◌, ◌<◌, Bool, true, ◌||◌, ◌==◌, List, ◌∷◌, ◌++◌, length, take, drop, get_or, refl, sym, ap, ◌∙◌, arith, add-one}
+use Rattle.std.specs.Char.{encode_utf8, is_ascii, is_ascii_alphabetic, is_ascii_alphanumeric}
+use Rattle.std.specs.List.{prefix_len}
+use Rattle.std.proofs.Math.Seq.{drop-cons}
 use Rattle.std.specs.Str.{chars, IsUtf8, encode_utf8_all, IsCharBoundary}
-use Rattle.std.proofs.lemmas.Str.{encodes-chars, encodes-append, IsCharBoundary-at_seam}
+use Rattle.std.proofs.lemmas.Str.{encode_ascii, chars_past_char, IsUtf8-drop, encodes-chars, encodes-append, IsCharBoundary-at_seam}
 use Rattle.std.proofs.lemmas.List.{drop-drop, take-append-drop, length-append, take_at, drop_at}
-use Rattle.cy_lexer.specs.Characters.{offset}
+use borrow.Author.Tests.{ltb-true}
+use Rattle.unicode_ident.proofs.IdentLemmas.{is_xid_start-ascii, is_xid_continue-ascii}
+use Rattle.cy_lexer.specs.declared.characters.Run.{Run}
+use Rattle.cy_lexer.specs.declared.characters.Run.TheVariants.{Name}
+use Rattle.cy_lexer.specs.Characters.{offset, starts_name, goes_on}
+
+-- how many bytes characters take, part by part
+pub size_of : (part rest : List ℕ) → length (encode_utf8_all (part ++ rest)) ≡ length (encode_utf8_all part) + length (encode_utf8_all rest)
+size_of part rest = ap length (encodes-append part rest) ∙ length-append (encode_utf8_all part) (encode_utf8_all rest)
 
 -- where the text bs begins, which ends a line of total bytes
 pub offset-chars : (total : ℕ) (bs : List ℕ) → IsUtf8 bs → offset total (chars bs) ≡ total - length bs
@@ -44,3 +55,23 @@ pub suffix-boundary : (bs ds : List ℕ) (n : ℕ) → IsUtf8 bs → IsUtf8 ds �
 suffix-boundary bs ds n u v e =
     let parts = front_bytes bs ds n u v e in
     rw (front_len bs (encode_utf8_all (take n (chars bs))) ds parts) (IsCharBoundary-at_seam bs (encode_utf8_all (take n (chars bs))) ds parts v)
+
+-- names of ASCII characters
+pub starts_name-ascii : (c : ℕ) (letter : Bool) → is_ascii c ≡ true → letter ≡ is_ascii_alphabetic c → letter || (c == 95) ≡ starts_name c
+starts_name-ascii c letter small e = ap (λ (b : Bool). b || (c == 95)) (e ∙ sym (is_xid_start-ascii c (ltb-true c 128 small)))
+
+pub goes_on-ascii : (run : Run) (c : ℕ) (letter : Bool) → run ≡ Name → is_ascii c ≡ true → letter ≡ is_ascii_alphanumeric c → letter || (c == 95) ≡ goes_on run c
+goes_on-ascii run c letter name small e = rw name (ap (λ (b : Bool). b || (c == 95)) e ∙ sym (is_xid_continue-ascii c (ltb-true c 128 small)))
+
+-- a byte of ASCII is a character, and the text may be cut after it
+pub ascii_step : (bs : List ℕ) (i : ℕ) → IsUtf8 bs → IsCharBoundary bs i → i < length bs → get_or bs i 0 < 128 → chars (drop i bs) ≡ get_or bs i 0 ∷ chars (drop (i + 1) bs)
+ascii_step bs i u cut within small =
+    let b = get_or bs i 0 in
+    let split : drop i bs ≡ encode_utf8 b ++ drop (i + 1) bs = rw (encode_ascii b small) (rw (add-one, drop-cons bs i 0) refl) in
+    chars_past_char (drop i bs) (drop (i + 1) bs) b (IsUtf8-drop bs i u cut) split
+
+-- what a run leaves
+pub run_step : (p : ℕ → Bool) (c : ℕ) (whole cs : List ℕ) → whole ≡ c ∷ cs → p c ≡ true → drop (prefix_len p whole) whole ≡ drop (prefix_len p cs) cs
+run_step p c whole cs e goes =
+    let one : 1 + prefix_len p cs ≡ suc (prefix_len p cs) = omega arith in
+    rw e (rw goes (ap (λ (n : ℕ). drop n (c ∷ cs)) one))

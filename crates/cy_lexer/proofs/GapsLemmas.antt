@@ -6,7 +6,8 @@ use Rattle.std.specs.Option.{option_map}
 use Rattle.std.specs.Str.{chars, IsUtf8, encode_utf8_all}
 use Rattle.std.proofs.lemmas.Bool.{eqb-true, and_parts}
 use Rattle.std.proofs.lemmas.List.{take-append-drop, drop_at, length-drop}
-use Rattle.std.proofs.lemmas.Str.{encodes-append, encodes-chars}
+use Rattle.std.proofs.lemmas.Str.{encodes-chars}
+use Rattle.cy_lexer.proofs.CharactersLemmas.{size_of}
 use Rattle.cy_lexer.proofs.QuotedLemmas.{some_is}
 use Rattle.cy_lexer.proofs.TokensLemmas.{ok_is, tokens_from-skip, tokens_of-short}
 use Rattle.cy_lexer.specs.declared.characters.Run.TheVariants as run
@@ -178,10 +179,6 @@ piece_shape total c cs =
     if_shaped c cs (opens_comment 47 c cs) _ _ (line_comment_shape c cs) (λ _.
     if_shaped c cs (opens_comment 42 c cs) _ _ (block_comment_shape (offset total (c ∷ cs)) c cs) (λ _.
     token_shape total (offset total (c ∷ cs)) c cs)))
-
--- how many bytes characters take, part by part
-size_of : (part rest : List ℕ) → length (encode_utf8_all (part ++ rest)) ≡ length (encode_utf8_all part) + length (encode_utf8_all rest)
-size_of part rest = ap length (encodes-append part rest) ∙ length-append (encode_utf8_all part) (encode_utf8_all rest)
 
 -- what is a gap in front of each gap may stand before the first gap
 prepend : (total : ℕ) (part rest : List ℕ) (ts : List Token) → length (encode_utf8_all (part ++ rest)) ≤ total → ((gap : List ℕ) → IsGap gap → IsGap (part ++ gap)) → LeavesGaps (offset total rest) rest ts → LeavesGaps (offset total (part ++ rest)) (part ++ rest) ts

@@ -1,3 +1,7 @@
+pub mod WordsLemmas
+pub mod WordsPiecesLemmas
+pub mod WordsQuotedLemmas
+pub mod KeywordsLemmas
 pub mod CharactersLemmas
 pub mod QuotedLemmas
 pub mod PiecesLemmas

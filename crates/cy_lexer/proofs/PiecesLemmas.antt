@@ -11,7 +11,7 @@ use Rattle.cy_lexer.specs.declared.keywords.Keyword.{Keyword}
 use Rattle.cy_lexer.specs.declared.tokens.Kind.{Kind}
 use Rattle.cy_lexer.specs.declared.tokens.Kind.TheVariants as kind
 use Rattle.cy_lexer.specs.Characters.{offset, goes_on}
-use Rattle.cy_lexer.specs.Reading.{taken, map_ok}
+use Rattle.cy_lexer.specs.internal.Reading.{taken, map_ok}
 use Rattle.cy_lexer.specs.Keywords.{keyword_of}
 use Rattle.cy_lexer.specs.Numbers.{number_of, is_bad_number}
 use Rattle.cy_lexer.specs.Tokens.{word_kind, number_piece, token_piece, opens_comment, piece, denoted}

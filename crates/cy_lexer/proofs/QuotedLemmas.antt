@@ -1,13 +1,16 @@
 -- Lemmas on what stands between quotes.
-use Rattle.std.proofs.Common.{◌≡◌, ℕ, zero, suc, ◌+◌, ◌*◌, ◌<◌, true, false, List, [], ◌∷◌, ◌++◌, drop, Option, Some, None, Result, Ok, Err, refl, sym, ap, ◌∙◌, append_assoc, append-nil}
+use Rattle.std.proofs.Common.{◌≡◌, Bool, not, ◌==◌, ℕ, zero, suc, ◌+◌, ◌*◌, ◌<◌, true, false, List, [], ◌∷◌, ◌++◌, drop, Option, Some, None, Result, Ok, Err, refl, sym, ap, ◌∙◌, append_assoc, append-nil}
 use Rattle.std.specs.Char.{digit_value, encode_utf8}
 use Rattle.std.specs.Str.{chars, encode_utf8_all}
 use Rattle.std.specs.Option.{option_map}
-use Rattle.std.proofs.lemmas.Bool.{lt-ltb}
+use Rattle.std.specs.List.{prefix_len}
+use Rattle.std.proofs.lemmas.Bool.{lt-ltb, eqb-true, and_parts}
+use Rattle.cy_lexer.specs.declared.characters.Run.TheVariants as run
 use Rattle.cy_lexer.specs.declared.faults.LexFault.{LexFault}
 use Rattle.cy_lexer.specs.declared.faults.LexFault.TheVariants.{BadEscape}
-use Rattle.cy_lexer.specs.Characters.{offset}
-use Rattle.cy_lexer.specs.Reading.{taken, map_ok}
+use Rattle.cy_lexer.specs.Characters.{offset, goes_on}
+use Rattle.cy_lexer.proofs.CharactersLemmas.{run_step}
+use Rattle.cy_lexer.specs.internal.Reading.{taken, map_ok}
 use Rattle.cy_lexer.specs.Quoted.{hexadecimal, closes, character, one_more, quoted_len, unquoted, between_quotes}
 
 -- one more hexadecimal digit
@@ -47,6 +50,34 @@ by_character total unclosed quote c d cs left None e = absurd cc
 
 pub quoted_len-step : (total : ℕ) (unclosed : LexFault) (quote c d : ℕ) (whole cs left : List ℕ) → whole ≡ c ∷ cs → false ≡ closes quote c cs → Some (d, left) ≡ option_map (taken cs) (character quote c cs) → map_ok (λ n. drop n whole) (quoted_len total unclosed quote 0 whole) ≡ map_ok (λ n. drop n left) (quoted_len total unclosed quote 0 left)
 quoted_len-step total unclosed quote c d whole cs left e inside took = rw (e, ← inside) (by_character total unclosed quote c d cs left (character quote c cs) took)
+
+pub not_is : (b : Bool) → not b ≡ true → b ≡ false
+not_is true e = absurd cc
+not_is false e = refl
+
+-- a character that stands for itself
+plain_character : (quote c : ℕ) (cs : List ℕ) (backtick : Bool) → (quote == 96) ≡ backtick → (c == quote) ≡ false → (c == 92) ≡ false → Some (c, cs) ≡ option_map (taken cs) (character quote c cs)
+plain_character quote c cs true e other no_escape =
+    let no_backtick : (c == 96) ≡ false = ap (λ (x : ℕ). c == x) (sym (eqb-true quote 96 e)) ∙ other in
+    rw (e, no_backtick) refl
+plain_character quote c cs false e other no_escape = rw (e, no_escape) refl
+
+-- a run of such characters is passed
+by_plain : (total : ℕ) (unclosed : LexFault) (quote c : ℕ) (cs : List ℕ) (goes : Bool) → goes_on (run.Quoted quote) c ≡ goes → map_ok (λ n. drop n (drop (prefix_len (goes_on (run.Quoted quote)) cs) cs)) (quoted_len total unclosed quote 0 (drop (prefix_len (goes_on (run.Quoted quote)) cs) cs)) ≡ map_ok (λ n. drop n cs) (quoted_len total unclosed quote 0 cs) → map_ok (λ n. drop n (drop (prefix_len (goes_on (run.Quoted quote)) (c ∷ cs)) (c ∷ cs))) (quoted_len total unclosed quote 0 (drop (prefix_len (goes_on (run.Quoted quote)) (c ∷ cs)) (c ∷ cs))) ≡ map_ok (λ n. drop n (c ∷ cs)) (quoted_len total unclosed quote 0 (c ∷ cs))
+by_plain total unclosed quote c cs true goes known =
+    let both = and_parts (not (c == quote)) (not (c == 92)) goes in
+    let other = not_is (c == quote) both.0 in
+    let inside : false ≡ closes quote c cs = rw other refl in
+    rw (run_step (goes_on (run.Quoted quote)) c (c ∷ cs) cs refl goes)
+    (known ∙ sym (quoted_len-step total unclosed quote c c (c ∷ cs) cs cs refl inside (plain_character quote c cs (quote == 96) refl other (not_is (c == 92) both.1))))
+by_plain total unclosed quote c cs false goes known = rw goes refl
+
+quoted_len-run : (total : ℕ) (unclosed : LexFault) (quote : ℕ) (cs : List ℕ) → map_ok (λ n. drop n (drop (prefix_len (goes_on (run.Quoted quote)) cs) cs)) (quoted_len total unclosed quote 0 (drop (prefix_len (goes_on (run.Quoted quote)) cs) cs)) ≡ map_ok (λ n. drop n cs) (quoted_len total unclosed quote 0 cs)
+quoted_len-run total unclosed quote [] = refl
+quoted_len-run total unclosed quote (c ∷ cs) = by_plain total unclosed quote c cs (goes_on (run.Quoted quote) c) refl (quoted_len-run total unclosed quote cs)
+
+pub quoted_len-plain : (total : ℕ) (unclosed : LexFault) (quote : ℕ) (whole left : List ℕ) → left ≡ drop (prefix_len (goes_on (run.Quoted quote)) whole) whole → map_ok (λ n. drop n left) (quoted_len total unclosed quote 0 left) ≡ map_ok (λ n. drop n whole) (quoted_len total unclosed quote 0 whole)
+quoted_len-plain total unclosed quote whole left e = rw e (quoted_len-run total unclosed quote whole)
 
 -- a bad escape
 by_bad_escape : (total : ℕ) (unclosed : LexFault) (quote c : ℕ) (cs : List ℕ) (r : Option (ℕ × ℕ)) → option_map (taken cs) r ≡ None → map_ok (λ n. drop n (c ∷ cs)) (elim r [ Some p ↦ one_more (quoted_len total unclosed quote p.1 cs) | None ↦ Err (BadEscape (offset total (c ∷ cs))) ]) ≡ Err (BadEscape (offset total (c ∷ cs)))

@@ -12,7 +12,7 @@ use Rattle.cy_lexer.specs.declared.tokens.Kind.{Kind}
 use Rattle.cy_lexer.specs.declared.tokens.Token.{Token}
 use Rattle.cy_lexer.specs.Characters.{offset}
 use Rattle.cy_lexer.specs.Line.{longest_line}
-use Rattle.cy_lexer.specs.Reading.{taken, map_ok}
+use Rattle.cy_lexer.specs.internal.Reading.{taken, map_ok}
 use Rattle.cy_lexer.specs.Tokens.{Piece, ◌>>=◌, piece, with_token, tokens_from, tokens_of}
 use Rattle.cy_lexer.specs.Spans.{IsSpanOf, AreSpansOf}
 use Rattle.cy_lexer.proofs.CharactersLemmas.{offset-chars, suffix-drop}

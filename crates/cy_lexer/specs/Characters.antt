@@ -1,10 +1,10 @@
 -- What is asked of the characters of a line. A character is its code point: 10 is LF, 46 is `.` and 95 is `_`.
-use Rattle.std.specs.Prelude.{ℕ, ◌-◌, Bool, false, not, ◌||◌, ◌==◌, List, [], ◌∷◌, length}
+use Rattle.std.specs.Prelude.{ℕ, ◌-◌, Bool, false, not, ◌&&◌, ◌||◌, ◌==◌, List, [], ◌∷◌, length}
 use Rattle.std.specs.Char.{is_ascii_digit}
 use Rattle.std.specs.Str.{encode_utf8_all}
 use Rattle.unicode_ident.specs.Ident.{is_xid_start, is_xid_continue}
 use Rattle.cy_lexer.specs.declared.characters.Run.{Run}
-use Rattle.cy_lexer.specs.declared.characters.Run.TheVariants.{Name, Digits, Line}
+use Rattle.cy_lexer.specs.declared.characters.Run.TheVariants.{Name, Digits, Line, Quoted}
 
 -- where the characters that are left begin, in a line of so many bytes: behind all bytes but theirs
 abbrev pub offset : ℕ → List ℕ → ℕ
@@ -19,8 +19,10 @@ begins_with d (c ∷ cs) = c == d
 abbrev pub starts_name : ℕ → Bool
 starts_name c = is_xid_start c || (c == 95)
 
--- a character that goes on with a name (it has XID_Continue), with a number, or with a comment of one line
+-- a character that goes on with a name (it has XID_Continue), with a number, or with a comment of one line, or that
+-- neither ends nor escapes anything inside of quotes (92 is the backslash)
 abbrev pub goes_on : Run → ℕ → Bool
 goes_on Name c = is_xid_continue c
 goes_on Digits c = is_ascii_digit c
 goes_on Line c = not (c == 10)
+goes_on (Quoted quote) c = not (c == quote) && not (c == 92)

@@ -1,4 +1,4 @@
--- The numbers and the offsets of the faults (own).
+-- The numbers and the offsets of the faults (own: this profile's choice, which stands in no standard).
 use Rattle.std.specs.Prelude.{ℕ, Option, Some, None}
 use Rattle.cy_lexer.specs.declared.faults.LexFault.{LexFault}
 use Rattle.cy_lexer.specs.declared.faults.LexFault.TheVariants.{BadCharacter, UnclosedText, BadEscape, UnclosedComment, UnclosedName, BadNumber, NumberTooLarge, LineTooLong, NotUtf8, NoMemory}

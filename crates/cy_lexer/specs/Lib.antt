@@ -8,4 +8,4 @@ pub mod Quoted
 pub mod Tokens
 pub mod Spans
 pub mod Gaps
-pub mod Reading
+pub mod internal

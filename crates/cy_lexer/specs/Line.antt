@@ -5,7 +5,8 @@ use Rattle.std.specs.Str.{IsValidUpTo}
 use Rattle.cy_lexer.specs.declared.faults.LexFault.{LexFault}
 use Rattle.cy_lexer.specs.declared.faults.LexFault.TheVariants.{LineTooLong, NotUtf8}
 
--- the length of the longest line, in bytes without its line end (own)
+-- the length of the longest line, in bytes without its line end (own: this profile's choice, which stands in
+-- no standard)
 abbrev pub longest_line : ℕ
 longest_line = 65536
 

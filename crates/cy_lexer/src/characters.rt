@@ -10,6 +10,8 @@ pub(crate) enum Run {
     Name,
     Digits,
     Line,
+    /// What stands for itself inside of these quotes.
+    Quoted(char),
 }
 
 impl Run {
@@ -18,9 +20,11 @@ impl Run {
         ensures { result ≡ goes_on self c }
     {
         match self {
+            Run::Name if c.is_ascii() => c.is_ascii_alphanumeric() || c == '_',
             Run::Name => unicode_ident::is_xid_continue(c),
             Run::Digits => c.is_ascii_digit(),
             Run::Line => c != '\n',
+            Run::Quoted(quote) => c != quote && c != '\\',
         }
     }
 }
@@ -29,7 +33,11 @@ impl Run {
 pub(crate) fn starts_name(c: char) -> bool
     ensures { result ≡ starts_name c }
 {
-    unicode_ident::is_xid_start(c) || c == '_'
+    if c.is_ascii() {
+        c.is_ascii_alphabetic() || c == '_'
+    } else {
+        unicode_ident::is_xid_start(c)
+    }
 }
 
 /// The first character of a text, and what follows it.
@@ -52,12 +60,25 @@ pub(crate) fn begins_with(text: &str, c: char) -> bool
     }
 }
 
+/// What follows the ASCII characters at the front, or some of them, that go on with the run.
+fn after_ascii(run: Run, text: &str) -> &str
+    ensures value { drop (prefix_len (goes_on run) (chars result.now)) (chars result.now) ≡ drop (prefix_len (goes_on run) (chars text.now)) (chars text.now) }
+    ensures shorter { length result.now ≤ length text.now }
+{
+    let bytes = text.as_bytes();
+    let mut at = 0;
+    while at < bytes.len() && bytes[at].is_ascii() && run.goes_on(bytes[at] as char) {
+        at += 1;
+    }
+    text.split_at(at).1
+}
+
 /// What follows the characters at the front that go on with the run.
 pub(crate) fn after_run(run: Run, text: &str) -> &str
     ensures value { chars result.now ≡ drop (prefix_len (goes_on run) (chars text.now)) (chars text.now) }
     ensures shorter { length result.now ≤ length text.now }
 {
-    let mut rest = text;
+    let mut rest = after_ascii(run, text);
     while let Some((first, after)) = split_first(rest) {
         if !run.goes_on(first) {
             break;

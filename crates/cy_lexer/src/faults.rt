@@ -8,7 +8,8 @@ use crate::line::LONGEST_LINE;
 use std::alloc::{AllocError, AllocFailed};
 use thiserror::Error;
 
-/// Why a line has no tokens (own). The number in a variant is a byte offset in the line.
+/// Why a line has no tokens (own: this profile's choice, which stands in no standard). The number in a variant is a
+/// byte offset in the line.
 #[derive(Clone, Copy, Debug, PartialEq, Eq, Error)]
 pub enum LexFault {
     /// A character that begins no token, or an empty quoted name, by its opening backtick.

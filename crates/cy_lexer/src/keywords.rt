@@ -1,7 +1,8 @@
 //! The keywords.
 
-ghost use Rattle.std.specs.Prelude.{◌≡◌};
-ghost use Rattle.cy_lexer.specs.Keywords.{spelling, same_word, keyword_of};
+ghost use Rattle.std.specs.Prelude.{◌≡◌, filter, find};
+ghost use Rattle.cy_lexer.specs.Keywords.{spelling, keywords, same_word, keyword_of};
+ghost use Rattle.cy_lexer.specs.internal.Reading.{begins_keyword};
 
 /// A word that the grammar reserves (openCypher 9, reserved words), of this profile.
 #[derive(Clone, Copy, Debug, PartialEq, Eq)]
@@ -88,50 +89,6 @@ pub enum Keyword {
     Xor,
 }
 
-/// Each keyword, in the order of the alphabet.
-const KEYWORDS: [Keyword; 40] = [
-    Keyword::All,
-    Keyword::And,
-    Keyword::As,
-    Keyword::Asc,
-    Keyword::Ascending,
-    Keyword::By,
-    Keyword::Case,
-    Keyword::Contains,
-    Keyword::Create,
-    Keyword::Delete,
-    Keyword::Desc,
-    Keyword::Descending,
-    Keyword::Detach,
-    Keyword::Distinct,
-    Keyword::Else,
-    Keyword::End,
-    Keyword::Ends,
-    Keyword::False,
-    Keyword::In,
-    Keyword::Is,
-    Keyword::Limit,
-    Keyword::Match,
-    Keyword::Not,
-    Keyword::Null,
-    Keyword::Optional,
-    Keyword::Or,
-    Keyword::Order,
-    Keyword::Remove,
-    Keyword::Return,
-    Keyword::Set,
-    Keyword::Skip,
-    Keyword::Starts,
-    Keyword::Then,
-    Keyword::True,
-    Keyword::Union,
-    Keyword::Unwind,
-    Keyword::When,
-    Keyword::Where,
-    Keyword::With,
-    Keyword::Xor,
-];
-
 impl Keyword {
     /// The keyword in capitals.
     pub fn spelling(self) -> &'static str
@@ -189,13 +146,58 @@ impl Keyword {
     }
 }
 
-/// The keyword that the word is, whatever the case of its ASCII letters.
-#[tactic(auto, unfolding(crate::specs::Keywords::keyword_of))]
-pub(crate) fn keyword_of(word: &str) -> Option<Keyword>
-    ensures { result ≡ keyword_of word.now }
+/// The keywords that begin with the letter, whatever its case, in the order of the alphabet.
+fn keywords_with(letter: u8) -> &'static [Keyword]
+    ensures { result.now ≡ filter (begins_keyword letter) keywords }
 {
-    KEYWORDS
+    match letter.to_ascii_uppercase() {
+        b'A' => &[
+            Keyword::All,
+            Keyword::And,
+            Keyword::As,
+            Keyword::Asc,
+            Keyword::Ascending,
+        ],
+        b'B' => &[Keyword::By],
+        b'C' => &[Keyword::Case, Keyword::Contains, Keyword::Create],
+        b'D' => &[
+            Keyword::Delete,
+            Keyword::Desc,
+            Keyword::Descending,
+            Keyword::Detach,
+            Keyword::Distinct,
+        ],
+        b'E' => &[Keyword::Else, Keyword::End, Keyword::Ends],
+        b'F' => &[Keyword::False],
+        b'I' => &[Keyword::In, Keyword::Is],
+        b'L' => &[Keyword::Limit],
+        b'M' => &[Keyword::Match],
+        b'N' => &[Keyword::Not, Keyword::Null],
+        b'O' => &[Keyword::Optional, Keyword::Or, Keyword::Order],
+        b'R' => &[Keyword::Remove, Keyword::Return],
+        b'S' => &[Keyword::Set, Keyword::Skip, Keyword::Starts],
+        b'T' => &[Keyword::Then, Keyword::True],
+        b'U' => &[Keyword::Union, Keyword::Unwind],
+        b'W' => &[Keyword::When, Keyword::Where, Keyword::With],
+        b'X' => &[Keyword::Xor],
+        _ => &[],
+    }
+}
+
+/// The first of the keywords that the word is, whatever the case of its ASCII letters.
+fn first_spelled(keywords: &[Keyword], word: &str) -> Option<Keyword>
+    ensures { result ≡ find (λ keyword. same_word (spelling keyword) word.now) keywords.now }
+{
+    keywords
         .iter()
         .copied()
         .find(|keyword| keyword.is_spelled(word))
+}
+
+/// The keyword that the word is, whatever the case of its ASCII letters.
+pub(crate) fn keyword_of(word: &str) -> Option<Keyword>
+    ensures { result ≡ keyword_of word.now }
+{
+    let letter = word.as_bytes().first()?;
+    first_spelled(keywords_with(*letter), word)
 }

@@ -4,7 +4,8 @@ ghost use Rattle.cy_lexer.specs.Line.{IsTextOf};
 
 use crate::faults::LexFault;
 
-/// The length of the longest line, in bytes without its line end (own).
+/// The length of the longest line, in bytes without its line end (own: this profile's choice, which stands
+/// in no standard).
 pub const LONGEST_LINE: usize = 65536;
 
 /// The text that the bytes are. Fails with `LineTooLong` above 65,536 bytes, else with `NotUtf8` where they aren't

@@ -4,7 +4,7 @@ ghost use Rattle.std.specs.Prelude.{IsTrue, ◌≡◌, ℕ, ◌*◌, ◌<◌, �
 ghost use Rattle.cy_lexer.specs.declared.characters.Run.TheVariants.{Digits};
 ghost use Rattle.cy_lexer.specs.Characters.{goes_on};
 ghost use Rattle.cy_lexer.specs.Numbers.{number_of, begins_with_digit, spoils_number, is_bad_number};
-ghost use Rattle.cy_lexer.specs.Reading.{taken, map_ok, seen_token, IsHeld};
+ghost use Rattle.cy_lexer.specs.internal.Reading.{taken, map_ok, seen_token, IsHeld};
 ghost use Rattle.cy_lexer.specs.Tokens.{number_piece};
 ghost use Rattle.std.specs.Char.{is_ascii_digit};
 

@@ -2,7 +2,7 @@
 
 ghost use Rattle.std.specs.Prelude.{◌≡◌, ◌<◌, ◌≤◌, ◌∷◌, ◌++◌, ℕ, List, length, drop, option_map, IfOk, IfSome, chars};
 ghost use Rattle.cy_lexer.specs.Characters.{offset};
-ghost use Rattle.cy_lexer.specs.Reading.{seen, taken, map_ok, seen_gap, seen_token};
+ghost use Rattle.cy_lexer.specs.internal.Reading.{seen, taken, map_ok, seen_gap, seen_token};
 ghost use Rattle.cy_lexer.specs.Symbols.{symbol};
 ghost use Rattle.cy_lexer.specs.Tokens.{word_piece, number_piece, opens_comment, block_len, block_comment, quoted_name, text_piece, symbol_piece, token_piece, piece};
 

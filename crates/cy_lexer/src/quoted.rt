@@ -1,10 +1,10 @@
 //! Texts and quoted names.
 
 ghost use Rattle.std.specs.Prelude.{◌≡◌, ◌+◌, string_bytes, encode_utf8_all, ◌<◌, ◌≤◌, ◌^◌, length, drop, option_map, IfSome, IfOk, IfErr, chars};
-ghost use Rattle.cy_lexer.specs.Reading.{seen, taken, map_ok};
+ghost use Rattle.cy_lexer.specs.internal.Reading.{seen, taken, map_ok};
 ghost use Rattle.cy_lexer.specs.Quoted.{plain_escape, coded_escape, escape, closes, character, quoted_len, between_quotes};
 
-use crate::characters::{begins_with, split_first};
+use crate::characters::{Run, after_run, begins_with, split_first};
 use crate::faults::LexFault;
 use std::alloc::Global;
 
@@ -66,17 +66,14 @@ fn character(quote: char, first: char, after: &str) -> Option<(char, &str)>
         ≡ option_map (taken (chars after.now)) (character quote first (chars after.now)) }
     ensures shorter { IfSome result (λ p. length p.1.now ≤ length after.now) }
 {
-    if quote == '`' {
-        let left = match split_first(after) {
-            Some((_, behind)) if first == '`' => behind,
-            _ => after,
-        };
-        return Some((first, left));
+    match first {
+        '\\' if quote != '`' => escape(after),
+        '`' if quote == '`' => match split_first(after) {
+            Some((_, behind)) => Some((first, behind)),
+            None => Some((first, after)),
+        },
+        _ => Some((first, after)),
     }
-    if first == '\\' {
-        return escape(after);
-    }
-    Some((first, after))
 }
 
 /// What follows the quote that closes what the quote before the text opened. Fails with `BadEscape`, by its offset in a
@@ -92,7 +89,7 @@ pub(crate) fn after_quoted(
         ≡ map_ok (λ n. drop n (chars text.now)) (quoted_len total unclosed quote 0 (chars text.now)) }
     ensures shorter { IfOk result (λ s. length s.now ≤ length text.now) }
 {
-    let mut rest = text;
+    let mut rest = after_run(Run::Quoted(quote), text);
     while let Some((first, after)) = split_first(rest) {
         if closes(quote, first, after) {
             return Ok(after);
@@ -100,7 +97,7 @@ pub(crate) fn after_quoted(
         let Some((_, left)) = character(quote, first, after) else {
             return Err(LexFault::BadEscape(total - rest.len()));
         };
-        rest = left;
+        rest = after_run(Run::Quoted(quote), left);
     }
     Err(unclosed)
 }

@@ -14,7 +14,8 @@ use crate::tokens::Token;
 use std::alloc::Global;
 
 /// The tokens of a line, or the first fault that reading it from the left meets. Fails with `LineTooLong` above 65,536
-/// bytes, and may fail with `NoMemory` at any token. Nothing but white space and comments stands between the tokens.
+/// bytes, and may fail with `NoMemory` at its start and at any token. Nothing but white space and comments stands between
+/// the tokens.
 pub fn lex(alloc: Global, line: &str) -> Result<Vec<Token>, LexFault>
     ensures tokens { IfOk result (λ tokens. tokens_of line.now ≡ Ok tokens.items) }
     ensures fault { IfErr result (λ fault. fault ≢ LexFault.NoMemory → tokens_of line.now ≡ Err fault) }
@@ -26,7 +27,8 @@ pub fn lex(alloc: Global, line: &str) -> Result<Vec<Token>, LexFault>
     if line.len() > LONGEST_LINE {
         return Err(LexFault::LineTooLong);
     }
-    let mut tokens = Vec::new(alloc);
+    // Tokens and the gaps after them take some three bytes each.
+    let mut tokens = Vec::with_capacity(alloc, line.len() / 3)?;
     let mut rest = line;
     while let Some((first, after)) = split_first(rest) {
         let start = line.len() - rest.len();

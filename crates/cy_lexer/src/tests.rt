@@ -1,8 +1,8 @@
 //! What no clause says: that ample memory is enough, and that the definitions mean the language.
 
-ghost use Rattle.std.specs.Prelude.{◌≡◌, [], ◌∷◌, Ok, Err, IsFalse, codes};
-ghost use Rattle.unicode_ident.specs.Ident.{is_xid_start};
+ghost use Rattle.std.specs.Prelude.{◌≡◌, true, false, [], ◌∷◌, Ok, Err, codes};
 ghost use Rattle.cy_lexer.specs.Tokens.{tokens_of};
+ghost use Rattle.cy_lexer.specs.internal.Words.{keyword, name, text, number, symbol, written};
 
 use super::*;
 use std::alloc::Global;
@@ -253,70 +253,29 @@ fn texts_of_faults(rt: HostRuntime) -> Result<(), Fail> {
     Ok(())
 }
 
-/// Whether the line begins with the keyword.
-fn is_first(alloc: Global, line: &str, keyword: Keyword) -> Result<bool, LexFault> {
-    let tokens = lex(alloc, line)?;
-    Ok(
-        tokens
-            .first()
-            .is_some_and(|token| token.is_keyword(keyword)),
-    )
-}
-
-/// Whether the word is the keyword, in capitals and in small letters.
-fn is_in_any_case(alloc: Global, word: &str, keyword: Keyword) -> Result<bool, LexFault> {
-    let small = word.to_ascii_lowercase(alloc)?;
-    Ok(is_first(alloc, word, keyword)? && is_first(alloc, small.as_str(), keyword)?)
+/// The spellings of the keywords that the line has, each with a blank behind it.
+fn spellings_of(alloc: Global, line: &str) -> Result<String, LexFault> {
+    let mut spellings = String::new(alloc);
+    for token in &lex(alloc, line)? {
+        if let Kind::Keyword(keyword) = token.kind {
+            spellings.push_str(keyword.spelling())?;
+            spellings.push(' ')?;
+        }
+    }
+    Ok(spellings)
 }
 
 #[test]
 fn keywords_in_any_case(rt: HostRuntime) -> Result<(), Fail> {
-    let rows = [
-        ("ALL", Keyword::All),
-        ("AND", Keyword::And),
-        ("AS", Keyword::As),
-        ("ASC", Keyword::Asc),
-        ("ASCENDING", Keyword::Ascending),
-        ("BY", Keyword::By),
-        ("CASE", Keyword::Case),
-        ("CONTAINS", Keyword::Contains),
-        ("CREATE", Keyword::Create),
-        ("DELETE", Keyword::Delete),
-        ("DESC", Keyword::Desc),
-        ("DESCENDING", Keyword::Descending),
-        ("DETACH", Keyword::Detach),
-        ("DISTINCT", Keyword::Distinct),
-        ("ELSE", Keyword::Else),
-        ("END", Keyword::End),
-        ("ENDS", Keyword::Ends),
-        ("FALSE", Keyword::False),
-        ("IN", Keyword::In),
-        ("IS", Keyword::Is),
-        ("LIMIT", Keyword::Limit),
-        ("MATCH", Keyword::Match),
-        ("NOT", Keyword::Not),
-        ("NULL", Keyword::Null),
-        ("OPTIONAL", Keyword::Optional),
-        ("OR", Keyword::Or),
-        ("ORDER", Keyword::Order),
-        ("REMOVE", Keyword::Remove),
-        ("RETURN", Keyword::Return),
-        ("SET", Keyword::Set),
-        ("SKIP", Keyword::Skip),
-        ("STARTS", Keyword::Starts),
-        ("THEN", Keyword::Then),
-        ("TRUE", Keyword::True),
-        ("UNION", Keyword::Union),
-        ("UNWIND", Keyword::Unwind),
-        ("WHEN", Keyword::When),
-        ("WHERE", Keyword::Where),
-        ("WITH", Keyword::With),
-        ("XOR", Keyword::Xor),
-    ];
-    for (word, keyword) in rows {
-        let found = is_in_any_case(rt.alloc(), word, keyword)?;
-        assert!(rt; found, "{word}");
-    }
+    let capitals =
+        "ALL AND AS ASC ASCENDING BY CASE CONTAINS CREATE DELETE DESC DESCENDING DETACH DISTINCT \
+        ELSE END ENDS FALSE IN IS LIMIT MATCH NOT NULL OPTIONAL OR ORDER REMOVE RETURN SET SKIP STARTS THEN \
+        TRUE UNION UNWIND WHEN WHERE WITH XOR ";
+    let found = spellings_of(rt.alloc(), capitals)?;
+    assert_eq!(rt; found.as_str(), capitals);
+    let small = capitals.to_ascii_lowercase(rt.alloc())?;
+    let found = spellings_of(rt.alloc(), small.as_str())?;
+    assert_eq!(rt; found.as_str(), capitals);
     Ok(())
 }
 
@@ -440,18 +399,24 @@ fn rows_of_the_definition() {
     computed_rows();
 }
 
-/// Worked rows of the definition, each computed, where the characters that they begin with begin no name.
+/// Worked rows of the definition, each computed.
 fn computed_rows()
     ensures nothing { tokens_of [] ≡ Ok [] }
     ensures blanks { tokens_of (codes " /* a */ // b") ≡ Ok [] }
-    ensures comment { tokens_of (codes "/* a") ≡ Err (LexFault.UnclosedComment 0) }
-    ensures text { IsFalse (is_xid_start 39) → tokens_of (codes " 'ab") ≡ Err (LexFault.UnclosedText 1) }
-    ensures escape { IsFalse (is_xid_start 39) → tokens_of (codes "'a\\q") ≡ Err (LexFault.BadEscape 2) }
-    ensures surrogate { IsFalse (is_xid_start 39) → tokens_of (codes "'\\uD800'") ≡ Err (LexFault.BadEscape 1) }
-    ensures name { IsFalse (is_xid_start 96) → tokens_of (codes "`a") ≡ Err (LexFault.UnclosedName 0) }
-    ensures empty_name { IsFalse (is_xid_start 96) → tokens_of (codes "``") ≡ Err (LexFault.BadCharacter 0) }
-    ensures zero { IsFalse (is_xid_start 48) → tokens_of (codes "01") ≡ Err (LexFault.BadNumber 0) }
-    ensures character { IsFalse (is_xid_start 35) → tokens_of (codes "#") ≡ Err (LexFault.BadCharacter 0) }
-    ensures symbols { IsFalse (is_xid_start 60) → tokens_of (codes "< <=")
+    ensures name { tokens_of (codes " n_1") ≡ Ok (record { kind = Kind.Name; start = 1; end = 4 } ∷ []) }
+    ensures keyword { tokens_of (codes "Or") ≡ Ok (record { kind = Kind.Keyword Keyword.Or; start = 0; end = 2 } ∷ []) }
+    ensures number { tokens_of (codes "120") ≡ Ok (record { kind = Kind.Number 120; start = 0; end = 3 } ∷ []) }
+    ensures text { tokens_of (codes "'a\\n'") ≡ Ok (record { kind = Kind.Text; start = 0; end = 5 } ∷ []) }
+    ensures symbols { tokens_of (codes "< <=")
         ≡ Ok (record { kind = Kind.Symbol Symbol.Less; start = 0; end = 1 } ∷ record { kind = Kind.Symbol Symbol.LessOrEqual; start = 2; end = 4 } ∷ []) }
+    ensures unclosed_comment { tokens_of (codes "/* a") ≡ Err (LexFault.UnclosedComment 0) }
+    ensures unclosed_text { tokens_of (codes " 'ab") ≡ Err (LexFault.UnclosedText 1) }
+    ensures escape { tokens_of (codes "'a\\q") ≡ Err (LexFault.BadEscape 2) }
+    ensures surrogate { tokens_of (codes "'\\uD800'") ≡ Err (LexFault.BadEscape 1) }
+    ensures unclosed_name { tokens_of (codes "`a") ≡ Err (LexFault.UnclosedName 0) }
+    ensures empty_name { tokens_of (codes "``") ≡ Err (LexFault.BadCharacter 0) }
+    ensures zero { tokens_of (codes "01") ≡ Err (LexFault.BadNumber 0) }
+    ensures words { written ((keyword Keyword.Match, true) ∷ (symbol Symbol.LeftParenthesis, false) ∷ (name (codes "a`b"), false) ∷ (symbol Symbol.RightParenthesis, true) ∷ (text (codes "it's"), false) ∷ (symbol Symbol.Plus, false) ∷ (number 120, false) ∷ [])
+        ≡ codes "MATCH (`a``b`) 'it\\'s'+120" }
+    ensures character { tokens_of (codes "#") ≡ Err (LexFault.BadCharacter 0) }
 {}

@@ -4,7 +4,7 @@ use Rattle.std.specs.Str.{chars}
 use Rattle.cy_lexer.specs.declared.characters.Run.TheVariants.{Digits}
 use Rattle.cy_lexer.specs.Characters.{goes_on}
 use Rattle.cy_lexer.specs.Numbers.{number_of}
-use Rattle.cy_lexer.specs.Reading.{IsHeld}
+use Rattle.cy_lexer.specs.internal.Reading.{IsHeld}
 use denote.Text.{Utf8}
 use denote.Shadow.{shadow}
 use Rattle.cy_lexer.proofs.numbers.number_at.Given as goal

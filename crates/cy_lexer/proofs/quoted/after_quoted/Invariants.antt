@@ -1,6 +1,6 @@
 use Rattle.std.proofs.Common.{◌≡◌, ◌≤◌, length, drop}
 use Rattle.std.specs.Str.{chars}
-use Rattle.cy_lexer.specs.Reading.{map_ok}
+use Rattle.cy_lexer.specs.internal.Reading.{map_ok}
 use Rattle.cy_lexer.specs.Quoted.{quoted_len}
 use denote.Text.{Utf8}
 use denote.Shadow.{shadow}

@@ -25,7 +25,7 @@ returns-then-line-gt-LONGEST_LINE-clause-fault c _ = tokens_of-long c.args.line.
 pub returns-in_err-kind-clause-fault : goal.returns-in_err-kind-clause-fault
 returns-in_err-kind-clause-fault c =
     let bad = IsRead-fault c.args.line.now c.loop-first.rest.now c.loop-first.tokens.items c.in-Some.first _ c.in_err-kind.field-0.0 c.if-line-gt-LONGEST_LINE.false c.loop-first.invariant.1 c.in-Some.ensures.cases (sym c.in_err-kind.ensures.value) in
-    let returned = err_from_is_err_and c.from_residual.result c.from_residual.ensures.1 in
+    let returned = err_from_is_err_and c.from_residual-in_err-kind.result c.from_residual-in_err-kind.ensures.1 in
     rw (returned.1, returned.2) (λ _. bad)
 
 pub returns-clause-tokens : goal.returns-clause-tokens

@@ -1,8 +1,12 @@
 -- How far the code has read. Only contracts of the lexer's private functions cite these words; no definition of the
 -- language does.
-use Rattle.std.specs.Prelude.{◌≡◌, ℕ, ◌≤◌, ◌^◌, List, drop, chars, Option, Some, None, Result, Ok, Err}
+use Rattle.std.specs.Prelude.{◌≡◌, ℕ, ◌≤◌, ◌^◌, Bool, List, drop, chars, Option, Some, None, Result, Ok, Err}
 use Rattle.std.specs.Borrow.{Bor}
+use Rattle.std.specs.Char.{to_ascii_uppercase}
+use Rattle.cy_lexer.specs.declared.keywords.Keyword.{Keyword}
 use Rattle.cy_lexer.specs.declared.tokens.Kind.{Kind}
+use Rattle.cy_lexer.specs.Characters.{begins_with}
+use Rattle.cy_lexer.specs.Keywords.{spelling}
 
 -- what was read at the front of a text, and the characters that are left behind it: as the code has it, and by how many
 -- of the text's characters were taken
@@ -27,3 +31,7 @@ map_ok f (Err e) = Err e
 abbrev pub IsHeld : Option ℕ → ℕ → Type 0
 IsHeld (Some held) n = held ≡ n
 IsHeld None n = 2 ^ 64 ≤ n
+
+-- the keyword begins with the letter, whatever its case
+abbrev pub begins_keyword : ℕ → Keyword → Bool
+begins_keyword letter keyword = begins_with (to_ascii_uppercase letter) (spelling keyword)

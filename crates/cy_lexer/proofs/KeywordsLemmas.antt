@@ -1,0 +1,50 @@
+-- Lemmas on keywords.
+use Rattle.std.proofs.Common.{◌≡◌, ℕ, Bool, true, false, List, [], ◌∷◌, Some, None, refl, sym, ap, ◌∙◌, arith}
+use Rattle.std.specs.Char.{to_ascii_lowercase, to_ascii_uppercase}
+use Rattle.std.specs.List.{find, filter, slice_get}
+use Rattle.std.proofs.lemmas.Bool.{eqb-true, eq-eqb, and_parts}
+use Rattle.std.proofs.lemmas.Bool.Decides.{nat_tests}
+use Rattle.cy_lexer.specs.declared.keywords.Keyword.{Keyword}
+use Rattle.cy_lexer.specs.declared.keywords.Keyword.TheVariants as word
+use Rattle.cy_lexer.specs.Keywords.{spelling, keywords, same_word, keyword_of}
+use Rattle.cy_lexer.specs.internal.Reading.{begins_keyword}
+
+by_found : {X : Type 0} → (p q : X → Bool) (x : X) (xs : List X) (found kept : Bool) → p x ≡ found → q x ≡ kept → (p x ≡ true → q x ≡ true) → find p (filter q xs) ≡ find p xs → find p (filter q (x ∷ xs)) ≡ find p (x ∷ xs)
+by_found p q x xs true true found kept wider known = rw kept (rw found refl)
+by_found p q x xs false true found kept wider known = rw kept (rw found known)
+by_found p q x xs false false found kept wider known = rw (kept, found) known
+by_found p q x xs true false found kept wider known = absurd (let yes = wider found in cc)
+
+-- what a test finds is found too among those that a wider test keeps
+find-kept : {X : Type 0} → (p q : X → Bool) → ((x : X) → p x ≡ true → q x ≡ true) → (xs : List X) → find p (filter q xs) ≡ find p xs
+find-kept p q wider [] = refl
+find-kept p q wider (x ∷ xs) = by_found p q x xs (p x) (q x) refl refl (wider x) (find-kept p q wider xs)
+
+uppercase-lowercase : (c : ℕ) → to_ascii_uppercase (to_ascii_lowercase c) ≡ to_ascii_uppercase c
+uppercase-lowercase c = grind (arith, nat_tests)
+
+-- a keyword begins with a letter in capitals
+front_of : (k : Keyword) → (c : ℕ) × (cs : List ℕ) × (spelling k ≡ c ∷ cs) × (to_ascii_uppercase (to_ascii_lowercase c) ≡ c)
+front_of word.All = (_, _, refl, refl)
+front_of k = (_, _, refl, refl)
+
+begins_as_spelled : (letter : ℕ) (bytes : List ℕ) (k : Keyword) → same_word (spelling k) (letter ∷ bytes) ≡ true → begins_keyword letter k ≡ true
+begins_as_spelled letter bytes k same =
+    let front = front_of k in
+    let both = and_parts _ _ (rw front.2 at same) in
+    let first : to_ascii_lowercase front.0 ≡ to_ascii_lowercase letter = eqb-true _ _ both.0 in
+    rw front.2 (eq-eqb front.0 (to_ascii_uppercase letter) (sym front.3 ∙ ap to_ascii_uppercase first ∙ uppercase-lowercase letter))
+
+-- the keyword that a word is begins with the word's first letter
+pub keyword_of-letter : (word : List ℕ) (letter : ℕ) (known : List Keyword) → Some letter ≡ slice_get word 0 → known ≡ filter (begins_keyword letter) keywords → find (λ k. same_word (spelling k) word) known ≡ keyword_of word
+unfolding keyword_of
+keyword_of-letter [] letter known e kept = absurd cc
+keyword_of-letter (b ∷ bytes) letter known e kept =
+    let first : letter ≡ b = cc in
+    rw (kept, first) (find-kept (λ k. same_word (spelling k) (b ∷ bytes)) (begins_keyword b) (begins_as_spelled b bytes) keywords)
+
+-- nothing is no keyword
+pub keyword_of-nothing : (word : List ℕ) → None ≡ slice_get word 0 → None ≡ keyword_of word
+unfolding keyword_of
+keyword_of-nothing [] e = refl
+keyword_of-nothing (b ∷ bytes) e = absurd cc

@@ -2,6 +2,7 @@ pub mod Appends
 pub mod Chains
 pub mod Cuts
 pub mod Feeds
+pub mod HistoryOption
 pub mod Kept
 pub mod NoFloats
 pub mod Outcomes

@@ -41,9 +41,15 @@ fn reads_options(rt: HostRuntime) -> Result<(), Fail> {
     ];
     for (arguments, history, feed) in table {
         let words = words_of(alloc, arguments)?;
-        assert!(rt; run_of(settings(alloc, words.as_slice())) == Some((history, feed)), "{arguments:?}");
+        assert!(rt;
+            run_of(settings(alloc, words.as_slice())) == Some((history, feed)),
+            "{arguments:?}"
+        );
     }
-    assert!(rt; run_of(settings(alloc, &[])) == Some((64, false)), "not even a name");
+    assert!(rt;
+        run_of(settings(alloc, &[])) == Some((64, false)),
+        "not even a name"
+    );
     Ok(())
 }
 

@@ -4,7 +4,7 @@ pub mod Cuts
 pub mod Feeds
 pub mod HistoryOption
 pub mod Kept
-pub mod NoFloats
+pub mod Objects
 pub mod Outcomes
 pub mod Progress
 pub mod Reading

@@ -4,7 +4,7 @@
 mod answers;
 mod buffer;
 mod feeding;
-mod json;
+mod json_values;
 mod memory;
 mod options;
 mod printing;

@@ -41,7 +41,13 @@ fn requested(alloc: Global, words: &'static [&'static [u8]]) -> Result<Asked, Ar
 #[test]
 fn reads_the_arguments_of_the_system(rt: HostRuntime) {
     let asked = requested(rt.alloc(), &[b"cypher_live", b"--history=5", b"--feed"]);
-    let is_run = matches!(asked, Ok(Asked::Run(Settings { history: 5, feed: true })));
+    let is_run = matches!(
+        asked,
+        Ok(Asked::Run(Settings {
+            history: 5,
+            feed: true
+        }))
+    );
     assert!(rt; is_run, "options");
     for words in NO_TEXTS {
         let is_bad = matches!(requested(rt.alloc(), words), Err(ArgFault::Bad));

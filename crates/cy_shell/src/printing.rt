@@ -88,7 +88,9 @@ pub(crate) fn print_fault(
     }
 }
 
-// Makes the compact text of an object, with its LF, in a room.
+// Makes the compact text of an object, with its LF, in a room. It stays a function of its own, so that a bench can count
+// what a text costs.
+#[inline(never)]
 fn write_line<T: WriteJson>(alloc: Global, room: &mut Vec<u8>, object: &T) -> Result<(), AllocError>
     ensures { OnOk result (room.new.items ≡ text_of (T.json object.now)) }
 {

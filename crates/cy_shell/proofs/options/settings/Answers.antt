@@ -1,9 +1,9 @@
-use Rattle.std.proofs.Common.{◌≡◌, ◌∙◌, List, ℕ, Some, None, refl, sym, rules, ap, codes, Ok, map, string_bytes}
+use Rattle.std.proofs.Common.{◌≡◌, ◌∙◌, List, ℕ, rules, ap, codes, Ok, map, string_bytes}
 use Rattle.std.proofs.lemmas.List.{length-map}
 use Rattle.std.specs.Option.{option_map_or}
 use Rattle.std.specs.Str.Parse.{digits_value, without_leading_plus, ParsesUnsigned, ExplainsUnsignedError, HasUnsignedDigitsIfOk}
 use Rattle.clap.proofs.WalkLemmas.{one_text-rows}
-use Rattle.clap.specs.Words.{IsAmong, found_of, one_of, one_text, rows_of}
+use Rattle.clap.specs.Words.{IsAmong, found_of, one_of, one_text}
 use Rattle.clap.specs.declared.error.ErrorKind.TheVariants.{DisplayHelp}
 use Rattle.cy_shell.specs.Options.{found, objections}
 use Rattle.cy_shell.specs.declared.options.Asked.TheVariants.{Run, Help}

@@ -1,5 +1,5 @@
 -- What the program does with its arguments.
-use Rattle.std.specs.Prelude.{ℕ, ◌≤◌, Result, Ok, Err}
+use Rattle.std.specs.Prelude.{◌≤◌, Result, Ok, Err}
 use Rattle.cy_shell.specs.declared.options.Asked.{Asked}
 use Rattle.cy_shell.specs.declared.options.Asked.TheVariants.{Run, Help}
 use Rattle.cy_shell.specs.declared.options.ArgFault.{ArgFault}

@@ -69,7 +69,7 @@ impl From<AllocError> for ArgFault {
 /// What the program's arguments ask for. The first of the words is the program's name, which says nothing.
 ///
 /// `--history N` is how many entries a view's history has, from 1 to 4096, and `--feed` has the entries that a line makes
-/// printed behind its reply. Where there is no such option, the history has 64 entries, and no entry is printed. `--help`
+/// printed after its reply. Where there is no such option, the history has 64 entries, and no entry is printed. `--help`
 /// asks for the help text, unless a bad argument comes before it.
 ///
 /// Fails with `Bad` at any other words, and with `Memory` where there is no memory.

@@ -16,7 +16,7 @@ tokens_of json = json_tokens (outline json)
 abbrev pub field_tokens : List ℕ → Data → List Token
 field_tokens name json = key name ∷ tokens_of json
 
--- the elements of a list, with the bracket behind them
+-- the elements of a list, with the bracket after them
 abbrev pub rest_tokens : {A : Type 0} → (A → Data) → List A → List Token
 rest_tokens json elements = items_tokens (items_outline (items_of (map json elements)))
 

@@ -15,7 +15,7 @@ struct Wanted {
     line: &'static str,
     // How many nodes it makes and removes.
     changed: (u64, u64),
-    // The tick behind it.
+    // The tick after it.
     tick: u64,
     // The views whose rows it changes, with the rows that are removed and those that are added.
     entries: &'static [(&'static str, Counted, Counted)],

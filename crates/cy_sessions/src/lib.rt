@@ -6,6 +6,8 @@ mod engine;
 #[cfg(test)]
 mod entries;
 #[cfg(test)]
+mod options;
+#[cfg(test)]
 mod plain;
 #[cfg(test)]
 mod refused;

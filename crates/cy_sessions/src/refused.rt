@@ -54,7 +54,7 @@ const CHANGES: [(&str, &str); 12] = [
     ),
 ];
 
-// The session with a refused line before the line of this number, or behind all: its input and output.
+// The session with a refused line before the line of this number, or after all: its input and output.
 fn with_refused(
     alloc: Global,
     at: usize,

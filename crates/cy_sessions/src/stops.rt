@@ -40,7 +40,7 @@ const NO_TEXTS: [(&[u8], &str); 3] = [
     ),
 ];
 
-// Two views with a feed: each object that follows a reply stands by itself, behind no line. A line that is no text has no
+// Two views with a feed: each object that follows a reply stands by itself, after no line. A line that is no text has no
 // entries, though the line before it had.
 const FED: [(&[u8], &str); 10] = [
     (
@@ -138,7 +138,7 @@ fn move_single_bytes(
     Ok(())
 }
 
-// The read behind each of the bytes fails in turn: the lines that ended before are answered, and it is not tried again.
+// The read after each of the bytes fails in turn: the lines that ended before are answered, and it is not tried again.
 fn stop_at_each_read(rt: &impl Abort, alloc: Global, lines: &[(&[u8], &str)]) -> Result<(), Fail> {
     let input = input_of(alloc, lines)?;
     for count in 0..=input.len() {
@@ -154,7 +154,7 @@ fn stop_at_each_read(rt: &impl Abort, alloc: Global, lines: &[(&[u8], &str)]) ->
     Ok(())
 }
 
-// The write behind each of the bytes, or the flush behind an answer, fails in turn: what was taken before is the beginning
+// The write after each of the bytes, or the flush after an answer, fails in turn: what was taken before is the beginning
 // of the answers, and it is not tried again.
 fn stop_at_each_write(
     rt: &impl Abort,

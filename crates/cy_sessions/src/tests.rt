@@ -80,7 +80,7 @@ fn refuses_what_is_outside_the_language(rt: HostRuntime) -> Result<(), Fail> {
     Ok(())
 }
 
-// Every other refusal of a line, and that the line behind it finds all as it was.
+// Every other refusal of a line, and that the line after it finds all as it was.
 #[test]
 fn refuses_and_goes_on(rt: HostRuntime) -> Result<(), Fail> {
     let alloc = rt.alloc();
@@ -174,7 +174,7 @@ fn counts_views(rt: HostRuntime) -> Result<(), Fail> {
     }
     input.push_str(":view w MATCH (n:A) RETURN n.k\n")?;
     output.push_str(fault(alloc, "null", 68, "TooManyViews")?.as_str())?;
-    // The lines behind it find all as it was.
+    // The lines after it find all as it was.
     input.push_str(":rows w\nCREATE (:A)\n:rows v256\n")?;
     output.push_str(fault(alloc, "null", 61, "NoSuchView")?.as_str())?;
     output.push_str(CREATED)?;

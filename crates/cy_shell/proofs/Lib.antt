@@ -2,8 +2,9 @@ pub mod Appends
 pub mod Chains
 pub mod Cuts
 pub mod Feeds
+pub mod HistoryOption
 pub mod Kept
-pub mod NoFloats
+pub mod Objects
 pub mod Outcomes
 pub mod Progress
 pub mod Reading

@@ -3,8 +3,10 @@ pub mod Feeding
 pub mod Json
 pub mod Lines
 pub mod Memory
+pub mod Options
 pub mod Printed
 pub mod Replies
 pub mod Runs
 pub mod Streams
 pub mod Words
+pub mod internal

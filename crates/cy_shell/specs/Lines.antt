@@ -20,7 +20,7 @@ begun_line begun (c ∷ cs) = if c == 10 then begun_line [] cs else begun_line (
 abbrev pub whole_lines : List ℕ → List (List ℕ)
 whole_lines bytes = ended_lines [] bytes
 
--- the bytes behind the last LF
+-- the bytes after the last LF
 abbrev pub last_line : List ℕ → List ℕ
 last_line bytes = begun_line [] bytes
 

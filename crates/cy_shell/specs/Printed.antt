@@ -1,5 +1,5 @@
 -- The text of what is answered to a line.
-use Rattle.std.specs.Prelude.{◌≡◌, ℕ, Bool, true, false, List, [], ◌∷◌, ◌++◌, ◌⊎◌, Option, Some, None, Result, Ok, Err, string_bytes}
+use Rattle.std.specs.Prelude.{◌≡◌, ℕ, Bool, true, false, List, [], ◌∷◌, ◌++◌, ◌⊎◌, Option, Some, None, Result, Ok, Err}
 use Rattle.serde_json.specs.Data.{Data}
 use Rattle.serde_json.specs.Written.{compact_text}
 use Rattle.cy_engine.specs.Faults.{code_of, offset_of}
@@ -7,8 +7,6 @@ use Rattle.cy_engine.specs.declared.entries.Entry.{Entry}
 use Rattle.cy_engine.specs.declared.faults.Fault.{Fault}
 use Rattle.cy_engine.specs.declared.replies.Reply.{Reply}
 use Rattle.cy_shell.specs.Replies.{reply_json, entry_json, fault_json}
-use Rattle.cy_shell.specs.declared.printing.Printed.{Printed}
-use Rattle.cy_shell.specs.declared.printing.Printed.TheVariants as printed
 
 -- an object as it is printed: compact, on a line of its own
 abbrev pub text_of : Data → List ℕ
@@ -56,10 +54,3 @@ pub record IsLineText (feed : Bool) (result : Result Reply Fault) (entries : Lis
   pub is : text ≡ answer ++ told
   pub answered : IsAnswerText result answer
   pub feeds : IsFeedText (fed feed entries) told
-
--- the text that the program has for a line
-abbrev pub printed_text : Printed → List ℕ
-printed_text printed.Nothing = []
-printed_text (printed.Text text) = string_bytes text
-printed_text printed.NoMemory = no_memory_text
-printed_text printed.ReplyLost = reply_lost_text

@@ -10,7 +10,7 @@ use Rattle.cy_shell.specs.Lines.{line_limit, whole_lines, lines_of, lines_read}
 use Rattle.cy_shell.specs.Printed.{IsFaultText, IsLineText}
 use Rattle.cy_shell.specs.Streams.{appended}
 
--- what a run goes on with: the engine, and whether the entries that a line makes are printed behind its answer
+-- what a run goes on with: the engine, and whether the entries that a line makes are printed after its answer
 pub record Serving : Type 0 where
   pub engine : EngineState
   pub feed : Bool
@@ -28,7 +28,7 @@ pub data Answered : Serving → List ℕ → List ℕ → Serving → Type 0 whe
   TooLong : {state : Serving} {line text : List ℕ} → line_limit < length line → IsFaultText (Some line_limit) 17 text → Answered state line text state
   -- nor is a line that isn't UTF-8: 18, at the end of its longest valid beginning
   NotUtf8 : {state : Serving} {line text : List ℕ} → length line ≤ line_limit → (IsUtf8 line → ⊥) → IsFaultText (Some (utf8_valid_len line)) 18 text → Answered state line text state
-  -- any other line is a step of the engine, and its answer is printed, with its entries behind it where there is a feed
+  -- any other line is a step of the engine, and its answer is printed, with its entries after it where there is a feed
   Carried : {old new : Serving} {line text : List ℕ} (result : Result Reply Fault) (entries : List (List ℕ × Entry))
       → length line ≤ line_limit → IsUtf8 line → Step old.engine line result entries new.engine → new.feed ≡ old.feed
       → IsLineText old.feed result entries text → Answered old line text new

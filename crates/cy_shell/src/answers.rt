@@ -3,7 +3,7 @@
 ghost use Rattle.std.specs.Prelude.{◌≡◌, ℕ, List};
 ghost use Rattle.cy_lexer.specs.Line.{IsTextOf};
 ghost use Rattle.cy_shell.specs.Lines.{kept};
-ghost use Rattle.cy_shell.specs.Printed.{printed_text};
+ghost use Rattle.cy_shell.specs.internal.Printing.{printed_text};
 ghost use Rattle.cy_shell.specs.Feeding.{Answers, IsAnswer};
 
 use crate::buffer::LineBuffer;
@@ -13,35 +13,41 @@ use cy_lexer::{LexFault, text_of};
 use std::alloc::Global;
 
 /// What is printed for a line, and whether the engine answered it.
-#[derive(Drop)]
-pub(crate) struct Told {
+#[derive(Clone, Copy)]
+pub(crate) struct AnsweredLine {
     pub(crate) printed: Printed,
     pub(crate) is_carried: bool,
 }
 
-/// Answers a line.
-pub(crate) fn answer(alloc: Global, engine: &mut Engine, line: &LineBuffer) -> Told
-    ensures { (bytes : List ℕ) → line.now ≡ kept bytes → IsAnswer engine.old.state bytes (printed_text result.printed) result.is_carried engine.new }
+/// Answers a line, whose text is made in a room.
+pub(crate) fn answer(
+    alloc: Global,
+    engine: &mut Engine,
+    line: &LineBuffer,
+    room: &mut Vec<u8>,
+) -> AnsweredLine
+    ensures { (bytes : List ℕ) → line.now ≡ kept bytes
+        → IsAnswer engine.old.state bytes (printed_text result.printed room.new.items) result.is_carried engine.new }
 {
     match line_text(line) {
-        Ok(text) => Told {
-            printed: answer_text(alloc, engine, text),
+        Ok(text) => AnsweredLine {
+            printed: answer_text(alloc, engine, text, room),
             is_carried: true,
         },
-        Err(fault) => Told {
-            printed: print_fault(alloc, fault.at(), fault.code()),
+        Err(fault) => AnsweredLine {
+            printed: print_fault(alloc, room, fault.at(), fault.code()),
             is_carried: false,
         },
     }
 }
 
 // Answers a line that is a text.
-fn answer_text(alloc: Global, engine: &mut Engine, text: &str) -> Printed
-    ensures { Answers engine.old.state text.now (printed_text result) engine.new }
+fn answer_text(alloc: Global, engine: &mut Engine, text: &str, room: &mut Vec<u8>) -> Printed
+    ensures { Answers engine.old.state text.now (printed_text result room.new.items) engine.new }
 {
     match engine.line(text) {
-        Ok(reply) => print_reply(alloc, &reply),
-        Err(fault) => print_fault(alloc, fault.at(), fault.code()),
+        Ok(reply) => print_reply(alloc, room, &reply),
+        Err(fault) => print_fault(alloc, room, fault.at(), fault.code()),
     }
 }
 

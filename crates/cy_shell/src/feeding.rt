@@ -1,4 +1,4 @@
-//! The entries of a line, printed behind its answer.
+//! The entries of a line, printed after its answer.
 
 ghost use Rattle.std.specs.Prelude.{◌≡◌, true, false, OnOk, OnErr};
 ghost use Rattle.cy_shell.specs.Feeding.{WritesFeed, BeginsFeed};
@@ -10,9 +10,11 @@ use cy_engine::Entry;
 use cy_values::Text;
 use std::alloc::Global;
 
-/// Writes the entries with the names of their views, each an object on a line of its own, in their order.
+/// Writes the entries with the names of their views, each an object on a line of its own, in their order. Their texts are
+/// made in a room.
 pub(crate) fn write_feed<W: Sink>(
     alloc: Global,
+    room: &mut Vec<u8>,
     sink: &mut W,
     entries: &[(Text, Entry)],
 ) -> Result<(), Failed>
@@ -22,8 +24,9 @@ pub(crate) fn write_feed<W: Sink>(
     ensures begun { OnErr result (BeginsFeed entries.now (W.written sink.old) (W.written sink.new)) }
     ensures fails { OnErr result (W.has_failed sink.new ≡ true) }
 {
-    for (name, entry) in entries.iter() {
-        write_text(sink, print_entry(alloc, name, entry).as_str())?;
+    for entry in entries {
+        let printed = print_entry(alloc, room, entry);
+        write_text(sink, printed.bytes(room.as_slice()))?;
     }
     Ok(())
 }

@@ -4,8 +4,9 @@
 mod answers;
 mod buffer;
 mod feeding;
-mod json;
+mod json_values;
 mod memory;
+mod options;
 mod printing;
 mod replies;
 mod serving;
@@ -18,6 +19,7 @@ mod words;
 mod writing;
 
 pub use memory::{MemorySink, MemorySource};
+pub use options::{ArgFault, Asked, settings};
 pub use serving::{RunFault, Settings, run};
 pub use standard::{InputSource, OutputSink};
 pub use streams::{Failed, Sink, Source};

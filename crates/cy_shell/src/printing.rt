@@ -1,27 +1,32 @@
 //! The text of what is answered.
 
-ghost use Rattle.std.specs.Prelude.{◌≡◌, ◌++◌, ◌∷◌, [], ℕ, false, Some, IfOk, OnErr, IsSome, option_map, string_bytes};
-ghost use Rattle.serde_json.specs.View.{view};
-ghost use Rattle.serde_json.specs.Written.{compact_text, has_float};
-ghost use Rattle.cy_shell.specs.Replies.{reply_json, entry_json, fault_json};
-ghost use Rattle.cy_shell.specs.Printed.{text_of, IsObjectText, IsReplyText, IsFaultText, printed_text};
+ghost use Rattle.std.specs.Prelude.{◌≡◌, [], Some, OnOk};
+ghost use Rattle.cy_shell.specs.Replies.{entry_json};
+ghost use Rattle.cy_shell.specs.Printed.{text_of, IsObjectText, IsReplyText, IsFaultText};
+ghost use Rattle.cy_shell.specs.internal.Printing.{printed_text};
 
-use crate::replies::{entry_to_json, fault_to_json, reply_to_json};
+use crate::json_values::WriteJson;
+use crate::replies::FaultObject;
 use cy_engine::{Entry, Reply};
 use cy_values::Text;
-use serde_json::Value as Json;
+use json::Writer;
 use std::alloc::{AllocError, Global};
+use std::mem;
 
 // The texts that are printed where there is no memory to make another.
 const NO_MEMORY: &str = "{\"at\":null,\"code\":90,\"error\":\"NoMemory\"}\n";
 
 const REPLY_LOST: &str = "{\"at\":null,\"code\":91,\"error\":\"ReplyLost\"}\n";
 
-/// What is printed for one line.
-#[derive(Drop)]
+/// The most bytes of room that are kept from one text to the next.
+const KEPT_ROOM: usize = 65_536;
+
+/// What is printed for one line. Its text was made in a room, which has it until the next is made.
+#[derive(Clone, Copy)]
 pub(crate) enum Printed {
     Nothing,
-    Text(String),
+    /// What the room has.
+    Text,
     /// No memory was left for the line, or for the text of its fault.
     NoMemory,
     /// No memory was left for the text of its reply.
@@ -29,82 +34,82 @@ pub(crate) enum Printed {
 }
 
 impl Printed {
-    pub(crate) fn as_str(&self) -> &str
-        ensures { result.now ≡ printed_text self.now }
+    /// The text, where it was made in this room.
+    pub(crate) fn bytes<'a>(&self, room: &'a [u8]) -> &'a [u8]
+        ensures { result.now ≡ printed_text self.now room.entry.now }
     {
         match self {
-            Printed::Nothing => "",
-            Printed::Text(text) => text.as_str(),
-            Printed::NoMemory => NO_MEMORY,
-            Printed::ReplyLost => REPLY_LOST,
+            Printed::Nothing => &[],
+            Printed::Text => room,
+            Printed::NoMemory => NO_MEMORY.as_bytes(),
+            Printed::ReplyLost => REPLY_LOST.as_bytes(),
         }
     }
 }
 
 /// What is printed for a reply.
-pub(crate) fn print_reply(alloc: Global, reply: &Reply) -> Printed
-    ensures { IsReplyText reply.now (printed_text result) }
+pub(crate) fn print_reply(alloc: Global, room: &mut Vec<u8>, reply: &Reply) -> Printed
+    ensures { IsReplyText reply.now (printed_text result room.new.items) }
 {
-    match reply_text(alloc, reply) {
-        Ok(Some(text)) => Printed::Text(text),
-        Ok(None) => Printed::Nothing,
+    match reply {
+        Reply::Nothing => Printed::Nothing,
+        _ => match write_line(alloc, room, reply) {
+            Ok(()) => Printed::Text,
+            Err(AllocError) => Printed::ReplyLost,
+        },
+    }
+}
+
+/// What is printed for an entry of a view, whose name stands with it.
+pub(crate) fn print_entry(alloc: Global, room: &mut Vec<u8>, entry: &(Text, Entry)) -> Printed
+    ensures { IsObjectText (Some (entry_json entry.now)) (printed_text result room.new.items) }
+{
+    match write_line(alloc, room, entry) {
+        Ok(()) => Printed::Text,
         Err(AllocError) => Printed::ReplyLost,
     }
 }
 
-/// What is printed for an entry of a view.
-pub(crate) fn print_entry(alloc: Global, name: &Text, entry: &Entry) -> Printed
-    ensures { IsObjectText (Some (entry_json (name.now, entry.now))) (printed_text result) }
-{
-    match entry_text(alloc, name, entry) {
-        Ok(text) => Printed::Text(text),
-        Err(_) => Printed::ReplyLost,
-    }
-}
-
-/// What is printed for a fault. That no memory was left is told without taking any.
-pub(crate) fn print_fault(alloc: Global, at: Option<usize>, code: u16) -> Printed
-    ensures { IsFaultText at code (printed_text result) }
+/// What is printed for a fault. Want of memory is reported without taking any.
+pub(crate) fn print_fault(
+    alloc: Global,
+    room: &mut Vec<u8>,
+    at: Option<usize>,
+    code: u16,
+) -> Printed
+    ensures { IsFaultText at code (printed_text result room.new.items) }
 {
     if code == 90 {
         return Printed::NoMemory;
     }
-    match fault_text(alloc, at, code) {
-        Ok(text) => Printed::Text(text),
+    match write_line(alloc, room, &FaultObject { at, code }) {
+        Ok(()) => Printed::Text,
         Err(AllocError) => Printed::NoMemory,
     }
 }
 
-fn reply_text(alloc: Global, reply: &Reply) -> Result<Option<String>, AllocError>
-    ensures ok { IfOk result (λ text. option_map string_bytes text ≡ option_map text_of (reply_json reply.now)) }
-    ensures err { OnErr result (IsSome (reply_json reply.now)) }
+// Makes the compact text of an object, with its LF, in a room. It stays a function of its own, so that a bench can count
+// what a text costs.
+#[inline(never)]
+fn write_line<T: WriteJson>(alloc: Global, room: &mut Vec<u8>, object: &T) -> Result<(), AllocError>
+    ensures { OnOk result (room.new.items ≡ text_of (T.json object.now)) }
 {
-    match reply_to_json(alloc, reply)? {
-        Some(made) => Ok(Some(line_of(alloc, &made)?)),
-        None => Ok(None),
+    let mut out = Writer::new(emptied(alloc, room));
+    let written = object.write_json(&mut out);
+    *room = out.into_inner();
+    written?;
+    room.push(b'\n')?;
+    Ok(())
+}
+
+// Takes a room, with nothing in it. One that a long text made large is given up.
+fn emptied(alloc: Global, room: &mut Vec<u8>) -> Vec<u8>
+    ensures { result.items ≡ [] }
+{
+    let mut bytes = mem::replace(room, Vec::new(alloc));
+    if bytes.capacity() > KEPT_ROOM {
+        return Vec::new(alloc);
     }
-}
-
-fn entry_text(alloc: Global, name: &Text, entry: &Entry) -> Result<String, AllocError>
-    ensures { IfOk result (λ text. string_bytes text ≡ text_of (entry_json (name.now, entry.now))) }
-{
-    let made = entry_to_json(alloc, name, entry)?;
-    line_of(alloc, &made)
-}
-
-fn fault_text(alloc: Global, at: Option<usize>, code: u16) -> Result<String, AllocError>
-    ensures { IfOk result (λ text. string_bytes text ≡ text_of (fault_json at code)) }
-{
-    let made = fault_to_json(alloc, at, code)?;
-    line_of(alloc, &made)
-}
-
-// The compact text of an object, with its LF.
-fn line_of(alloc: Global, object: &Json) -> Result<String, AllocError>
-    requires { has_float (view object.now) ≡ false }
-    ensures { IfOk result (λ text. string_bytes text ≡ text_of (view object.now)) }
-{
-    let mut text = object.to_string(alloc)?;
-    text.push('\n')?;
-    Ok(text)
+    bytes.clear();
+    bytes
 }

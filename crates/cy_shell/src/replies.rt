@@ -1,94 +1,147 @@
-//! The JSON of replies, entries and faults.
+//! The JSON of replies, entries and faults, written token by token.
 
-ghost use Rattle.std.specs.Prelude.{◌≡◌, ℕ, IfOk, OnErr, IsSome, option_map};
-ghost use Rattle.serde_json.specs.View.{view};
-ghost use Rattle.cy_shell.specs.Replies.{changed_json, statement_json, made_json, rows_json, reply_json, entry_json, fault_json};
+ghost use Rattle.std.specs.Prelude.{◌≡◌, ◌++◌, OnOk};
+ghost use Rattle.cy_shell.specs.Replies.{changed_json, statement_json, made_json, rows_json, offset_json};
+ghost use Rattle.cy_shell.specs.internal.Tokens.{tokens_of};
 
-use crate::json::ToJson;
+use crate::json_values::{WriteJson, write_field};
 use crate::words::word;
 use cy_engine::{Changed, Entry, Reply};
 use cy_values::{Row, Sequence, Text};
-use serde_json::{Value as Json, json};
-use std::alloc::{AllocError, Global};
+use json::{Token, Writer};
+use std::alloc::AllocError;
 
-/// The JSON of a reply. There is none where the reply says nothing. Fails only for want of memory.
-pub(crate) fn reply_to_json(alloc: Global, reply: &Reply) -> Result<Option<Json>, AllocError>
-    ensures ok { IfOk result (λ made. option_map view made ≡ reply_json reply.now) }
-    ensures err { OnErr result (IsSome (reply_json reply.now)) }
-{
-    let made = match reply {
-        Reply::Nothing => return Ok(None),
-        Reply::Statement {
-            changed,
-            columns,
-            rows,
-        } => statement_to_json(alloc, changed, columns, rows)?,
-        Reply::Made {
-            columns,
-            tick,
-            view,
-        } => made_to_json(alloc, columns, *tick, view)?,
-        Reply::Rows { rows, tick, view } => rows_to_json(alloc, rows, *tick, view)?,
-    };
-    Ok(Some(made))
+impl WriteJson for Reply {
+    ghost use Rattle.cy_shell.specs.internal.Tokens.{object_of};
+
+    ghost json = { object_of };
+
+    // A reply that says nothing is written as null, and isn't printed.
+    fn write_json(&self, out: &mut Writer) -> Result<(), AllocError> {
+        match self {
+            Reply::Nothing => out.token(Token::Null),
+            Reply::Statement {
+                changed,
+                columns,
+                rows,
+            } => write_statement(out, changed, columns, rows),
+            Reply::Made {
+                columns,
+                tick,
+                view,
+            } => write_made(out, columns, *tick, view),
+            Reply::Rows { rows, tick, view } => write_rows(out, rows, *tick, view),
+        }
+    }
 }
 
-fn statement_to_json(
-    alloc: Global,
+fn write_statement(
+    out: &mut Writer,
     changed: &Changed,
     columns: &Sequence<Text>,
     rows: &Sequence<Row>,
-) -> Result<Json, AllocError>
-    ensures { IfOk result (λ made. view made ≡ statement_json changed.now columns.now rows.now) }
+) -> Result<(), AllocError>
+    ensures tokens { OnOk result (out.new.tokens ≡ out.old.tokens ++ tokens_of (statement_json changed.now columns.now rows.now)) }
+    ensures before { out.new.before ≡ out.old.before }
 {
-    let changed = changed_to_json(alloc, changed)?;
-    let columns = columns.to_json(alloc)?;
-    let rows = rows.to_json(alloc)?;
-    json!(in alloc; {"changed": changed, "columns": columns, "rows": rows})
+    out.begin_object()?;
+    write_field(out, "changed", changed)?;
+    write_field(out, "columns", columns)?;
+    write_field(out, "rows", rows)?;
+    out.end_object()
 }
 
-fn changed_to_json(alloc: Global, changed: &Changed) -> Result<Json, AllocError>
-    ensures { IfOk result (λ made. view made ≡ changed_json changed.now) }
-{
-    json!(in alloc; [changed.nodes_made, changed.nodes_gone, changed.rels_made, changed.rels_gone])
+impl WriteJson for Changed {
+    ghost json = { changed_json };
+
+    fn write_json(&self, out: &mut Writer) -> Result<(), AllocError> {
+        out.begin_array()?;
+        out.u64(self.nodes_made)?;
+        out.u64(self.nodes_gone)?;
+        out.u64(self.rels_made)?;
+        out.u64(self.rels_gone)?;
+        out.end_array()
+    }
 }
 
-fn made_to_json(
-    alloc: Global,
+fn write_made(
+    out: &mut Writer,
     columns: &Sequence<Text>,
     tick: u64,
     name: &Text,
-) -> Result<Json, AllocError>
-    ensures { IfOk result (λ made. view made ≡ made_json columns.now tick name.now) }
+) -> Result<(), AllocError>
+    ensures tokens { OnOk result (out.new.tokens ≡ out.old.tokens ++ tokens_of (made_json columns.now tick name.now)) }
+    ensures before { out.new.before ≡ out.old.before }
 {
-    let columns = columns.to_json(alloc)?;
-    json!(in alloc; {"columns": columns, "tick": tick, "view": name.as_str()})
+    out.begin_object()?;
+    write_field(out, "columns", columns)?;
+    write_field(out, "tick", &tick)?;
+    write_field(out, "view", name)?;
+    out.end_object()
 }
 
-fn rows_to_json(
-    alloc: Global,
+fn write_rows(
+    out: &mut Writer,
     rows: &Sequence<(Row, u64)>,
     tick: u64,
     name: &Text,
-) -> Result<Json, AllocError>
-    ensures { IfOk result (λ made. view made ≡ rows_json rows.now tick name.now) }
+) -> Result<(), AllocError>
+    ensures tokens { OnOk result (out.new.tokens ≡ out.old.tokens ++ tokens_of (rows_json rows.now tick name.now)) }
+    ensures before { out.new.before ≡ out.old.before }
 {
-    let rows = rows.to_json(alloc)?;
-    json!(in alloc; {"rows": rows, "tick": tick, "view": name.as_str()})
+    out.begin_object()?;
+    write_field(out, "rows", rows)?;
+    write_field(out, "tick", &tick)?;
+    write_field(out, "view", name)?;
+    out.end_object()
 }
 
-/// The JSON of an entry with the name of its view. Fails only for want of memory.
-pub(crate) fn entry_to_json(alloc: Global, name: &Text, entry: &Entry) -> Result<Json, AllocError>
-    ensures { IfOk result (λ made. view made ≡ entry_json (name.now, entry.now)) }
-{
-    let added = entry.change.added.to_json(alloc)?;
-    let removed = entry.change.removed.to_json(alloc)?;
-    json!(in alloc; {"added": added, "removed": removed, "tick": entry.tick, "view": name.as_str()})
+/// An entry with the name of its view.
+impl WriteJson for (Text, Entry) {
+    ghost use Rattle.cy_shell.specs.Replies.{entry_json};
+
+    ghost json = { entry_json };
+
+    fn write_json(&self, out: &mut Writer) -> Result<(), AllocError> {
+        out.begin_object()?;
+        write_field(out, "added", &self.1.change.added)?;
+        write_field(out, "removed", &self.1.change.removed)?;
+        write_field(out, "tick", &self.1.tick)?;
+        write_field(out, "view", &self.0)?;
+        out.end_object()
+    }
 }
 
-/// The JSON of a fault with its offset and its number. Fails only for want of memory.
-pub(crate) fn fault_to_json(alloc: Global, at: Option<usize>, code: u16) -> Result<Json, AllocError>
-    ensures { IfOk result (λ made. view made ≡ fault_json at code) }
-{
-    json!(in alloc; {"at": at, "code": code, "error": word(code)})
+/// A fault's offset, where it has one, and its number.
+#[derive(Clone, Copy)]
+pub(crate) struct FaultObject {
+    pub(crate) at: Option<usize>,
+    pub(crate) code: u16,
+}
+
+impl WriteJson for FaultObject {
+    ghost use Rattle.cy_shell.specs.Replies.{fault_json};
+
+    ghost json = { λ fault. fault_json fault.at fault.code };
+
+    fn write_json(&self, out: &mut Writer) -> Result<(), AllocError> {
+        out.begin_object()?;
+        write_field(out, "at", &self.at)?;
+        write_field(out, "code", &u64::from(self.code))?;
+        out.key("error")?;
+        out.string(word(self.code))?;
+        out.end_object()
+    }
+}
+
+/// An offset, or null.
+impl WriteJson for Option<usize> {
+    ghost json = { offset_json };
+
+    fn write_json(&self, out: &mut Writer) -> Result<(), AllocError> {
+        match self {
+            Some(at) => out.u64(*at as u64),
+            None => out.token(Token::Null),
+        }
+    }
 }

@@ -22,7 +22,7 @@ const INPUT_LIMIT: u64 = 1 << 62;
 pub struct Settings {
     /// How many entries a view's history has: 1 to 4096.
     pub history: usize,
-    /// Whether the entries that a line makes are printed behind its reply.
+    /// Whether the entries that a line makes are printed after its reply.
     pub feed: bool,
 }
 

@@ -20,8 +20,10 @@ pub(crate) struct Session {
     alloc: Global,
     pub(crate) engine: Engine,
     pub(crate) line: LineBuffer,
-    /// Whether the entries that a line makes are printed behind its answer.
+    /// Whether the entries that a line makes are printed after its answer.
     pub(crate) feed: bool,
+    /// Where texts are made.
+    room: Vec<u8>,
 }
 
 impl Session {
@@ -37,6 +39,7 @@ impl Session {
             line: LineBuffer::new(alloc)?,
             engine: Engine::new(alloc, history),
             feed,
+            room: Vec::new(alloc),
         })
     }
 
@@ -89,21 +92,22 @@ impl Session {
             → WritesBeginning (serving self.old.engine self.old.feed) (line ∷ []) (W.written sink.old) (W.written sink.new)) }
         ensures fails { OnErr result (W.has_failed sink.new ≡ true) }
     {
-        let told = answer(self.alloc, &mut self.engine, &self.line);
+        let answered = answer(self.alloc, &mut self.engine, &self.line, &mut self.room);
         self.line.clear();
-        write_text(sink, told.printed.as_str())?;
-        write_feed(self.alloc, sink, self.fed_entries(told.is_carried))
+        write_text(sink, answered.printed.bytes(self.room.as_slice()))?;
+        let entries = fed_entries(&self.engine, self.feed, answered.is_carried);
+        write_feed(self.alloc, &mut self.room, sink, entries)
     }
+}
 
-    // The entries that are printed behind an answer: those of the line, if the engine answered it and there is a feed.
-    fn fed_entries(&self, is_carried: bool) -> &[(Text, Entry)]
-        ensures { result.now ≡ fed (self.now.feed && is_carried) self.now.engine.entries }
-    {
-        if self.feed && is_carried {
-            self.engine.entries()
-        } else {
-            &[]
-        }
+// The entries that are printed after an answer: those of the line, if the engine answered it and there is a feed.
+fn fed_entries(engine: &Engine, feed: bool, is_carried: bool) -> &[(Text, Entry)]
+    ensures { result.now ≡ fed (feed && is_carried) engine.now.entries }
+{
+    if feed && is_carried {
+        engine.entries()
+    } else {
+        &[]
     }
 }
 

@@ -3,7 +3,7 @@
 use crate::streams::{Failed, Sink, Source};
 use std::io::{Read, Write};
 
-/// A reader, as that of standard input, which tells no bytes.
+/// A reader, as that of standard input, whose bytes aren't known.
 #[derive(Drop)]
 pub struct InputSource<R> {
     reader: R,
@@ -51,7 +51,7 @@ impl<R: Read> Source for InputSource<R> {
     }
 }
 
-/// A writer, as that of standard output, which tells no bytes.
+/// A writer, as that of standard output, whose bytes aren't known.
 #[derive(Drop)]
 pub struct OutputSink<W> {
     writer: W,

@@ -114,13 +114,15 @@ fn prints_faults(rt: HostRuntime) {
             "{\"at\":null,\"code\":90,\"error\":\"NoMemory\"}\n",
         ),
     ];
+    let mut room = Vec::new(alloc);
     for (at, code, text) in table {
-        assert!(rt; print_fault(alloc, at, code).as_str() == text, "{code}");
+        let printed = print_fault(alloc, &mut room, at, code);
+        assert!(rt; printed.bytes(room.as_slice()) == text.as_bytes(), "{code}");
     }
-    assert!(rt; Printed::NoMemory.as_str() == "{\"at\":null,\"code\":90,\"error\":\"NoMemory\"}\n");
-    assert!(rt;
-        Printed::ReplyLost.as_str() == "{\"at\":null,\"code\":91,\"error\":\"ReplyLost\"}\n"
-    );
+    let none = b"{\"at\":null,\"code\":90,\"error\":\"NoMemory\"}\n";
+    assert!(rt; Printed::NoMemory.bytes(room.as_slice()) == none.as_slice());
+    let lost = b"{\"at\":null,\"code\":91,\"error\":\"ReplyLost\"}\n";
+    assert!(rt; Printed::ReplyLost.bytes(room.as_slice()) == lost.as_slice());
 }
 
 #[test]
@@ -152,6 +154,13 @@ fn names_faults(rt: HostRuntime) {
         }
         assert!(rt; word(code) == "" || code == 70, "{code}");
     }
+}
+
+// Whether a reply is printed so.
+fn is_printed(alloc: Global, reply: &Reply, text: &str) -> bool {
+    let mut room = Vec::new(alloc);
+    let printed = print_reply(alloc, &mut room, reply);
+    printed.bytes(room.as_slice()) == text.as_bytes()
 }
 
 fn text(alloc: Global, text: &str) -> Result<Text, Fail> {
@@ -205,7 +214,7 @@ fn prints_statements(rt: HostRuntime) -> Result<(), Fail> {
     let expected = format!(in alloc;
         "{{\"changed\":[1,2,3,18446744073709551615],\"columns\":[\"n.k\",\"m\"],\"rows\":[{EVERY_CELL},[]]}}\n"
     )?;
-    assert!(rt; print_reply(alloc, &reply).as_str() == expected.as_str());
+    assert!(rt; is_printed(alloc, &reply, expected.as_str()));
     Ok(())
 }
 
@@ -217,9 +226,7 @@ fn prints_views_and_rows(rt: HostRuntime) -> Result<(), Fail> {
         tick: 2,
         view: text(alloc, "v")?,
     };
-    assert!(rt;
-        print_reply(alloc, &made).as_str() == "{\"columns\":[],\"tick\":2,\"view\":\"v\"}\n"
-    );
+    assert!(rt; is_printed(alloc, &made, "{\"columns\":[],\"tick\":2,\"view\":\"v\"}\n"));
     let mut rows = Vec::new(alloc);
     rows.push((every_cell(alloc)?, 3))?;
     let counted = Reply::Rows {
@@ -230,8 +237,8 @@ fn prints_views_and_rows(rt: HostRuntime) -> Result<(), Fail> {
     let expected = format!(in alloc;
         "{{\"rows\":[[{EVERY_CELL},3]],\"tick\":4611686018427387903,\"view\":\"w\"}}\n"
     )?;
-    assert!(rt; print_reply(alloc, &counted).as_str() == expected.as_str());
-    assert!(rt; print_reply(alloc, &Reply::Nothing).as_str() == "");
+    assert!(rt; is_printed(alloc, &counted, expected.as_str()));
+    assert!(rt; is_printed(alloc, &Reply::Nothing, ""));
     Ok(())
 }
 

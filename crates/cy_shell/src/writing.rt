@@ -6,7 +6,7 @@ ghost use Rattle.cy_shell.specs.Streams.{appended, AppendsFront};
 use crate::streams::{Failed, Sink};
 
 /// Writes a text and hands it on. Of an empty text nothing is written.
-pub(crate) fn write_text<W: Sink>(sink: &mut W, text: &str) -> Result<(), Failed>
+pub(crate) fn write_text<W: Sink>(sink: &mut W, text: &[u8]) -> Result<(), Failed>
     requires { W.has_failed sink.old ≡ false }
     ensures written { OnOk result (W.written sink.new ≡ appended (W.written sink.old) text.now) }
     ensures works { OnOk result (W.has_failed sink.new ≡ false) }
@@ -16,7 +16,7 @@ pub(crate) fn write_text<W: Sink>(sink: &mut W, text: &str) -> Result<(), Failed
     if text.is_empty() {
         return Ok(());
     }
-    write_all(sink, text.as_bytes())?;
+    write_all(sink, text)?;
     sink.flush()
 }
 

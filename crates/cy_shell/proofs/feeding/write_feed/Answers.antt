@@ -3,6 +3,7 @@ use Rattle.std.proofs.Math.Seq.{drop-cons}
 use Rattle.std.proofs.lemmas.List.{drop_all}
 use Rattle.cy_engine.specs.declared.entries.Entry.{Entry}
 use Rattle.cy_shell.specs.Streams.{appended, AppendsFront}
+use Rattle.cy_shell.specs.internal.Printing.{printed_text}
 use Rattle.cy_shell.proofs.Outcomes.{on_err}
 use Rattle.cy_shell.proofs.Feeds.{fed_more, fed_all, fed_begun}
 use Rattle.cy_shell.proofs.feeding.write_feed.Goals as goal
@@ -13,21 +14,21 @@ next_entry entries at e is within = drop-cons entries at e within ∙ ap (λ f. 
 
 pub returns-in_err-write_text-clause-begun : goal.returns-in_err-write_text-clause-begun
 returns-in_err-write_text-clause-begun g c =
-    let item = c.loop-name-item.result in
+    let item = c.entry-item.result in
     on_err c.from_residual.result (fed_begun c.args.entries.now _ _ item _ _ _ _
-    (next_entry c.args.entries.now c.loop-name.name-index item c.loop-name-item.is c.loop-name-test.true)
-    c.loop-name.invariant.told c.print_entry.ensures (subst (AppendsFront _ _) c.as_str.ensures c.in_err-write_text.ensures.front))
+    (next_entry c.args.entries.now c.loop-entry.entry-index item c.entry-item.is c.loop-entry-test.true)
+    c.loop-entry.invariant.told c.print_entry-printed.ensures (subst (AppendsFront _ _) (c.bytes.ensures ∙ ap (printed_text c.print_entry-printed.result) c.as_slice.ensures.value) c.in_err-write_text.ensures.front))
 
-pub loop-name-preserved : goal.loop-name-preserved
-loop-name-preserved g c =
-    let item = c.loop-name-item.result in
+pub loop-entry-preserved : goal.loop-entry-preserved
+loop-entry-preserved g c =
+    let item = c.entry-item.result in
     record {
       works = c.in_ok-write_text.ensures.works;
       told = fed_more c.args.entries.now _ _ item _ _ _ _
-          (next_entry c.args.entries.now c.loop-name.name-index item c.loop-name-item.is c.loop-name-test.true)
-          c.loop-name.invariant.told c.print_entry.ensures (c.in_ok-write_text.ensures.written ∙ ap (appended _) c.as_str.ensures);
+          (next_entry c.args.entries.now c.loop-entry.entry-index item c.entry-item.is c.loop-entry-test.true)
+          c.loop-entry.invariant.told c.print_entry-printed.ensures (c.in_ok-write_text.ensures.written ∙ ap (appended _) (c.bytes.ensures ∙ ap (printed_text c.print_entry-printed.result) c.as_slice.ensures.value));
     }
 
 pub returns-clause-written : goal.returns-clause-written
 returns-clause-written g c =
-    fed_all c.args.entries.now _ _ _ (drop_all c.loop-name.name-index c.args.entries.now (omega (arith, c.loop-name-test.false))) c.loop-name.invariant.told
+    fed_all c.args.entries.now _ _ _ (drop_all c.loop-entry.entry-index c.args.entries.now (omega (arith, c.loop-entry-test.false))) c.loop-entry.invariant.told

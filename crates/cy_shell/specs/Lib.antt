@@ -1,5 +1,4 @@
 pub mod Faults
-pub mod Feeding
 pub mod Json
 pub mod Lines
 pub mod Memory

@@ -4,7 +4,7 @@ ghost use Rattle.std.specs.Prelude.{◌≡◌, ℕ, List};
 ghost use Rattle.cy_lexer.specs.Line.{IsTextOf};
 ghost use Rattle.cy_shell.specs.Lines.{kept};
 ghost use Rattle.cy_shell.specs.internal.Printing.{printed_text};
-ghost use Rattle.cy_shell.specs.Feeding.{Answers, IsAnswer};
+ghost use Rattle.cy_shell.specs.internal.Feeding.{Answers, IsAnswer};
 
 use crate::buffer::LineBuffer;
 use crate::printing::{Printed, print_fault, print_reply};

@@ -1,7 +1,7 @@
 //! The entries of a line, printed after its answer.
 
 ghost use Rattle.std.specs.Prelude.{◌≡◌, true, false, OnOk, OnErr};
-ghost use Rattle.cy_shell.specs.Feeding.{WritesFeed, BeginsFeed};
+ghost use Rattle.cy_shell.specs.internal.Feeding.{WritesFeed, BeginsFeed};
 
 use crate::printing::print_entry;
 use crate::streams::{Failed, Sink};

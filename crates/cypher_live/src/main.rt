@@ -2,7 +2,7 @@
 #![tactic(auto)]
 
 ghost use Rattle.std.specs.Prelude.{◌≡◌, ◌≤◌, Ok};
-ghost use Rattle.cypher_live.specs.Requests.{HasHistory};
+ghost use Rattle.cypher_live.specs.internal.Requests.{HasHistory};
 
 #[cfg(test)]
 mod tests;

@@ -1,4 +1,4 @@
--- A line is answered, and then its entries are printed. No public call is stated in these terms.
+-- A line is answered, and then its entries are printed.
 use Rattle.std.specs.Prelude.{◌≡◌, ℕ, ◌≤◌, Bool, true, false, List, ◌++◌, length, Option, Result}
 use Rattle.std.specs.Str.{IsUtf8}
 use Rattle.cy_engine.specs.Step.{EngineState, Machine, Step}

@@ -3,3 +3,4 @@ pub mod ViewsLemmas
 pub mod DepthLemmas
 pub mod Turns
 pub mod QuotingLemmas
+pub mod ShowLemmas

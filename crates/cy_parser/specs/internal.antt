@@ -4,3 +4,4 @@ pub mod Nests
 pub mod Operands
 pub mod Clauses
 pub mod Showing
+pub mod Separators

@@ -193,7 +193,11 @@ impl Show for Clause {
                 write_remove_items(text, items)
             }
             Clause::Delete(it) => {
-                text.push_str(if it.detach { "DETACH DELETE " } else { "DELETE " })?;
+                text.push_str(if it.detach {
+                    "DETACH DELETE "
+                } else {
+                    "DELETE "
+                })?;
                 write_separated(text, Separator::Comma, &it.variables)
             }
         }
@@ -203,7 +207,11 @@ impl Show for Clause {
 fn write_match(text: &mut String, it: &Match) -> Result<(), AllocError>
     ensures { OnOk result (string_bytes text.new ≡ string_bytes text.old ++ text_of (shown.clause_pieces (trees.«match» it.now.optional (tree.paths_of it.now.paths) (tree.filter_of it.now.filter)))) }
 {
-    text.push_str(if it.optional { "OPTIONAL MATCH " } else { "MATCH " })?;
+    text.push_str(if it.optional {
+        "OPTIONAL MATCH "
+    } else {
+        "MATCH "
+    })?;
     write_paths(text, &it.paths)?;
     write_filter(text, &it.filter)
 }

@@ -12,12 +12,12 @@ loop-character-preserved c =
     let before = c.loop-character.invariant.0 in
     let valid = c.loop-character.invariant.1 in
     elim c.if-character-eq96.branch [
-      then-character-eq96+in_ok-push-2 w ↦
-        let is = name_backtick _ _ _ rest c.in-Some.character valid split w.if-character-eq96.true before in
-        (search (rules, is), IsUtf8-past_char _ rest c.in-Some.character valid split)
-    | else-character-eq96 w ↦
-        let is = name_other _ _ _ rest c.in-Some.character valid split w.if-character-eq96.false before in
-        (search (rules, is), IsUtf8-past_char _ rest c.in-Some.character valid split)
+      | then-character-eq96+in_ok-push-2 w ↦
+          let is = name_backtick _ _ _ rest c.in-Some.character valid split w.if-character-eq96.true before in
+          (search (rules, is), IsUtf8-past_char _ rest c.in-Some.character valid split)
+      | else-character-eq96 w ↦
+          let is = name_other _ _ _ rest c.in-Some.character valid split w.if-character-eq96.false before in
+          (search (rules, is), IsUtf8-past_char _ rest c.in-Some.character valid split)
     ]
 
 pub returns : goal.returns

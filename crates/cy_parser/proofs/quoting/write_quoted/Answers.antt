@@ -12,12 +12,12 @@ loop-character-preserved c =
     let before = c.loop-character.invariant.0 in
     let valid = c.loop-character.invariant.1 in
     elim c.if-is_escaped.branch [
-      then-is_escaped+in_ok-push-2 w ↦
-        let is = text_quote _ _ _ rest c.in-Some.character valid split (sym c.is_escaped.ensures ∙ w.if-is_escaped.true) before in
-        (search (rules, is), IsUtf8-past_char _ rest c.in-Some.character valid split)
-    | else-is_escaped w ↦
-        let is = text_other _ _ _ rest c.in-Some.character valid split (sym c.is_escaped.ensures ∙ w.if-is_escaped.false) before in
-        (search (rules, is), IsUtf8-past_char _ rest c.in-Some.character valid split)
+      | then-is_escaped+in_ok-push-2 w ↦
+          let is = text_quote _ _ _ rest c.in-Some.character valid split (sym c.is_escaped.ensures ∙ w.if-is_escaped.true) before in
+          (search (rules, is), IsUtf8-past_char _ rest c.in-Some.character valid split)
+      | else-is_escaped w ↦
+          let is = text_other _ _ _ rest c.in-Some.character valid split (sym c.is_escaped.ensures ∙ w.if-is_escaped.false) before in
+          (search (rules, is), IsUtf8-past_char _ rest c.in-Some.character valid split)
     ]
 
 pub returns : goal.returns

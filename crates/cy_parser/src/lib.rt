@@ -38,3 +38,6 @@ pub use expressions::{Arm, BinaryOperator, Comparator, Expr, Link, UnaryOperator
 pub use faults::ParseFault;
 pub use parsing::parse;
 pub use statement_text::show;
+
+#[cfg(test)]
+mod tests;

@@ -2,3 +2,5 @@ pub mod WithinLemmas
 pub mod ViewsLemmas
 pub mod DepthLemmas
 pub mod Turns
+pub mod QuotingLemmas
+pub mod ShowLemmas

@@ -3,4 +3,5 @@ pub mod Views
 pub mod Faults
 pub mod Depth
 pub mod Words
+pub mod Show
 pub mod internal

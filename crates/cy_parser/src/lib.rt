@@ -2,6 +2,7 @@
 #![tactic(auto)]
 
 mod building;
+mod clause_text;
 mod clauses;
 mod cursor;
 mod expressions;
@@ -13,16 +14,21 @@ mod nesting;
 mod operands;
 mod order;
 mod parsing;
+mod pattern_text;
 mod patterns;
 mod places;
 mod primary;
 mod projections;
+mod quoting;
 mod refusals;
+mod showing;
 mod source;
 mod stages;
+mod statement_text;
 mod statements;
 mod updates;
 mod words;
+mod writing;
 
 pub use clauses::{
     Clause, Delete, Direction, Entry, Item, Key, Length, Match, NodePattern, Path, Projection,
@@ -31,3 +37,7 @@ pub use clauses::{
 pub use expressions::{Arm, BinaryOperator, Comparator, Expr, Link, UnaryOperator, Variable};
 pub use faults::ParseFault;
 pub use parsing::parse;
+pub use statement_text::show;
+
+#[cfg(test)]
+mod tests;

@@ -4,3 +4,7 @@ pub mod DepthLemmas
 pub mod Turns
 pub mod QuotingLemmas
 pub mod ShowLemmas
+pub mod Gives
+pub mod Sound
+pub mod SoundPatterns
+pub mod SoundClauses

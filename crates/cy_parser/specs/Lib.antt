@@ -3,5 +3,7 @@ pub mod Views
 pub mod Faults
 pub mod Depth
 pub mod Words
+pub mod Spells
+pub mod SpellsClauses
 pub mod Show
 pub mod internal

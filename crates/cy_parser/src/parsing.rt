@@ -3,6 +3,7 @@
 ghost use Rattle.std.specs.Prelude.{◌≡◌, ◌≢◌, ◌≤◌, length, Some, None, IfOk, IfErr, MatchResult};
 ghost use Rattle.cy_parser.specs.declared.faults.ParseFault.TheVariants.{NoMemory};
 ghost use Rattle.cy_parser.specs.Faults.{PointsAtPlace, IsPlace};
+ghost use Rattle.cy_parser.specs.SpellsClauses.{SpellsStatement};
 ghost use Rattle.cy_parser.specs.Views.{statement_of};
 ghost use Rattle.cy_parser.specs.internal.Clauses as spec;
 
@@ -39,8 +40,10 @@ fn fault_of(tokens: &[Token], line: &str, refusal: Refusal) -> ParseFault
     }
 }
 
-/// The statement that the tokens of a line spell.
+/// A statement that the tokens of a line spell (openCypher 9, grammar, narrowed to this profile). Fails with the place where
+/// reading stops, or for want of memory.
 pub fn parse(alloc: Global, tokens: &[Token], line: &str) -> Result<Statement, ParseFault>
+    ensures spelt { IfOk result (λ statement. SpellsStatement line.now (statement_of statement) tokens.now) }
     ensures places { IfErr result (λ fault. PointsAtPlace tokens.now (length line.now) fault) }
 {
     let source = Source { alloc, line };

@@ -1,3 +1,2 @@
 pub mod Identity
 pub mod Orders
-pub mod Truths

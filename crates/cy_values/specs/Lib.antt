@@ -1,4 +1,2 @@
 pub mod Order
 pub mod Bag
-pub mod Truth
-pub mod Compare

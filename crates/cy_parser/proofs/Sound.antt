@@ -67,7 +67,6 @@ labels-sound line ts =
 
 module _ (line : List ℕ) (n : ℕ) (inner : Nested → Reader Expression)
     (whole-sound : (ts : List Token) → Gives (inner nested.Whole ts) (Spelt line n whole ts)) where
-
   record SpeltElements (found : List Expression) (ts : List Token) (all : List Expression) (rest : List Token) : Type 0 where
     pub these : List Expression
     pub all_is : all ≡ found ++ these
@@ -112,20 +111,20 @@ module _ (line : List ℕ) (n : ℕ) (inner : Nested → Reader Expression)
   listed-sound opening ts is =
       bind (ate_symbol sign.RightBracket ts) (λ is_empty after c. by_test _ _ is_empty after _
       (λ yes. answer _ _ _ (
-        let x = c.there yes in
-        record {
-          spells = subst (λ z. Spells line (suc n) postfix (list no_more) (opening ∷ z) after) (sym x.1) (empty_list n opening x.0 after is x.2);
-          shallow = omega arith;
-        }))
+      let x = c.there yes in
+      record {
+        spells = subst (λ z. Spells line (suc n) postfix (list no_more) (opening ∷ z) after) (sym x.1) (empty_list n opening x.0 after is x.2);
+        shallow = omega arith;
+      }))
       (λ some. bind (elements-sound after) (λ es mid s. bind (symbol_there sign.RightBracket mid) (λ _ rest x.
-        later _ _ (λ e left k. record {
-          spells =
-              let here : SpellsAll line n (expressions_from es) ts (x.0 ∷ rest) =
-              subst (λ z. SpellsAll line n (expressions_from es) z (x.0 ∷ rest)) (c.absent some) (subst (λ z. SpellsAll line n (expressions_from es) after z) x.1 s) in
-              subst (λ z. Spells line (suc n) postfix e (opening ∷ ts) z) (sym k.1)
-              (subst (λ z. Spells line (suc n) postfix z (opening ∷ ts) rest) (sym k.0) (list_of n (expressions_from es) opening x.0 ts rest is here x.2));
-          shallow = subst (λ z. depth z ≤ greatest_depth) (sym k.0) k.2;
-        }) (checked_there (list (expressions_from es)) rest)))))
+      later _ _ (λ e left k. record {
+        spells =
+            let here : SpellsAll line n (expressions_from es) ts (x.0 ∷ rest) =
+            subst (λ z. SpellsAll line n (expressions_from es) z (x.0 ∷ rest)) (c.absent some) (subst (λ z. SpellsAll line n (expressions_from es) after z) x.1 s) in
+            subst (λ z. Spells line (suc n) postfix e (opening ∷ ts) z) (sym k.1)
+            (subst (λ z. Spells line (suc n) postfix z (opening ∷ ts) rest) (sym k.0) (list_of n (expressions_from es) opening x.0 ts rest is here x.2));
+        shallow = subst (λ z. depth z ≤ greatest_depth) (sym k.0) k.2;
+      }) (checked_there (list (expressions_from es)) rest)))))
 
   -- a call after its name and bracket
   arguments-sound : (t opening : Token) (ts : List Token) → IsTrue (is_name t.kind) → IsSymbol sign.LeftParenthesis opening →
@@ -134,23 +133,23 @@ module _ (line : List ℕ) (n : ℕ) (inner : Nested → Reader Expression)
   arguments-sound t opening ts named_ is =
       bind (ate_symbol sign.RightParenthesis ts) (λ is_empty after c. by_test _ _ is_empty after _
       (λ yes. answer _ _ _ (
-        let x = c.there yes in
-        let f = lowered (denotes line t) in
-        record {
-          spells = subst (λ z. Spells line (suc n) head (call f false no_more) (t ∷ opening ∷ z) after) (sym x.1) (call_of_nothing n t opening x.0 after named_ is x.2);
-          shallow = omega arith;
-        }))
+      let x = c.there yes in
+      let f = lowered (denotes line t) in
+      record {
+        spells = subst (λ z. Spells line (suc n) head (call f false no_more) (t ∷ opening ∷ z) after) (sym x.1) (call_of_nothing n t opening x.0 after named_ is x.2);
+        shallow = omega arith;
+      }))
       (λ some. bind (ate_keyword word.Distinct after) (λ distinct from d. bind (elements-sound from) (λ es mid s. bind (symbol_there sign.RightParenthesis mid) (λ _ rest x.
-        later _ _ (λ e left k. record {
-          spells =
-              let f = lowered (denotes line t) in
-              let here : SpellsAll line n (expressions_from es) from (x.0 ∷ rest) = subst (λ z. SpellsAll line n (expressions_from es) from z) x.1 s in
-              subst (λ z. Spells line (suc n) head e (t ∷ opening ∷ ts) z) (sym k.1)
-              (subst (λ z. Spells line (suc n) head z (t ∷ opening ∷ ts) rest) (sym k.0)
-              (subst (λ z. Spells line (suc n) head (call f distinct (expressions_from es)) (t ∷ opening ∷ z) rest) (c.absent some)
-              (call_either t opening x.0 from after rest es distinct named_ is x.2 d here)));
-          shallow = subst (λ z. depth z ≤ greatest_depth) (sym k.0) k.2;
-        }) (checked_there (call (lowered (denotes line t)) distinct (expressions_from es)) rest))))))
+      later _ _ (λ e left k. record {
+        spells =
+            let f = lowered (denotes line t) in
+            let here : SpellsAll line n (expressions_from es) from (x.0 ∷ rest) = subst (λ z. SpellsAll line n (expressions_from es) from z) x.1 s in
+            subst (λ z. Spells line (suc n) head e (t ∷ opening ∷ ts) z) (sym k.1)
+            (subst (λ z. Spells line (suc n) head z (t ∷ opening ∷ ts) rest) (sym k.0)
+            (subst (λ z. Spells line (suc n) head (call f distinct (expressions_from es)) (t ∷ opening ∷ z) rest) (c.absent some)
+            (call_either t opening x.0 from after rest es distinct named_ is x.2 d here)));
+        shallow = subst (λ z. depth z ≤ greatest_depth) (sym k.0) k.2;
+      }) (checked_there (call (lowered (denotes line t)) distinct (expressions_from es)) rest))))))
     where
       call_either : (t opening closing : Token) (from after rest : List Token) (es : List Expression) (distinct : Bool) →
           IsTrue (is_name t.kind) → IsSymbol sign.LeftParenthesis opening → IsSymbol sign.RightParenthesis closing →
@@ -170,14 +169,14 @@ module _ (line : List ℕ) (n : ℕ) (inner : Nested → Reader Expression)
   called-sound t opening ts named_ is =
       bind (ate_symbol sign.Star ts) (λ is_star after c. by_test _ _ is_star after _
       (λ yes. bind (symbol_there sign.RightParenthesis after) (λ _ rest x. answer _ _ _ (
-        let s = c.there yes in
-        let f = lowered (denotes line t) in
-        record {
-          spells =
-              subst (λ z. Spells line (suc n) head (call_star f) (t ∷ opening ∷ z) rest) (sym s.1)
-              (subst (λ z. Spells line (suc n) head (call_star f) (t ∷ opening ∷ s.0 ∷ z) rest) (sym x.1) (call_of_star n t opening s.0 x.0 rest named_ is s.2 x.2));
-          shallow = omega arith;
-        })))
+      let s = c.there yes in
+      let f = lowered (denotes line t) in
+      record {
+        spells =
+            subst (λ z. Spells line (suc n) head (call_star f) (t ∷ opening ∷ z) rest) (sym s.1)
+            (subst (λ z. Spells line (suc n) head (call_star f) (t ∷ opening ∷ s.0 ∷ z) rest) (sym x.1) (call_of_star n t opening s.0 x.0 rest named_ is s.2 x.2));
+        shallow = omega arith;
+      })))
       (λ other. subst (λ z. Gives (arguments line inner (lowered (denotes line t)) after) (Spelt line (suc n) head (t ∷ opening ∷ z))) (c.absent other)
       (arguments-sound t opening after named_ is)))
 
@@ -186,10 +185,10 @@ module _ (line : List ℕ) (n : ℕ) (inner : Nested → Reader Expression)
   named-sound ts =
       bind (denoting_there is_name line ts) (λ by mid w. bind (ate_symbol sign.LeftParenthesis mid) (λ is_call after c. by_test _ _ is_call after _
       (λ yes.
-        let x = c.there yes in
-        let begins : ts ≡ w.0 ∷ x.0 ∷ after = w.1 ∙ ap (λ z. w.0 ∷ z) x.1 in
-        subst (λ z. Gives (called line inner (lowered by) after) (Spelt line (suc n) head z)) (sym begins)
-        (subst (λ z. Gives (called line inner (lowered z) after) (Spelt line (suc n) head (w.0 ∷ x.0 ∷ after))) (sym w.3) (called-sound w.0 x.0 after w.2 x.2)))
+      let x = c.there yes in
+      let begins : ts ≡ w.0 ∷ x.0 ∷ after = w.1 ∙ ap (λ z. w.0 ∷ z) x.1 in
+      subst (λ z. Gives (called line inner (lowered by) after) (Spelt line (suc n) head z)) (sym begins)
+      (subst (λ z. Gives (called line inner (lowered z) after) (Spelt line (suc n) head (w.0 ∷ x.0 ∷ after))) (sym w.3) (called-sound w.0 x.0 after w.2 x.2)))
       (λ bare. answer _ _ _ (record {
         spells =
             subst (λ z. Spells line (suc n) head (variable (record { name = by; column = None })) z after) (sym w.1)
@@ -233,8 +232,8 @@ module _ (line : List ℕ) (n : ℕ) (inner : Nested → Reader Expression)
   else-sound ts =
       bind (ate_keyword word.Else ts) (λ is_there after c. by_test _ _ is_there after _
       (λ yes. bind (whole-sound after) (λ e rest s. answer _ _ _ (
-        let x = c.there yes in
-        subst (λ z. SpellsOtherwise line n (otherwise e) z rest) (sym x.1) (else_ n e x.0 after rest x.2 s.spells))))
+      let x = c.there yes in
+      subst (λ z. SpellsOtherwise line n (otherwise e) z rest) (sym x.1) (else_ n e x.0 after rest x.2 s.spells))))
       (λ none. answer _ _ _ (subst (λ z. SpellsOtherwise line n nothing z after) (c.absent none) (no_else n after))))
 
   cases-sound : (t : Token) (ts : List Token) → IsKeyword word.Case t → Gives (cases line inner ts) (Spelt line (suc n) postfix (t ∷ ts))
@@ -258,17 +257,17 @@ module _ (line : List ℕ) (n : ℕ) (inner : Nested → Reader Expression)
   properties-sound-from (suc turns) e from ts s =
       bind (ate_symbol sign.Dot ts) (λ is_there after c. by_test _ _ is_there after _
       (λ yes. bind (denoting_there is_word line after) (λ key mid w. bind (checked_there (property e key) mid) (λ further next k.
-        properties-sound-from turns further from next (
-        let x = c.there yes in
-        let begins : ts ≡ x.0 ∷ w.0 ∷ mid = x.1 ∙ ap (λ z. x.0 ∷ z) w.1 in
-        record {
-          spells =
-              subst (λ z. Spells line (suc n) owner further from z) (sym k.1)
-              (subst (λ z. Spells line (suc n) owner z from mid) (sym k.0)
-              (subst (λ z. Spells line (suc n) owner (property e z) from mid) (sym w.3)
-              (with_key (suc n) e x.0 w.0 from mid (subst (λ z. Spells line (suc n) owner e from z) begins s.spells) x.2 w.2)));
-          shallow = subst (λ z. depth z ≤ greatest_depth) (sym k.0) k.2;
-        }))))
+      properties-sound-from turns further from next (
+      let x = c.there yes in
+      let begins : ts ≡ x.0 ∷ w.0 ∷ mid = x.1 ∙ ap (λ z. x.0 ∷ z) w.1 in
+      record {
+        spells =
+            subst (λ z. Spells line (suc n) owner further from z) (sym k.1)
+            (subst (λ z. Spells line (suc n) owner z from mid) (sym k.0)
+            (subst (λ z. Spells line (suc n) owner (property e z) from mid) (sym w.3)
+            (with_key (suc n) e x.0 w.0 from mid (subst (λ z. Spells line (suc n) owner e from z) begins s.spells) x.2 w.2)));
+        shallow = subst (λ z. depth z ≤ greatest_depth) (sym k.0) k.2;
+      }))))
       (λ none. answer _ _ _ (subst (λ z. Spelt line (suc n) owner from e z) (sym (c.absent none)) s)))
 
   labelled-sound : (e : Expression) (from ts : List Token) → Spelt line (suc n) owner from e ts → Gives (labelled_read line e ts) (Spelt line (suc n) postfix from)
@@ -276,14 +275,14 @@ module _ (line : List ℕ) (n : ℕ) (inner : Nested → Reader Expression)
   labelled-sound e from ts s =
       bind (ate_symbol sign.Colon ts) (λ is_there after c. by_test _ _ is_there after _
       (λ yes. bind (labels-sound line after) (λ ls mid l. later _ _ (λ x rest k. (
-        let colon = c.there yes in
-        record {
-          spells =
-              subst (λ z. Spells line (suc n) postfix x from z) (sym k.1)
-              (subst (λ z. Spells line (suc n) postfix z from mid) (sym k.0)
-              (labelled (suc n) e ls colon.0 from after mid (subst (λ z. Spells line (suc n) owner e from z) colon.1 s.spells) colon.2 l));
-          shallow = subst (λ z. depth z ≤ greatest_depth) (sym k.0) k.2;
-        })) (checked_there (has_labels e ls) mid)))
+      let colon = c.there yes in
+      record {
+        spells =
+            subst (λ z. Spells line (suc n) postfix x from z) (sym k.1)
+            (subst (λ z. Spells line (suc n) postfix z from mid) (sym k.0)
+            (labelled (suc n) e ls colon.0 from after mid (subst (λ z. Spells line (suc n) owner e from z) colon.1 s.spells) colon.2 l));
+        shallow = subst (λ z. depth z ≤ greatest_depth) (sym k.0) k.2;
+      })) (checked_there (has_labels e ls) mid)))
       (λ none. answer _ _ _ (record {
         spells = subst (λ z. Spells line (suc n) postfix e from z) (sym (c.absent none)) (is_owner (suc n) e from ts s.spells);
         shallow = s.shallow;
@@ -351,7 +350,6 @@ module _ (line : List ℕ) (n : ℕ) (inner : Nested → Reader Expression)
 
 module _ (line : List ℕ) (n : ℕ) (inner : Nested → Reader Expression)
     (sign-sound : (ts : List Token) → Gives (inner nested.Sign ts) (Spelt line n signed ts)) where
-
   abbrev at_number : Option Kind → Bool
   at_number (Some k) = is_number k
   at_number None = false
@@ -411,8 +409,7 @@ module _ (line : List ℕ) (n : ℕ) (upper lower : Level) (operators : Kind →
     (operand-sound : (ts : List Token) → Gives (operand ts) (Spelt line n lower ts))
     (one : (e : Expression) (ts rest : List Token) → Spells line n lower e ts rest → Spells line n upper e ts rest)
     (and_more : (o : BinaryOperator) (a b : Expression) (t : Token) (ts mid rest : List Token) → Spells line n upper a ts (t ∷ mid)
-        → operators t.kind ≡ Some o → Spells line n lower b mid rest → Spells line n upper (binary o a b) ts rest) where
-
+    → operators t.kind ≡ Some o → Spells line n lower b mid rest → Spells line n upper (binary o a b) ts rest) where
   chain-sound-from : (turns : ℕ) (left : Expression) (from ts : List Token) → Spelt line n upper from left ts →
       Gives (chain_from operators operand turns left ts) (Spelt line n upper from)
   unfolding chain_from
@@ -420,14 +417,14 @@ module _ (line : List ℕ) (n : ℕ) (upper lower : Level) (operators : Kind →
   chain-sound-from (suc turns) left from ts s = bind_peek _ ts (by_option _ _ (at_kind operators (kind_ahead ts)) ts _
       (λ none. answer _ _ _ s)
       (λ o found. bind_skip _ ts (bind (bind (operand-sound (past ts)) (λ right mid r. later _ _ (λ e rest k. (
-        let x = ahead_by operators ts o found in
-        record {
-          spells =
-              subst (λ z. Spells line n upper e from z) (sym k.1)
-              (subst (λ z. Spells line n upper z from mid) (sym k.0)
-              (and_more o left right x.0 from (past ts) mid (subst (λ z. Spells line n upper left from z) x.1 s.spells) x.2 r.spells));
-          shallow = subst (λ z. depth z ≤ greatest_depth) (sym k.0) k.2;
-        })) (checked_there (binary o left right) mid)))
+      let x = ahead_by operators ts o found in
+      record {
+        spells =
+            subst (λ z. Spells line n upper e from z) (sym k.1)
+            (subst (λ z. Spells line n upper z from mid) (sym k.0)
+            (and_more o left right x.0 from (past ts) mid (subst (λ z. Spells line n upper left from z) x.1 s.spells) x.2 r.spells));
+        shallow = subst (λ z. depth z ≤ greatest_depth) (sym k.0) k.2;
+      })) (checked_there (binary o left right) mid)))
       (λ further next f. chain-sound-from turns further from next f))))
 
   chain-sound : (ts : List Token) → Gives (chain operators operand ts) (Spelt line n upper ts)
@@ -447,23 +444,22 @@ record Inside (line : List ℕ) (n : ℕ) (inner : Nested → Reader Expression)
   sign_is : (ts : List Token) → Gives (inner nested.Sign ts) (Spelt line n signed ts)
 
 module _ (line : List ℕ) (n : ℕ) (inner : Nested → Reader Expression) (inside : Inside line n inner) where
-
   signed-sound : (ts : List Token) → Gives (signed_read line inner ts) (Spelt line (suc n) signed ts)
   unfolding signed_read
   signed-sound ts =
       bind (ate_symbol sign.Minus ts) (λ is_minus after c. by_test _ _ is_minus after _
       (λ yes.
-        let x = c.there yes in
-        subst (λ z. Gives (minus_read line inner after) (Spelt line (suc n) signed z)) (sym x.1) (minus-sound line n inner inside.sign_is x.0 after x.2))
+      let x = c.there yes in
+      subst (λ z. Gives (minus_read line inner after) (Spelt line (suc n) signed z)) (sym x.1) (minus-sound line n inner inside.sign_is x.0 after x.2))
       (λ other. bind (ate_symbol sign.Plus after) (λ is_plus next d. by_test _ _ is_plus next _
-        (λ yes.
-          let x = d.there yes in
-          let begins : ts ≡ x.0 ∷ next = sym (c.absent other) ∙ x.1 in
-          subst (λ z. Gives (plus_read line inner next) (Spelt line (suc n) signed z)) (sym begins) (plus-sound line n inner inside.sign_is x.0 next x.2))
-        (λ none.
-          let same : next ≡ ts = d.absent none ∙ c.absent other in
-          subst (λ z. Gives (postfix_read line inner next) (Spelt line (suc n) signed z)) same
-          (raised (λ e rest s. is_postfix (suc n) e next rest s) (postfix-sound line n inner inside.whole_is next))))))
+      (λ yes.
+      let x = d.there yes in
+      let begins : ts ≡ x.0 ∷ next = sym (c.absent other) ∙ x.1 in
+      subst (λ z. Gives (plus_read line inner next) (Spelt line (suc n) signed z)) (sym begins) (plus-sound line n inner inside.sign_is x.0 next x.2))
+      (λ none.
+      let same : next ≡ ts = d.absent none ∙ c.absent other in
+      subst (λ z. Gives (postfix_read line inner next) (Spelt line (suc n) signed z)) same
+      (raised (λ e rest s. is_postfix (suc n) e next rest s) (postfix-sound line n inner inside.whole_is next))))))
 
   product-sound : (ts : List Token) → Gives (product_read line inner ts) (Spelt line (suc n) product ts)
   unfolding product_read
@@ -575,13 +571,13 @@ module _ (line : List ℕ) (n : ℕ) (inner : Nested → Reader Expression) (ins
   links-sound-from (suc turns) found ts = bind_peek _ ts (by_option _ _ (at_kind comparator_of (kind_ahead ts)) ts _
       (λ none. answer _ _ _ (record { these = []; all_is = sym (append-nil found); spells = refl }))
       (λ by there. bind_skip _ ts (bind (predicate-sound (past ts)) (λ e mid s. later _ _ (λ all rest g. (
-        let x = ahead_by comparator_of ts by there in
-        record {
-          these = (by, e) ∷ g.these;
-          all_is = g.all_is ∙ append_assoc found ((by, e) ∷ []) g.these;
-          spells = subst (λ z. SpellsLinks line (suc n) (links_from ((by, e) ∷ g.these)) z rest) (sym x.1)
-              (one_more_link by e x.0 (past ts) mid rest g.these x.2 s.spells g.spells);
-        })) (links-sound-from turns (found ++ (by, e) ∷ []) mid)))))
+      let x = ahead_by comparator_of ts by there in
+      record {
+        these = (by, e) ∷ g.these;
+        all_is = g.all_is ∙ append_assoc found ((by, e) ∷ []) g.these;
+        spells = subst (λ z. SpellsLinks line (suc n) (links_from ((by, e) ∷ g.these)) z rest) (sym x.1)
+            (one_more_link by e x.0 (past ts) mid rest g.these x.2 s.spells g.spells);
+      })) (links-sound-from turns (found ++ (by, e) ∷ []) mid)))))
 
   links-sound : (ts : List Token) → Gives (links line inner ts) (λ ls rest. SpeltLinks ls ts rest)
   unfolding links
@@ -610,16 +606,16 @@ module _ (line : List ℕ) (n : ℕ) (inner : Nested → Reader Expression) (ins
   negation-sound ts =
       bind (ate_keyword word.Not ts) (λ is_not after c. by_test _ _ is_not after _
       (λ yes. bind (inside.negation_is after) (λ e mid s. later _ _ (λ y left k. (
-        let x = c.there yes in
-        record {
-          spells =
-              subst (λ z. Spells line (suc n) negation y ts z) (sym k.1)
-              (subst (λ z. Spells line (suc n) negation z ts mid) (sym k.0)
-              (subst (λ z. Spells line (suc n) negation (unary unary_operator.Not e) z mid) (sym x.1) (not n e x.0 after mid x.2 s.spells)));
-          shallow = subst (λ z. depth z ≤ greatest_depth) (sym k.0) k.2;
-        })) (checked_there (unary unary_operator.Not e) mid)))
+      let x = c.there yes in
+      record {
+        spells =
+            subst (λ z. Spells line (suc n) negation y ts z) (sym k.1)
+            (subst (λ z. Spells line (suc n) negation z ts mid) (sym k.0)
+            (subst (λ z. Spells line (suc n) negation (unary unary_operator.Not e) z mid) (sym x.1) (not n e x.0 after mid x.2 s.spells)));
+        shallow = subst (λ z. depth z ≤ greatest_depth) (sym k.0) k.2;
+      })) (checked_there (unary unary_operator.Not e) mid)))
       (λ none. subst (λ z. Gives (comparisons_read line inner after) (Spelt line (suc n) negation z)) (c.absent none)
-        (raised (λ e rest s. is_comparison (suc n) e after rest s) (comparisons-sound after))))
+      (raised (λ e rest s. is_comparison (suc n) e after rest s) (comparisons-sound after))))
 
   conjunction-sound : (ts : List Token) → Gives (conjunction_read line inner ts) (Spelt line (suc n) conjunction ts)
   unfolding conjunction_read

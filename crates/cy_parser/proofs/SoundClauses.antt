@@ -30,8 +30,8 @@ module _ (line : List ℕ) where
   filter-sound ts =
       bind (ate_keyword word.Where ts) (λ is_there after c. by_test _ _ is_there after _
       (λ yes. bind (whole-sound line after) (λ e rest s. answer _ _ _ (
-        let x = c.there yes in
-        subst (λ z. SpellsFilterIfAny line (Some e) z rest) (sym x.1) (filter e x.0 after rest x.2 s))))
+      let x = c.there yes in
+      subst (λ z. SpellsFilterIfAny line (Some e) z rest) (sym x.1) (filter e x.0 after rest x.2 s))))
       (λ none. answer _ _ _ (subst (λ z. SpellsFilterIfAny line None z after) (c.absent none) (no_filter after))))
 
   -- both say which column an item without AS has
@@ -56,15 +56,15 @@ module _ (line : List ℕ) where
   column-sound e ts after s =
       bind (ate_keyword word.As after) (λ is_named mid c. by_test _ _ is_named mid _
       (λ yes. bind (denoting_there is_name line mid) (λ n rest w. answer _ _ _ (
-        let x = c.there yes in
-        let follows : after ≡ x.0 ∷ w.0 ∷ rest = x.1 ∙ ap (λ z. x.0 ∷ z) w.1 in
-        subst (λ z. SpellsItem line (record { expression = e; column = z; named = true }) ts rest) (sym w.3)
-        (item_as e x.0 w.0 ts rest (subst (λ z. SpellsExpression line e ts z) follows s) x.2 w.2))))
+      let x = c.there yes in
+      let follows : after ≡ x.0 ∷ w.0 ∷ rest = x.1 ∙ ap (λ z. x.0 ∷ z) w.1 in
+      subst (λ z. SpellsItem line (record { expression = e; column = z; named = true }) ts rest) (sym w.3)
+      (item_as e x.0 w.0 ts rest (subst (λ z. SpellsExpression line e ts z) follows s) x.2 w.2))))
       (λ none. answer _ _ _ (
-        let same : after ≡ mid = sym (c.absent none) in
-        subst (λ z. SpellsItem line (record { expression = e; column = read.column_of line e (take (length ts - length z) ts); named = false }) ts mid) (sym same)
-        (subst (λ z. SpellsItem line (record { expression = e; column = z; named = false }) ts mid) (sym (same_column e (take (length ts - length mid) ts)))
-        (item e ts mid (subst (λ z. SpellsExpression line e ts z) same s))))))
+      let same : after ≡ mid = sym (c.absent none) in
+      subst (λ z. SpellsItem line (record { expression = e; column = read.column_of line e (take (length ts - length z) ts); named = false }) ts mid) (sym same)
+      (subst (λ z. SpellsItem line (record { expression = e; column = z; named = false }) ts mid) (sym (same_column e (take (length ts - length mid) ts)))
+      (item e ts mid (subst (λ z. SpellsExpression line e ts z) same s))))))
 
   item-sound : (ts : List Token) → Gives (read.item line ts) (λ i rest. SpellsItem line i ts rest)
   unfolding read.item
@@ -91,9 +91,9 @@ module _ (line : List ℕ) where
   order-sound ts =
       bind (ate_keyword word.Order ts) (λ is_there after c. by_test _ _ is_there after _
       (λ yes. bind (keyword_there word.By after) (λ _ mid b. later _ _ (λ ks rest s. (
-        let x = c.there yes in
-        let begins : ts ≡ x.0 ∷ b.0 ∷ mid = x.1 ∙ ap (λ z. x.0 ∷ z) b.1 in
-        subst (λ z. SpellsOrderIfAny line ks z rest) (sym begins) (order_by ks x.0 b.0 mid rest x.2 b.2 s))) (separated-sound (read.key line) (SpellsKey line) key-sound mid)))
+      let x = c.there yes in
+      let begins : ts ≡ x.0 ∷ b.0 ∷ mid = x.1 ∙ ap (λ z. x.0 ∷ z) b.1 in
+      subst (λ z. SpellsOrderIfAny line ks z rest) (sym begins) (order_by ks x.0 b.0 mid rest x.2 b.2 s))) (separated-sound (read.key line) (SpellsKey line) key-sound mid)))
       (λ none. answer _ _ _ (subst (λ z. SpellsOrderIfAny line [] z after) (c.absent none) (no_order after))))
 
   count-at : (ts : List Token) (k : Option Kind) → kind_ahead ts ≡ k →
@@ -111,9 +111,9 @@ module _ (line : List ℕ) where
   number_after-sound k ts =
       bind (ate_keyword k ts) (λ is_there after c. by_test _ _ is_there after _
       (λ yes. bind (bind_peek _ after (count-at after (kind_ahead after) refl)) (λ n rest w. answer _ _ _ (
-        let x = c.there yes in
-        let begins : ts ≡ x.0 ∷ w.0 ∷ rest = x.1 ∙ ap (λ z. x.0 ∷ z) w.1 in
-        subst (λ z. SpellsCountIfAny line k (Some n) z rest) (sym begins) (a_count n x.0 w.0 rest x.2 w.2 w.3))))
+      let x = c.there yes in
+      let begins : ts ≡ x.0 ∷ w.0 ∷ rest = x.1 ∙ ap (λ z. x.0 ∷ z) w.1 in
+      subst (λ z. SpellsCountIfAny line k (Some n) z rest) (sym begins) (a_count n x.0 w.0 rest x.2 w.2 w.3))))
       (λ none. answer _ _ _ (subst (λ z. SpellsCountIfAny line k None z after) (c.absent none) (no_count after))))
 
   distinct-sound : (ts : List Token) (b : Bool) (rest : List Token) → AteKeyword word.Distinct ts b rest → SpellsDistinct line b ts rest
@@ -142,19 +142,19 @@ module _ (line : List ℕ) where
       bind (variable-sound line ts) (λ v mid s. bind (ate_symbol sign.Dot mid) (λ is_property after c. by_test _ _ is_property after _
       (λ yes. let x = c.there yes in assignment-sound v ts after x.0 (subst (λ z. SpellsVariable line v ts z) x.1 s) x.2)
       (λ other. bind (symbol_there sign.Colon after) (λ _ from x. bind (labels-sound line from) (λ ls rest l. answer _ _ _
-        (set_labels_to v ls x.0 ts from rest (subst (λ z. SpellsVariable line v ts z) (sym (c.absent other) ∙ x.1) s) x.2 l))))))
+      (set_labels_to v ls x.0 ts from rest (subst (λ z. SpellsVariable line v ts z) (sym (c.absent other) ∙ x.1) s) x.2 l))))))
 
   remove_item-sound : (ts : List Token) → Gives (read.remove_item line ts) (λ i rest. SpellsRemoveItem line i ts rest)
   unfolding read.remove_item
   remove_item-sound ts =
       bind (variable-sound line ts) (λ v mid s. bind (ate_symbol sign.Dot mid) (λ is_property after c. by_test _ _ is_property after _
       (λ yes. bind (denoting_there is_word line after) (λ key rest w. answer _ _ _ (
-        let x = c.there yes in
-        let follows : mid ≡ x.0 ∷ w.0 ∷ rest = x.1 ∙ ap (λ z. x.0 ∷ z) w.1 in
-        subst (λ z. SpellsRemoveItem line (remove_property v z) ts rest) (sym w.3)
-        (remove_property_of v x.0 w.0 ts rest (subst (λ z. SpellsVariable line v ts z) follows s) x.2 w.2))))
+      let x = c.there yes in
+      let follows : mid ≡ x.0 ∷ w.0 ∷ rest = x.1 ∙ ap (λ z. x.0 ∷ z) w.1 in
+      subst (λ z. SpellsRemoveItem line (remove_property v z) ts rest) (sym w.3)
+      (remove_property_of v x.0 w.0 ts rest (subst (λ z. SpellsVariable line v ts z) follows s) x.2 w.2))))
       (λ other. bind (symbol_there sign.Colon after) (λ _ from x. bind (labels-sound line from) (λ ls rest l. answer _ _ _
-        (remove_labels_of v ls x.0 ts from rest (subst (λ z. SpellsVariable line v ts z) (sym (c.absent other) ∙ x.1) s) x.2 l))))))
+      (remove_labels_of v ls x.0 ts from rest (subst (λ z. SpellsVariable line v ts z) (sym (c.absent other) ∙ x.1) s) x.2 l))))))
 
   set_items-sound : (ts : List Token) → Gives (read.set_items line ts) (λ is rest. SpellsEach (SpellsSetItem line) is ts rest)
   unfolding read.set_items
@@ -301,8 +301,8 @@ module _ (line : List ℕ) where
   unfolding read.clause_in
   clause_in-sound s o ts e = by_test _ _ (read.allows s o) ts _
       (λ yes. bind_skip _ ts (later _ _ (λ c rest k. (
-        let x = ahead_by read.opening_of ts o e in
-        (subst (λ z. IsClause s o z c rest) (sym x.1) k, yes))) (open_by s o (ahead_by read.opening_of ts o e).0 (past ts) (opening_is _ o (ahead_by read.opening_of ts o e).2))))
+      let x = ahead_by read.opening_of ts o e in
+      (subst (λ z. IsClause s o z c rest) (sym x.1) k, yes))) (open_by s o (ahead_by read.opening_of ts o e).0 (past ts) (opening_is _ o (ahead_by read.opening_of ts o e).2))))
       (λ none. refused _)
 
   ends_as : (s : Stage) → read.may_end s ≡ spells.may_end (standing s)

@@ -24,7 +24,6 @@ use Rattle.cy_parser.proofs.Sound.{later, labels-sound, expression-sound}
 -- one tree after another, each with a comma before it
 module _ {A : Type 0} (item : Reader A) (each : A → List Token → List Token → Type 0)
     (item-sound : (ts : List Token) → Gives (item ts) (λ a rest. each a ts rest)) where
-
   record Found (found : List A) (ts : List Token) (all : List A) (rest : List Token) : Type 0 where
     pub these : List A
     pub all_is : all ≡ found ++ these
@@ -36,12 +35,12 @@ module _ {A : Type 0} (item : Reader A) (each : A → List Token → List Token 
   separated-sound-from (suc turns) found ts =
       bind (item-sound ts) (λ a mid s. bind (ate_symbol sign.Comma mid) (λ goes_on after c. by_test _ _ goes_on after _
       (λ yes. later _ _ (λ all rest g. (
-        let x = c.there yes in
-        record {
-          these = a ∷ g.these;
-          all_is = g.all_is ∙ append_assoc found (a ∷ []) g.these;
-          spells = next a g.these x.0 ts after rest (subst (λ z. each a ts z) x.1 s) x.2 g.spells;
-        })) (separated-sound-from turns (found ++ a ∷ []) after))
+      let x = c.there yes in
+      record {
+        these = a ∷ g.these;
+        all_is = g.all_is ∙ append_assoc found (a ∷ []) g.these;
+        spells = next a g.these x.0 ts after rest (subst (λ z. each a ts z) x.1 s) x.2 g.spells;
+      })) (separated-sound-from turns (found ++ a ∷ []) after))
       (λ stop. answer _ _ _ (record { these = a ∷ []; all_is = refl; spells = last a ts after (subst (λ z. each a ts z) (sym (c.absent stop)) s) }))))
 
   pub separated-sound : (ts : List Token) → Gives (read.separated item ts) (λ all rest. SpellsEach each all ts rest)
@@ -73,8 +72,8 @@ module _ (line : List ℕ) where
   labels_if_any-sound ts =
       bind (ate_symbol sign.Colon ts) (λ is_there after c. by_test _ _ is_there after _
       (λ yes. later _ _ (λ ls rest s. (
-        let x = c.there yes in
-        subst (λ z. SpellsLabelsIfAny line ls z rest) (sym x.1) (labels ls x.0 after rest x.2 s))) (labels-sound line after))
+      let x = c.there yes in
+      subst (λ z. SpellsLabelsIfAny line ls z rest) (sym x.1) (labels ls x.0 after rest x.2 s))) (labels-sound line after))
       (λ none. answer _ _ _ (subst (λ z. SpellsLabelsIfAny line [] z after) (c.absent none) (no_labels after))))
 
   entry-sound : (ts : List Token) → Gives (read.entry line ts) (λ e rest. SpellsEntry line e ts rest)
@@ -91,19 +90,19 @@ module _ (line : List ℕ) where
   map-sound opening ts is =
       bind (ate_symbol sign.RightBrace ts) (λ is_empty after c. by_test _ _ is_empty after _
       (λ yes. answer _ _ _ (
-        let x = c.there yes in
-        subst (λ z. SpellsMapIfAny line (Some []) (opening ∷ z) after) (sym x.1) (empty_map opening x.0 after is x.2)))
+      let x = c.there yes in
+      subst (λ z. SpellsMapIfAny line (Some []) (opening ∷ z) after) (sym x.1) (empty_map opening x.0 after is x.2)))
       (λ some. bind (separated-sound (read.entry line) (SpellsEntry line) entry-sound after) (λ es mid s. bind (symbol_there sign.RightBrace mid) (λ _ rest x. answer _ _ _ (
-        subst (λ z. SpellsMapIfAny line (Some es) (opening ∷ z) rest) (c.absent some)
-        (map_of es opening x.0 after rest is (subst (λ z. SpellsEach (SpellsEntry line) es after z) x.1 s) x.2))))))
+      subst (λ z. SpellsMapIfAny line (Some es) (opening ∷ z) rest) (c.absent some)
+      (map_of es opening x.0 after rest is (subst (λ z. SpellsEach (SpellsEntry line) es after z) x.1 s) x.2))))))
 
   map_if_any-sound : (ts : List Token) → Gives (read.map_if_any line ts) (λ m rest. SpellsMapIfAny line m ts rest)
   unfolding read.map_if_any
   map_if_any-sound ts =
       bind (ate_symbol sign.LeftBrace ts) (λ is_there after c. by_test _ _ is_there after _
       (λ yes.
-        let x = c.there yes in
-        bind (map-sound x.0 after x.2) (λ es rest s. answer _ _ _ (subst (λ z. SpellsMapIfAny line (Some es) z rest) (sym x.1) s)))
+      let x = c.there yes in
+      bind (map-sound x.0 after x.2) (λ es rest s. answer _ _ _ (subst (λ z. SpellsMapIfAny line (Some es) z rest) (sym x.1) s)))
       (λ none. answer _ _ _ (subst (λ z. SpellsMapIfAny line None z after) (c.absent none) (no_map after))))
 
   node-sound : (ts : List Token) → Gives (read.node line ts) (λ n rest. SpellsNode line n ts rest)
@@ -139,12 +138,12 @@ module _ (line : List ℕ) where
   types-sound-from (suc turns) found ts =
       bind (denoting_there is_word line ts) (λ n mid w. bind (ate_symbol sign.Bar mid) (λ goes_on after b. by_test _ _ goes_on after _
       (λ yes. bind (ate_symbol sign.Colon after) (λ colon next c. later _ _ (λ all rest g. (
-        let x = b.there yes in
-        record {
-          these = n ∷ g.these;
-          all_is = g.all_is ∙ append_assoc found (n ∷ []) g.these;
-          spells = type_more n w.0 x.0 g.these ts mid after next rest colon w.1 x.1 w.2 w.3 x.2 c g.spells;
-        })) (types-sound-from turns (found ++ n ∷ []) next)))
+      let x = b.there yes in
+      record {
+        these = n ∷ g.these;
+        all_is = g.all_is ∙ append_assoc found (n ∷ []) g.these;
+        spells = type_more n w.0 x.0 g.these ts mid after next rest colon w.1 x.1 w.2 w.3 x.2 c g.spells;
+      })) (types-sound-from turns (found ++ n ∷ []) next)))
       (λ stop. answer _ _ _ (record {
         these = n ∷ [];
         all_is = refl;
@@ -163,8 +162,8 @@ module _ (line : List ℕ) where
   types_if_any-sound ts =
       bind (ate_symbol sign.Colon ts) (λ is_there after c. by_test _ _ is_there after _
       (λ yes. later _ _ (λ ns rest s. (
-        let x = c.there yes in
-        subst (λ z. SpellsTypesIfAny line ns z rest) (sym x.1) (types ns x.0 after rest x.2 s))) (types-sound after))
+      let x = c.there yes in
+      subst (λ z. SpellsTypesIfAny line ns z rest) (sym x.1) (types ns x.0 after rest x.2 s))) (types-sound after))
       (λ none. answer _ _ _ (subst (λ z. SpellsTypesIfAny line [] z after) (c.absent none) (no_types after))))
 
 -- a number, if any
@@ -234,9 +233,9 @@ unfolding read.bounds
 bounds-sound ts =
     bind (number_if_any-sound ts) (λ least from a. bind (ate_symbol sign.DotDot from) (λ is_open mid c. by_test _ _ is_open mid _
     (λ yes. bind (number_if_any-sound mid) (λ most rest b. later _ _ (λ l left r. (
-      let x = c.there yes in
-      subst (λ z. SpellsLength l ts z) (sym r.left_is)
-      (subst (λ z. SpellsLength z ts rest) (sym r.is) (open_length least most x.0 ts from mid rest a x.1 x.2 b r.bounds_are)))) (ranging-sound (read.least_of least) most rest)))
+    let x = c.there yes in
+    subst (λ z. SpellsLength l ts z) (sym r.left_is)
+    (subst (λ z. SpellsLength z ts rest) (sym r.is) (open_length least most x.0 ts from mid rest a x.1 x.2 b r.bounds_are)))) (ranging-sound (read.least_of least) most rest)))
     (λ none. subst (λ z. Gives (read.alone least z) (λ l rest. SpellsLength l ts rest)) (sym (c.absent none)) (alone-sound least ts from a))))
 
 length_if_any-sound : (ts : List Token) → Gives (read.length_if_any ts) (λ l rest. SpellsLengthIfAny l ts rest)
@@ -244,8 +243,8 @@ unfolding read.length_if_any
 length_if_any-sound ts =
     bind (ate_symbol sign.Star ts) (λ is_there after c. by_test _ _ is_there after _
     (λ yes. bind (bounds-sound after) (λ l rest s. answer _ _ _ (
-      let x = c.there yes in
-      subst (λ z. SpellsLengthIfAny (Some l) z rest) (sym x.1) (a_length l x.0 after rest x.2 s))))
+    let x = c.there yes in
+    subst (λ z. SpellsLengthIfAny (Some l) z rest) (sym x.1) (a_length l x.0 after rest x.2 s))))
     (λ none. answer _ _ _ (subst (λ z. SpellsLengthIfAny None z after) (c.absent none) (no_length after))))
 
 arrow-sound : (s : Symbol) (ts : List Token) (b : Bool) (rest : List Token) → AteSymbol s ts b rest → SpellsArrow s b ts rest
@@ -272,8 +271,8 @@ module _ (line : List ℕ) where
   details-sound ts =
       bind (ate_symbol sign.LeftBracket ts) (λ is_there after c. by_test _ _ is_there after _
       (λ yes. later _ _ (λ r rest s. (
-        let x = c.there yes in
-        subst (λ z. SpellsDetails line r z rest) (sym x.1) s)) (body-sound direction.Either (c.there yes).0 after (c.there yes).2))
+      let x = c.there yes in
+      subst (λ z. SpellsDetails line r z rest) (sym x.1) s)) (body-sound direction.Either (c.there yes).0 after (c.there yes).2))
       (λ none. answer _ _ _ (subst (λ z. SpellsDetails line (read.plain_relationship line direction.Either) z after) (c.absent none) (no_details direction.Either after))))
 
   relationship-sound : (ts : List Token) → Gives (read.relationship line ts) (λ r rest. SpellsRelationship line r ts rest)

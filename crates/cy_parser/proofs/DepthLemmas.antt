@@ -1,13 +1,13 @@
 -- The depth of a list of parts with one part more at its end.
 use Rattle.std.proofs.Common.{◌≡◌, ℕ, max, List, [], ◌∷◌, ◌++◌, map, ap, sym, ◌∙◌, arith, rules}
 use Rattle.std.proofs.lemmas.List.{map-append}
-use Rattle.cy_parser.specs.declared.expressions.Expr.{Expr, the_lemmas}
-use Rattle.cy_parser.specs.declared.expressions.Arm.{Arm}
-use Rattle.cy_parser.specs.declared.expressions.Link.{Link}
-use Rattle.cy_parser.specs.declared.expressions.Comparator.{Comparator}
-use Rattle.cy_parser.specs.Trees.{Expression}
-use Rattle.cy_parser.specs.Depth.{depth, deepest, links_depth, arms_depth}
-use Rattle.cy_parser.specs.Views.{expression_of, arm_of, link_of, expressions_from, links_from, arms_from}
+use Rattle.cy_trees.specs.declared.expressions.Expr.{Expr, the_lemmas}
+use Rattle.cy_trees.specs.declared.expressions.Arm.{Arm}
+use Rattle.cy_trees.specs.declared.expressions.Link.{Link}
+use Rattle.cy_trees.specs.declared.expressions.Comparator.{Comparator}
+use Rattle.cy_trees.specs.Trees.{Expression}
+use Rattle.cy_trees.specs.Depth.{depth, deepest, links_depth, arms_depth}
+use Rattle.cy_trees.specs.Views.{expression_of, arm_of, link_of, expressions_from, links_from, arms_from}
 
 pub deepest_push : (es : List Expression) (e : Expression) → deepest (expressions_from (es ++ e ∷ [])) ≡ max (deepest (expressions_from es)) (depth e)
 deepest_push [] e = omega arith

@@ -9,8 +9,8 @@ use Rattle.cy_lexer.specs.declared.symbols.Symbol.{Symbol}
 use Rattle.cy_lexer.specs.declared.tokens.Kind.{Kind}
 use Rattle.cy_lexer.specs.declared.tokens.Kind.TheVariants as kind
 use Rattle.cy_lexer.specs.declared.tokens.Token.{Token}
-use Rattle.cy_parser.specs.Trees.{Name, Expression}
-use Rattle.cy_parser.specs.Depth.{depth, greatest_depth}
+use Rattle.cy_trees.specs.Trees.{Name, Expression}
+use Rattle.cy_trees.specs.Depth.{depth, greatest_depth}
 use Rattle.cy_parser.specs.Words.{is_name, is_word, denotes}
 use Rattle.cy_parser.specs.internal.Reader.{Outcome, Reader, and_then, is_keyword, is_symbol, kind_ahead, past, sees_keyword, sees_symbol, eat_keyword, eat_symbol, peek, skip, at_kind, expect_keyword, expect_symbol, denoting, checked}
 use Rattle.cy_parser.specs.Spells.{IsKeyword, IsSymbol}

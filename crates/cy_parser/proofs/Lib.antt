@@ -1,9 +1,6 @@
 pub mod WithinLemmas
-pub mod ViewsLemmas
 pub mod DepthLemmas
 pub mod Turns
-pub mod QuotingLemmas
-pub mod ShowLemmas
 pub mod Gives
 pub mod Sound
 pub mod SoundPatterns

@@ -6,15 +6,15 @@ use Rattle.cy_lexer.specs.declared.tokens.Kind.{Kind}
 use Rattle.cy_lexer.specs.declared.tokens.Kind.TheVariants as kind
 use Rattle.cy_lexer.specs.declared.keywords.Keyword.TheVariants as word
 use Rattle.cy_lexer.specs.declared.symbols.Symbol.TheVariants as sign
-use Rattle.cy_parser.specs.declared.expressions.UnaryOperator.TheVariants as unary_operator
-use Rattle.cy_parser.specs.declared.expressions.BinaryOperator.{BinaryOperator}
-use Rattle.cy_parser.specs.declared.expressions.BinaryOperator.TheVariants as operator
-use Rattle.cy_parser.specs.declared.expressions.Comparator.{Comparator}
+use Rattle.cy_trees.specs.declared.expressions.UnaryOperator.TheVariants as unary_operator
+use Rattle.cy_trees.specs.declared.expressions.BinaryOperator.{BinaryOperator}
+use Rattle.cy_trees.specs.declared.expressions.BinaryOperator.TheVariants as operator
+use Rattle.cy_trees.specs.declared.expressions.Comparator.{Comparator}
 use Rattle.cy_parser.specs.declared.places.Nested.{Nested}
 use Rattle.cy_parser.specs.declared.places.Nested.TheVariants as nested
-use Rattle.cy_parser.specs.Trees.{Name, Expression, Expressions, list, no_more, more, call, call_star, variable, property, has_labels, unary, binary, boolean, integer, null, text, Links, no_links, link, comparison, Arms, arm, no_arms, Otherwise, nothing, otherwise, case}
-use Rattle.cy_parser.specs.Depth.{depth, greatest_depth}
-use Rattle.cy_parser.specs.Views.{expressions_from, arms_from, links_from}
+use Rattle.cy_trees.specs.Trees.{Name, Expression, Expressions, list, no_more, more, call, call_star, variable, property, has_labels, unary, binary, boolean, integer, null, text, Links, no_links, link, comparison, Arms, arm, no_arms, Otherwise, nothing, otherwise, case}
+use Rattle.cy_trees.specs.Depth.{depth, greatest_depth}
+use Rattle.cy_trees.specs.Views.{expressions_from, arms_from, links_from}
 use Rattle.cy_parser.specs.Words.{is_word, is_name, denotes, lowered, number_limit, negated, product_operator, sum_operator, comparator_of, conjunction_operator, exclusion_operator, disjunction_operator}
 use Rattle.cy_parser.specs.internal.Reader.{Reader, and_then, checked, skip, at_kind, ◌>>◌, expect_symbol, eat_symbol, pure, refuse, ◌>>=◌, ◌<$>◌, kind_ahead, past, name as name_read, word as word_read}
 use Rattle.cy_parser.specs.internal.Expressions.{bracketed, listed, elements, elements_from, labels, labels_from, arguments, called, named, arms, arms_read, else_read, cases, properties, properties_from, labelled as labelled_read, attributes, literal, literal_by, counted, quoted, postfix as postfix_read, postfix_by, minus as minus_read, minus_by, plus as plus_read, chain, chain_from, signed as signed_read, product as product_read, sum as sum_read, null_test, tested, predicate_by, begins_predicate, predicate_step, predicates_from, predicate as predicate_read, links_read, links, compared, comparisons as comparisons_read, negation as negation_read, conjunction as conjunction_read, exclusion as exclusion_read, disjunction, level, nesting, expression, most_levels}

@@ -7,12 +7,12 @@ use Rattle.cy_lexer.specs.declared.tokens.Kind.TheVariants as kind
 use Rattle.cy_lexer.specs.declared.keywords.Keyword.{Keyword}
 use Rattle.cy_lexer.specs.declared.keywords.Keyword.TheVariants as word
 use Rattle.cy_lexer.specs.declared.symbols.Symbol.TheVariants as sign
-use Rattle.cy_parser.specs.declared.expressions.Variable.{Variable}
+use Rattle.cy_trees.specs.declared.expressions.Variable.{Variable}
 use Rattle.cy_parser.specs.declared.stages.Opening.{Opening}
 use Rattle.cy_parser.specs.declared.stages.Opening.TheVariants as opening
 use Rattle.cy_parser.specs.declared.stages.Stage.{Stage}
 use Rattle.cy_parser.specs.declared.stages.Stage.TheVariants as stage
-use Rattle.cy_parser.specs.Trees.{Name, Expression, null, boolean, integer, text, variable as variable_tree, property, has_labels, unary, binary, comparison, list, case, call, call_star, Path, Item, Key, Projection, SetItem, set_property, set_labels, RemoveItem, remove_property, remove_labels, Clause, «match», unwind, «with», «return», create, set, remove, delete, Statement}
+use Rattle.cy_trees.specs.Trees.{Name, Expression, null, boolean, integer, text, variable as variable_tree, property, has_labels, unary, binary, comparison, list, case, call, call_star, Path, Item, Key, Projection, SetItem, set_property, set_labels, RemoveItem, remove_property, remove_labels, Clause, «match», unwind, «with», «return», create, set, remove, delete, Statement}
 use Rattle.cy_parser.specs.Words.{is_word, is_name, denotes, number_limit}
 use Rattle.cy_parser.specs.internal.Reader.{Reader, and_then, at_kind, kind_ahead, past, skip, refuse, eat_keyword, ◌>>◌, ◌>>=◌, ◌<$>◌, pure}
 use Rattle.cy_parser.specs.internal.Expressions.{expression}

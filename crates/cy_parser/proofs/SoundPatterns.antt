@@ -7,11 +7,11 @@ use Rattle.cy_lexer.specs.declared.tokens.Kind.TheVariants as kind
 use Rattle.cy_lexer.specs.declared.keywords.Keyword.TheVariants as word
 use Rattle.cy_lexer.specs.declared.symbols.Symbol.{Symbol}
 use Rattle.cy_lexer.specs.declared.symbols.Symbol.TheVariants as sign
-use Rattle.cy_parser.specs.declared.expressions.Variable.{Variable}
-use Rattle.cy_parser.specs.declared.clauses.Direction.{Direction}
-use Rattle.cy_parser.specs.declared.clauses.Direction.TheVariants as direction
-use Rattle.cy_parser.specs.declared.clauses.Length.{Length}
-use Rattle.cy_parser.specs.Trees.{Name, Expression, Entry, NodePattern, RelationshipPattern, Step, Path}
+use Rattle.cy_trees.specs.declared.expressions.Variable.{Variable}
+use Rattle.cy_trees.specs.declared.clauses.Direction.{Direction}
+use Rattle.cy_trees.specs.declared.clauses.Direction.TheVariants as direction
+use Rattle.cy_trees.specs.declared.clauses.Length.{Length}
+use Rattle.cy_trees.specs.Trees.{Name, Expression, Entry, NodePattern, RelationshipPattern, Step, Path}
 use Rattle.cy_parser.specs.Words.{is_word, is_name, denotes, number_limit}
 use Rattle.cy_parser.specs.internal.Reader.{Reader, and_then, kind_ahead, past, skip, refuse, ◌>>◌, ◌>>=◌, ◌<$>◌, pure}
 use Rattle.cy_parser.specs.internal.Expressions.{expression}

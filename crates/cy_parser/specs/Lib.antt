@@ -1,9 +1,5 @@
-pub mod Trees
-pub mod Views
 pub mod Faults
-pub mod Depth
 pub mod Words
 pub mod Spells
 pub mod SpellsClauses
-pub mod Show
 pub mod internal

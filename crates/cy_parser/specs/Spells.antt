@@ -9,11 +9,11 @@ use Rattle.cy_lexer.specs.declared.keywords.Keyword.{Keyword}
 use Rattle.cy_lexer.specs.declared.keywords.Keyword.TheVariants as word
 use Rattle.cy_lexer.specs.declared.symbols.Symbol.{Symbol}
 use Rattle.cy_lexer.specs.declared.symbols.Symbol.TheVariants as sign
-use Rattle.cy_parser.specs.declared.expressions.UnaryOperator.TheVariants as unary_operator
-use Rattle.cy_parser.specs.declared.expressions.BinaryOperator.{BinaryOperator}
-use Rattle.cy_parser.specs.declared.expressions.BinaryOperator.TheVariants as operator
-use Rattle.cy_parser.specs.declared.expressions.Comparator.{Comparator}
-use Rattle.cy_parser.specs.Trees.{Name, Expression, null, boolean, integer, text, variable, property, has_labels, unary, binary, comparison, list, case, call, call_star, Expressions, no_more, more, Links, no_links, link, Arms, no_arms, arm, Otherwise, nothing, otherwise}
+use Rattle.cy_trees.specs.declared.expressions.UnaryOperator.TheVariants as unary_operator
+use Rattle.cy_trees.specs.declared.expressions.BinaryOperator.{BinaryOperator}
+use Rattle.cy_trees.specs.declared.expressions.BinaryOperator.TheVariants as operator
+use Rattle.cy_trees.specs.declared.expressions.Comparator.{Comparator}
+use Rattle.cy_trees.specs.Trees.{Name, Expression, null, boolean, integer, text, variable, property, has_labels, unary, binary, comparison, list, case, call, call_star, Expressions, no_more, more, Links, no_links, link, Arms, no_arms, arm, Otherwise, nothing, otherwise}
 use Rattle.cy_parser.specs.Words.{is_name, is_word, lowered, denotes, negated, number_limit, disjunction_operator, exclusion_operator, conjunction_operator, comparator_of, sum_operator, product_operator}
 
 abbrev pub IsKeyword : Keyword → Token → Type 0

@@ -8,12 +8,12 @@ use Rattle.cy_lexer.specs.declared.keywords.Keyword.{Keyword}
 use Rattle.cy_lexer.specs.declared.keywords.Keyword.TheVariants as word
 use Rattle.cy_lexer.specs.declared.symbols.Symbol.{Symbol}
 use Rattle.cy_lexer.specs.declared.symbols.Symbol.TheVariants as sign
-use Rattle.cy_parser.specs.declared.expressions.Variable.{Variable}
-use Rattle.cy_parser.specs.declared.clauses.Direction.{Direction}
-use Rattle.cy_parser.specs.declared.clauses.Direction.TheVariants as direction
-use Rattle.cy_parser.specs.declared.clauses.Length.{Length}
-use Rattle.cy_parser.specs.Trees.{Name, Expression, variable as variable_tree, Entry, NodePattern, RelationshipPattern, Step, Path, Item, Key, Projection, SetItem, set_property, set_labels, RemoveItem, remove_property, remove_labels, Clause, «match», unwind, «with», «return», create, set, remove, delete, Statement}
-use Rattle.cy_parser.specs.Depth.{depth, greatest_depth}
+use Rattle.cy_trees.specs.declared.expressions.Variable.{Variable}
+use Rattle.cy_trees.specs.declared.clauses.Direction.{Direction}
+use Rattle.cy_trees.specs.declared.clauses.Direction.TheVariants as direction
+use Rattle.cy_trees.specs.declared.clauses.Length.{Length}
+use Rattle.cy_trees.specs.Trees.{Name, Expression, variable as variable_tree, Entry, NodePattern, RelationshipPattern, Step, Path, Item, Key, Projection, SetItem, set_property, set_labels, RemoveItem, remove_property, remove_labels, Clause, «match», unwind, «with», «return», create, set, remove, delete, Statement}
+use Rattle.cy_trees.specs.Depth.{depth, greatest_depth}
 use Rattle.cy_parser.specs.Words.{is_name, is_word, denotes, number_limit, written}
 use Rattle.cy_parser.specs.Spells.{Spells, whole, SpellsLabels, IsKeyword, IsSymbol, IsNumber}
 

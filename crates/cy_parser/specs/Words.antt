@@ -8,11 +8,11 @@ use Rattle.cy_lexer.specs.declared.keywords.Keyword.TheVariants as word
 use Rattle.cy_lexer.specs.declared.symbols.Symbol.TheVariants as sign
 use Rattle.cy_lexer.specs.Spans.{slice_of}
 use Rattle.cy_lexer.specs.Tokens.{denoted}
-use Rattle.cy_parser.specs.declared.expressions.BinaryOperator.{BinaryOperator}
-use Rattle.cy_parser.specs.declared.expressions.BinaryOperator.TheVariants as operator
-use Rattle.cy_parser.specs.declared.expressions.Comparator.{Comparator}
-use Rattle.cy_parser.specs.declared.expressions.Comparator.TheVariants as comparator
-use Rattle.cy_parser.specs.Trees.{Name}
+use Rattle.cy_trees.specs.declared.expressions.BinaryOperator.{BinaryOperator}
+use Rattle.cy_trees.specs.declared.expressions.BinaryOperator.TheVariants as operator
+use Rattle.cy_trees.specs.declared.expressions.Comparator.{Comparator}
+use Rattle.cy_trees.specs.declared.expressions.Comparator.TheVariants as comparator
+use Rattle.cy_trees.specs.Trees.{Name}
 
 -- a place where a character of the line begins, or where the line ends
 abbrev pub is_boundary : List ℕ → ℕ → Bool

@@ -3,5 +3,3 @@ pub mod Expressions
 pub mod Nests
 pub mod Operands
 pub mod Clauses
-pub mod Showing
-pub mod Separators

@@ -2,16 +2,16 @@
 
 ghost use Rattle.std.specs.Prelude.{◌≡◌, ◌≢◌, ◌≤◌, ◌++◌, ◌∷◌, [], suc, MatchResult, OnOk, IfErr};
 ghost use Rattle.cy_parser.specs.declared.refusals.Refusal.TheVariants.{NoMemory};
-ghost use Rattle.cy_parser.specs.Depth as spec;
-ghost use Rattle.cy_parser.specs.Trees as tree;
-ghost use Rattle.cy_parser.specs.Views.{expression_of, expressions_of, links_of, arms_of};
+ghost use Rattle.cy_trees.specs.Depth as spec;
+ghost use Rattle.cy_trees.specs.Trees as tree;
+ghost use Rattle.cy_trees.specs.Views.{expression_of, expressions_of, links_of, arms_of};
 ghost use Rattle.cy_parser.specs.internal.Operands.{operand_of, otherwise_of, elements_of, arms_in, links_in, AreMeasured, ArmsAreMeasured, LinksAreMeasured};
 ghost use Rattle.cy_parser.specs.internal.Reader.{Reads, checked};
 
 use crate::cursor::Cursor;
-use crate::expressions::{Arm, BinaryOperator, Comparator, Expr, Link, UnaryOperator};
 use crate::operands::{Gathered, Operand};
 use crate::refusals::Refusal;
+use cy_trees::{Arm, BinaryOperator, Comparator, Expr, Link, UnaryOperator};
 use cy_values::Text;
 use std::alloc::Global;
 
@@ -137,7 +137,7 @@ pub(crate) fn call(
 }
 
 /// A CASE of its arms and what stands after ELSE.
-#[tactic(auto, using(crate::proofs::ViewsLemmas::case_otherwise), unfolding(crate::specs::internal::Reader::checked))]
+#[tactic(auto, using(cy_trees::proofs::ViewsLemmas::case_otherwise), unfolding(crate::specs::internal::Reader::checked))]
 pub(crate) fn case(
     alloc: Global,
     tokens: &Cursor<'_>,

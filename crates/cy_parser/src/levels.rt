@@ -8,7 +8,6 @@ ghost use Rattle.cy_parser.specs.internal.Reader.{Reads};
 
 use crate::building::{binary, comparison, leaf, unary};
 use crate::cursor::Cursor;
-use crate::expressions::{BinaryOperator, Expr, Link, UnaryOperator};
 use crate::grammar::Grammar;
 use crate::operands::{Gathered, Operand};
 use crate::places::Nested;
@@ -18,6 +17,7 @@ use crate::words::{
     product_operator, sum_operator,
 };
 use cy_lexer::{Keyword, Kind, Symbol};
+use cy_trees::{BinaryOperator, Expr, Link, UnaryOperator};
 use std::alloc::Global;
 
 impl<'l, F: Fn(Global, &str, &mut Cursor<'_>, usize, Nested) -> Result<Operand, Refusal>> Grammar<

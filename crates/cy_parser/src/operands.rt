@@ -1,10 +1,10 @@
 //! Expressions with their depths, as they are read.
 
 ghost use Rattle.std.specs.Prelude.{◌≡◌, ◌≤◌};
-ghost use Rattle.cy_parser.specs.Depth as spec;
-ghost use Rattle.cy_parser.specs.Views.{expression_of};
+ghost use Rattle.cy_trees.specs.Depth as spec;
+ghost use Rattle.cy_trees.specs.Views.{expression_of};
 
-use crate::expressions::Expr;
+use cy_trees::Expr;
 
 /// An expression and its depth, which isn't too great.
 #[derive(Drop)]

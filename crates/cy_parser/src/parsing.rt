@@ -4,15 +4,15 @@ ghost use Rattle.std.specs.Prelude.{◌≡◌, ◌≢◌, ◌≤◌, length, Som
 ghost use Rattle.cy_parser.specs.declared.faults.ParseFault.TheVariants.{NoMemory};
 ghost use Rattle.cy_parser.specs.Faults.{PointsAtPlace, IsPlace};
 ghost use Rattle.cy_parser.specs.SpellsClauses.{SpellsStatement};
-ghost use Rattle.cy_parser.specs.Views.{statement_of};
+ghost use Rattle.cy_trees.specs.Views.{statement_of};
 ghost use Rattle.cy_parser.specs.internal.Clauses as spec;
 
-use crate::clauses::Statement;
 use crate::cursor::Cursor;
 use crate::faults::ParseFault;
 use crate::refusals::Refusal;
 use crate::source::Source;
 use cy_lexer::Token;
+use cy_trees::Statement;
 use std::alloc::Global;
 
 /// Where the token begins that so many are left from, or the length of the line.

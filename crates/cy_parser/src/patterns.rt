@@ -1,17 +1,16 @@
 //! Patterns: nodes, relationships and the paths that they make.
 
 ghost use Rattle.std.specs.Prelude.{◌≡◌, ◌∷◌, [], ◌≤◌, ◌<◌, ◌≢◌, map, option_map, IfOk};
-ghost use Rattle.cy_parser.specs.Views.{expression_of, entry_of, properties_of, node_of, relationship_of, step_of, path_of, paths_of};
+ghost use Rattle.cy_trees.specs.Views.{expression_of, entry_of, properties_of, node_of, relationship_of, step_of, path_of, paths_of};
 ghost use Rattle.cy_parser.specs.internal.Clauses as spec;
 ghost use Rattle.cy_parser.specs.internal.Reader.{Reads};
 
-use crate::clauses::{Direction, Entry, Length, NodePattern, Path, RelationshipPattern, Step};
 use crate::cursor::Cursor;
-use crate::expressions::Variable;
 use crate::primary::labels;
 use crate::refusals::Refusal;
 use crate::source::Source;
 use cy_lexer::{Kind, Symbol};
+use cy_trees::{Direction, Entry, Length, NodePattern, Path, RelationshipPattern, Step, Variable};
 use cy_values::Text;
 
 /// The direction of a relationship, from the arrows that are written.

@@ -1,8 +1,8 @@
 //! Literals, lists, CASE, names, calls and brackets, and what stands after them.
 
 ghost use Rattle.std.specs.Prelude.{◌≡◌, ◌∷◌, [], ◌≤◌, map, IfOk, pos};
-ghost use Rattle.cy_parser.specs.Depth.{deepest, arms_depth};
-ghost use Rattle.cy_parser.specs.Views.{expression_of, expressions_of, arm_of, arms_of};
+ghost use Rattle.cy_trees.specs.Depth.{deepest, arms_depth};
+ghost use Rattle.cy_trees.specs.Views.{expression_of, expressions_of, arm_of, arms_of};
 ghost use Rattle.cy_parser.specs.Words.{negated};
 ghost use Rattle.cy_parser.specs.internal.Expressions as spec;
 ghost use Rattle.cy_parser.specs.internal.Nests.{Nests};
@@ -11,13 +11,13 @@ ghost use Rattle.cy_parser.specs.internal.Reader.{Reads};
 
 use crate::building::{call, case, has_labels, leaf, list, property};
 use crate::cursor::Cursor;
-use crate::expressions::{Arm, Expr, Variable};
 use crate::grammar::Grammar;
 use crate::operands::{Gathered, Operand};
 use crate::places::Nested;
 use crate::refusals::Refusal;
 use crate::words::lowered;
 use cy_lexer::{Keyword, Kind, Symbol};
+use cy_trees::{Arm, Expr, Variable};
 use cy_values::Text;
 use std::alloc::Global;
 

@@ -3,17 +3,16 @@
 ghost use Rattle.std.specs.Prelude.{◌≡◌, ◌-◌, Some, take, length, map, option_map, IfOk, IfErr};
 ghost use Rattle.cy_parser.specs.declared.refusals.Refusal.TheVariants.{NoMemory};
 ghost use Rattle.cy_parser.specs.Words as words;
-ghost use Rattle.cy_parser.specs.Views.{expression_of, filter_of, item_of, key_of, projection_of};
+ghost use Rattle.cy_trees.specs.Views.{expression_of, filter_of, item_of, key_of, projection_of};
 ghost use Rattle.cy_parser.specs.internal.Clauses as spec;
 ghost use Rattle.cy_parser.specs.internal.Reader.{Reads};
 
-use crate::clauses::{Item, Key, Projection};
 use crate::cursor::Cursor;
-use crate::expressions::Expr;
 use crate::refusals::Refusal;
 use crate::source::Source;
 use crate::words::slice_in;
 use cy_lexer::{Keyword, Kind, Symbol, Token};
+use cy_trees::{Expr, Item, Key, Projection};
 use cy_values::Text;
 
 /// Whether a key's order falls, by the word after it.

@@ -1,17 +1,17 @@
 //! The line that tokens are read from.
 
 ghost use Rattle.std.specs.Prelude.{◌≡◌};
-ghost use Rattle.cy_parser.specs.Views.{expression_of};
+ghost use Rattle.cy_trees.specs.Views.{expression_of};
 ghost use Rattle.cy_parser.specs.internal.Clauses as clauses;
 ghost use Rattle.cy_parser.specs.internal.Expressions as spec;
 ghost use Rattle.cy_parser.specs.internal.Operands.{operand_of};
 ghost use Rattle.cy_parser.specs.internal.Reader.{Reads};
 
 use crate::cursor::Cursor;
-use crate::expressions::{Expr, Variable};
 use crate::nesting::nesting;
 use crate::places::Nested;
 use crate::refusals::Refusal;
+use cy_trees::{Expr, Variable};
 use std::alloc::Global;
 
 /// How many levels may be open in an expression at one place, and one for the expression itself (own).

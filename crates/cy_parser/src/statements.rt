@@ -1,17 +1,17 @@
 //! Clauses in their order, and statements.
 
 ghost use Rattle.std.specs.Prelude.{◌≡◌, map};
-ghost use Rattle.cy_parser.specs.Views.{clause_of, statement_of};
+ghost use Rattle.cy_trees.specs.Views.{clause_of, statement_of};
 ghost use Rattle.cy_parser.specs.internal.Clauses as spec;
 ghost use Rattle.cy_parser.specs.internal.Reader.{Reads};
 
-use crate::clauses::{Clause, Delete, Match, Statement, Unwind, With};
 use crate::cursor::Cursor;
 use crate::order::opening_of;
 use crate::refusals::Refusal;
 use crate::source::Source;
 use crate::stages::{Opening, Stage};
 use cy_lexer::{Keyword, Kind, Symbol};
+use cy_trees::{Clause, Delete, Match, Statement, Unwind, With};
 
 impl<'l> Source<'l> {
     /// A MATCH, after that word.

@@ -1,17 +1,16 @@
 //! Items of SET and REMOVE, and the variables of DELETE.
 
 ghost use Rattle.std.specs.Prelude.{◌≡◌, map};
-ghost use Rattle.cy_parser.specs.Views.{expression_of, set_item_of, remove_item_of};
+ghost use Rattle.cy_trees.specs.Views.{expression_of, set_item_of, remove_item_of};
 ghost use Rattle.cy_parser.specs.internal.Clauses as spec;
 ghost use Rattle.cy_parser.specs.internal.Reader.{Reads};
 
-use crate::clauses::{RemoveItem, SetItem};
 use crate::cursor::Cursor;
-use crate::expressions::Variable;
 use crate::primary::labels;
 use crate::refusals::Refusal;
 use crate::source::Source;
 use cy_lexer::Symbol;
+use cy_trees::{RemoveItem, SetItem, Variable};
 
 impl<'l> Source<'l> {
     /// A property and its value, after the variable and the `.`.

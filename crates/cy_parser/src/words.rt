@@ -4,9 +4,9 @@ ghost use Rattle.std.specs.Prelude.{◌≡◌, ◌<◌, IfOk, OnErr};
 ghost use Rattle.cy_parser.specs.declared.refusals.Refusal.TheVariants.{NoMemory};
 ghost use Rattle.cy_parser.specs.Words as spec;
 
-use crate::expressions::{BinaryOperator, Comparator};
 use crate::refusals::Refusal;
 use cy_lexer::{Keyword, Kind, Symbol, Token};
+use cy_trees::{BinaryOperator, Comparator};
 use cy_values::Text;
 use std::alloc::{AllocError, Global};
 

@@ -6,15 +6,15 @@ use Rattle.cy_lexer.specs.declared.tokens.Token.{Token}
 use Rattle.cy_lexer.specs.declared.keywords.Keyword.{Keyword}
 use Rattle.cy_lexer.specs.declared.keywords.Keyword.TheVariants as word
 use Rattle.cy_lexer.specs.declared.symbols.Symbol.TheVariants as sign
-use Rattle.cy_parser.specs.declared.expressions.Variable.{Variable}
-use Rattle.cy_parser.specs.declared.clauses.Direction.{Direction}
-use Rattle.cy_parser.specs.declared.clauses.Direction.TheVariants as direction
-use Rattle.cy_parser.specs.declared.clauses.Length.{Length}
+use Rattle.cy_trees.specs.declared.expressions.Variable.{Variable}
+use Rattle.cy_trees.specs.declared.clauses.Direction.{Direction}
+use Rattle.cy_trees.specs.declared.clauses.Direction.TheVariants as direction
+use Rattle.cy_trees.specs.declared.clauses.Length.{Length}
 use Rattle.cy_parser.specs.declared.stages.Opening.{Opening}
 use Rattle.cy_parser.specs.declared.stages.Opening.TheVariants as opening
 use Rattle.cy_parser.specs.declared.stages.Stage.{Stage}
 use Rattle.cy_parser.specs.declared.stages.Stage.TheVariants as stage
-use Rattle.cy_parser.specs.Trees.{Name, Expression, variable, Entry, NodePattern, RelationshipPattern, Step, Path, Item, Key, Projection, SetItem, set_property, set_labels, RemoveItem, remove_property, remove_labels, Clause, «match», unwind, «with», «return», create, set, remove, delete, Statement}
+use Rattle.cy_trees.specs.Trees.{Name, Expression, variable, Entry, NodePattern, RelationshipPattern, Step, Path, Item, Key, Projection, SetItem, set_property, set_labels, RemoveItem, remove_property, remove_labels, Clause, «match», unwind, «with», «return», create, set, remove, delete, Statement}
 use Rattle.cy_parser.specs.Words.{number_limit, written}
 use Rattle.cy_parser.specs.internal.Reader.{Reader, ◌>>=◌, ◌>>◌, ◌<$>◌, pure, refuse, peek, skip, past, kind_ahead, at_kind, sees_symbol, eat_keyword, eat_symbol, expect_keyword, expect_symbol, name, word as any_word}
 use Rattle.cy_parser.specs.internal.Expressions.{labels, expression}

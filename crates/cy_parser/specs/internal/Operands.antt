@@ -1,14 +1,14 @@
 -- What operands and gathered parts stand for, and that they are measured.
 use Rattle.std.specs.Prelude.{◌≡◌, ◌≤◌, List, map, Option, Some, None}
-use Rattle.cy_parser.specs.declared.expressions.Expr.{Expr}
-use Rattle.cy_parser.specs.declared.expressions.Arm.{Arm}
-use Rattle.cy_parser.specs.declared.expressions.Link.{Link}
-use Rattle.cy_parser.specs.declared.expressions.Comparator.{Comparator}
+use Rattle.cy_trees.specs.declared.expressions.Expr.{Expr}
+use Rattle.cy_trees.specs.declared.expressions.Arm.{Arm}
+use Rattle.cy_trees.specs.declared.expressions.Link.{Link}
+use Rattle.cy_trees.specs.declared.expressions.Comparator.{Comparator}
 use Rattle.cy_parser.specs.declared.operands.Operand.{Operand}
 use Rattle.cy_parser.specs.declared.operands.Gathered.{Gathered}
-use Rattle.cy_parser.specs.Depth.{deepest, arms_depth, links_depth}
-use Rattle.cy_parser.specs.Trees.{Expression, Otherwise, nothing, otherwise}
-use Rattle.cy_parser.specs.Views.{expression_of, arm_of, link_of, expressions_of, arms_of, links_of}
+use Rattle.cy_trees.specs.Depth.{deepest, arms_depth, links_depth}
+use Rattle.cy_trees.specs.Trees.{Expression, Otherwise, nothing, otherwise}
+use Rattle.cy_trees.specs.Views.{expression_of, arm_of, link_of, expressions_of, arms_of, links_of}
 
 abbrev pub operand_of : Operand → Expression
 operand_of o = expression_of o.tree

@@ -10,8 +10,8 @@ use Rattle.cy_lexer.specs.declared.tokens.Kind.TheVariants as kind
 use Rattle.cy_lexer.specs.declared.tokens.Token.{Token}
 use Rattle.cy_parser.specs.declared.refusals.Refusal.{Refusal}
 use Rattle.cy_parser.specs.declared.refusals.Refusal.TheVariants.{NoMemory}
-use Rattle.cy_parser.specs.Trees.{Name, Expression}
-use Rattle.cy_parser.specs.Depth.{depth, greatest_depth}
+use Rattle.cy_trees.specs.Trees.{Name, Expression}
+use Rattle.cy_trees.specs.Depth.{depth, greatest_depth}
 use Rattle.cy_parser.specs.Words.{is_name, is_word, denotes}
 
 abbrev pub Outcome : Type 0 → Type 0

@@ -1,6 +1,6 @@
 use Rattle.std.proofs.Common.{subst}
 use Rattle.cy_parser.specs.SpellsClauses.{SpellsStatement}
-use Rattle.cy_parser.specs.Views.{statement_of}
+use Rattle.cy_trees.specs.Views.{statement_of}
 use Rattle.cy_parser.proofs.SoundClauses.{statement-sound}
 use Rattle.cy_parser.proofs.parsing.parse.Goals as goal
 

@@ -1,0 +1,3 @@
+pub mod ViewsLemmas
+pub mod QuotingLemmas
+pub mod ShowLemmas

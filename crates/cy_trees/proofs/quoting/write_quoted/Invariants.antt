@@ -1,0 +1,10 @@
+-- What is written and what the characters left still give make what the whole text gives.
+use Rattle.std.proofs.Common.{◌≡◌, ◌++◌, ◌∷◌, string_bytes}
+use Rattle.std.specs.Prelude.{chars, encode_utf8_all}
+use Rattle.std.specs.Str.{IsUtf8}
+use Rattle.cy_trees.specs.Show.{escaped}
+use Rattle.cy_trees.proofs.quoting.write_quoted.Given as goal
+
+abbrev pub invariant-loop-character : goal.invariant-loop-character
+invariant-loop-character l =
+    (string_bytes l.text ++ encode_utf8_all (escaped (chars l.character-iterator.rest.now)) ≡ string_bytes l.fn.text ++ encode_utf8_all (39 ∷ escaped (chars l.quoted))) × IsUtf8 l.character-iterator.rest.now

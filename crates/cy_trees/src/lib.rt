@@ -1,0 +1,18 @@
+//! The trees of statements, and how a tree is written as text.
+#![tactic(auto)]
+
+mod clause_text;
+mod clauses;
+mod expressions;
+mod pattern_text;
+mod quoting;
+mod showing;
+mod statement_text;
+mod writing;
+
+pub use clauses::{
+    Clause, Delete, Direction, Entry, Item, Key, Length, Match, NodePattern, Path, Projection,
+    RelationshipPattern, RemoveItem, SetItem, Statement, Step, Unwind, With,
+};
+pub use expressions::{Arm, BinaryOperator, Comparator, Expr, Link, UnaryOperator, Variable};
+pub use statement_text::show;

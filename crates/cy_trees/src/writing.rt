@@ -1,0 +1,70 @@
+//! Parts of statements, as they are written one after another.
+
+ghost use Rattle.std.specs.Prelude.{◌≡◌, ◌++◌, OnOk, string_bytes, map};
+ghost use Rattle.cy_trees.specs.Show.{text_of, each_after, separated};
+ghost use Rattle.cy_trees.specs.internal.Separators.{separator_pieces};
+
+use std::alloc::AllocError;
+
+/// What stands between two parts.
+#[derive(Clone, Copy)]
+pub(crate) enum Separator {
+    Nothing,
+    Bar,
+    Comma,
+    Space,
+}
+
+/// A part of a statement, and how it is written.
+pub(crate) trait Show {
+    ghost use Rattle.std.specs.Prelude.{List};
+    ghost use Rattle.cy_trees.specs.Show.{Piece};
+
+    ghost pieces: { Self → List Piece };
+
+    fn write(&self, text: &mut String) -> Result<(), AllocError>
+        ensures { OnOk result (string_bytes text.new ≡ string_bytes text.old ++ text_of (pieces self.now)) };
+}
+
+impl Separator {
+    fn as_str(self) -> &'static str
+        ensures { result.now ≡ text_of (separator_pieces self) }
+    {
+        match self {
+            Separator::Nothing => "",
+            Separator::Bar => "|",
+            Separator::Comma => ", ",
+            Separator::Space => " ",
+        }
+    }
+}
+
+/// Writes each part after a separator.
+pub(crate) fn write_each<T: Show>(
+    text: &mut String,
+    separator: Separator,
+    parts: &[T],
+) -> Result<(), AllocError>
+    ensures { OnOk result (string_bytes text.new ≡ string_bytes text.old ++ text_of (each_after (separator_pieces separator) (map T.pieces parts.now))) }
+{
+    for part in parts {
+        text.push_str(separator.as_str())?;
+        part.write(text)?;
+    }
+    Ok(())
+}
+
+/// Writes parts with a separator between each two.
+pub(crate) fn write_separated<T: Show>(
+    text: &mut String,
+    separator: Separator,
+    parts: &[T],
+) -> Result<(), AllocError>
+    ensures { OnOk result (string_bytes text.new ≡ string_bytes text.old ++ text_of (separated (separator_pieces separator) (map T.pieces parts.now))) }
+{
+    let Some((first, others)) = parts.split_first() else {
+        return Ok(());
+    };
+    first.write(text)?;
+    write_each(text, separator, others)
+}

@@ -44,6 +44,11 @@ chain_from operators operand (suc n) left = do
 abbrev pub chain : (Kind → Option BinaryOperator) → Reader Expression → Reader Expression
 chain operators operand = operand >>= (λ left ts. chain_from operators operand (length ts) left ts)
 
+-- one more level opens, where so many may still open
+unfoldable pub opened : ℕ → Reader (Unit {0})
+opened zero = refuse
+opened (suc n) = pure tt
+
 module _ (line : List ℕ) where
   -- names with a `:` before each, one or more, after the first `:`
   unfoldable pub labels_from : ℕ → List Name → Reader (List Name)
@@ -148,12 +153,6 @@ module _ (line : List ℕ) where
       is_star ← eat_symbol sign.Star
       if is_star then expect_symbol sign.RightParenthesis >> pure (call_star function) else arguments function
 
-    unfoldable pub named : Reader Expression
-    named = do
-      called_by ← name line
-      is_call ← eat_symbol sign.LeftParenthesis
-      if is_call then called (lowered called_by) else pure (variable (record { name = called_by; column = None }))
-
     -- WHEN and THEN, one or more, after the first WHEN
     unfoldable pub arms_read : ℕ → List (Expression × Expression) → Reader (List (Expression × Expression))
     arms_read zero found = refuse
@@ -181,17 +180,6 @@ module _ (line : List ℕ) where
       expect_keyword word.End
       checked (case (arms_from found) last)
 
-    abbrev pub postfix_by : Option Kind → Reader Expression
-    postfix_by (Some kind.Name) = named >>= attributes
-    postfix_by (Some kind.QuotedName) = named >>= attributes
-    postfix_by (Some (kind.Symbol sign.LeftParenthesis)) = skip >> (bracketed >>= attributes)
-    postfix_by (Some (kind.Symbol sign.LeftBracket)) = skip >> listed
-    postfix_by (Some (kind.Keyword word.Case)) = skip >> cases
-    postfix_by _ = literal
-
-    unfoldable pub postfix : Reader Expression
-    postfix = peek >>= postfix_by
-
     -- after a `-`
     abbrev pub minus_by : Option Kind → Reader Expression
     minus_by (Some (kind.Number n)) = if nat_le n number_limit then skip >> pure (integer (negated n)) else refuse
@@ -203,12 +191,31 @@ module _ (line : List ℕ) where
     unfoldable pub plus : Reader Expression
     plus = inner nested.Sign >>= (λ e. checked (unary unary_operator.Plus e))
 
+  -- `inner` reads what stands inside of one more level, and so many may still open
+  module _ (levels : ℕ) (inner : Nested → Reader Expression) where
+    unfoldable pub named : Reader Expression
+    named = do
+      called_by ← name line
+      is_call ← eat_symbol sign.LeftParenthesis
+      if is_call then opened levels >> called inner (lowered called_by) else pure (variable (record { name = called_by; column = None }))
+
+    abbrev pub postfix_by : Option Kind → Reader Expression
+    postfix_by (Some kind.Name) = named >>= attributes
+    postfix_by (Some kind.QuotedName) = named >>= attributes
+    postfix_by (Some (kind.Symbol sign.LeftParenthesis)) = skip >> (bracketed inner >>= attributes)
+    postfix_by (Some (kind.Symbol sign.LeftBracket)) = skip >> (opened levels >> listed inner)
+    postfix_by (Some (kind.Keyword word.Case)) = skip >> (opened levels >> cases inner)
+    postfix_by _ = literal
+
+    unfoldable pub postfix : Reader Expression
+    postfix = peek >>= postfix_by
+
     unfoldable pub signed : Reader Expression
     signed = do
       is_minus ← eat_symbol sign.Minus
-      if is_minus then minus else (do
+      if is_minus then minus inner else (do
         is_plus ← eat_symbol sign.Plus
-        if is_plus then plus else postfix)
+        if is_plus then plus inner else postfix)
 
     unfoldable pub product : Reader Expression
     product = chain product_operator signed
@@ -284,7 +291,7 @@ module _ (line : List ℕ) where
   -- an expression with so many levels, its own counted, open at most
   unfoldable pub nesting : ℕ → Nested → Reader Expression
   nesting zero place = refuse
-  nesting (suc n) place = level (nesting n) place
+  nesting (suc n) place = level n (nesting n) place
 
   -- 256 levels may be open in an expression (own)
   abbrev pub most_levels : ℕ

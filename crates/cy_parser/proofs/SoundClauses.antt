@@ -1,5 +1,5 @@
 -- What is read spells what is answered: projections, updates, clauses and statements.
-use Rattle.std.proofs.Common.{◌≡◌, ℕ, zero, suc, ◌≤◌, ◌<◌, ◌-◌, ◌⊎◌, inl, inr, Bool, true, false, IsTrue, List, [], ◌∷◌, ◌++◌, length, take, Option, Some, None, refl, sym, ap, ◌∙◌, subst, append_assoc, append-nil, arith, nat_lt, if◌then◌else◌}
+use Rattle.std.proofs.Common.{◌≡◌, ℕ, zero, suc, ◌<◌, ◌-◌, inl, inr, Bool, true, false, IsTrue, List, [], ◌∷◌, ◌++◌, length, take, Option, Some, None, refl, sym, ap, ◌∙◌, subst, append_assoc, append-nil, arith, nat_lt, if◌then◌else◌}
 use Rattle.std.proofs.lemmas.Bool.Decides.{nat_tests}
 use Rattle.cy_lexer.specs.declared.tokens.Token.{Token}
 use Rattle.cy_lexer.specs.declared.tokens.Kind.{Kind}
@@ -12,12 +12,11 @@ use Rattle.cy_parser.specs.declared.stages.Opening.{Opening}
 use Rattle.cy_parser.specs.declared.stages.Opening.TheVariants as opening
 use Rattle.cy_parser.specs.declared.stages.Stage.{Stage}
 use Rattle.cy_parser.specs.declared.stages.Stage.TheVariants as stage
-use Rattle.cy_trees.specs.Trees.{Name, Expression, null, boolean, integer, text, variable as variable_tree, property, has_labels, unary, binary, comparison, list, case, call, call_star, Path, Item, Key, Projection, SetItem, set_property, set_labels, RemoveItem, remove_property, remove_labels, Clause, «match», unwind, «with», «return», create, set, remove, delete, Statement}
-use Rattle.cy_parser.specs.Words.{is_word, is_name, denotes, number_limit}
-use Rattle.cy_parser.specs.internal.Reader.{Reader, and_then, at_kind, kind_ahead, past, skip, refuse, eat_keyword, ◌>>◌, ◌>>=◌, ◌<$>◌, pure}
-use Rattle.cy_parser.specs.internal.Expressions.{expression}
+use Rattle.cy_trees.specs.Trees.{Expression, null, boolean, integer, text, variable as variable_tree, property, has_labels, unary, binary, comparison, list, case, call, call_star, Path, Projection, SetItem, set_property, RemoveItem, remove_property, Clause, «match», unwind, «with», «return», create, set, remove, delete}
+use Rattle.cy_parser.specs.Words.{is_word, is_name, number_limit}
+use Rattle.cy_parser.specs.internal.Reader.{at_kind, kind_ahead, past, skip, refuse, ◌>>◌, pure}
 use Rattle.cy_parser.specs.internal.Clauses as read
-use Rattle.cy_parser.specs.Spells.{IsSymbol, IsKeyword}
+use Rattle.cy_parser.specs.Spells.{IsSymbol}
 use Rattle.cy_parser.specs.SpellsClauses as spells
 use Rattle.cy_parser.specs.SpellsClauses.{SpellsEach, SpellsExpression, SpellsVariable, SpellsFilterIfAny, no_filter, filter, SpellsItem, item_as, item, SpellsKey, plain_key, asc, desc, SpellsOrderIfAny, no_order, order_by, SpellsCountIfAny, no_count, a_count, SpellsDistinct, not_distinct, distinct, SpellsProjection, projection, SpellsSetItem, set_property_to, set_labels_to, SpellsRemoveItem, remove_property_of, remove_labels_of, SpellsPath, SpellsClause}
 use Rattle.cy_parser.proofs.Gives.{AteKeyword, AteSymbol, Gives, bind, answer, refused, symbol_there, keyword_there, ate_symbol, ate_keyword, by_test, denoting_there, bind_peek, bind_skip, ahead, ahead_by, by_option}

@@ -1,7 +1,7 @@
 -- Which tokens spell an expression: the rules of the grammar, level by level (openCypher 9, grammar, narrowed to this
 -- profile). What stands from the tokens `ts` up to the tokens `rest`, which are the last of them, spells the expression
 -- at the level, where so many levels may be open in it, its own counted. Each rule is one production. `line` has the tokens' texts.
-use Rattle.std.specs.Prelude.{◌≡◌, ℕ, suc, pos, ◌<◌, ◌≤◌, true, false, IsTrue, List, [], ◌∷◌, Option, Some, None, Bool}
+use Rattle.std.specs.Prelude.{◌≡◌, ℕ, suc, pos, ◌<◌, ◌≤◌, true, false, IsTrue, List, [], ◌∷◌, Some, None, Bool}
 use Rattle.cy_lexer.specs.declared.tokens.Kind.{Kind}
 use Rattle.cy_lexer.specs.declared.tokens.Kind.TheVariants as kind
 use Rattle.cy_lexer.specs.declared.tokens.Token.{Token}

@@ -1,8 +1,6 @@
 -- Which tokens spell patterns, clauses and a statement: the rules of the grammar (openCypher 9, grammar, narrowed to this
 -- profile). As for expressions, what stands from the tokens `ts` up to the tokens `rest` spells the tree.
-use Rattle.std.specs.Prelude.{◌≡◌, ℕ, ◌<◌, ◌≤◌, ◌-◌, ◌⊎◌, length, take, Bool, true, false, IsTrue, List, [], ◌∷◌, Option, Some, None}
-use Rattle.cy_lexer.specs.declared.tokens.Kind.{Kind}
-use Rattle.cy_lexer.specs.declared.tokens.Kind.TheVariants as kind
+use Rattle.std.specs.Prelude.{ℕ, ◌<◌, ◌≤◌, ◌-◌, ◌⊎◌, length, take, Bool, true, false, IsTrue, List, [], ◌∷◌, Option, Some, None}
 use Rattle.cy_lexer.specs.declared.tokens.Token.{Token}
 use Rattle.cy_lexer.specs.declared.keywords.Keyword.{Keyword}
 use Rattle.cy_lexer.specs.declared.keywords.Keyword.TheVariants as word

@@ -1,5 +1,5 @@
 -- How patterns, clauses and statements are read.
-use Rattle.std.specs.Prelude.{ℕ, zero, suc, Bool, true, false, not, ◌&&◌, ◌||◌, if◌then◌else◌, nat_lt, nat_le, List, [], ◌∷◌, ◌++◌, length, take, ◌-◌, Option, Some, None}
+use Rattle.std.specs.Prelude.{ℕ, zero, suc, Bool, true, false, ◌&&◌, if◌then◌else◌, nat_lt, nat_le, List, [], ◌∷◌, ◌++◌, length, take, ◌-◌, Option, Some, None}
 use Rattle.cy_lexer.specs.declared.tokens.Kind.{Kind}
 use Rattle.cy_lexer.specs.declared.tokens.Kind.TheVariants as kind
 use Rattle.cy_lexer.specs.declared.tokens.Token.{Token}
@@ -16,7 +16,7 @@ use Rattle.cy_parser.specs.declared.stages.Stage.{Stage}
 use Rattle.cy_parser.specs.declared.stages.Stage.TheVariants as stage
 use Rattle.cy_trees.specs.Trees.{Name, Expression, variable, Entry, NodePattern, RelationshipPattern, Step, Path, Item, Key, Projection, SetItem, set_property, set_labels, RemoveItem, remove_property, remove_labels, Clause, «match», unwind, «with», «return», create, set, remove, delete, Statement}
 use Rattle.cy_parser.specs.Words.{number_limit, written}
-use Rattle.cy_parser.specs.internal.Reader.{Reader, ◌>>=◌, ◌>>◌, ◌<$>◌, pure, refuse, peek, skip, past, kind_ahead, at_kind, sees_symbol, eat_keyword, eat_symbol, expect_keyword, expect_symbol, name, word as any_word}
+use Rattle.cy_parser.specs.internal.Reader.{Reader, ◌>>=◌, ◌>>◌, ◌<$>◌, pure, refuse, peek, skip, at_kind, eat_keyword, eat_symbol, expect_keyword, expect_symbol, name, word as any_word}
 use Rattle.cy_parser.specs.internal.Expressions.{labels, expression}
 
 -- items with commas between, one or more

@@ -17,7 +17,8 @@ use Rattle.cy_trees.specs.Depth.{depth, greatest_depth}
 use Rattle.cy_trees.specs.Views.{expressions_from, arms_from, links_from}
 use Rattle.cy_parser.specs.Words.{is_word, is_name, denotes, lowered, number_limit, negated, product_operator, sum_operator, comparator_of, conjunction_operator, exclusion_operator, disjunction_operator}
 use Rattle.cy_parser.specs.internal.Reader.{Reader, and_then, checked, skip, at_kind, ◌>>◌, pure, refuse, ◌>>=◌, ◌<$>◌, kind_ahead, past}
-use Rattle.cy_parser.specs.internal.Expressions.{bracketed, listed, elements, elements_from, labels, labels_from, arguments, called, named, arms, arms_read, else_read, cases, properties, properties_from, labelled as labelled_read, attributes, literal, literal_by, counted, quoted, postfix as postfix_read, postfix_by, minus as minus_read, minus_by, plus as plus_read, chain, chain_from, signed as signed_read, product as product_read, sum as sum_read, null_test, tested, predicate_by, begins_predicate, predicate_step, predicates_from, predicate as predicate_read, links_read, links, compared, comparisons as comparisons_read, negation as negation_read, conjunction as conjunction_read, exclusion as exclusion_read, disjunction, level, nesting, expression, most_levels, opened}
+use Rattle.cy_parser.specs.internal.Expressions.{bracketed, listed, elements, elements_from, labels, labels_from, arguments, called, named, arms, arms_read, else_read, cases, properties, properties_from, labelled as labelled_read, attributes, literal, literal_by, counted, quoted, postfix as postfix_read, postfix_by, minus as minus_read, minus_by, plus as plus_read, chain, chain_from, signed as signed_read, product as product_read, sum as sum_read, null_test, tested, predicate_by, begins_predicate, predicate_step, predicates_from, predicate as predicate_read, links_read, links, compared, comparisons as comparisons_read, negation as negation_read, conjunction as conjunction_read, exclusion as exclusion_read, disjunction, level, nesting, expression, opened}
+use Rattle.cy_parser.specs.SpellsClauses.{most_levels}
 use Rattle.cy_parser.specs.Spells.{Spells, SpellsAll, SpellsLabels, Level, whole, head, postfix, bracket, IsSymbol, IsKeyword, last_label, next_label, last_element, next_element, empty_list, list_of, call_of, call_of_distinct, call_of_nothing, call_of_star, name, owner, is_head, with_key, is_owner, labelled, SpellsArms, last_arm, next_arm, SpellsOtherwise, no_else, else_, case_of, true_, false_, null_, number, text_, signed, minus, plus, negative, begins_with_number, is_number, is_postfix, product, is_signed, multiply, sum, is_product, add, predicate, is_sum, is_null, is_not_null, among, contains, starts_with, ends_with, SpellsLinks, last_link, next_link, comparisons, is_predicate, compare, negation, is_comparison, not, conjunction, is_negation, and, exclusion, is_conjunction, xor, is_exclusion, or}
 use Rattle.cy_parser.proofs.Gives.{AteKeyword, Gives, bind, answer, refused, symbol_there, keyword_there, ate_symbol, ate_keyword, by_test, checked_there, denoting_there, bind_peek, bind_skip, ahead, ahead_by, by_option}
 
@@ -655,5 +656,5 @@ unfolding nesting
 nesting-sound line zero = record { whole_is = λ ts. refused _; negation_is = λ ts. refused _; sign_is = λ ts. refused _ }
 nesting-sound line (suc n) = level-sound line n (nesting line n) (nesting-sound line n)
 
-pub expression-sound : (line : List ℕ) (ts : List Token) → Gives (expression line ts) (Spelt line (most_levels line) whole ts)
-expression-sound line ts = (nesting-sound line (most_levels line)).whole_is ts
+pub expression-sound : (line : List ℕ) (ts : List Token) → Gives (expression line ts) (Spelt line most_levels whole ts)
+expression-sound line ts = (nesting-sound line most_levels).whole_is ts

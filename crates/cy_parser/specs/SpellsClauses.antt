@@ -15,10 +15,6 @@ use Rattle.cy_trees.specs.Depth.{depth, greatest_depth}
 use Rattle.cy_parser.specs.Words.{is_name, is_word, denotes, number_limit, written}
 use Rattle.cy_parser.specs.Spells.{Spells, whole, SpellsLabels, IsKeyword, IsSymbol, IsNumber}
 
--- how trees of a kind are spelt
-abbrev pub Spelling : Type 0 → Type 1
-Spelling A = A → List Token → List Token → Type 0
-
 -- trees with a `,` between, one or more
 pub data SpellsEach {A : Type 0} (each : A → List Token → List Token → Type 0) : List A → List Token → List Token → Type 0 where
   last : (a : A) (ts rest : List Token) → each a ts rest → SpellsEach each (a ∷ []) ts rest
@@ -103,6 +99,7 @@ pub data SpellsLengthIfAny : Option Length → List Token → List Token → Typ
   a_length : (l : Length) (star : Token) (ts rest : List Token) → IsSymbol sign.Star star → SpellsLength l ts rest
       → SpellsLengthIfAny (Some l) (star ∷ ts) rest
 
+-- a relationship's direction, from whether an arrow stands on its left and on its right (openCypher 9: with both or none it is either)
 abbrev pub direction_of : Bool → Bool → Direction
 direction_of true true = direction.Either
 direction_of true false = direction.Left

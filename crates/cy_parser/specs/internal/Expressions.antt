@@ -13,6 +13,7 @@ use Rattle.cy_parser.specs.declared.places.Nested.TheVariants as nested
 use Rattle.cy_trees.specs.Trees.{Name, Expression, null, boolean, integer, text, variable, property, has_labels, unary, binary, comparison, list, case, call, call_star, no_more, Otherwise, nothing, otherwise}
 use Rattle.cy_trees.specs.Views.{expressions_from, links_from, arms_from}
 use Rattle.cy_parser.specs.Words.{lowered, denotes, negated, number_limit, disjunction_operator, exclusion_operator, conjunction_operator, comparator_of, sum_operator, product_operator}
+use Rattle.cy_parser.specs.SpellsClauses.{most_levels}
 use Rattle.cy_parser.specs.internal.Reader.{Reader, ◌>>=◌, ◌>>◌, ◌<$>◌, pure, refuse, peek, skip, at_kind, eat_keyword, eat_symbol, expect_keyword, expect_symbol, name, word as any_word, checked}
 
 -- after IS
@@ -291,10 +292,6 @@ module _ (line : List ℕ) where
   unfoldable pub nesting : ℕ → Nested → Reader Expression
   nesting zero place = refuse
   nesting (suc n) place = level n (nesting n) place
-
-  -- 256 levels may be open in an expression (own)
-  abbrev pub most_levels : ℕ
-  most_levels = 257
 
   abbrev pub expression : Reader Expression
   expression = nesting most_levels nested.Whole

@@ -1,6 +1,6 @@
 //! The text of clauses.
 
-ghost use Rattle.std.specs.Prelude.{◌≡◌, ◌++◌, OnOk, string_bytes, map};
+ghost use Rattle.std.specs.Prelude.{◌≡◌, ◌++◌, ◌∷◌, [], OnOk, string_bytes, map};
 ghost use Rattle.cy_lexer.specs.declared.keywords.Keyword.TheVariants as keyword;
 ghost use Rattle.cy_trees.specs.Show as shown;
 ghost use Rattle.cy_trees.specs.Show.{text_of};
@@ -14,13 +14,20 @@ use crate::showing::{write_expression, write_labels};
 use crate::writing::{Separator, Show, write_separated};
 use std::alloc::AllocError;
 
+/// Writes AS and the name after it.
+fn write_alias(text: &mut String, name: &str) -> Result<(), AllocError>
+    ensures { OnOk result (string_bytes text.new ≡ string_bytes text.old ++ text_of (shown.space ∷ shown.says keyword.As ∷ shown.space ∷ shown.named name.now ∷ [])) }
+{
+    text.push_str(" AS ")?;
+    write_name(text, name)
+}
+
 impl Show for Item {
     ghost pieces = { λ i. shown.item_pieces (tree.item_of i) };
 
     fn write(&self, text: &mut String) -> Result<(), AllocError> {
         write_expression(text, &self.expression)?;
-        text.push_str(" AS ")?;
-        write_name(text, self.column.as_str())
+        write_alias(text, self.column.as_str())
     }
 }
 
@@ -168,8 +175,7 @@ impl Show for Clause {
             Clause::Unwind(it) => {
                 text.push_str("UNWIND ")?;
                 write_expression(text, &it.list)?;
-                text.push_str(" AS ")?;
-                it.variable.write(text)
+                write_alias(text, it.variable.name.as_str())
             }
             Clause::With(it) => {
                 text.push_str("WITH ")?;

@@ -3,6 +3,7 @@
 
 mod clause_text;
 mod clauses;
+mod copying;
 mod expressions;
 mod pattern_text;
 mod quoting;

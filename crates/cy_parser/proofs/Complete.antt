@@ -154,7 +154,7 @@ module _ (line : List ℕ) where
       after_peek _ (is_ ∷ nil ∷ rest)
       ∙ ap (λ k. read.predicate_by line (levels_at n) (inner_at n) e (Some k) (is_ ∷ nil ∷ rest)) i
       ∙ after _ refl (after _ (leaves_keyword word.Not (nil ∷ rest) (ap (λ k. is_keyword word.Not (Some k)) l))
-        (after _ (expects_keyword word.Null nil rest l) (passes (unary unary_operator.IsNull e) rest (omega (arith, shallow)))))
+      (after _ (expects_keyword word.Null nil rest l) (passes (unary unary_operator.IsNull e) rest (omega (arith, shallow)))))
 
   not_null_step : (n : ℕ) (e : Expression) (is_ not__ null_ : Token) (rest : List Token) → IsKeyword word.Is is_ → IsKeyword word.Not not__ → IsKeyword word.Null null_ →
       depth e < greatest_depth → read.predicate_step line (levels_at n) (inner_at n) e (is_ ∷ not__ ∷ null_ ∷ rest) ≡ Some (unary unary_operator.IsNotNull e, rest)
@@ -163,7 +163,7 @@ module _ (line : List ℕ) where
       after_peek _ (is_ ∷ refusing ∷ nil ∷ rest)
       ∙ ap (λ k. read.predicate_by line (levels_at n) (inner_at n) e (Some k) (is_ ∷ refusing ∷ nil ∷ rest)) i
       ∙ after _ refl (after _ (eats_keyword word.Not refusing (nil ∷ rest) o)
-        (after _ (expects_keyword word.Null nil rest l) (passes (unary unary_operator.IsNotNull e) rest (omega (arith, shallow)))))
+      (after _ (expects_keyword word.Null nil rest l) (passes (unary unary_operator.IsNotNull e) rest (omega (arith, shallow)))))
 
   tested_step : (n : ℕ) (o : BinaryOperator) (a b : Expression) (mid rest : List Token) → Claim n sum b mid rest →
       depth (binary o a b) ≤ greatest_depth → ends_sum (kind_ahead rest) ≡ true → read.tested line (levels_at n) (inner_at n) o a mid ≡ Some (binary o a b, rest)
@@ -182,12 +182,12 @@ module _ (line : List ℕ) where
       predicate_more n a (binary o a b) t ts mid rest c (ap (λ k. begins_predicate (Some k)) is ∙ goes) (ap (λ k. ends_sum (Some k)) is ∙ stop_)
       (λ h. omega (arith, h)) (omega (arith, shorter))
       (λ shallow stop. after_peek _ (t ∷ mid) ∙ ap (λ k. read.predicate_by line (levels_at n) (inner_at n) a (Some k) (t ∷ mid)) is
-        ∙ by_word (tested_step n o a b mid rest d shallow stop))
+      ∙ by_word (tested_step n o a b mid rest d shallow stop))
 
   predicate_with : (n : ℕ) (o : BinaryOperator) (w : Keyword) (a b : Expression) (t with_ : Token) (ts mid rest : List Token) → Claim n predicate a ts (t ∷ with_ ∷ mid) →
       IsKeyword w t → IsKeyword word.With with_ → begins_predicate (Some (kind.Keyword w)) ≡ true → ends_sum (Some (kind.Keyword w)) ≡ true → Claim n sum b mid rest →
       ((expect_keyword word.With >> read.tested line (levels_at n) (inner_at n) o a) (with_ ∷ mid) ≡ Some (binary o a b, rest) →
-        read.predicate_by line (levels_at n) (inner_at n) a (Some (kind.Keyword w)) (t ∷ with_ ∷ mid) ≡ Some (binary o a b, rest)) →
+      read.predicate_by line (levels_at n) (inner_at n) a (Some (kind.Keyword w)) (t ∷ with_ ∷ mid) ≡ Some (binary o a b, rest)) →
       Claim n predicate (binary o a b) ts rest
   unfolding read.predicate_step
   predicate_with n o w a b t with_ ts mid rest c is by goes stop_ d by_word =
@@ -195,7 +195,7 @@ module _ (line : List ℕ) where
       predicate_more n a (binary o a b) t ts (with_ ∷ mid) rest c (ap (λ k. begins_predicate (Some k)) is ∙ goes) (ap (λ k. ends_sum (Some k)) is ∙ stop_)
       (λ h. omega (arith, h)) (omega (arith, shorter))
       (λ shallow stop. after_peek _ (t ∷ with_ ∷ mid) ∙ ap (λ k. read.predicate_by line (levels_at n) (inner_at n) a (Some k) (t ∷ with_ ∷ mid)) is
-        ∙ by_word (after _ (expects_keyword word.With with_ mid by) (tested_step n o a b mid rest d shallow stop)))
+      ∙ by_word (after _ (expects_keyword word.With with_ mid by) (tested_step n o a b mid rest d shallow stop)))
 
   -- ---- chains of comparisons
 
@@ -251,15 +251,18 @@ module _ (line : List ℕ) where
     where
       on : (k : ℕ) (found : List (Comparator × Expression)) → suc (length ts) ≤ k → suc (length mid) ≤ length ts → read.predicate line (levels_at n) (inner_at n) ts ≡ Some (e, mid) →
           ((j : ℕ) → length mid ≤ j → (all : List (Comparator × Expression)) →
-            (first : Comparator × Expression) × (these : List (Comparator × Expression)) × (links_from (first ∷ these) ≡ ls)
-            × (read.links_read line (levels_at n) (inner_at n) j all mid ≡ Some (all ++ first ∷ these, rest))) →
+          (first : Comparator × Expression) × (these : List (Comparator × Expression)) × (links_from (first ∷ these) ≡ ls)
+          × (read.links_read line (levels_at n) (inner_at n) j all mid ≡ Some (all ++ first ∷ these, rest))) →
           (first : Comparator × Expression) × (these : List (Comparator × Expression)) × (links_from (first ∷ these) ≡ link by e ls)
           × (read.links_read line (levels_at n) (inner_at n) k found (t ∷ ts) ≡ Some (found ++ first ∷ these, rest))
       on zero found few shorter reads others = absurd (omega (arith, few))
       on (suc k) found few shorter reads others =
-          let o = others k (omega (arith, few, shorter)) (found ++ (by, e) ∷ []) in
-          ((by, e), o.0 ∷ o.1, ap (λ z. link by e z) o.2,
-            links_step n k found by e t ts mid is reads ∙ o.3 ∙ ap (λ z. Some (z, rest)) (append_assoc found ((by, e) ∷ []) (o.0 ∷ o.1)))
+          let o = others k (omega (arith, few, shorter)) (found ++ (by, e) ∷ []) in (
+            (by, e),
+            o.0 ∷ o.1,
+            ap (λ z. link by e z) o.2,
+            links_step n k found by e t ts mid is reads ∙ o.3 ∙ ap (λ z. Some (z, rest)) (append_assoc found ((by, e) ∷ []) (o.0 ∷ o.1)),
+          )
 
   comparisons_single : (n : ℕ) (e : Expression) (ts rest : List Token) → Claim n predicate e ts rest → Claim n comparisons e ts rest
   unfolding read.comparisons read.links
@@ -285,7 +288,7 @@ module _ (line : List ℕ) where
         reads = λ shallow stop.
             let o = l.reads (omega (arith, shallow)) stop (length mid) (omega arith) [] in
             after _ (p.reads (omega (arith, shallow)) l.between) (after _ o.3
-              (ap (λ z. checked (comparison e z) rest) o.2 ∙ passes (comparison e ls) rest shallow));
+            (ap (λ z. checked (comparison e z) rest) o.2 ∙ passes (comparison e ls) rest shallow));
       }
 
   -- ---- NOT and signs
@@ -332,8 +335,8 @@ module _ (line : List ℕ) where
     reads = λ shallow stop.
         let fits : nat_le m number_limit ≡ true = grind (arith, nat_tests) in
         after _ (eats_symbol sign.Minus minus_ (number_ ∷ rest) is) (after_peek _ (number_ ∷ rest)
-          ∙ ap (λ k. read.minus_by line (inner_at (suc n)) (Some k) (number_ ∷ rest)) counts
-          ∙ then_branch _ _ _ (number_ ∷ rest) fits ∙ after _ refl refl);
+        ∙ ap (λ k. read.minus_by line (inner_at (suc n)) (Some k) (number_ ∷ rest)) counts
+        ∙ then_branch _ _ _ (number_ ∷ rest) fits ∙ after _ refl refl);
   }
 
   minus_other : (n : ℕ) (ts : List Token) → begins_with_number ts ≡ false →
@@ -384,7 +387,7 @@ module _ (line : List ℕ) where
   unfolding read.properties_from
   properties_step k e dot key rest is names shallow =
       after _ (eats_symbol sign.Dot dot (key ∷ rest) is) (after _ (takes is_word line key rest names)
-        (after _ (passes (property e (denotes line key)) rest (omega (arith, shallow))) refl))
+      (after _ (passes (property e (denotes line key)) rest (omega (arith, shallow))) refl))
 
   owner_key : (n : ℕ) (e : Expression) (dot key : Token) (ts rest : List Token) → Claim n owner e ts (dot ∷ key ∷ rest) → IsSymbol sign.Dot dot →
       IsTrue (is_word key.kind) → Claim n owner (property e (denotes line key)) ts rest
@@ -414,7 +417,7 @@ module _ (line : List ℕ) where
         let before = c.reads shallow (both_left _ _ stop) in
         let others = both_right _ _ stop in
         before.2 ∙ after _ (properties_end before.0 e rest (not_true _ (both_left _ _ others)))
-          (after _ (leaves_symbol sign.Colon rest (not_true _ (both_right _ _ others))) refl);
+        (after _ (leaves_symbol sign.Colon rest (not_true _ (both_right _ _ others))) refl);
   }
 
   postfix_labelled : (n : ℕ) (e : Expression) (ls : List Name) (colon : Token) (ts mid rest : List Token) → Claim n owner e ts (colon ∷ mid) →
@@ -428,8 +431,8 @@ module _ (line : List ℕ) where
     reads = λ shallow stop.
         let before = c.reads (omega (arith, shallow)) (ap (λ k. ends_head (Some k)) is) in
         before.2 ∙ after _ (properties_end before.0 e (colon ∷ mid) (ap (λ k. is_symbol sign.Dot (Some k)) is))
-          (after _ (eats_symbol sign.Colon colon mid is)
-          (after _ (names (not_true _ (both_right _ _ (both_right _ _ stop)))) (passes (has_labels e ls) rest shallow)));
+        (after _ (eats_symbol sign.Colon colon mid is)
+        (after _ (names (not_true _ (both_right _ _ (both_right _ _ stop)))) (passes (has_labels e ls) rest shallow)));
   }
 
   -- a level opens, where an expression can be read inside
@@ -475,8 +478,11 @@ module _ (line : List ℕ) where
     positive = (n, refl);
     begins = name_begins t.kind is;
     shortens = omega (arith, shorter);
-    reads = λ shallow stop. (length rest, omega arith,
-        after_peek _ (t ∷ ts) ∙ ap (λ p. p (t ∷ ts)) (named_by (suc n) t.kind is) ∙ after _ (reads shallow stop) refl);
+    reads = λ shallow stop. (
+      length rest,
+      omega arith,
+      after_peek _ (t ∷ ts) ∙ ap (λ p. p (t ∷ ts)) (named_by (suc n) t.kind is) ∙ after _ (reads shallow stop) refl,
+    );
   }
 
   head_variable : (n : ℕ) (t : Token) (rest : List Token) → IsTrue (is_name t.kind) →
@@ -494,10 +500,13 @@ module _ (line : List ℕ) where
         positive = (n, refl);
         begins = ap (λ k. begins_postfix (Some k)) is;
         shortens = (let x = inside.shortens in omega (arith, x));
-        reads = λ shallow stop. (length rest, omega arith,
-            after_peek _ (opening ∷ ts) ∙ ap (λ k. read.postfix_by line (levels_at (suc n)) (inner_at (suc n)) (Some k) (opening ∷ ts)) is
-            ∙ after _ refl (after _ (after _ (inside.reads shallow (ap (λ k. ends_whole (Some k)) closes))
-                (after _ (expects_symbol sign.RightParenthesis closing rest closes) refl)) refl));
+        reads = λ shallow stop. (
+          length rest,
+          omega arith,
+          after_peek _ (opening ∷ ts) ∙ ap (λ k. read.postfix_by line (levels_at (suc n)) (inner_at (suc n)) (Some k) (opening ∷ ts)) is
+              ∙ after _ refl (after _ (after _ (inside.reads shallow (ap (λ k. ends_whole (Some k)) closes))
+              (after _ (expects_symbol sign.RightParenthesis closing rest closes) refl)) refl),
+        );
       }
 
   -- ---- expressions with commas between
@@ -537,18 +546,21 @@ module _ (line : List ℕ) where
         shortens = (let x = inside.shortens in let y = l.shortens in omega (arith, x, y));
         reads = λ shallow stop other k enough found.
             on k found (let x = inside.shortens in omega (arith, x, enough)) (inside.reads (omega (arith, shallow)) (ap (λ z. ends_whole (Some z)) is))
-              (λ j few all. l.reads (omega (arith, shallow)) stop other j few all);
+            (λ j few all. l.reads (omega (arith, shallow)) stop other j few all);
       }
     where
       on : (k : ℕ) (found : List Expression) → suc (suc (length mid)) ≤ k → nesting line n nested.Whole ts ≡ Some (e, comma ∷ mid) →
           ((j : ℕ) → length mid ≤ j → (all : List Expression) →
-            (these : List Expression) × (expressions_from these ≡ es) × (read.elements_from line (nesting line n) j all mid ≡ Some (all ++ these, rest))) →
+          (these : List Expression) × (expressions_from these ≡ es) × (read.elements_from line (nesting line n) j all mid ≡ Some (all ++ these, rest))) →
           (these : List Expression) × (expressions_from these ≡ more e es) × (read.elements_from line (nesting line n) k found ts ≡ Some (found ++ these, rest))
       on zero found few reads others = absurd (omega (arith, few))
       on (suc k) found few reads others =
-          let o = others k (omega (arith, few)) (found ++ e ∷ []) in
-          (e ∷ o.0, ap (λ z. more e z) o.1, after _ reads (after _ (eats_symbol sign.Comma comma mid is)
-            (o.2 ∙ ap (λ z. Some (z, rest)) (append_assoc found (e ∷ []) o.0))))
+          let o = others k (omega (arith, few)) (found ++ e ∷ []) in (
+            e ∷ o.0,
+            ap (λ z. more e z) o.1,
+            after _ reads (after _ (eats_symbol sign.Comma comma mid is)
+                (o.2 ∙ ap (λ z. Some (z, rest)) (append_assoc found (e ∷ []) o.0))),
+          )
 
   -- ---- lists and calls
 
@@ -576,7 +588,7 @@ module _ (line : List ℕ) where
         after_peek _ (opening ∷ ts)
         ∙ ap (λ k. read.postfix_by line (levels_at (suc n)) (inner_at (suc n)) (Some k) (opening ∷ ts)) is
         ∙ after _ refl (after _ (opens n ts l.positive) (after _ (leaves_symbol sign.RightBracket ts (no_bracket_end _ l.begins)) (after _ o.2
-          (after _ (expects_symbol sign.RightBracket closing rest closes) (ap (λ z. checked (list z) rest) o.1 ∙ passes (list es) rest shallow)))));
+        (after _ (expects_symbol sign.RightBracket closing rest closes) (ap (λ z. checked (list z) rest) o.1 ∙ passes (list es) rest shallow)))));
   }
 
   call_starred : (n : ℕ) (t opening star closing : Token) (rest : List Token) → IsTrue (is_name t.kind) → IsSymbol sign.LeftParenthesis opening →
@@ -603,7 +615,7 @@ module _ (line : List ℕ) where
   arguments_rest n function distinct es closing ts rest l closes shallow =
       let o = l.reads (omega (arith, shallow)) (ap (λ k. ends_whole (Some k)) closes) (ap (λ k. is_symbol sign.Comma (Some k)) closes) (length ts) (omega arith) [] in
       after _ o.2 (after _ (expects_symbol sign.RightParenthesis closing rest closes)
-        (ap (λ z. checked (call function distinct z) rest) o.1 ∙ passes (call function distinct es) rest shallow))
+      (ap (λ z. checked (call function distinct z) rest) o.1 ∙ passes (call function distinct es) rest shallow))
 
   call_some : (n : ℕ) (es : Expressions) (t opening closing : Token) (ts rest : List Token) → IsTrue (is_name t.kind) → IsSymbol sign.LeftParenthesis opening →
       ElementsRead n es ts (closing ∷ rest) → IsSymbol sign.RightParenthesis closing → Claim (suc n) head (call (lowered (denotes line t)) false es) (t ∷ opening ∷ ts) rest
@@ -647,15 +659,19 @@ module _ (line : List ℕ) where
         shortens = (let x = first.shortens in let y = second.shortens in omega (arith, x, y));
         reads = λ shallow stop when k enough found.
             on k found (let x = first.shortens in omega (arith, x, enough)) (first.reads (omega (arith, shallow)) (ap (λ z. ends_whole (Some z)) is))
-              (second.reads (omega (arith, shallow)) stop) when;
+            (second.reads (omega (arith, shallow)) stop) when;
       }
     where
       on : (k : ℕ) (found : List (Expression × Expression)) → 1 ≤ k → nesting line n nested.Whole ts ≡ Some (a, then_ ∷ mid) →
           nesting line n nested.Whole mid ≡ Some (b, rest) → is_keyword word.When (kind_ahead rest) ≡ false →
           (these : List (Expression × Expression)) × (arms_from these ≡ arm a b no_arms) × (read.arms_read line (nesting line n) k found ts ≡ Some (found ++ these, rest))
       on zero found few first second when = absurd (omega (arith, few))
-      on (suc k) found few first second when = ((a, b) ∷ [], refl, after _ first (after _ (expects_keyword word.Then then_ mid is)
-          (after _ second (after _ (leaves_keyword word.When rest when) refl))))
+      on (suc k) found few first second when = (
+        (a, b) ∷ [],
+        refl,
+        after _ first (after _ (expects_keyword word.Then then_ mid is)
+            (after _ second (after _ (leaves_keyword word.When rest when) refl))),
+      )
 
   arms_next : (n : ℕ) (a b : Expression) (arms : Arms) (then_ when : Token) (ts mid further rest : List Token) → Claim n whole a ts (then_ ∷ mid) →
       IsKeyword word.Then then_ → Claim n whole b mid (when ∷ further) → IsKeyword word.When when → ArmsRead n arms further rest → ArmsRead n (arm a b arms) ts rest
@@ -668,19 +684,22 @@ module _ (line : List ℕ) where
         shortens = (let x = first.shortens in let y = second.shortens in let z = l.shortens in omega (arith, x, y, z));
         reads = λ shallow stop other k enough found.
             on k found (let x = first.shortens in let y = second.shortens in omega (arith, x, y, enough)) (first.reads (omega (arith, shallow)) (ap (λ z. ends_whole (Some z)) is))
-              (second.reads (omega (arith, shallow)) (ap (λ z. ends_whole (Some z)) goes_on)) (λ j few all. l.reads (omega (arith, shallow)) stop other j few all);
+            (second.reads (omega (arith, shallow)) (ap (λ z. ends_whole (Some z)) goes_on)) (λ j few all. l.reads (omega (arith, shallow)) stop other j few all);
       }
     where
       on : (k : ℕ) (found : List (Expression × Expression)) → suc (length further) ≤ k → nesting line n nested.Whole ts ≡ Some (a, then_ ∷ mid) →
           nesting line n nested.Whole mid ≡ Some (b, when ∷ further) →
           ((j : ℕ) → length further ≤ j → (all : List (Expression × Expression)) →
-            (these : List (Expression × Expression)) × (arms_from these ≡ arms) × (read.arms_read line (nesting line n) j all further ≡ Some (all ++ these, rest))) →
+          (these : List (Expression × Expression)) × (arms_from these ≡ arms) × (read.arms_read line (nesting line n) j all further ≡ Some (all ++ these, rest))) →
           (these : List (Expression × Expression)) × (arms_from these ≡ arm a b arms) × (read.arms_read line (nesting line n) k found ts ≡ Some (found ++ these, rest))
       on zero found few first second others = absurd (omega (arith, few))
       on (suc k) found few first second others =
-          let o = others k (omega (arith, few)) (found ++ (a, b) ∷ []) in
-          ((a, b) ∷ o.0, ap (λ z. arm a b z) o.1, after _ first (after _ (expects_keyword word.Then then_ mid is) (after _ second
-            (after _ (eats_keyword word.When when further goes_on) (o.2 ∙ ap (λ z. Some (z, rest)) (append_assoc found ((a, b) ∷ []) o.0))))))
+          let o = others k (omega (arith, few)) (found ++ (a, b) ∷ []) in (
+            (a, b) ∷ o.0,
+            ap (λ z. arm a b z) o.1,
+            after _ first (after _ (expects_keyword word.Then then_ mid is) (after _ second
+                (after _ (eats_keyword word.When when further goes_on) (o.2 ∙ ap (λ z. Some (z, rest)) (append_assoc found ((a, b) ∷ []) o.0))))),
+          )
 
   -- ELSE, before END
   record ElseRead (n : ℕ) (o : Otherwise) (ts rest : List Token) : Type 0 where
@@ -720,7 +739,7 @@ module _ (line : List ℕ) where
         after_peek _ (case_ ∷ when ∷ ts)
         ∙ ap (λ k. read.postfix_by line (levels_at (suc n)) (inner_at (suc n)) (Some k) (case_ ∷ when ∷ ts)) is
         ∙ after _ refl (after _ (opens n (when ∷ ts) a.positive) (after _ (expects_keyword word.When when ts begins_) (after _ found.2 (after _ (l.reads (omega (arith, shallow)) closing)
-          (after _ (expects_keyword word.End end rest closes) (ap (λ z. checked (case z o) rest) found.1 ∙ passes (case arms o) rest shallow))))));
+        (after _ (expects_keyword word.End end rest closes) (ap (λ z. checked (case z o) rest) found.1 ∙ passes (case arms o) rest shallow))))));
   }
 
   -- ---- every derivation

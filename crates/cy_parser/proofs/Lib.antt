@@ -11,3 +11,4 @@ pub mod LabelsComplete
 pub mod Chains
 pub mod Complete
 pub mod Stands
+pub mod ShownTokens

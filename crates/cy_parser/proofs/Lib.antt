@@ -12,3 +12,4 @@ pub mod Chains
 pub mod Complete
 pub mod Stands
 pub mod ShownTokens
+pub mod ShownExpressions

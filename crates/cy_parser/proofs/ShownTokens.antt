@@ -88,8 +88,8 @@ module _ (line : List ℕ) where
   -- what stands in brackets
   pub in_brackets : (P : List Token → Type 0) (ps : List Piece) (ts rest : List Token) → Shown (bracketed ps) ts rest →
       ((opening closing : Token) (inside : List Token) → IsSymbol sign.LeftParenthesis opening → IsSymbol sign.RightParenthesis closing →
-        Shown ps inside (closing ∷ rest) → P (opening ∷ inside)) → P ts
+      Shown ps inside (closing ∷ rest) → P (opening ∷ inside)) → P ts
   in_brackets P ps ts rest shown f = at_symbol P sign.LeftParenthesis (ps ++ mark sign.RightParenthesis ∷ []) ts rest shown (λ opening inside opens more.
       let parts = both ps (mark sign.RightParenthesis ∷ []) inside rest more in
       last_symbol (λ us. Shown ps inside us → P (opening ∷ inside)) sign.RightParenthesis parts.0 rest parts.2
-        (λ closing closes here. f opening closing inside opens closes here) parts.1)
+      (λ closing closes here. f opening closing inside opens closes here) parts.1)

@@ -10,3 +10,4 @@ pub mod Stops
 pub mod LabelsComplete
 pub mod Chains
 pub mod Complete
+pub mod PatternsComplete

@@ -10,4 +10,6 @@ pub mod Stops
 pub mod LabelsComplete
 pub mod Chains
 pub mod Complete
+pub mod Follows
 pub mod PatternsComplete
+pub mod ProjectionsComplete

@@ -13,3 +13,4 @@ pub mod Complete
 pub mod Follows
 pub mod PatternsComplete
 pub mod ProjectionsComplete
+pub mod ClausesComplete

@@ -8,3 +8,5 @@ pub mod PiecesLemmas
 pub mod TokensLemmas
 pub mod SpansLemmas
 pub mod GapsLemmas
+pub mod LexedQuotedLemmas
+pub mod LexedLemmas

@@ -17,3 +17,5 @@ pub mod Follows
 pub mod PatternsComplete
 pub mod ProjectionsComplete
 pub mod ClausesComplete
+pub mod WellSpelt
+pub mod WellSpeltClauses

@@ -27,7 +27,7 @@ words_of-append (word w ∷ ps) qs = ap (λ ws. w ∷ ws) (words_of-append ps qs
 words_of-append (space ∷ ps) qs = words_of-append ps qs
 
 -- what a name and a text denote
-denotes_within : (line : List ℕ) (t : Token) → IsTrue (is_within line t) → denotes line t ≡ encode_utf8_all (denoted t.kind (chars (slice_of line t)))
+pub denotes_within : (line : List ℕ) (t : Token) → IsTrue (is_within line t) → denotes line t ≡ encode_utf8_all (denoted t.kind (chars (slice_of line t)))
 unfolding denotes
 denotes_within line t within = ap (λ b. if b then encode_utf8_all (denoted t.kind (chars (slice_of line t))) else []) within
 

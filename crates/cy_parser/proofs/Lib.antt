@@ -11,3 +11,5 @@ pub mod LabelsComplete
 pub mod Chains
 pub mod Complete
 pub mod Stands
+pub mod PiecesLemmas
+pub mod ShownWords

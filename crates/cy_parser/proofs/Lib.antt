@@ -12,4 +12,5 @@ pub mod Chains
 pub mod Complete
 pub mod Stands
 pub mod PiecesLemmas
+pub mod WordsSpans
 pub mod ShownWords

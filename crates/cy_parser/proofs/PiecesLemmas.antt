@@ -1,5 +1,5 @@
 -- The text of pieces is a text of words, where each word may stand after the piece before it.
-use Rattle.std.proofs.Common.{◌≡◌, ℕ, ◌≤◌, Bool, true, false, ◌&&◌, ◌||◌, List, [], ◌∷◌, ◌++◌, length, map, Ok, refl, sym, ap, ◌∙◌, subst, append_assoc, append-nil, arith}
+use Rattle.std.proofs.Common.{◌≡◌, ℕ, Bool, true, false, ◌&&◌, ◌||◌, List, [], ◌∷◌, ◌++◌, map, refl, sym, ap, ◌∙◌, subst, append_assoc, append-nil, arith}
 use Rattle.std.specs.Prelude.{⊤}
 use Rattle.std.specs.Char.{encode_utf8, is_ascii_digit}
 use Rattle.std.specs.Fmt.{decimal}
@@ -14,12 +14,9 @@ use Rattle.cy_lexer.specs.declared.symbols.Symbol.{Symbol}
 use Rattle.cy_lexer.specs.declared.symbols.Symbol.TheVariants as sign
 use Rattle.cy_lexer.specs.declared.tokens.Token.{Token}
 use Rattle.cy_lexer.specs.Keywords.{spelling}
-use Rattle.cy_lexer.specs.Line.{longest_line}
-use Rattle.cy_lexer.specs.Tokens.{tokens_of}
 use Rattle.cy_lexer.specs.Words.{Word, signs, characters}
 use Rattle.cy_lexer.specs.Words as words
 use Rattle.cy_lexer.specs.internal.SpacedWords.{is_word, may_touch, space, written, may_touch_next, are_words, IsTokenOf, AreTokensOf}
-use Rattle.cy_lexer.proofs.WordsLemmas.{written-is_read}
 use Rattle.cy_lexer.proofs.WordsPiecesLemmas.{decimal-front}
 use Rattle.cy_trees.specs.Show.{Piece, word_text, piece_text, text_of, words_of}
 use Rattle.cy_trees.specs.Show as piece
@@ -245,12 +242,13 @@ encodes-characters (words.number n) is =
     encodes-digits (decimal n) (rw front.2 (and_from (is_ascii_digit front.0) (list_all is_ascii_digit front.1) front.3 front.4))
 encodes-characters (words.symbol s) is = encodes-signs s
 
-encodes-space : (b : Bool) → encode_utf8_all (space b) ≡ space b
+-- a space is one byte
+pub encodes-space : (b : Bool) → encode_utf8_all (space b) ≡ space b
 unfolding encode_utf8
 encodes-space true = refl
 encodes-space false = refl
 
-free_first : (ps : List Piece) → stands free ps ≡ true → is_spaced ps ≡ false
+pub free_first : (ps : List Piece) → stands free ps ≡ true → is_spaced ps ≡ false
 free_first [] h = refl
 free_first (piece.word w ∷ ps) h = refl
 free_first (piece.space ∷ ps) h = absurd cc
@@ -286,17 +284,3 @@ unspaced line [] [] are = tt
 unspaced line [] (w ∷ ws) are = absurd are
 unspaced line (t ∷ ts) [] are = absurd are
 unspaced line (t ∷ ts) (w ∷ ws) are = (are.0, unspaced line ts ws are.1)
-
--- the tokens of the text of pieces are their words
-pub pieces-are_read : (ps : List Piece) → stands free ps ≡ true → length (text_of ps) ≤ longest_line →
-    (us : List Token) × (tokens_of (text_of ps) ≡ Ok us) × AreTokensOf (text_of ps) us (spaced ps) × AreTokens (text_of ps) us (words_of ps)
-pieces-are_read ps h short =
-    let line = encode_utf8_all (written (spaced ps)) in
-    let same : line ≡ text_of ps = ap (λ (f : Bool). space f ++ line) (sym (free_first ps h)) ∙ spaced-text free ps h in
-    let read = written-is_read (spaced ps) (spaced-are_words free ps h) (subst (λ (x : List ℕ). length x ≤ longest_line) (sym same) short) in
-    let of : AreTokensOf (text_of ps) read.0 (spaced ps) = subst (λ (x : List ℕ). AreTokensOf x read.0 (spaced ps)) same read.2 in (
-      read.0,
-      subst (λ (x : List ℕ). tokens_of x ≡ Ok read.0) same read.1,
-      of,
-      subst (λ (ws : List Word). AreTokens (text_of ps) read.0 ws) (spaced-words ps) (unspaced (text_of ps) read.0 (spaced ps) of),
-    )

@@ -1,6 +1,6 @@
 -- The tokens of a statement's text are the words of its pieces.
-use Rattle.std.proofs.Common.{◌≡◌, ℕ, suc, pos, negsuc, ◌≤◌, Bool, true, false, List, [], ◌∷◌, ◌++◌, length, map, Option, Some, None, Ok, refl, ap, ◌∙◌, arith}
-use Rattle.std.specs.Str.{chars}
+use Rattle.std.proofs.Common.{◌≡◌, ℕ, suc, pos, negsuc, ◌≤◌, Bool, true, false, List, [], ◌∷◌, ◌++◌, length, map, Option, Some, None, Ok, refl, sym, ap, ◌∙◌, subst, arith}
+use Rattle.std.specs.Str.{chars, encode_utf8_all}
 use Rattle.std.proofs.lemmas.Bool.Decides.{nat_tests}
 use Rattle.std.proofs.lemmas.Str.{chars-encodes}
 use Rattle.cy_lexer.specs.declared.keywords.Keyword.{Keyword}
@@ -10,10 +10,12 @@ use Rattle.cy_lexer.specs.declared.symbols.Symbol.TheVariants as sign
 use Rattle.cy_lexer.specs.declared.tokens.Token.{Token}
 use Rattle.cy_lexer.specs.Line.{longest_line}
 use Rattle.cy_lexer.specs.Numbers.{greatest_number}
+use Rattle.cy_lexer.specs.Spans.{AreSpansOf}
 use Rattle.cy_lexer.specs.Tokens.{tokens_of}
 use Rattle.cy_lexer.specs.Words.{Word}
 use Rattle.cy_lexer.specs.Words as words
-use Rattle.cy_lexer.specs.internal.SpacedWords.{is_word, AreTokensOf}
+use Rattle.cy_lexer.specs.internal.SpacedWords.{is_word, space, written, tokens_at, AreTokensOf}
+use Rattle.cy_lexer.proofs.WordsLemmas.{tokens_of-words, AreTokensOf-words}
 use Rattle.cy_trees.specs.declared.expressions.UnaryOperator.{UnaryOperator}
 use Rattle.cy_trees.specs.declared.expressions.UnaryOperator.TheVariants as one
 use Rattle.cy_trees.specs.declared.expressions.BinaryOperator.{BinaryOperator}
@@ -24,23 +26,21 @@ use Rattle.cy_trees.specs.declared.clauses.Direction.{Direction}
 use Rattle.cy_trees.specs.declared.clauses.Direction.TheVariants as direction
 use Rattle.cy_trees.specs.declared.clauses.Length.{Length}
 use Rattle.cy_trees.specs.Trees.{Name, Expression, null, boolean, integer, text, variable, property, has_labels, unary, binary, comparison, list, case, call, call_star, Expressions, no_more, more, Links, no_links, link, Arms, no_arms, arm, Otherwise, nothing, otherwise, Entry, NodePattern, RelationshipPattern, Step, Path, Item, Key, Projection, SetItem, set_property, set_labels, RemoveItem, remove_property, remove_labels, Clause, «match», unwind, «with», «return», create, set, remove, delete, Statement}
-use Rattle.cy_trees.specs.Show.{Piece, says, mark, named, spelt, bracketed, each_after, separated, comma, list_pieces, binary_pieces, comparator_symbol, unary_pieces, label_pieces, is_literal, owner_pieces, distinct_pieces, expression_pieces, elements_pieces, further_pieces, links_pieces, arms_pieces, otherwise_pieces, entry_pieces, map_pieces, variable_pieces, node_pieces, type_pieces, bound_pieces, length_pieces, tail_pieces, head_pieces, relationship_pieces, step_pieces, path_pieces, paths_pieces, filter_pieces, item_pieces, descending_pieces, key_pieces, order_pieces, count_pieces, projection_pieces, set_item_pieces, remove_item_pieces, optional_pieces, detach_pieces, clause_pieces, statement_pieces, words_of, show}
+use Rattle.cy_trees.specs.Show.{Piece, says, mark, named, spelt, bracketed, each_after, separated, comma, list_pieces, binary_pieces, comparator_symbol, unary_pieces, label_pieces, is_literal, owner_pieces, distinct_pieces, expression_pieces, elements_pieces, further_pieces, links_pieces, arms_pieces, otherwise_pieces, entry_pieces, map_pieces, variable_pieces, node_pieces, type_pieces, bound_pieces, length_pieces, tail_pieces, head_pieces, relationship_pieces, step_pieces, path_pieces, paths_pieces, filter_pieces, item_pieces, descending_pieces, key_pieces, order_pieces, count_pieces, projection_pieces, set_item_pieces, remove_item_pieces, optional_pieces, detach_pieces, clause_pieces, statement_pieces, words_of, text_of, show}
 use Rattle.cy_trees.specs.Show as piece
 use Rattle.cy_parser.specs.SpellsClauses.{greatest_bound, Standing, standing_after, reading}
 use Rattle.cy_parser.specs.internal.WellFormed.{IsText, IsNamed, Every, Several, IfAny, IsVariable, IsWellFormed, AreWellFormed, LinksAreWellFormed, ArmsAreWellFormed, OtherwiseIsWellFormed, IsWhole, EntryIsWellFormed, NodeIsWellFormed, LengthIsWellFormed, RelationshipIsWellFormed, StepIsWellFormed, PathIsWellFormed, ItemIsWellFormed, KeyIsWellFormed, CountIsWellFormed, ProjectionIsWellFormed, SetItemIsWellFormed, RemoveItemIsWellFormed, ClauseIsWellFormed, ClausesAreWellFormed, StatementIsWellFormed}
-use Rattle.cy_parser.proofs.PiecesLemmas.{Before, free, ended, owned, after, touches, stands, Allows, Runs, runs-stands, no_pieces, a_word, a_space, space_after, both, from, to, is_quiet, after_symbol, after_end, after_owner, ended_owned, last, spaced, AreTokens, pieces-are_read}
+use Rattle.cy_parser.proofs.PiecesLemmas.{Before, free, ended, owned, after, touches, stands, Allows, Runs, runs-stands, no_pieces, a_word, a_space, space_after, both, from, to, is_quiet, after_symbol, after_end, after_owner, ended_owned, last, spaced, AreTokens, spaced-words, spaced-are_words, spaced-text, free_first, unspaced}
+use Rattle.cy_parser.proofs.Stands.{Stands}
+use Rattle.cy_parser.proofs.WordsSpans.{words-have_spans, words-stand}
 
 -- ---- what can be written
 
 pub name-is_word : (n : Name) → IsNamed n → is_word (words.name (chars n)) ≡ true
-name-is_word n is =
-    let all = is.3 in
-    rw (ap chars is.2 ∙ chars-encodes (is.0 ∷ is.1) all) all
+name-is_word n is = rw (ap chars is.2 ∙ chars-encodes (is.0 ∷ is.1) is.3) is.3
 
 pub text-is_word : (n : Name) → IsText n → is_word (words.text (chars n)) ≡ true
-text-is_word n is =
-    let all = is.2 in
-    rw (ap chars is.1 ∙ chars-encodes is.0 all) all
+text-is_word n is = rw (ap chars is.1 ∙ chars-encodes is.0 is.2) is.2
 
 pub number-is_word : (n : ℕ) → n ≤ greatest_number → is_word (words.number n) ≡ true
 number-is_word n fits = grind (arith, nat_tests)
@@ -65,7 +65,10 @@ in_brackets {b} {ps} touch run =
     a_word (words.symbol sign.LeftParenthesis) touch refl
     (both run (a_word (words.symbol sign.RightParenthesis) refl refl (to (after_owner (words.symbol sign.RightParenthesis) refl) no_pieces)))
 
--- what stands after an operand
+in_free_brackets : {ps : List Piece} → Runs free ps ended → Runs free (bracketed ps) owned
+in_free_brackets run = in_brackets refl (opened sign.LeftParenthesis refl run)
+
+-- what may stand after an expression: where it is a literal, no dot
 abbrev end_of : Bool → Before
 end_of true = ended
 end_of false = owned
@@ -78,7 +81,7 @@ operand : {ps : List Piece} (b : Bool) → Runs free ps (end_of b) → Runs free
 operand b run = to (ended_allows b) run
 
 owner-runs : (b : Bool) (ps : List Piece) → Runs free ps (end_of b) → Runs free (owner_pieces b ps) owned
-owner-runs true ps run = in_brackets refl (opened sign.LeftParenthesis refl run)
+owner-runs true ps run = in_free_brackets run
 owner-runs false ps run = run
 
 -- labels
@@ -114,7 +117,7 @@ comparator-runs : (c : Comparator) {ps : List Piece} → Runs free ps ended → 
 comparator-runs c run = a_word (words.symbol (comparator_symbol c)) refl refl (a_space run)
 
 bracketed-ends : {ps : List Piece} → Runs free ps ended → Runs free (bracketed ps) ended
-bracketed-ends run = to ended_owned (in_brackets refl (opened sign.LeftParenthesis refl run))
+bracketed-ends run = to ended_owned (in_free_brackets run)
 
 unary-runs : (operator : UnaryOperator) (ps : List Piece) → Runs free ps ended → Runs free (unary_pieces operator ps) ended
 unary-runs one.Not ps run = said keyword.Not refl run
@@ -124,9 +127,6 @@ unary-runs one.IsNull ps run = both run (space_after (said keyword.Is refl (last
 unary-runs one.IsNotNull ps run = both run (space_after (said keyword.Is refl (said keyword.Not refl (last (words.keyword keyword.Null) refl refl refl))))
 
 -- ---- expressions
-
-in_free_brackets : {ps : List Piece} → Runs free ps ended → Runs free (bracketed ps) owned
-in_free_brackets run = in_brackets refl (opened sign.LeftParenthesis refl run)
 
 mutual
   pub expression-runs : (e : Expression) → IsWellFormed e → Runs free (expression_pieces e) (end_of (is_literal e))
@@ -369,7 +369,7 @@ clause-runs (create paths) is = said keyword.Create refl (paths-run paths is)
 clause-runs (set items) is = said keyword.Set refl (list-runs SetItemIsWellFormed set_item_pieces set_item-runs items is)
 clause-runs (remove items) is = said keyword.Remove refl (list-runs RemoveItemIsWellFormed remove_item_pieces remove_item-runs items is)
 clause-runs (delete detach vs) is =
-    both (detach-runs detach) (said keyword.Delete refl (list-runs IsVariable (λ v. named v.name ∷ []) (λ v named_. last_name v.name refl named_.0) vs is))
+    both (detach-runs detach) (said keyword.Delete refl (list-runs IsVariable (λ v. named v.name ∷ []) (λ v is_named. last_name v.name refl is_named.0) vs is))
 
 -- ---- statements
 
@@ -381,8 +381,31 @@ clauses-stand : (s : Standing) (cs : List Clause) → ClausesAreWellFormed s cs 
 clauses-stand s [] are = refl
 clauses-stand s (c ∷ cs) are = runs-stands (both (clause-runs c are.1) (clauses-run (standing_after c) cs are.2))
 
+-- The tokens of the text of pieces are the words of the pieces, one for each, in order: with the spaces after them, without,
+-- and as tokens that have places in the line.
+pub pieces-are_read : (ps : List Piece) → stands free ps ≡ true → length (text_of ps) ≤ longest_line →
+    (us : List Token) × (tokens_of (text_of ps) ≡ Ok us) × AreTokensOf (text_of ps) us (spaced ps) × AreTokens (text_of ps) us (words_of ps) ×
+    Stands (text_of ps) (words_of ps) us []
+pieces-are_read ps h short =
+    let ws = spaced ps in
+    let us = tokens_at 0 ws in
+    let line = encode_utf8_all (written ws) in
+    let same : line ≡ text_of ps = ap (λ (f : Bool). space f ++ line) (sym (free_first ps h)) ∙ spaced-text free ps h in
+    let are = spaced-are_words free ps h in
+    let fits = subst (λ (x : List ℕ). length x ≤ longest_line) (sym same) short in
+    let of : AreTokensOf (text_of ps) us ws = subst (λ (x : List ℕ). AreTokensOf x us ws) same (AreTokensOf-words ws) in
+    let all : AreTokens (text_of ps) us (words_of ps) = subst (λ (vs : List Word). AreTokens (text_of ps) us vs) (spaced-words ps) (unspaced (text_of ps) us ws of) in
+    let spans : AreSpansOf (text_of ps) 0 us (length (text_of ps)) = subst (λ (x : List ℕ). AreSpansOf x 0 us (length x)) same (words-have_spans ws are) in (
+      us,
+      subst (λ (x : List ℕ). tokens_of x ≡ Ok us) same (tokens_of-words ws are fits),
+      of,
+      all,
+      words-stand (text_of ps) us (words_of ps) 0 (length (text_of ps)) all spans,
+    )
+
 -- what a tree's text is read as
 pub shown-is_read : (s : Statement) → StatementIsWellFormed s → length (show s) ≤ longest_line →
-    (us : List Token) × (tokens_of (show s) ≡ Ok us) × AreTokensOf (show s) us (spaced (statement_pieces s)) × AreTokens (show s) us (words_of (statement_pieces s))
+    (us : List Token) × (tokens_of (show s) ≡ Ok us) × AreTokensOf (show s) us (spaced (statement_pieces s)) × AreTokens (show s) us (words_of (statement_pieces s)) ×
+    Stands (show s) (words_of (statement_pieces s)) us []
 unfolding show
 shown-is_read s is short = pieces-are_read (statement_pieces s) (clauses-stand reading s.clauses is) short

@@ -19,3 +19,6 @@ pub mod ProjectionsComplete
 pub mod ClausesComplete
 pub mod WellSpelt
 pub mod WellSpeltClauses
+pub mod PiecesLemmas
+pub mod WordsSpans
+pub mod ShownWords

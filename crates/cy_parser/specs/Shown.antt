@@ -1,8 +1,13 @@
 -- The tokens of the text that show writes.
-use Rattle.std.specs.Prelude.{◌≡◌, ℕ, true, List, map}
+use Rattle.std.specs.Prelude.{◌≡◌, ℕ, true, List, ◌++◌, map, Ok}
 use Rattle.cy_lexer.specs.declared.tokens.Token.{Token}
 use Rattle.cy_lexer.specs.Spans.{slice_of}
+use Rattle.cy_lexer.specs.Tokens.{tokens_of}
 use Rattle.cy_trees.specs.Trees.{Item, Projection, Clause, «match», unwind, «with», «return», create, set, remove, delete, Statement}
+
+-- the tokens stand one after another among those of the line
+abbrev pub AreNeighbours : List ℕ → List Token → Type 0
+AreNeighbours line ts = (before : List Token) × (after : List Token) × (tokens_of line ≡ Ok (before ++ (ts ++ after)))
 
 -- the tokens of a line have the kinds and the texts of the tokens of another line, one for each, in order
 abbrev pub AreAlike : List ℕ → List Token → List ℕ → List Token → Type 0

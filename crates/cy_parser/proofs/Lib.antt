@@ -13,6 +13,7 @@ pub mod Complete
 pub mod Stands
 pub mod ShownTokens
 pub mod ShownExpressions
+pub mod ShownPatterns
 pub mod Follows
 pub mod PatternsComplete
 pub mod ProjectionsComplete

@@ -14,6 +14,7 @@ pub mod Stands
 pub mod ShownTokens
 pub mod ShownExpressions
 pub mod ShownPatterns
+pub mod ShownProjections
 pub mod Follows
 pub mod PatternsComplete
 pub mod ProjectionsComplete

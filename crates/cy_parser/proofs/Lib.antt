@@ -15,6 +15,7 @@ pub mod ShownTokens
 pub mod ShownExpressions
 pub mod ShownPatterns
 pub mod ShownProjections
+pub mod ShownClauses
 pub mod Follows
 pub mod PatternsComplete
 pub mod ProjectionsComplete

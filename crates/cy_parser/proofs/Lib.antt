@@ -13,6 +13,9 @@ pub mod Complete
 pub mod Stands
 pub mod ShownTokens
 pub mod ShownExpressions
+pub mod ShownPatterns
+pub mod ShownProjections
+pub mod ShownClauses
 pub mod Follows
 pub mod PatternsComplete
 pub mod ProjectionsComplete

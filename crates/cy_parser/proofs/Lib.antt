@@ -25,3 +25,4 @@ pub mod WellSpeltClauses
 pub mod PiecesLemmas
 pub mod WordsSpans
 pub mod ShownWords
+pub mod ShownAgain

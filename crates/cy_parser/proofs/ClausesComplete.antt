@@ -296,3 +296,11 @@ module _ (line : List ℕ) where
       let y : Statement × List Token = (other, []) in
       let both : x ≡ y = cc in
       ap (λ p. p.0) both
+
+  -- no tokens spell no statement
+  pub statement-some : (s : Statement) (ts : List Token) → SpellsStatement line s ts → length ts ≡ 0 → ⊥
+  statement-some s ts spelt none = nothing_spelt s.clauses ts spelt none
+    where
+      nothing_spelt : (cs : List Clause) (ts : List Token) → SpellsClauses line spells.reading cs ts → length ts ≡ 0 → ⊥
+      nothing_spelt _ ts (spells.no_more_clauses _ _ may e) none = cc
+      nothing_spelt _ ts (spells.next_clause _ c cs _ mid may spelt others) none = let x = clause_shortens c ts mid spelt in omega (arith, x, none)

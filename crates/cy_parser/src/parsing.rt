@@ -1,10 +1,16 @@
 //! A statement from the tokens of a line.
 
-ghost use Rattle.std.specs.Prelude.{◌≡◌, ◌≢◌, ◌≤◌, length, Some, None, IfOk, IfErr, MatchResult};
+ghost use Rattle.std.specs.Prelude.{◌≡◌, ◌≢◌, ◌≤◌, ℕ, List, length, Some, None, Ok, IfOk, IfErr, MatchResult};
+ghost use Rattle.std.specs.Str.{IsUtf8};
+ghost use Rattle.cy_lexer.specs.declared.tokens.Token as token;
+ghost use Rattle.cy_lexer.specs.Line.{longest_line};
+ghost use Rattle.cy_lexer.specs.Tokens.{tokens_of};
 ghost use Rattle.cy_parser.specs.declared.faults.ParseFault.TheVariants.{NoMemory};
 ghost use Rattle.cy_parser.specs.Faults.{PointsAtPlace, IsPlace};
 ghost use Rattle.cy_parser.specs.SpellsClauses.{SpellsStatement};
 ghost use Rattle.cy_parser.specs.declared.refusals.Refusal.TheVariants as refusals;
+ghost use Rattle.cy_parser.specs.Shown.{AreAlike, AreNeighbours, with_columns};
+ghost use Rattle.cy_trees.specs.Show as shown;
 ghost use Rattle.cy_trees.specs.Trees as tree;
 ghost use Rattle.cy_trees.specs.Views.{statement_of};
 ghost use Rattle.cy_parser.specs.internal.Clauses as spec;
@@ -48,6 +54,12 @@ fn fault_of(tokens: &[Token], line: &str, refusal: Refusal) -> ParseFault
 pub fn parse(alloc: Global, tokens: &[Token], line: &str) -> Result<Statement, ParseFault>
     ensures spelt { IfOk result (λ statement. SpellsStatement line.now (statement_of statement) tokens.now) }
     ensures complete { (statement : tree.Statement) → SpellsStatement line.now statement tokens.now → MatchResult result (λ found. statement_of found ≡ statement) (λ fault. fault ≡ NoMemory) }
+    ensures shown {
+        (statement : tree.Statement) (first : List ℕ) (spelling us : List token.Token) → IsUtf8 first → AreNeighbours first spelling → SpellsStatement first statement spelling
+        → length (shown.show statement) ≤ longest_line → tokens_of (shown.show statement) ≡ Ok us
+        → AreNeighbours line.now tokens.now → AreAlike line.now tokens.now (shown.show statement) us
+        → MatchResult result (λ found. statement_of found ≡ with_columns statement) (λ fault. fault ≡ NoMemory)
+    }
     ensures places { IfErr result (λ fault. PointsAtPlace tokens.now (length line.now) fault) }
 {
     let source = Source { alloc, line };

@@ -23,8 +23,9 @@ use Rattle.cy_lexer.specs.Numbers.{spoils_number}
 use Rattle.cy_lexer.specs.Spans.{slice_of}
 use Rattle.cy_lexer.specs.declared.faults.LexFault.{LexFault}
 use Rattle.cy_lexer.specs.Tokens.{◌>>=◌, piece, tokens_from, tokens_of, denoted}
-use Rattle.cy_lexer.specs.internal.Words.{Word, kind_of, doubled, escaped, signs, characters, is_word, join, may_touch, space, written, may_touch_next, are_words, may_follow_last, may_follow, meant, bytes_of, tokens_at, IsTokenOf, AreTokensOf}
-use Rattle.cy_lexer.specs.internal.Words as word
+use Rattle.cy_lexer.specs.Words.{Word, kind_of, doubled, escaped, signs, characters, meant}
+use Rattle.cy_lexer.specs.internal.SpacedWords.{is_word, join, may_touch, space, written, may_touch_next, are_words, may_follow_last, may_follow, bytes_of, tokens_at, IsTokenOf, AreTokensOf}
+use Rattle.cy_lexer.specs.Words as word
 use Rattle.cy_lexer.proofs.CharactersLemmas.{size_of}
 use Rattle.cy_lexer.proofs.QuotedLemmas.{not_is}
 use Rattle.cy_lexer.proofs.TokensLemmas.{tokens_from-skip, tokens_of-short}

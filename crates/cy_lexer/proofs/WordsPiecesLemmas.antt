@@ -23,8 +23,9 @@ use Rattle.cy_lexer.specs.Keywords.{spelling, keyword_of}
 use Rattle.cy_lexer.specs.Numbers.{number_of, greatest_number, begins_with_digit, spoils_number}
 use Rattle.cy_lexer.specs.Symbols.{symbol}
 use Rattle.cy_lexer.specs.Tokens.{word_kind, word_piece, opens_comment, number_piece, symbol_piece, token_piece, piece}
-use Rattle.cy_lexer.specs.internal.Words.{Word, kind_of, doubled, escaped, signs, characters, is_word}
-use Rattle.cy_lexer.specs.internal.Words as word
+use Rattle.cy_lexer.specs.Words.{Word, kind_of, doubled, escaped, signs, characters}
+use Rattle.cy_lexer.specs.internal.SpacedWords.{is_word}
+use Rattle.cy_lexer.specs.Words as word
 use Rattle.cy_lexer.proofs.CharactersLemmas.{starts_name-ascii, goes_on-ascii}
 use Rattle.cy_lexer.proofs.PiecesLemmas.{piece-token, word_kind-keyword}
 use Rattle.cy_lexer.proofs.WordsQuotedLemmas.{quoted_len-doubled, quoted_len-escaped, closes_at_once-doubled}

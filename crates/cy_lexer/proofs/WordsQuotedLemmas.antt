@@ -5,7 +5,7 @@ use Rattle.cy_lexer.specs.declared.faults.LexFault.{LexFault}
 use Rattle.cy_lexer.specs.Characters.{begins_with}
 use Rattle.cy_lexer.specs.Quoted.{quoted_len, unquoted}
 use Rattle.cy_lexer.specs.Tokens.{closes_at_once}
-use Rattle.cy_lexer.specs.internal.Words.{doubled, escaped}
+use Rattle.cy_lexer.specs.Words.{doubled, escaped}
 
 -- so many characters were passed
 passed : (m n : ℕ) → m ≡ n → ◌≡◌ {A = Result ℕ LexFault} (Ok m) (Ok n)

@@ -8,4 +8,5 @@ pub mod Quoted
 pub mod Tokens
 pub mod Spans
 pub mod Gaps
+pub mod Words
 pub mod internal

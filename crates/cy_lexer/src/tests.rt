@@ -2,7 +2,8 @@
 
 ghost use Rattle.std.specs.Prelude.{◌≡◌, true, false, [], ◌∷◌, Ok, Err, codes};
 ghost use Rattle.cy_lexer.specs.Tokens.{tokens_of};
-ghost use Rattle.cy_lexer.specs.internal.Words.{keyword, name, text, number, symbol, written};
+ghost use Rattle.cy_lexer.specs.Words.{keyword, name, text, number, symbol};
+ghost use Rattle.cy_lexer.specs.internal.SpacedWords.{written};
 
 use super::*;
 use std::alloc::Global;

@@ -1,5 +1,5 @@
 -- The depth of a list of parts with one part more at its end.
-use Rattle.std.proofs.Common.{◌≡◌, ℕ, max, List, [], ◌∷◌, ◌++◌, map, ap, sym, ◌∙◌, arith, rules}
+use Rattle.std.proofs.Common.{◌≡◌, max, List, [], ◌∷◌, ◌++◌, map, ap, ◌∙◌, arith, rules}
 use Rattle.std.proofs.lemmas.List.{map-append}
 use Rattle.cy_trees.specs.declared.expressions.Expr.{Expr, the_lemmas}
 use Rattle.cy_trees.specs.declared.expressions.Arm.{Arm}

@@ -1,7 +1,7 @@
 -- What holds of what a reader answers, wherever it answers anything.
-use Rattle.std.proofs.Common.{◌≡◌, ℕ, ◌≤◌, Bool, true, false, IsTrue, List, [], ◌∷◌, Option, Some, None, if◌then◌else◌, refl, sym, ap, ◌∙◌, subst, nat_le, arith}
+use Rattle.std.proofs.Common.{◌≡◌, ℕ, ◌≤◌, Bool, true, false, IsTrue, List, [], ◌∷◌, Option, Some, None, if◌then◌else◌, refl, ap, subst, nat_le, arith}
 use Rattle.std.proofs.lemmas.Bool.Decides.{nat_tests}
-use denote.Enum.Bare.{sameb, same_true}
+use denote.Enum.Bare.{same_true}
 use Rattle.cy_lexer.specs.contracts.keywords.Keyword as keyword_type
 use Rattle.cy_lexer.specs.contracts.symbols.Symbol as symbol_type
 use Rattle.cy_lexer.specs.declared.keywords.Keyword.{Keyword}
@@ -9,9 +9,9 @@ use Rattle.cy_lexer.specs.declared.symbols.Symbol.{Symbol}
 use Rattle.cy_lexer.specs.declared.tokens.Kind.{Kind}
 use Rattle.cy_lexer.specs.declared.tokens.Kind.TheVariants as kind
 use Rattle.cy_lexer.specs.declared.tokens.Token.{Token}
-use Rattle.cy_trees.specs.Trees.{Name, Expression}
+use Rattle.cy_trees.specs.Trees.{Expression}
 use Rattle.cy_trees.specs.Depth.{depth, greatest_depth}
-use Rattle.cy_parser.specs.Words.{is_name, is_word, denotes}
+use Rattle.cy_parser.specs.Words.{denotes}
 use Rattle.cy_parser.specs.internal.Reader.{Outcome, Reader, and_then, is_keyword, is_symbol, kind_ahead, past, sees_keyword, sees_symbol, eat_keyword, eat_symbol, peek, skip, at_kind, expect_keyword, expect_symbol, denoting, checked}
 use Rattle.cy_parser.specs.Spells.{IsKeyword, IsSymbol}
 

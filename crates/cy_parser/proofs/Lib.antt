@@ -5,3 +5,9 @@ pub mod Gives
 pub mod Sound
 pub mod SoundPatterns
 pub mod SoundClauses
+pub mod Takes
+pub mod Stops
+pub mod LabelsComplete
+pub mod Chains
+pub mod Complete
+pub mod Stands

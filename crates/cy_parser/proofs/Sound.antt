@@ -12,12 +12,13 @@ use Rattle.cy_trees.specs.declared.expressions.BinaryOperator.TheVariants as ope
 use Rattle.cy_trees.specs.declared.expressions.Comparator.{Comparator}
 use Rattle.cy_parser.specs.declared.places.Nested.{Nested}
 use Rattle.cy_parser.specs.declared.places.Nested.TheVariants as nested
-use Rattle.cy_trees.specs.Trees.{Name, Expression, Expressions, list, no_more, more, call, call_star, variable, property, has_labels, unary, binary, boolean, integer, null, text, Links, no_links, link, comparison, Arms, arm, no_arms, Otherwise, nothing, otherwise, case}
+use Rattle.cy_trees.specs.Trees.{Name, Expression, list, no_more, call, call_star, variable, property, has_labels, unary, binary, boolean, integer, null, text, comparison, nothing, otherwise, case}
 use Rattle.cy_trees.specs.Depth.{depth, greatest_depth}
 use Rattle.cy_trees.specs.Views.{expressions_from, arms_from, links_from}
 use Rattle.cy_parser.specs.Words.{is_word, is_name, denotes, lowered, number_limit, negated, product_operator, sum_operator, comparator_of, conjunction_operator, exclusion_operator, disjunction_operator}
-use Rattle.cy_parser.specs.internal.Reader.{Reader, and_then, checked, skip, at_kind, ◌>>◌, expect_symbol, eat_symbol, pure, refuse, ◌>>=◌, ◌<$>◌, kind_ahead, past, name as name_read, word as word_read}
-use Rattle.cy_parser.specs.internal.Expressions.{bracketed, listed, elements, elements_from, labels, labels_from, arguments, called, named, arms, arms_read, else_read, cases, properties, properties_from, labelled as labelled_read, attributes, literal, literal_by, counted, quoted, postfix as postfix_read, postfix_by, minus as minus_read, minus_by, plus as plus_read, chain, chain_from, signed as signed_read, product as product_read, sum as sum_read, null_test, tested, predicate_by, begins_predicate, predicate_step, predicates_from, predicate as predicate_read, links_read, links, compared, comparisons as comparisons_read, negation as negation_read, conjunction as conjunction_read, exclusion as exclusion_read, disjunction, level, nesting, expression, most_levels}
+use Rattle.cy_parser.specs.internal.Reader.{Reader, and_then, checked, skip, at_kind, ◌>>◌, pure, refuse, ◌>>=◌, ◌<$>◌, kind_ahead, past}
+use Rattle.cy_parser.specs.internal.Expressions.{bracketed, listed, elements, elements_from, labels, labels_from, arguments, called, named, arms, arms_read, else_read, cases, properties, properties_from, labelled as labelled_read, attributes, literal, literal_by, counted, quoted, postfix as postfix_read, postfix_by, minus as minus_read, minus_by, plus as plus_read, chain, chain_from, signed as signed_read, product as product_read, sum as sum_read, null_test, tested, predicate_by, begins_predicate, predicate_step, predicates_from, predicate as predicate_read, links_read, links, compared, comparisons as comparisons_read, negation as negation_read, conjunction as conjunction_read, exclusion as exclusion_read, disjunction, level, nesting, expression, opened}
+use Rattle.cy_parser.specs.SpellsClauses.{most_levels}
 use Rattle.cy_parser.specs.Spells.{Spells, SpellsAll, SpellsLabels, Level, whole, head, postfix, bracket, IsSymbol, IsKeyword, last_label, next_label, last_element, next_element, empty_list, list_of, call_of, call_of_distinct, call_of_nothing, call_of_star, name, owner, is_head, with_key, is_owner, labelled, SpellsArms, last_arm, next_arm, SpellsOtherwise, no_else, else_, case_of, true_, false_, null_, number, text_, signed, minus, plus, negative, begins_with_number, is_number, is_postfix, product, is_signed, multiply, sum, is_product, add, predicate, is_sum, is_null, is_not_null, among, contains, starts_with, ends_with, SpellsLinks, last_link, next_link, comparisons, is_predicate, compare, negation, is_comparison, not, conjunction, is_negation, and, exclusion, is_conjunction, xor, is_exclusion, or}
 use Rattle.cy_parser.proofs.Gives.{AteKeyword, Gives, bind, answer, refused, symbol_there, keyword_there, ate_symbol, ate_keyword, by_test, checked_there, denoting_there, bind_peek, bind_skip, ahead, ahead_by, by_option}
 
@@ -65,6 +66,11 @@ unfolding labels
 labels-sound line ts =
     later _ _ (λ all rest g. subst (λ ls. SpellsLabels line ls ts rest) (sym g.all_is) g.spells) (labels-sound-from line (length ts) [] ts)
 
+opened-sound : (n : ℕ) (ts : List Token) → Gives (opened n ts) (λ _ rest. (rest ≡ ts) × (m : ℕ) × (n ≡ suc m))
+unfolding opened
+opened-sound zero ts = refused _
+opened-sound (suc m) ts = answer _ _ _ (refl, m, refl)
+
 module _ (line : List ℕ) (n : ℕ) (inner : Nested → Reader Expression)
     (whole-sound : (ts : List Token) → Gives (inner nested.Whole ts) (Spelt line n whole ts)) where
   record SpeltElements (found : List Expression) (ts : List Token) (all : List Expression) (rest : List Token) : Type 0 where
@@ -105,15 +111,17 @@ module _ (line : List ℕ) (n : ℕ) (inner : Nested → Reader Expression)
         shallow = s.shallow;
       })))
 
-  listed-sound : (opening : Token) (ts : List Token) → IsSymbol sign.LeftBracket opening →
+  listed-sound : (m : ℕ) (opening : Token) (ts : List Token) → n ≡ suc m → IsSymbol sign.LeftBracket opening →
       Gives (listed line inner ts) (Spelt line (suc n) postfix (opening ∷ ts))
   unfolding listed
-  listed-sound opening ts is =
+  listed-sound m opening ts some_left is =
       bind (ate_symbol sign.RightBracket ts) (λ is_empty after c. by_test _ _ is_empty after _
       (λ yes. answer _ _ _ (
       let x = c.there yes in
       record {
-        spells = subst (λ z. Spells line (suc n) postfix (list no_more) (opening ∷ z) after) (sym x.1) (empty_list n opening x.0 after is x.2);
+        spells =
+            subst (λ z. Spells line (suc n) postfix (list no_more) (opening ∷ z) after) (sym x.1)
+            (subst (λ k. Spells line (suc k) postfix (list no_more) (opening ∷ x.0 ∷ after) after) (sym some_left) (empty_list m opening x.0 after is x.2));
         shallow = omega arith;
       }))
       (λ some. bind (elements-sound after) (λ es mid s. bind (symbol_there sign.RightBracket mid) (λ _ rest x.
@@ -127,16 +135,19 @@ module _ (line : List ℕ) (n : ℕ) (inner : Nested → Reader Expression)
       }) (checked_there (list (expressions_from es)) rest)))))
 
   -- a call after its name and bracket
-  arguments-sound : (t opening : Token) (ts : List Token) → IsTrue (is_name t.kind) → IsSymbol sign.LeftParenthesis opening →
+  arguments-sound : (m : ℕ) (t opening : Token) (ts : List Token) → n ≡ suc m → IsTrue (is_name t.kind) → IsSymbol sign.LeftParenthesis opening →
       Gives (arguments line inner (lowered (denotes line t)) ts) (Spelt line (suc n) head (t ∷ opening ∷ ts))
   unfolding arguments
-  arguments-sound t opening ts named_ is =
+  arguments-sound m t opening ts some_left named_ is =
       bind (ate_symbol sign.RightParenthesis ts) (λ is_empty after c. by_test _ _ is_empty after _
       (λ yes. answer _ _ _ (
       let x = c.there yes in
       let f = lowered (denotes line t) in
       record {
-        spells = subst (λ z. Spells line (suc n) head (call f false no_more) (t ∷ opening ∷ z) after) (sym x.1) (call_of_nothing n t opening x.0 after named_ is x.2);
+        spells =
+            subst (λ z. Spells line (suc n) head (call f false no_more) (t ∷ opening ∷ z) after) (sym x.1)
+            (subst (λ k. Spells line (suc k) head (call f false no_more) (t ∷ opening ∷ x.0 ∷ after) after) (sym some_left)
+            (call_of_nothing m t opening x.0 after named_ is x.2));
         shallow = omega arith;
       }))
       (λ some. bind (ate_keyword word.Distinct after) (λ distinct from d. bind (elements-sound from) (λ es mid s. bind (symbol_there sign.RightParenthesis mid) (λ _ rest x.
@@ -163,10 +174,10 @@ module _ (line : List ℕ) (n : ℕ) (inner : Nested → Reader Expression)
           subst (λ z. Spells line (suc n) head (call (lowered (denotes line t)) false (expressions_from es)) (t ∷ opening ∷ z) rest) (d.absent refl)
           (call_of n (expressions_from es) t opening closing from rest named_ is here closes)
 
-  called-sound : (t opening : Token) (ts : List Token) → IsTrue (is_name t.kind) → IsSymbol sign.LeftParenthesis opening →
+  called-sound : (m : ℕ) (t opening : Token) (ts : List Token) → n ≡ suc m → IsTrue (is_name t.kind) → IsSymbol sign.LeftParenthesis opening →
       Gives (called line inner (lowered (denotes line t)) ts) (Spelt line (suc n) head (t ∷ opening ∷ ts))
   unfolding called
-  called-sound t opening ts named_ is =
+  called-sound m t opening ts some_left named_ is =
       bind (ate_symbol sign.Star ts) (λ is_star after c. by_test _ _ is_star after _
       (λ yes. bind (symbol_there sign.RightParenthesis after) (λ _ rest x. answer _ _ _ (
       let s = c.there yes in
@@ -174,21 +185,24 @@ module _ (line : List ℕ) (n : ℕ) (inner : Nested → Reader Expression)
       record {
         spells =
             subst (λ z. Spells line (suc n) head (call_star f) (t ∷ opening ∷ z) rest) (sym s.1)
-            (subst (λ z. Spells line (suc n) head (call_star f) (t ∷ opening ∷ s.0 ∷ z) rest) (sym x.1) (call_of_star n t opening s.0 x.0 rest named_ is s.2 x.2));
+            (subst (λ z. Spells line (suc n) head (call_star f) (t ∷ opening ∷ s.0 ∷ z) rest) (sym x.1)
+            (subst (λ k. Spells line (suc k) head (call_star f) (t ∷ opening ∷ s.0 ∷ x.0 ∷ rest) rest) (sym some_left)
+            (call_of_star m t opening s.0 x.0 rest named_ is s.2 x.2)));
         shallow = omega arith;
       })))
       (λ other. subst (λ z. Gives (arguments line inner (lowered (denotes line t)) after) (Spelt line (suc n) head (t ∷ opening ∷ z))) (c.absent other)
-      (arguments-sound t opening after named_ is)))
+      (arguments-sound m t opening after some_left named_ is)))
 
-  named-sound : (ts : List Token) → Gives (named line inner ts) (Spelt line (suc n) head ts)
+  named-sound : (ts : List Token) → Gives (named line n inner ts) (Spelt line (suc n) head ts)
   unfolding named
   named-sound ts =
       bind (denoting_there is_name line ts) (λ by mid w. bind (ate_symbol sign.LeftParenthesis mid) (λ is_call after c. by_test _ _ is_call after _
-      (λ yes.
+      (λ yes. bind (opened-sound n after) (λ _ from o.
       let x = c.there yes in
-      let begins : ts ≡ w.0 ∷ x.0 ∷ after = w.1 ∙ ap (λ z. w.0 ∷ z) x.1 in
-      subst (λ z. Gives (called line inner (lowered by) after) (Spelt line (suc n) head z)) (sym begins)
-      (subst (λ z. Gives (called line inner (lowered z) after) (Spelt line (suc n) head (w.0 ∷ x.0 ∷ after))) (sym w.3) (called-sound w.0 x.0 after w.2 x.2)))
+      let begins : ts ≡ w.0 ∷ x.0 ∷ from = w.1 ∙ ap (λ z. w.0 ∷ z) (x.1 ∙ ap (λ z. x.0 ∷ z) (sym o.0)) in
+      subst (λ z. Gives (called line inner (lowered by) from) (Spelt line (suc n) head z)) (sym begins)
+      (subst (λ z. Gives (called line inner (lowered z) from) (Spelt line (suc n) head (w.0 ∷ x.0 ∷ from))) (sym w.3)
+      (called-sound o.1 w.0 x.0 from o.2 w.2 x.2))))
       (λ bare. answer _ _ _ (record {
         spells =
             subst (λ z. Spells line (suc n) head (variable (record { name = by; column = None })) z after) (sym w.1)
@@ -330,7 +344,7 @@ module _ (line : List ℕ) (n : ℕ) (inner : Nested → Reader Expression)
   unfolding literal
   literal-sound ts = bind_peek _ ts (literal-at ts (kind_ahead ts) refl)
 
-  postfix-at : (ts : List Token) (k : Option Kind) → kind_ahead ts ≡ k → Gives (postfix_by line inner k ts) (Spelt line (suc n) postfix ts)
+  postfix-at : (ts : List Token) (k : Option Kind) → kind_ahead ts ≡ k → Gives (postfix_by line n inner k ts) (Spelt line (suc n) postfix ts)
   postfix-at ts (Some kind.Name) e = bind (named-sound ts) (λ x mid s. attributes-sound x ts mid s)
   postfix-at ts (Some kind.QuotedName) e = bind (named-sound ts) (λ x mid s. attributes-sound x ts mid s)
   postfix-at ts (Some (kind.Symbol sign.LeftParenthesis)) e = bind_skip _ ts (
@@ -338,13 +352,17 @@ module _ (line : List ℕ) (n : ℕ) (inner : Nested → Reader Expression)
       bind (bracketed-sound x.0 (past ts) x.2) (λ a mid s. attributes-sound a ts mid (subst (λ z. Spelt line (suc n) head z a mid) (sym x.1) s)))
   postfix-at ts (Some (kind.Symbol sign.LeftBracket)) e = bind_skip _ ts (
       let x = ahead ts (kind.Symbol sign.LeftBracket) e in
-      subst (λ z. Gives (listed line inner (past ts)) (Spelt line (suc n) postfix z)) (sym x.1) (listed-sound x.0 (past ts) x.2))
+      bind (opened-sound n (past ts)) (λ _ from o.
+      let begins : ts ≡ x.0 ∷ from = x.1 ∙ ap (λ z. x.0 ∷ z) (sym o.0) in
+      subst (λ z. Gives (listed line inner from) (Spelt line (suc n) postfix z)) (sym begins) (listed-sound o.1 x.0 from o.2 x.2)))
   postfix-at ts (Some (kind.Keyword word.Case)) e = bind_skip _ ts (
       let x = ahead ts (kind.Keyword word.Case) e in
-      subst (λ z. Gives (cases line inner (past ts)) (Spelt line (suc n) postfix z)) (sym x.1) (cases-sound x.0 (past ts) x.2))
+      bind (opened-sound n (past ts)) (λ _ from o.
+      let begins : ts ≡ x.0 ∷ from = x.1 ∙ ap (λ z. x.0 ∷ z) (sym o.0) in
+      subst (λ z. Gives (cases line inner from) (Spelt line (suc n) postfix z)) (sym begins) (cases-sound x.0 from x.2)))
   postfix-at ts _ e = literal-sound ts
 
-  postfix-sound : (ts : List Token) → Gives (postfix_read line inner ts) (Spelt line (suc n) postfix ts)
+  postfix-sound : (ts : List Token) → Gives (postfix_read line n inner ts) (Spelt line (suc n) postfix ts)
   unfolding postfix_read
   postfix-sound ts = bind_peek _ ts (postfix-at ts (kind_ahead ts) refl)
 
@@ -444,7 +462,7 @@ record Inside (line : List ℕ) (n : ℕ) (inner : Nested → Reader Expression)
   sign_is : (ts : List Token) → Gives (inner nested.Sign ts) (Spelt line n signed ts)
 
 module _ (line : List ℕ) (n : ℕ) (inner : Nested → Reader Expression) (inside : Inside line n inner) where
-  signed-sound : (ts : List Token) → Gives (signed_read line inner ts) (Spelt line (suc n) signed ts)
+  signed-sound : (ts : List Token) → Gives (signed_read line n inner ts) (Spelt line (suc n) signed ts)
   unfolding signed_read
   signed-sound ts =
       bind (ate_symbol sign.Minus ts) (λ is_minus after c. by_test _ _ is_minus after _
@@ -458,16 +476,16 @@ module _ (line : List ℕ) (n : ℕ) (inner : Nested → Reader Expression) (ins
       subst (λ z. Gives (plus_read line inner next) (Spelt line (suc n) signed z)) (sym begins) (plus-sound line n inner inside.sign_is x.0 next x.2))
       (λ none.
       let same : next ≡ ts = d.absent none ∙ c.absent other in
-      subst (λ z. Gives (postfix_read line inner next) (Spelt line (suc n) signed z)) same
+      subst (λ z. Gives (postfix_read line n inner next) (Spelt line (suc n) signed z)) same
       (raised (λ e rest s. is_postfix (suc n) e next rest s) (postfix-sound line n inner inside.whole_is next))))))
 
-  product-sound : (ts : List Token) → Gives (product_read line inner ts) (Spelt line (suc n) product ts)
+  product-sound : (ts : List Token) → Gives (product_read line n inner ts) (Spelt line (suc n) product ts)
   unfolding product_read
-  product-sound ts = chain-sound line (suc n) product signed product_operator (signed_read line inner) signed-sound (is_signed (suc n)) (multiply (suc n)) ts
+  product-sound ts = chain-sound line (suc n) product signed product_operator (signed_read line n inner) signed-sound (is_signed (suc n)) (multiply (suc n)) ts
 
-  sum-sound : (ts : List Token) → Gives (sum_read line inner ts) (Spelt line (suc n) sum ts)
+  sum-sound : (ts : List Token) → Gives (sum_read line n inner ts) (Spelt line (suc n) sum ts)
   unfolding sum_read
-  sum-sound ts = chain-sound line (suc n) sum product sum_operator (product_read line inner) product-sound (is_product (suc n)) (add (suc n)) ts
+  sum-sound ts = chain-sound line (suc n) sum product sum_operator (product_read line n inner) product-sound (is_product (suc n)) (add (suc n)) ts
 
   -- a test for null after IS, of an expression that begins at `from`
   null_test-sound : (e : Expression) (t : Token) (from ts : List Token) → IsKeyword word.Is t → Spelt line (suc n) predicate from e (t ∷ ts) →
@@ -496,7 +514,7 @@ module _ (line : List ℕ) (n : ℕ) (inner : Nested → Reader Expression) (ins
   -- a predicate's right side, where the rule gives the whole of it
   tested-sound : (o : BinaryOperator) (left : Expression) (from ts : List Token) →
       ((right : Expression) (rest : List Token) → Spells line (suc n) sum right ts rest → Spells line (suc n) predicate (binary o left right) from rest) →
-      Gives (tested line inner o left ts) (Spelt line (suc n) predicate from)
+      Gives (tested line n inner o left ts) (Spelt line (suc n) predicate from)
   unfolding tested
   tested-sound o left from ts rule =
       bind (sum-sound ts) (λ right mid r. later _ _ (λ y rest k. record {
@@ -507,7 +525,7 @@ module _ (line : List ℕ) (n : ℕ) (inner : Nested → Reader Expression) (ins
       }) (checked_there (binary o left right) mid))
 
   predicate-at : (left : Expression) (from ts : List Token) (k : Option Kind) → kind_ahead ts ≡ k → Spelt line (suc n) predicate from left ts →
-      Gives (predicate_by line inner left k ts) (Spelt line (suc n) predicate from)
+      Gives (predicate_by line n inner left k ts) (Spelt line (suc n) predicate from)
   predicate-at left from ts (Some (kind.Keyword word.Is)) e s = bind_skip _ ts (
       let x = ahead ts (kind.Keyword word.Is) e in
       null_test-sound left x.0 from (past ts) x.2 (subst (λ z. Spelt line (suc n) predicate from left z) x.1 s))
@@ -532,19 +550,19 @@ module _ (line : List ℕ) (n : ℕ) (inner : Nested → Reader Expression) (ins
   predicate-at left from ts _ e s = refused _
 
   predicate_step-sound : (left : Expression) (from ts : List Token) → Spelt line (suc n) predicate from left ts →
-      Gives (predicate_step line inner left ts) (Spelt line (suc n) predicate from)
+      Gives (predicate_step line n inner left ts) (Spelt line (suc n) predicate from)
   unfolding predicate_step
   predicate_step-sound left from ts s = bind_peek _ ts (predicate-at left from ts (kind_ahead ts) refl s)
 
   predicates-sound-from : (turns : ℕ) (left : Expression) (from ts : List Token) → Spelt line (suc n) predicate from left ts →
-      Gives (predicates_from line inner turns left ts) (Spelt line (suc n) predicate from)
+      Gives (predicates_from line n inner turns left ts) (Spelt line (suc n) predicate from)
   unfolding predicates_from
   predicates-sound-from zero left from ts s = answer _ _ _ s
   predicates-sound-from (suc turns) left from ts s = bind_peek _ ts (by_test _ _ (begins_predicate (kind_ahead ts)) ts _
       (λ yes. bind (predicate_step-sound left from ts s) (λ further next f. predicates-sound-from turns further from next f))
       (λ none. answer _ _ _ s))
 
-  predicate-sound : (ts : List Token) → Gives (predicate_read line inner ts) (Spelt line (suc n) predicate ts)
+  predicate-sound : (ts : List Token) → Gives (predicate_read line n inner ts) (Spelt line (suc n) predicate ts)
   unfolding predicate_read
   predicate-sound ts = bind (sum-sound ts) (λ left mid s.
       predicates-sound-from (length mid) left ts mid (record { spells = is_sum (suc n) left ts mid s.spells; shallow = s.shallow }))
@@ -565,7 +583,7 @@ module _ (line : List ℕ) (n : ℕ) (inner : Nested → Reader Expression) (ins
   one_more_link by e t ts mid rest [] is s none = last_link (suc n) by e t ts rest is (subst (λ z. Spells line (suc n) predicate e ts z) (sym none) s)
   one_more_link by e t ts mid rest (l ∷ ls) is s further = next_link (suc n) by e (links_from (l ∷ ls)) t ts mid rest is s further
 
-  links-sound-from : (turns : ℕ) (found : List (Comparator × Expression)) (ts : List Token) → Gives (links_read line inner turns found ts) (FoundLinks found ts)
+  links-sound-from : (turns : ℕ) (found : List (Comparator × Expression)) (ts : List Token) → Gives (links_read line n inner turns found ts) (FoundLinks found ts)
   unfolding links_read
   links-sound-from zero found ts = answer _ _ _ (record { these = []; all_is = sym (append-nil found); spells = refl })
   links-sound-from (suc turns) found ts = bind_peek _ ts (by_option _ _ (at_kind comparator_of (kind_ahead ts)) ts _
@@ -579,13 +597,13 @@ module _ (line : List ℕ) (n : ℕ) (inner : Nested → Reader Expression) (ins
             (one_more_link by e x.0 (past ts) mid rest g.these x.2 s.spells g.spells);
       })) (links-sound-from turns (found ++ (by, e) ∷ []) mid)))))
 
-  links-sound : (ts : List Token) → Gives (links line inner ts) (λ ls rest. SpeltLinks ls ts rest)
+  links-sound : (ts : List Token) → Gives (links line n inner ts) (λ ls rest. SpeltLinks ls ts rest)
   unfolding links
   links-sound ts =
       later _ _ (λ all rest g. subst (λ z. SpeltLinks z ts rest) (sym g.all_is) g.spells) (links-sound-from (length ts) [] ts)
 
   compared-sound : (first : Expression) (ls : List (Comparator × Expression)) (ts mid rest : List Token) →
-      Spelt line (suc n) predicate ts first mid → SpeltLinks ls mid rest → Gives (compared line inner first ls rest) (Spelt line (suc n) comparisons ts)
+      Spelt line (suc n) predicate ts first mid → SpeltLinks ls mid rest → Gives (compared line n inner first ls rest) (Spelt line (suc n) comparisons ts)
   compared-sound first [] ts mid rest s none = answer _ _ _ (record {
     spells = is_predicate (suc n) first ts rest (subst (λ z. Spells line (suc n) predicate first ts z) (sym none) s.spells);
     shallow = s.shallow;
@@ -597,11 +615,11 @@ module _ (line : List ℕ) (n : ℕ) (inner : Nested → Reader Expression) (ins
     shallow = subst (λ z. depth z ≤ greatest_depth) (sym k.0) k.2;
   }) (checked_there (comparison first (links_from (l ∷ ls))) rest)
 
-  comparisons-sound : (ts : List Token) → Gives (comparisons_read line inner ts) (Spelt line (suc n) comparisons ts)
+  comparisons-sound : (ts : List Token) → Gives (comparisons_read line n inner ts) (Spelt line (suc n) comparisons ts)
   unfolding comparisons_read
   comparisons-sound ts = bind (predicate-sound ts) (λ first mid s. bind (links-sound mid) (λ ls rest l. compared-sound first ls ts mid rest s l))
 
-  negation-sound : (ts : List Token) → Gives (negation_read line inner ts) (Spelt line (suc n) negation ts)
+  negation-sound : (ts : List Token) → Gives (negation_read line n inner ts) (Spelt line (suc n) negation ts)
   unfolding negation_read
   negation-sound ts =
       bind (ate_keyword word.Not ts) (λ is_not after c. by_test _ _ is_not after _
@@ -614,22 +632,22 @@ module _ (line : List ℕ) (n : ℕ) (inner : Nested → Reader Expression) (ins
             (subst (λ z. Spells line (suc n) negation (unary unary_operator.Not e) z mid) (sym x.1) (not n e x.0 after mid x.2 s.spells)));
         shallow = subst (λ z. depth z ≤ greatest_depth) (sym k.0) k.2;
       })) (checked_there (unary unary_operator.Not e) mid)))
-      (λ none. subst (λ z. Gives (comparisons_read line inner after) (Spelt line (suc n) negation z)) (c.absent none)
+      (λ none. subst (λ z. Gives (comparisons_read line n inner after) (Spelt line (suc n) negation z)) (c.absent none)
       (raised (λ e rest s. is_comparison (suc n) e after rest s) (comparisons-sound after))))
 
-  conjunction-sound : (ts : List Token) → Gives (conjunction_read line inner ts) (Spelt line (suc n) conjunction ts)
+  conjunction-sound : (ts : List Token) → Gives (conjunction_read line n inner ts) (Spelt line (suc n) conjunction ts)
   unfolding conjunction_read
-  conjunction-sound ts = chain-sound line (suc n) conjunction negation conjunction_operator (negation_read line inner) negation-sound (is_negation (suc n)) (and (suc n)) ts
+  conjunction-sound ts = chain-sound line (suc n) conjunction negation conjunction_operator (negation_read line n inner) negation-sound (is_negation (suc n)) (and (suc n)) ts
 
-  exclusion-sound : (ts : List Token) → Gives (exclusion_read line inner ts) (Spelt line (suc n) exclusion ts)
+  exclusion-sound : (ts : List Token) → Gives (exclusion_read line n inner ts) (Spelt line (suc n) exclusion ts)
   unfolding exclusion_read
-  exclusion-sound ts = chain-sound line (suc n) exclusion conjunction exclusion_operator (conjunction_read line inner) conjunction-sound (is_conjunction (suc n)) (xor (suc n)) ts
+  exclusion-sound ts = chain-sound line (suc n) exclusion conjunction exclusion_operator (conjunction_read line n inner) conjunction-sound (is_conjunction (suc n)) (xor (suc n)) ts
 
-  disjunction-sound : (ts : List Token) → Gives (disjunction line inner ts) (Spelt line (suc n) whole ts)
+  disjunction-sound : (ts : List Token) → Gives (disjunction line n inner ts) (Spelt line (suc n) whole ts)
   unfolding disjunction
-  disjunction-sound ts = chain-sound line (suc n) whole exclusion disjunction_operator (exclusion_read line inner) exclusion-sound (is_exclusion (suc n)) (or (suc n)) ts
+  disjunction-sound ts = chain-sound line (suc n) whole exclusion disjunction_operator (exclusion_read line n inner) exclusion-sound (is_exclusion (suc n)) (or (suc n)) ts
 
-  level-sound : Inside line (suc n) (level line inner)
+  level-sound : Inside line (suc n) (level line n inner)
   level-sound = record { whole_is = disjunction-sound; negation_is = negation-sound; sign_is = signed-sound }
 
 -- what is read with so many levels is spelt with so many
@@ -638,5 +656,5 @@ unfolding nesting
 nesting-sound line zero = record { whole_is = λ ts. refused _; negation_is = λ ts. refused _; sign_is = λ ts. refused _ }
 nesting-sound line (suc n) = level-sound line n (nesting line n) (nesting-sound line n)
 
-pub expression-sound : (line : List ℕ) (ts : List Token) → Gives (expression line ts) (Spelt line (most_levels line) whole ts)
-expression-sound line ts = (nesting-sound line (most_levels line)).whole_is ts
+pub expression-sound : (line : List ℕ) (ts : List Token) → Gives (expression line ts) (Spelt line most_levels whole ts)
+expression-sound line ts = (nesting-sound line most_levels).whole_is ts

@@ -1,5 +1,5 @@
 -- What is read spells what is answered: projections, updates, clauses and statements.
-use Rattle.std.proofs.Common.{◌≡◌, ℕ, zero, suc, ◌≤◌, ◌<◌, ◌-◌, ◌⊎◌, inl, inr, Bool, true, false, IsTrue, List, [], ◌∷◌, ◌++◌, length, take, Option, Some, None, refl, sym, ap, ◌∙◌, subst, append_assoc, append-nil, arith, nat_lt, if◌then◌else◌}
+use Rattle.std.proofs.Common.{◌≡◌, ℕ, zero, suc, ◌<◌, ◌-◌, inl, inr, Bool, true, false, IsTrue, List, [], ◌∷◌, ◌++◌, length, take, Option, Some, None, refl, sym, ap, ◌∙◌, subst, append_assoc, append-nil, arith, nat_lt, if◌then◌else◌}
 use Rattle.std.proofs.lemmas.Bool.Decides.{nat_tests}
 use Rattle.cy_lexer.specs.declared.tokens.Token.{Token}
 use Rattle.cy_lexer.specs.declared.tokens.Kind.{Kind}
@@ -12,12 +12,11 @@ use Rattle.cy_parser.specs.declared.stages.Opening.{Opening}
 use Rattle.cy_parser.specs.declared.stages.Opening.TheVariants as opening
 use Rattle.cy_parser.specs.declared.stages.Stage.{Stage}
 use Rattle.cy_parser.specs.declared.stages.Stage.TheVariants as stage
-use Rattle.cy_trees.specs.Trees.{Name, Expression, null, boolean, integer, text, variable as variable_tree, property, has_labels, unary, binary, comparison, list, case, call, call_star, Path, Item, Key, Projection, SetItem, set_property, set_labels, RemoveItem, remove_property, remove_labels, Clause, «match», unwind, «with», «return», create, set, remove, delete, Statement}
-use Rattle.cy_parser.specs.Words.{is_word, is_name, denotes, number_limit}
-use Rattle.cy_parser.specs.internal.Reader.{Reader, and_then, at_kind, kind_ahead, past, skip, refuse, eat_keyword, ◌>>◌, ◌>>=◌, ◌<$>◌, pure}
-use Rattle.cy_parser.specs.internal.Expressions.{expression}
+use Rattle.cy_trees.specs.Trees.{Expression, Path, Projection, SetItem, set_property, RemoveItem, remove_property, Clause, «match», unwind, «with», «return», create, set, remove, delete}
+use Rattle.cy_parser.specs.Words.{is_word, is_name, number_limit}
+use Rattle.cy_parser.specs.internal.Reader.{at_kind, kind_ahead, past, skip, refuse, ◌>>◌, pure}
 use Rattle.cy_parser.specs.internal.Clauses as read
-use Rattle.cy_parser.specs.Spells.{IsSymbol, IsKeyword}
+use Rattle.cy_parser.specs.Spells.{IsSymbol}
 use Rattle.cy_parser.specs.SpellsClauses as spells
 use Rattle.cy_parser.specs.SpellsClauses.{SpellsEach, SpellsExpression, SpellsVariable, SpellsFilterIfAny, no_filter, filter, SpellsItem, item_as, item, SpellsKey, plain_key, asc, desc, SpellsOrderIfAny, no_order, order_by, SpellsCountIfAny, no_count, a_count, SpellsDistinct, not_distinct, distinct, SpellsProjection, projection, SpellsSetItem, set_property_to, set_labels_to, SpellsRemoveItem, remove_property_of, remove_labels_of, SpellsPath, SpellsClause}
 use Rattle.cy_parser.proofs.Gives.{AteKeyword, AteSymbol, Gives, bind, answer, refused, symbol_there, keyword_there, ate_symbol, ate_keyword, by_test, denoting_there, bind_peek, bind_skip, ahead, ahead_by, by_option}
@@ -34,23 +33,6 @@ module _ (line : List ℕ) where
       subst (λ z. SpellsFilterIfAny line (Some e) z rest) (sym x.1) (filter e x.0 after rest x.2 s))))
       (λ none. answer _ _ _ (subst (λ z. SpellsFilterIfAny line None z after) (c.absent none) (no_filter after))))
 
-  -- both say which column an item without AS has
-  same_column : (e : Expression) (own : List Token) → read.column_of line e own ≡ spells.column_of line e own
-  same_column null own = refl
-  same_column (boolean b) own = refl
-  same_column (integer n) own = refl
-  same_column (text t) own = refl
-  same_column (variable_tree v) own = refl
-  same_column (property e k) own = refl
-  same_column (has_labels e ls) own = refl
-  same_column (unary o e) own = refl
-  same_column (binary o a b) own = refl
-  same_column (comparison e ls) own = refl
-  same_column (list es) own = refl
-  same_column (case as1 e) own = refl
-  same_column (call f d es) own = refl
-  same_column (call_star f) own = refl
-
   column-sound : (e : Expression) (ts after : List Token) → SpellsExpression line e ts after → Gives (read.column line e ts after) (λ i rest. SpellsItem line i ts rest)
   unfolding read.column
   column-sound e ts after s =
@@ -62,9 +44,8 @@ module _ (line : List ℕ) where
       (item_as e x.0 w.0 ts rest (subst (λ z. SpellsExpression line e ts z) follows s) x.2 w.2))))
       (λ none. answer _ _ _ (
       let same : after ≡ mid = sym (c.absent none) in
-      subst (λ z. SpellsItem line (record { expression = e; column = read.column_of line e (take (length ts - length z) ts); named = false }) ts mid) (sym same)
-      (subst (λ z. SpellsItem line (record { expression = e; column = z; named = false }) ts mid) (sym (same_column e (take (length ts - length mid) ts)))
-      (item e ts mid (subst (λ z. SpellsExpression line e ts z) same s))))))
+      subst (λ z. SpellsItem line (record { expression = e; column = spells.column_of line e (take (length ts - length z) ts); named = false }) ts mid) (sym same)
+      (item e ts mid (subst (λ z. SpellsExpression line e ts z) same s)))))
 
   item-sound : (ts : List Token) → Gives (read.item line ts) (λ i rest. SpellsItem line i ts rest)
   unfolding read.item

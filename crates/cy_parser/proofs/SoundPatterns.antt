@@ -4,21 +4,19 @@ use Rattle.std.proofs.lemmas.Bool.Decides.{nat_tests}
 use Rattle.cy_lexer.specs.declared.tokens.Token.{Token}
 use Rattle.cy_lexer.specs.declared.tokens.Kind.{Kind}
 use Rattle.cy_lexer.specs.declared.tokens.Kind.TheVariants as kind
-use Rattle.cy_lexer.specs.declared.keywords.Keyword.TheVariants as word
 use Rattle.cy_lexer.specs.declared.symbols.Symbol.{Symbol}
 use Rattle.cy_lexer.specs.declared.symbols.Symbol.TheVariants as sign
-use Rattle.cy_trees.specs.declared.expressions.Variable.{Variable}
 use Rattle.cy_trees.specs.declared.clauses.Direction.{Direction}
 use Rattle.cy_trees.specs.declared.clauses.Direction.TheVariants as direction
 use Rattle.cy_trees.specs.declared.clauses.Length.{Length}
-use Rattle.cy_trees.specs.Trees.{Name, Expression, Entry, NodePattern, RelationshipPattern, Step, Path}
+use Rattle.cy_trees.specs.Trees.{Name, Step}
 use Rattle.cy_parser.specs.Words.{is_word, is_name, denotes, number_limit}
-use Rattle.cy_parser.specs.internal.Reader.{Reader, and_then, kind_ahead, past, skip, refuse, ◌>>◌, ◌>>=◌, ◌<$>◌, pure}
+use Rattle.cy_parser.specs.internal.Reader.{Reader, kind_ahead, past, skip, refuse, ◌>>◌, ◌<$>◌, pure}
 use Rattle.cy_parser.specs.internal.Expressions.{expression}
 use Rattle.cy_parser.specs.internal.Clauses as read
-use Rattle.cy_parser.specs.Spells.{IsSymbol, IsKeyword}
-use Rattle.cy_parser.specs.SpellsClauses.{SpellsEach, last, next, SpellsExpression, SpellsVariable, variable, SpellsVariableIfAny, no_variable, a_variable, SpellsLabelsIfAny, no_labels, labels, SpellsEntry, entry, SpellsMapIfAny, no_map, empty_map, map_of, SpellsNode, node, SpellsTypes, last_type, next_type, next_type_with_colon, SpellsTypesIfAny, no_types, types, SpellsLength, any_length, exactly, unbounded, at_least, at_most, between, SpellsLengthIfAny, no_length, a_length, SpellsArrow, arrow, no_arrow, SpellsDetails, no_details, details, SpellsRelationship, relationship, SpellsSteps, no_steps, a_step, SpellsPath, path, greatest_bound, direction_of}
-use Rattle.cy_parser.proofs.Gives.{AteKeyword, AteSymbol, Gives, bind, answer, refused, symbol_there, keyword_there, ate_symbol, ate_keyword, by_test, denoting_there, bind_peek, bind_skip, ahead, ahead_by, by_option}
+use Rattle.cy_parser.specs.Spells.{IsSymbol}
+use Rattle.cy_parser.specs.SpellsClauses.{SpellsEach, last, next, SpellsExpression, SpellsVariable, variable, SpellsVariableIfAny, no_variable, a_variable, SpellsLabelsIfAny, no_labels, labels, SpellsEntry, entry, SpellsMapIfAny, no_map, empty_map, map_of, SpellsNode, node, SpellsTypes, last_type, next_type, next_type_with_colon, SpellsTypesIfAny, no_types, types, SpellsLength, any_length, exactly, unbounded, at_least, at_most, between, SpellsLengthIfAny, no_length, a_length, SpellsArrow, arrow, no_arrow, SpellsDetails, no_details, details, SpellsRelationship, relationship, SpellsSteps, no_steps, a_step, SpellsPath, path, greatest_bound}
+use Rattle.cy_parser.proofs.Gives.{AteSymbol, Gives, bind, answer, refused, symbol_there, ate_symbol, by_test, denoting_there, bind_peek, bind_skip, ahead}
 use Rattle.cy_parser.proofs.Sound.{later, labels-sound, expression-sound}
 
 -- one tree after another, each with a comma before it
@@ -251,12 +249,6 @@ arrow-sound : (s : Symbol) (ts : List Token) (b : Bool) (rest : List Token) → 
 arrow-sound s ts true rest c = let x = c.there refl in subst (λ z. SpellsArrow s true z rest) (sym x.1) (arrow x.0 rest x.2)
 arrow-sound s ts false rest c = subst (λ z. SpellsArrow s false z rest) (c.absent refl) (no_arrow rest)
 
-same_direction : (a b : Bool) → read.direction_of a b ≡ direction_of a b
-same_direction true true = refl
-same_direction true false = refl
-same_direction false true = refl
-same_direction false false = refl
-
 module _ (line : List ℕ) where
   body-sound : (towards : Direction) (opening : Token) (ts : List Token) → IsSymbol sign.LeftBracket opening →
       Gives (read.relationship_body line towards ts) (λ r rest. SpellsDetails line r (opening ∷ ts) rest)
@@ -280,7 +272,6 @@ module _ (line : List ℕ) where
   relationship-sound ts =
       bind (ate_symbol sign.Less ts) (λ is_left from a. bind (symbol_there sign.Minus from) (λ _ mid x. bind (details-sound mid) (λ r after s.
       bind (symbol_there sign.Minus after) (λ _ last_ y. bind (ate_symbol sign.Greater last_) (λ is_right rest b. answer _ _ _ (
-      subst (λ d. SpellsRelationship line (record r { direction = d }) ts rest) (sym (same_direction is_left is_right))
       (relationship r is_left is_right x.0 y.0 ts mid last_ rest (subst (λ z. SpellsArrow sign.Less is_left ts z) x.1 (arrow-sound sign.Less ts is_left from a)) x.2
       (subst (λ z. SpellsDetails line r mid z) y.1 s) y.2 (arrow-sound sign.Greater last_ is_right rest b))))))))
 

@@ -1,5 +1,5 @@
 -- The test of a token's place, and what it decides.
-use Rattle.std.proofs.Common.{◌≡◌, ℕ, ◌<◌, ◌≤◌, Bool, true, false, List, length, cond, IsCharBoundary, encode_utf8_all, chars, refl, sym, ap, ◌∙◌, arith, rules, nat_lt, nat_le, ◌&&◌, ◌||◌, [], slice_index, not}
+use Rattle.std.proofs.Common.{◌≡◌, ℕ, ◌<◌, ◌≤◌, Bool, true, false, List, length, IsCharBoundary, encode_utf8_all, chars, sym, ◌∙◌, arith, nat_lt, []}
 use Rattle.std.proofs.lemmas.Bool.Decides.{nat_tests}
 use Rattle.cy_lexer.specs.declared.tokens.Token.{Token}
 use Rattle.cy_lexer.specs.Spans.{IsSpanOf, slice_of}

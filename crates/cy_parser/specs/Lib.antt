@@ -2,4 +2,5 @@ pub mod Faults
 pub mod Words
 pub mod Spells
 pub mod SpellsClauses
+pub mod Shown
 pub mod internal

@@ -1,7 +1,7 @@
 -- Which tokens spell an expression: the rules of the grammar, level by level (openCypher 9, grammar, narrowed to this
 -- profile). What stands from the tokens `ts` up to the tokens `rest`, which are the last of them, spells the expression
 -- at the level, where so many levels may be open in it, its own counted. Each rule is one production. `line` has the tokens' texts.
-use Rattle.std.specs.Prelude.{◌≡◌, ℕ, suc, pos, ◌<◌, ◌≤◌, true, false, IsTrue, List, [], ◌∷◌, Option, Some, None, Bool}
+use Rattle.std.specs.Prelude.{◌≡◌, ℕ, suc, pos, ◌<◌, ◌≤◌, true, false, IsTrue, List, [], ◌∷◌, Some, None, Bool}
 use Rattle.cy_lexer.specs.declared.tokens.Kind.{Kind}
 use Rattle.cy_lexer.specs.declared.tokens.Kind.TheVariants as kind
 use Rattle.cy_lexer.specs.declared.tokens.Token.{Token}
@@ -148,10 +148,10 @@ mutual
     null_ : (n : ℕ) (t : Token) (rest : List Token) → IsKeyword word.Null t → Spells line (suc n) postfix null (t ∷ rest) rest
     number : (n m : ℕ) (t : Token) (rest : List Token) → IsNumber m t → m < number_limit → Spells line (suc n) postfix (integer (pos m)) (t ∷ rest) rest
     text_ : (n : ℕ) (t : Token) (rest : List Token) → t.kind ≡ kind.Text → Spells line (suc n) postfix (text (denotes line t)) (t ∷ rest) rest
-    -- list = "[" [ expr { "," expr } ] "]"
+    -- list = "[" [ expr { "," expr } ] "]", whose bracket is a level, also where nothing stands inside
     empty_list : (n : ℕ) (opening closing : Token) (rest : List Token)
         → IsSymbol sign.LeftBracket opening → IsSymbol sign.RightBracket closing
-        → Spells line (suc n) postfix (list no_more) (opening ∷ closing ∷ rest) rest
+        → Spells line (suc (suc n)) postfix (list no_more) (opening ∷ closing ∷ rest) rest
     list_of : (n : ℕ) (es : Expressions) (opening closing : Token) (ts rest : List Token)
         → IsSymbol sign.LeftBracket opening → SpellsAll line n es ts (closing ∷ rest) → IsSymbol sign.RightBracket closing
         → Spells line (suc n) postfix (list es) (opening ∷ ts) rest
@@ -160,15 +160,15 @@ mutual
         → IsKeyword word.Case case_ → IsKeyword word.When when → SpellsArms line n arms ts mid
         → SpellsOtherwise line n e mid (end ∷ rest) → IsKeyword word.End end
         → Spells line (suc n) postfix (case arms e) (case_ ∷ when ∷ ts) rest
-    -- head = name | name "(" [ "*" | ["DISTINCT"] expr { "," expr } ] ")" | "(" expr ")"
+    -- head = name | name "(" [ "*" | ["DISTINCT"] expr { "," expr } ] ")" | "(" expr ")", where a call's bracket is a level as a list's
     name : (n : ℕ) (t : Token) (rest : List Token) → IsTrue (is_name t.kind)
         → Spells line (suc n) head (variable (record { name = denotes line t; column = None })) (t ∷ rest) rest
     call_of_star : (n : ℕ) (t opening star closing : Token) (rest : List Token)
         → IsTrue (is_name t.kind) → IsSymbol sign.LeftParenthesis opening → IsSymbol sign.Star star → IsSymbol sign.RightParenthesis closing
-        → Spells line (suc n) head (call_star (lowered (denotes line t))) (t ∷ opening ∷ star ∷ closing ∷ rest) rest
+        → Spells line (suc (suc n)) head (call_star (lowered (denotes line t))) (t ∷ opening ∷ star ∷ closing ∷ rest) rest
     call_of_nothing : (n : ℕ) (t opening closing : Token) (rest : List Token)
         → IsTrue (is_name t.kind) → IsSymbol sign.LeftParenthesis opening → IsSymbol sign.RightParenthesis closing
-        → Spells line (suc n) head (call (lowered (denotes line t)) false no_more) (t ∷ opening ∷ closing ∷ rest) rest
+        → Spells line (suc (suc n)) head (call (lowered (denotes line t)) false no_more) (t ∷ opening ∷ closing ∷ rest) rest
     call_of : (n : ℕ) (es : Expressions) (t opening closing : Token) (ts rest : List Token)
         → IsTrue (is_name t.kind) → IsSymbol sign.LeftParenthesis opening → SpellsAll line n es ts (closing ∷ rest) → IsSymbol sign.RightParenthesis closing
         → Spells line (suc n) head (call (lowered (denotes line t)) false es) (t ∷ opening ∷ ts) rest

@@ -1,8 +1,6 @@
 -- Which tokens spell patterns, clauses and a statement: the rules of the grammar (openCypher 9, grammar, narrowed to this
 -- profile). As for expressions, what stands from the tokens `ts` up to the tokens `rest` spells the tree.
-use Rattle.std.specs.Prelude.{◌≡◌, ℕ, ◌<◌, ◌≤◌, ◌-◌, ◌⊎◌, length, take, Bool, true, false, IsTrue, List, [], ◌∷◌, Option, Some, None}
-use Rattle.cy_lexer.specs.declared.tokens.Kind.{Kind}
-use Rattle.cy_lexer.specs.declared.tokens.Kind.TheVariants as kind
+use Rattle.std.specs.Prelude.{ℕ, ◌<◌, ◌≤◌, ◌-◌, ◌⊎◌, length, take, Bool, true, false, IsTrue, List, [], ◌∷◌, Option, Some, None}
 use Rattle.cy_lexer.specs.declared.tokens.Token.{Token}
 use Rattle.cy_lexer.specs.declared.keywords.Keyword.{Keyword}
 use Rattle.cy_lexer.specs.declared.keywords.Keyword.TheVariants as word
@@ -16,10 +14,6 @@ use Rattle.cy_trees.specs.Trees.{Name, Expression, variable as variable_tree, En
 use Rattle.cy_trees.specs.Depth.{depth, greatest_depth}
 use Rattle.cy_parser.specs.Words.{is_name, is_word, denotes, number_limit, written}
 use Rattle.cy_parser.specs.Spells.{Spells, whole, SpellsLabels, IsKeyword, IsSymbol, IsNumber}
-
--- how trees of a kind are spelt
-abbrev pub Spelling : Type 0 → Type 1
-Spelling A = A → List Token → List Token → Type 0
 
 -- trees with a `,` between, one or more
 pub data SpellsEach {A : Type 0} (each : A → List Token → List Token → Type 0) : List A → List Token → List Token → Type 0 where
@@ -105,6 +99,7 @@ pub data SpellsLengthIfAny : Option Length → List Token → List Token → Typ
   a_length : (l : Length) (star : Token) (ts rest : List Token) → IsSymbol sign.Star star → SpellsLength l ts rest
       → SpellsLengthIfAny (Some l) (star ∷ ts) rest
 
+-- a relationship's direction, from whether an arrow stands on its left and on its right (openCypher 9: with both or none it is either)
 abbrev pub direction_of : Bool → Bool → Direction
 direction_of true true = direction.Either
 direction_of true false = direction.Left

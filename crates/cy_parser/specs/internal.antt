@@ -3,3 +3,4 @@ pub mod Expressions
 pub mod Nests
 pub mod Operands
 pub mod Clauses
+pub mod WellFormed

@@ -26,6 +26,17 @@ impl<'l, F: Fn(Global, &str, &mut Cursor<'_>, usize, Nested) -> Result<Operand, 
     'l,
     F,
 > {
+    /// Opens one more level, if it may.
+    #[tactic(auto, unfolding(crate::specs::internal::Expressions::opened))]
+    pub(crate) fn open_level(&self, tokens: &Cursor<'_>) -> Result<(), Refusal>
+        ensures { Reads (λ u. u) (spec.opened self.now.levels tokens.now) result tokens.now }
+    {
+        if self.levels == 0 {
+            return Err(Refusal::TooDeep(tokens.count()));
+        }
+        Ok(())
+    }
+
     /// What stands inside of one more level.
     pub(crate) fn inside(&self, tokens: &mut Cursor<'_>, place: Nested) -> Result<Operand, Refusal>
         requires { Nests self.now.levels (F.pre self.now.inner) (F.post self.now.inner) }

@@ -43,7 +43,7 @@ impl<'l, F: Fn(Global, &str, &mut Cursor<'_>, usize, Nested) -> Result<Operand, 
     #[tactic(auto, unfolding(crate::specs::internal::Reader::and_then, crate::specs::internal::Expressions::signed, crate::specs::internal::Expressions::plus))]
     pub(crate) fn signed(&self, tokens: &mut Cursor<'_>) -> Result<Operand, Refusal>
         requires { Nests self.now.levels (F.pre self.now.inner) (F.post self.now.inner) }
-        ensures { Reads operand_of (spec.signed self.now.line.now (spec.nesting self.now.line.now self.now.levels) tokens.old) result tokens.new }
+        ensures { Reads operand_of (spec.signed self.now.line.now self.now.levels (spec.nesting self.now.line.now self.now.levels) tokens.old) result tokens.new }
     {
         if tokens.eat_symbol(Symbol::Minus) {
             return self.minus(tokens);
@@ -58,7 +58,7 @@ impl<'l, F: Fn(Global, &str, &mut Cursor<'_>, usize, Nested) -> Result<Operand, 
     /// Operands of `*`, `/` and `%`.
     pub(crate) fn product(&self, tokens: &mut Cursor<'_>) -> Result<Operand, Refusal>
         requires { Nests self.now.levels (F.pre self.now.inner) (F.post self.now.inner) }
-        ensures { Reads operand_of (spec.product self.now.line.now (spec.nesting self.now.line.now self.now.levels) tokens.old) result tokens.new }
+        ensures { Reads operand_of (spec.product self.now.line.now self.now.levels (spec.nesting self.now.line.now self.now.levels) tokens.old) result tokens.new }
     {
         let mut left = self.signed(tokens)?;
         for _turn in 0..tokens.count() {
@@ -75,7 +75,7 @@ impl<'l, F: Fn(Global, &str, &mut Cursor<'_>, usize, Nested) -> Result<Operand, 
     /// Operands of `+` and `-`.
     pub(crate) fn sum(&self, tokens: &mut Cursor<'_>) -> Result<Operand, Refusal>
         requires { Nests self.now.levels (F.pre self.now.inner) (F.post self.now.inner) }
-        ensures { Reads operand_of (spec.sum self.now.line.now (spec.nesting self.now.line.now self.now.levels) tokens.old) result tokens.new }
+        ensures { Reads operand_of (spec.sum self.now.line.now self.now.levels (spec.nesting self.now.line.now self.now.levels) tokens.old) result tokens.new }
     {
         let mut left = self.product(tokens)?;
         for _turn in 0..tokens.count() {
@@ -112,7 +112,7 @@ impl<'l, F: Fn(Global, &str, &mut Cursor<'_>, usize, Nested) -> Result<Operand, 
         left: Operand,
     ) -> Result<Operand, Refusal>
         requires { Nests self.now.levels (F.pre self.now.inner) (F.post self.now.inner) }
-        ensures { Reads operand_of (spec.tested self.now.line.now (spec.nesting self.now.line.now self.now.levels) operator (operand_of left) tokens.old) result tokens.new }
+        ensures { Reads operand_of (spec.tested self.now.line.now self.now.levels (spec.nesting self.now.line.now self.now.levels) operator (operand_of left) tokens.old) result tokens.new }
     {
         let right = self.sum(tokens)?;
         binary(self.alloc, tokens, operator, left, right)
@@ -122,7 +122,7 @@ impl<'l, F: Fn(Global, &str, &mut Cursor<'_>, usize, Nested) -> Result<Operand, 
     #[tactic(auto, unfolding(crate::specs::internal::Reader::and_then, crate::specs::internal::Expressions::predicate_step))]
     fn predicate_step(&self, tokens: &mut Cursor<'_>, left: Operand) -> Result<Operand, Refusal>
         requires { Nests self.now.levels (F.pre self.now.inner) (F.post self.now.inner) }
-        ensures { Reads operand_of (spec.predicate_step self.now.line.now (spec.nesting self.now.line.now self.now.levels) (operand_of left) tokens.old) result tokens.new }
+        ensures { Reads operand_of (spec.predicate_step self.now.line.now self.now.levels (spec.nesting self.now.line.now self.now.levels) (operand_of left) tokens.old) result tokens.new }
     {
         match tokens.peek() {
             Some(Kind::Keyword(Keyword::Is)) => {
@@ -154,7 +154,7 @@ impl<'l, F: Fn(Global, &str, &mut Cursor<'_>, usize, Nested) -> Result<Operand, 
     /// A sum with the predicates after it.
     pub(crate) fn predicate(&self, tokens: &mut Cursor<'_>) -> Result<Operand, Refusal>
         requires { Nests self.now.levels (F.pre self.now.inner) (F.post self.now.inner) }
-        ensures { Reads operand_of (spec.predicate self.now.line.now (spec.nesting self.now.line.now self.now.levels) tokens.old) result tokens.new }
+        ensures { Reads operand_of (spec.predicate self.now.line.now self.now.levels (spec.nesting self.now.line.now self.now.levels) tokens.old) result tokens.new }
     {
         let mut left = self.sum(tokens)?;
         for _turn in 0..tokens.count() {
@@ -169,7 +169,7 @@ impl<'l, F: Fn(Global, &str, &mut Cursor<'_>, usize, Nested) -> Result<Operand, 
     /// The comparators after a first operand, each with its operand.
     fn links(&self, tokens: &mut Cursor<'_>) -> Result<Gathered<Link>, Refusal>
         requires { Nests self.now.levels (F.pre self.now.inner) (F.post self.now.inner) }
-        ensures read { Reads links_in (spec.links self.now.line.now (spec.nesting self.now.line.now self.now.levels) tokens.old) result tokens.new }
+        ensures read { Reads links_in (spec.links self.now.line.now self.now.levels (spec.nesting self.now.line.now self.now.levels) tokens.old) result tokens.new }
         ensures measured { IfOk result (λ g. LinksAreMeasured g) }
     {
         let mut found = Gathered::<Link>::new(self.alloc);
@@ -187,7 +187,7 @@ impl<'l, F: Fn(Global, &str, &mut Cursor<'_>, usize, Nested) -> Result<Operand, 
     #[tactic(auto, unfolding(crate::specs::internal::Reader::and_then, crate::specs::internal::Expressions::comparisons))]
     pub(crate) fn comparisons(&self, tokens: &mut Cursor<'_>) -> Result<Operand, Refusal>
         requires { Nests self.now.levels (F.pre self.now.inner) (F.post self.now.inner) }
-        ensures { Reads operand_of (spec.comparisons self.now.line.now (spec.nesting self.now.line.now self.now.levels) tokens.old) result tokens.new }
+        ensures { Reads operand_of (spec.comparisons self.now.line.now self.now.levels (spec.nesting self.now.line.now self.now.levels) tokens.old) result tokens.new }
     {
         let first = self.predicate(tokens)?;
         let links = self.links(tokens)?;
@@ -201,7 +201,7 @@ impl<'l, F: Fn(Global, &str, &mut Cursor<'_>, usize, Nested) -> Result<Operand, 
     #[tactic(auto, unfolding(crate::specs::internal::Reader::and_then, crate::specs::internal::Expressions::negation))]
     pub(crate) fn negation(&self, tokens: &mut Cursor<'_>) -> Result<Operand, Refusal>
         requires { Nests self.now.levels (F.pre self.now.inner) (F.post self.now.inner) }
-        ensures { Reads operand_of (spec.negation self.now.line.now (spec.nesting self.now.line.now self.now.levels) tokens.old) result tokens.new }
+        ensures { Reads operand_of (spec.negation self.now.line.now self.now.levels (spec.nesting self.now.line.now self.now.levels) tokens.old) result tokens.new }
     {
         if !tokens.eat_keyword(Keyword::Not) {
             return self.comparisons(tokens);
@@ -213,7 +213,7 @@ impl<'l, F: Fn(Global, &str, &mut Cursor<'_>, usize, Nested) -> Result<Operand, 
     /// Operands of AND.
     pub(crate) fn conjunction(&self, tokens: &mut Cursor<'_>) -> Result<Operand, Refusal>
         requires { Nests self.now.levels (F.pre self.now.inner) (F.post self.now.inner) }
-        ensures { Reads operand_of (spec.conjunction self.now.line.now (spec.nesting self.now.line.now self.now.levels) tokens.old) result tokens.new }
+        ensures { Reads operand_of (spec.conjunction self.now.line.now self.now.levels (spec.nesting self.now.line.now self.now.levels) tokens.old) result tokens.new }
     {
         let mut left = self.negation(tokens)?;
         for _turn in 0..tokens.count() {
@@ -230,7 +230,7 @@ impl<'l, F: Fn(Global, &str, &mut Cursor<'_>, usize, Nested) -> Result<Operand, 
     /// Operands of XOR.
     pub(crate) fn exclusion(&self, tokens: &mut Cursor<'_>) -> Result<Operand, Refusal>
         requires { Nests self.now.levels (F.pre self.now.inner) (F.post self.now.inner) }
-        ensures { Reads operand_of (spec.exclusion self.now.line.now (spec.nesting self.now.line.now self.now.levels) tokens.old) result tokens.new }
+        ensures { Reads operand_of (spec.exclusion self.now.line.now self.now.levels (spec.nesting self.now.line.now self.now.levels) tokens.old) result tokens.new }
     {
         let mut left = self.conjunction(tokens)?;
         for _turn in 0..tokens.count() {
@@ -247,7 +247,7 @@ impl<'l, F: Fn(Global, &str, &mut Cursor<'_>, usize, Nested) -> Result<Operand, 
     /// Operands of OR: a whole expression.
     pub(crate) fn disjunction(&self, tokens: &mut Cursor<'_>) -> Result<Operand, Refusal>
         requires { Nests self.now.levels (F.pre self.now.inner) (F.post self.now.inner) }
-        ensures { Reads operand_of (spec.disjunction self.now.line.now (spec.nesting self.now.line.now self.now.levels) tokens.old) result tokens.new }
+        ensures { Reads operand_of (spec.disjunction self.now.line.now self.now.levels (spec.nesting self.now.line.now self.now.levels) tokens.old) result tokens.new }
     {
         let mut left = self.exclusion(tokens)?;
         for _turn in 0..tokens.count() {
@@ -264,7 +264,7 @@ impl<'l, F: Fn(Global, &str, &mut Cursor<'_>, usize, Nested) -> Result<Operand, 
     /// What may stand at the place.
     pub(crate) fn level(&self, tokens: &mut Cursor<'_>, place: Nested) -> Result<Operand, Refusal>
         requires { Nests self.now.levels (F.pre self.now.inner) (F.post self.now.inner) }
-        ensures { Reads operand_of (spec.level self.now.line.now (spec.nesting self.now.line.now self.now.levels) place tokens.old) result tokens.new }
+        ensures { Reads operand_of (spec.level self.now.line.now self.now.levels (spec.nesting self.now.line.now self.now.levels) place tokens.old) result tokens.new }
     {
         match place {
             Nested::Whole => self.disjunction(tokens),

@@ -2,6 +2,7 @@
 
 ghost use Rattle.std.specs.Prelude.{◌≡◌, ◌∷◌, [], ◌≤◌, ◌<◌, ◌≢◌, map, option_map, IfOk};
 ghost use Rattle.cy_trees.specs.Views.{expression_of, entry_of, properties_of, node_of, relationship_of, step_of, path_of, paths_of};
+ghost use Rattle.cy_parser.specs.SpellsClauses as spells;
 ghost use Rattle.cy_parser.specs.internal.Clauses as spec;
 ghost use Rattle.cy_parser.specs.internal.Reader.{Reads};
 
@@ -15,7 +16,7 @@ use cy_values::Text;
 
 /// The direction of a relationship, from the arrows that are written.
 fn direction_of(is_left: bool, is_right: bool) -> Direction
-    ensures { result ≡ spec.direction_of is_left is_right }
+    ensures { result ≡ spells.direction_of is_left is_right }
 {
     match (is_left, is_right) {
         (true, false) => Direction::Left,

@@ -116,10 +116,11 @@ impl<'l, F: Fn(Global, &str, &mut Cursor<'_>, usize, Nested) -> Result<Operand, 
     #[tactic(auto, unfolding(crate::specs::internal::Reader::and_then, crate::specs::internal::Expressions::named))]
     fn named(&self, tokens: &mut Cursor<'_>) -> Result<Operand, Refusal>
         requires { Nests self.now.levels (F.pre self.now.inner) (F.post self.now.inner) }
-        ensures { Reads operand_of (spec.named self.now.line.now (spec.nesting self.now.line.now self.now.levels) tokens.old) result tokens.new }
+        ensures { Reads operand_of (spec.named self.now.line.now self.now.levels (spec.nesting self.now.line.now self.now.levels) tokens.old) result tokens.new }
     {
         let name = tokens.name(self.alloc, self.line)?;
         if tokens.eat_symbol(Symbol::LeftParenthesis) {
+            self.open_level(tokens)?;
             return self.called(tokens, lowered(self.alloc, &name)?);
         }
         Ok(leaf(Expr::Variable(Variable { name, column: None })))
@@ -208,7 +209,7 @@ impl<'l, F: Fn(Global, &str, &mut Cursor<'_>, usize, Nested) -> Result<Operand, 
     #[tactic(auto, unfolding(crate::specs::internal::Reader::and_then, crate::specs::internal::Expressions::postfix))]
     pub(crate) fn postfix(&self, tokens: &mut Cursor<'_>) -> Result<Operand, Refusal>
         requires { Nests self.now.levels (F.pre self.now.inner) (F.post self.now.inner) }
-        ensures { Reads operand_of (spec.postfix self.now.line.now (spec.nesting self.now.line.now self.now.levels) tokens.old) result tokens.new }
+        ensures { Reads operand_of (spec.postfix self.now.line.now self.now.levels (spec.nesting self.now.line.now self.now.levels) tokens.old) result tokens.new }
     {
         match tokens.peek() {
             Some(Kind::Name | Kind::QuotedName) => {
@@ -222,10 +223,12 @@ impl<'l, F: Fn(Global, &str, &mut Cursor<'_>, usize, Nested) -> Result<Operand, 
             }
             Some(Kind::Symbol(Symbol::LeftBracket)) => {
                 tokens.skip();
+                self.open_level(tokens)?;
                 self.listed(tokens)
             }
             Some(Kind::Keyword(Keyword::Case)) => {
                 tokens.skip();
+                self.open_level(tokens)?;
                 self.cases(tokens)
             }
             _ => literal(self.alloc, self.line, tokens),

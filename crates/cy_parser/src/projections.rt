@@ -4,6 +4,7 @@ ghost use Rattle.std.specs.Prelude.{◌≡◌, ◌-◌, Some, take, length, map,
 ghost use Rattle.cy_parser.specs.declared.refusals.Refusal.TheVariants.{NoMemory};
 ghost use Rattle.cy_parser.specs.Words as words;
 ghost use Rattle.cy_trees.specs.Views.{expression_of, filter_of, item_of, key_of, projection_of};
+ghost use Rattle.cy_parser.specs.SpellsClauses as spells;
 ghost use Rattle.cy_parser.specs.internal.Clauses as spec;
 ghost use Rattle.cy_parser.specs.internal.Reader.{Reads};
 
@@ -53,7 +54,7 @@ impl<'l> Source<'l> {
 
     /// The column of an item without AS: a variable's name, or the expression as it is written.
     fn column_of(&self, expression: &Expr, before: &[Token], after: usize) -> Result<Text, Refusal>
-        ensures value { IfOk result (λ t. t ≡ spec.column_of self.now.line.now (expression_of expression.now) (take (length before.now - after) before.now)) }
+        ensures value { IfOk result (λ t. t ≡ spells.column_of self.now.line.now (expression_of expression.now) (take (length before.now - after) before.now)) }
         ensures memory { IfErr result (λ e. e ≡ NoMemory) }
     {
         match expression {

@@ -4,7 +4,7 @@ use Rattle.std.specs.Prelude.{encode_utf8, encode_utf8_all, chars, ◌==◌, ◌
 use Rattle.std.specs.Str.{IsUtf8}
 use Rattle.std.proofs.lemmas.List.{append_assoc, append-nil}
 use Rattle.std.proofs.lemmas.Str.{chars_past_char, chars-nil}
-use Rattle.cy_trees.specs.Show.{doubled, escaped}
+use Rattle.cy_lexer.specs.Words.{doubled, escaped}
 
 pub encodes_append : (cs ds : List ℕ) → encode_utf8_all (cs ++ ds) ≡ encode_utf8_all cs ++ encode_utf8_all ds
 encodes_append [] ds = refl

@@ -1,9 +1,11 @@
 -- How trees are written (own): as words with single spaces. Keywords stand in capitals, names in backticks, texts in
 -- single quotes, and each operator of an expression in brackets. What is written reads back to its tree.
-use Rattle.std.specs.Prelude.{ℕ, suc, pos, negsuc, Bool, true, false, ◌||◌, ◌==◌, if◌then◌else◌, List, [], ◌∷◌, ◌++◌, map, Option, Some, None, codes, chars, encode_utf8_all}
+use Rattle.std.specs.Prelude.{ℕ, suc, pos, negsuc, Bool, true, false, List, [], ◌∷◌, ◌++◌, map, Option, Some, None, codes, chars, encode_utf8_all}
 use Rattle.std.specs.Fmt.{decimal}
 use Rattle.std.specs.List.{flat_map}
 use Rattle.cy_lexer.specs.Keywords.{spelling}
+use Rattle.cy_lexer.specs.Words.{Word, doubled, escaped, signs}
+use Rattle.cy_lexer.specs.Words as words
 use Rattle.cy_lexer.specs.declared.keywords.Keyword.{Keyword}
 use Rattle.cy_lexer.specs.declared.keywords.Keyword.TheVariants as keyword
 use Rattle.cy_lexer.specs.declared.symbols.Symbol.{Symbol}
@@ -20,63 +22,18 @@ use Rattle.cy_trees.specs.declared.clauses.Direction.TheVariants as direction
 use Rattle.cy_trees.specs.declared.clauses.Length.{Length}
 use Rattle.cy_trees.specs.Trees.{Name, Expression, null, boolean, integer, text, variable, property, has_labels, unary, binary, comparison, list, case, call, call_star, Expressions, no_more, more, Links, no_links, link, Arms, no_arms, arm, Otherwise, nothing, otherwise, Entry, NodePattern, RelationshipPattern, Step, Path, Item, Key, Projection, SetItem, set_property, set_labels, RemoveItem, remove_property, remove_labels, Clause, «match», unwind, «with», «return», create, set, remove, delete, Statement}
 
--- a keyword, a name by its characters, a text by its characters, a number, or a symbol
-pub data Word : Type 0 where
-  reserved : Keyword → Word
-  quoted_name : List ℕ → Word
-  quoted_text : List ℕ → Word
-  number : ℕ → Word
-  sign : Symbol → Word
-
 -- a word, or a space between words
 pub data Piece : Type 0 where
   word : Word → Piece
   space : Piece
 
--- characters as they stand in backticks: each backtick, which is 96, doubled
-abbrev pub doubled : List ℕ → List ℕ
-doubled [] = []
-doubled (c ∷ cs) = if c == 96 then 96 ∷ 96 ∷ doubled cs else c ∷ doubled cs
-
--- characters as they stand in single quotes: a backslash, which is 92, before each backslash and each single quote,
--- which is 39
-abbrev pub escaped : List ℕ → List ℕ
-escaped [] = []
-escaped (c ∷ cs) = if (c == 92) || (c == 39) then 92 ∷ c ∷ escaped cs else c ∷ escaped cs
-
--- how a symbol is written
-abbrev pub symbol_text : Symbol → List ℕ
-symbol_text symbol.DotDot = codes ".."
-symbol_text symbol.NotEqual = codes "<>"
-symbol_text symbol.LessOrEqual = codes "<="
-symbol_text symbol.GreaterOrEqual = codes ">="
-symbol_text symbol.LeftParenthesis = codes "("
-symbol_text symbol.RightParenthesis = codes ")"
-symbol_text symbol.LeftBracket = codes "["
-symbol_text symbol.RightBracket = codes "]"
-symbol_text symbol.LeftBrace = codes "{"
-symbol_text symbol.RightBrace = codes "}"
-symbol_text symbol.Comma = codes ","
-symbol_text symbol.Colon = codes ":"
-symbol_text symbol.Semicolon = codes ";"
-symbol_text symbol.Dot = codes "."
-symbol_text symbol.Bar = codes "|"
-symbol_text symbol.Plus = codes "+"
-symbol_text symbol.Minus = codes "-"
-symbol_text symbol.Star = codes "*"
-symbol_text symbol.Slash = codes "/"
-symbol_text symbol.Percent = codes "%"
-symbol_text symbol.Equal = codes "="
-symbol_text symbol.Less = codes "<"
-symbol_text symbol.Greater = codes ">"
-
 -- the bytes of a word and of a piece
 abbrev pub word_text : Word → List ℕ
-word_text (reserved k) = spelling k
-word_text (quoted_name cs) = encode_utf8_all (96 ∷ (doubled cs ++ 96 ∷ []))
-word_text (quoted_text cs) = encode_utf8_all (39 ∷ (escaped cs ++ 39 ∷ []))
-word_text (number n) = decimal n
-word_text (sign s) = symbol_text s
+word_text (words.keyword k) = spelling k
+word_text (words.name cs) = encode_utf8_all (96 ∷ (doubled cs ++ 96 ∷ []))
+word_text (words.text cs) = encode_utf8_all (39 ∷ (escaped cs ++ 39 ∷ []))
+word_text (words.number n) = decimal n
+word_text (words.symbol s) = signs s
 
 abbrev pub piece_text : Piece → List ℕ
 piece_text (word w) = word_text w
@@ -93,17 +50,17 @@ words_of (word w ∷ ps) = w ∷ words_of ps
 words_of (space ∷ ps) = words_of ps
 
 abbrev pub says : Keyword → Piece
-says k = word (reserved k)
+says k = word (words.keyword k)
 
 abbrev pub mark : Symbol → Piece
-mark s = word (sign s)
+mark s = word (words.symbol s)
 
 -- a name, and a text, of bytes
 abbrev pub named : Name → Piece
-named bytes = word (quoted_name (chars bytes))
+named bytes = word (words.name (chars bytes))
 
 abbrev pub spelt : List ℕ → Piece
-spelt bytes = word (quoted_text (chars bytes))
+spelt bytes = word (words.text (chars bytes))
 
 abbrev pub bracketed : List Piece → List Piece
 bracketed ps = mark symbol.LeftParenthesis ∷ (ps ++ mark symbol.RightParenthesis ∷ [])
@@ -180,8 +137,8 @@ abbrev mutual
   expression_pieces null = says keyword.Null ∷ []
   expression_pieces (boolean true) = says keyword.True ∷ []
   expression_pieces (boolean false) = says keyword.False ∷ []
-  expression_pieces (integer (pos n)) = word (number n) ∷ []
-  expression_pieces (integer (negsuc n)) = mark symbol.Minus ∷ word (number (suc n)) ∷ []
+  expression_pieces (integer (pos n)) = word (words.number n) ∷ []
+  expression_pieces (integer (negsuc n)) = mark symbol.Minus ∷ word (words.number (suc n)) ∷ []
   expression_pieces (text t) = spelt t ∷ []
   expression_pieces (variable v) = named v.name ∷ []
   expression_pieces (property e key) =
@@ -249,12 +206,12 @@ type_pieces (t ∷ ts) =
 
 abbrev pub bound_pieces : Option ℕ → List Piece
 bound_pieces None = []
-bound_pieces (Some n) = word (number n) ∷ []
+bound_pieces (Some n) = word (words.number n) ∷ []
 
 abbrev pub length_pieces : Option Length → List Piece
 length_pieces None = []
 length_pieces (Some l) =
-    mark symbol.Star ∷ word (number l.least) ∷ mark symbol.DotDot ∷ bound_pieces l.most
+    mark symbol.Star ∷ word (words.number l.least) ∷ mark symbol.DotDot ∷ bound_pieces l.most
 
 abbrev pub tail_pieces : Direction → List Piece
 tail_pieces direction.Left = mark symbol.Less ∷ mark symbol.Minus ∷ mark symbol.LeftBracket ∷ []
@@ -300,7 +257,7 @@ order_pieces (k ∷ ks) =
 
 abbrev pub count_pieces : Keyword → Option ℕ → List Piece
 count_pieces k None = []
-count_pieces k (Some n) = space ∷ says k ∷ space ∷ word (number n) ∷ []
+count_pieces k (Some n) = space ∷ says k ∷ space ∷ word (words.number n) ∷ []
 
 abbrev pub projection_pieces : Projection → List Piece
 projection_pieces p =

@@ -1,7 +1,7 @@
 //! The text of expressions.
 
 ghost use Rattle.std.specs.Prelude.{◌≡◌, ◌++◌, OnOk, string_bytes, map, codes};
-ghost use Rattle.cy_trees.specs.Show.{text_of, expression_pieces, elements_pieces, links_pieces, arms_pieces, binary_pieces, comparator_symbol, symbol_text, label_pieces, is_literal, owner_pieces, unary_pieces};
+ghost use Rattle.cy_trees.specs.Show.{text_of, expression_pieces, elements_pieces, links_pieces, arms_pieces, binary_pieces, comparator_symbol, piece_text, mark, label_pieces, is_literal, owner_pieces, unary_pieces};
 ghost use Rattle.cy_trees.specs.internal.Showing.{inside_pieces};
 ghost use Rattle.cy_trees.specs.Views.{expression_of, expressions_from, links_from, link_of, arms_from, arm_of};
 
@@ -32,7 +32,7 @@ fn binary_text(operator: BinaryOperator) -> &'static str
 
 /// How a comparator is written.
 fn comparator_text(comparator: Comparator) -> &'static str
-    ensures { result.now ≡ symbol_text (comparator_symbol comparator) }
+    ensures { result.now ≡ piece_text (mark (comparator_symbol comparator)) }
 {
     match comparator {
         Comparator::Equal => "=",

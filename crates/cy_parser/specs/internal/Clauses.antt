@@ -1,5 +1,5 @@
 -- How patterns, clauses and statements are read.
-use Rattle.std.specs.Prelude.{ℕ, zero, suc, Bool, true, false, not, ◌&&◌, ◌||◌, if◌then◌else◌, nat_lt, nat_le, List, [], ◌∷◌, ◌++◌, length, take, ◌-◌, Option, Some, None}
+use Rattle.std.specs.Prelude.{ℕ, zero, suc, Bool, true, false, ◌&&◌, if◌then◌else◌, nat_lt, nat_le, List, [], ◌∷◌, ◌++◌, length, take, ◌-◌, Option, Some, None}
 use Rattle.cy_lexer.specs.declared.tokens.Kind.{Kind}
 use Rattle.cy_lexer.specs.declared.tokens.Kind.TheVariants as kind
 use Rattle.cy_lexer.specs.declared.tokens.Token.{Token}
@@ -14,9 +14,10 @@ use Rattle.cy_parser.specs.declared.stages.Opening.{Opening}
 use Rattle.cy_parser.specs.declared.stages.Opening.TheVariants as opening
 use Rattle.cy_parser.specs.declared.stages.Stage.{Stage}
 use Rattle.cy_parser.specs.declared.stages.Stage.TheVariants as stage
-use Rattle.cy_trees.specs.Trees.{Name, Expression, variable, Entry, NodePattern, RelationshipPattern, Step, Path, Item, Key, Projection, SetItem, set_property, set_labels, RemoveItem, remove_property, remove_labels, Clause, «match», unwind, «with», «return», create, set, remove, delete, Statement}
-use Rattle.cy_parser.specs.Words.{number_limit, written}
-use Rattle.cy_parser.specs.internal.Reader.{Reader, ◌>>=◌, ◌>>◌, ◌<$>◌, pure, refuse, peek, skip, past, kind_ahead, at_kind, sees_symbol, eat_keyword, eat_symbol, expect_keyword, expect_symbol, name, word as any_word}
+use Rattle.cy_trees.specs.Trees.{Name, Expression, Entry, NodePattern, RelationshipPattern, Step, Path, Item, Key, Projection, SetItem, set_property, set_labels, RemoveItem, remove_property, remove_labels, Clause, «match», unwind, «with», «return», create, set, remove, delete, Statement}
+use Rattle.cy_parser.specs.Words.{number_limit}
+use Rattle.cy_parser.specs.SpellsClauses.{greatest_bound, direction_of, column_of}
+use Rattle.cy_parser.specs.internal.Reader.{Reader, ◌>>=◌, ◌>>◌, ◌<$>◌, pure, refuse, peek, skip, at_kind, eat_keyword, eat_symbol, expect_keyword, expect_symbol, name, word as any_word}
 use Rattle.cy_parser.specs.internal.Expressions.{labels, expression}
 
 -- items with commas between, one or more
@@ -58,10 +59,6 @@ unfoldable pub number_after : Keyword → Reader (Option ℕ)
 number_after k = do
   is_there ← eat_keyword k
   if is_there then Some <$> count else pure None
-
--- the greatest bound of a length (own)
-abbrev pub greatest_bound : ℕ
-greatest_bound = 65535
 
 -- bounds in order, and not too large
 abbrev pub ranging : ℕ → Option ℕ → Reader Length
@@ -132,12 +129,6 @@ abbrev pub may_end : Stage → Bool
 may_end stage.Reading = false
 may_end stage.Updating = true
 may_end stage.Ended = true
-
-abbrev pub direction_of : Bool → Bool → Direction
-direction_of true true = direction.Either
-direction_of true false = direction.Left
-direction_of false true = direction.Right
-direction_of false false = direction.Either
 
 -- the end of the tokens, which a `;` may stand before
 abbrev pub nothing_left : Reader (Unit {0})
@@ -286,16 +277,11 @@ module _ (line : List ℕ) where
 
   -- ---- projections
 
-  -- the column of an item without AS, which these tokens spell
-  abbrev pub column_of : Expression → List Token → Name
-  column_of (variable v) own = v.name
-  column_of _ own = written line own
-
   unfoldable pub column : Expression → List Token → Reader Item
   column e before = λ after. (do
     is_named ← eat_keyword word.As
     if is_named then (λ c. record { expression = e; column = c; named = true }) <$> name line
-        else pure (record { expression = e; column = column_of e (take (length before - length after) before); named = false })) after
+        else pure (record { expression = e; column = column_of line e (take (length before - length after) before); named = false })) after
 
   unfoldable pub item : Reader Item
   item = λ ts. (whole >>= (λ e. column e ts)) ts

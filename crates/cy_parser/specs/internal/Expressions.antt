@@ -1,8 +1,7 @@
 -- How expressions are read, level by level. Each level answers one tree, and there is no way back.
-use Rattle.std.specs.Prelude.{ℕ, zero, suc, ℤ, pos, ◌+◌, Bool, true, false, if◌then◌else◌, nat_lt, nat_le, List, [], ◌∷◌, ◌++◌, length, Option, Some, None}
+use Rattle.std.specs.Prelude.{ℕ, zero, suc, pos, Bool, true, false, if◌then◌else◌, nat_lt, nat_le, List, [], ◌∷◌, ◌++◌, length, Option, Some, None}
 use Rattle.cy_lexer.specs.declared.tokens.Kind.{Kind}
 use Rattle.cy_lexer.specs.declared.tokens.Kind.TheVariants as kind
-use Rattle.cy_lexer.specs.declared.tokens.Token.{Token}
 use Rattle.cy_lexer.specs.declared.keywords.Keyword.TheVariants as word
 use Rattle.cy_lexer.specs.declared.symbols.Symbol.TheVariants as sign
 use Rattle.cy_trees.specs.declared.expressions.UnaryOperator.TheVariants as unary_operator
@@ -11,9 +10,10 @@ use Rattle.cy_trees.specs.declared.expressions.BinaryOperator.TheVariants as ope
 use Rattle.cy_trees.specs.declared.expressions.Comparator.{Comparator}
 use Rattle.cy_parser.specs.declared.places.Nested.{Nested}
 use Rattle.cy_parser.specs.declared.places.Nested.TheVariants as nested
-use Rattle.cy_trees.specs.Trees.{Name, Expression, null, boolean, integer, text, variable, property, has_labels, unary, binary, comparison, list, case, call, call_star, Expressions, no_more, more, Links, no_links, link, Arms, no_arms, arm, Otherwise, nothing, otherwise}
+use Rattle.cy_trees.specs.Trees.{Name, Expression, null, boolean, integer, text, variable, property, has_labels, unary, binary, comparison, list, case, call, call_star, no_more, Otherwise, nothing, otherwise}
 use Rattle.cy_trees.specs.Views.{expressions_from, links_from, arms_from}
-use Rattle.cy_parser.specs.Words.{is_name, lowered, denotes, negated, number_limit, disjunction_operator, exclusion_operator, conjunction_operator, comparator_of, sum_operator, product_operator}
+use Rattle.cy_parser.specs.Words.{lowered, denotes, negated, number_limit, disjunction_operator, exclusion_operator, conjunction_operator, comparator_of, sum_operator, product_operator}
+use Rattle.cy_parser.specs.SpellsClauses.{most_levels}
 use Rattle.cy_parser.specs.internal.Reader.{Reader, ◌>>=◌, ◌>>◌, ◌<$>◌, pure, refuse, peek, skip, at_kind, eat_keyword, eat_symbol, expect_keyword, expect_symbol, name, word as any_word, checked}
 
 -- after IS
@@ -43,6 +43,11 @@ chain_from operators operand (suc n) left = do
 
 abbrev pub chain : (Kind → Option BinaryOperator) → Reader Expression → Reader Expression
 chain operators operand = operand >>= (λ left ts. chain_from operators operand (length ts) left ts)
+
+-- one more level opens, where so many may still open
+unfoldable pub opened : ℕ → Reader (Unit {0})
+opened zero = refuse
+opened (suc n) = pure tt
 
 module _ (line : List ℕ) where
   -- names with a `:` before each, one or more, after the first `:`
@@ -148,12 +153,6 @@ module _ (line : List ℕ) where
       is_star ← eat_symbol sign.Star
       if is_star then expect_symbol sign.RightParenthesis >> pure (call_star function) else arguments function
 
-    unfoldable pub named : Reader Expression
-    named = do
-      called_by ← name line
-      is_call ← eat_symbol sign.LeftParenthesis
-      if is_call then called (lowered called_by) else pure (variable (record { name = called_by; column = None }))
-
     -- WHEN and THEN, one or more, after the first WHEN
     unfoldable pub arms_read : ℕ → List (Expression × Expression) → Reader (List (Expression × Expression))
     arms_read zero found = refuse
@@ -181,17 +180,6 @@ module _ (line : List ℕ) where
       expect_keyword word.End
       checked (case (arms_from found) last)
 
-    abbrev pub postfix_by : Option Kind → Reader Expression
-    postfix_by (Some kind.Name) = named >>= attributes
-    postfix_by (Some kind.QuotedName) = named >>= attributes
-    postfix_by (Some (kind.Symbol sign.LeftParenthesis)) = skip >> (bracketed >>= attributes)
-    postfix_by (Some (kind.Symbol sign.LeftBracket)) = skip >> listed
-    postfix_by (Some (kind.Keyword word.Case)) = skip >> cases
-    postfix_by _ = literal
-
-    unfoldable pub postfix : Reader Expression
-    postfix = peek >>= postfix_by
-
     -- after a `-`
     abbrev pub minus_by : Option Kind → Reader Expression
     minus_by (Some (kind.Number n)) = if nat_le n number_limit then skip >> pure (integer (negated n)) else refuse
@@ -203,12 +191,31 @@ module _ (line : List ℕ) where
     unfoldable pub plus : Reader Expression
     plus = inner nested.Sign >>= (λ e. checked (unary unary_operator.Plus e))
 
+  -- `inner` reads what stands inside of one more level, and so many may still open
+  module _ (levels : ℕ) (inner : Nested → Reader Expression) where
+    unfoldable pub named : Reader Expression
+    named = do
+      called_by ← name line
+      is_call ← eat_symbol sign.LeftParenthesis
+      if is_call then opened levels >> called inner (lowered called_by) else pure (variable (record { name = called_by; column = None }))
+
+    abbrev pub postfix_by : Option Kind → Reader Expression
+    postfix_by (Some kind.Name) = named >>= attributes
+    postfix_by (Some kind.QuotedName) = named >>= attributes
+    postfix_by (Some (kind.Symbol sign.LeftParenthesis)) = skip >> (bracketed inner >>= attributes)
+    postfix_by (Some (kind.Symbol sign.LeftBracket)) = skip >> (opened levels >> listed inner)
+    postfix_by (Some (kind.Keyword word.Case)) = skip >> (opened levels >> cases inner)
+    postfix_by _ = literal
+
+    unfoldable pub postfix : Reader Expression
+    postfix = peek >>= postfix_by
+
     unfoldable pub signed : Reader Expression
     signed = do
       is_minus ← eat_symbol sign.Minus
-      if is_minus then minus else (do
+      if is_minus then minus inner else (do
         is_plus ← eat_symbol sign.Plus
-        if is_plus then plus else postfix)
+        if is_plus then plus inner else postfix)
 
     unfoldable pub product : Reader Expression
     product = chain product_operator signed
@@ -284,11 +291,7 @@ module _ (line : List ℕ) where
   -- an expression with so many levels, its own counted, open at most
   unfoldable pub nesting : ℕ → Nested → Reader Expression
   nesting zero place = refuse
-  nesting (suc n) place = level (nesting n) place
-
-  -- 256 levels may be open in an expression (own)
-  abbrev pub most_levels : ℕ
-  most_levels = 257
+  nesting (suc n) place = level n (nesting n) place
 
   abbrev pub expression : Reader Expression
   expression = nesting most_levels nested.Whole

@@ -1,4 +1,4 @@
-use Rattle.std.proofs.Common.{◌≡◌, suc, ◌-◌, ap, subst, arith, sym}
+use Rattle.std.proofs.Common.{◌≡◌, suc, ◌-◌, ap, subst, arith}
 use Rattle.cy_parser.specs.internal.Expressions.{nesting}
 use Rattle.cy_parser.specs.internal.Operands.{operand_of}
 use Rattle.cy_parser.specs.internal.Reader.{and_then, Reads}

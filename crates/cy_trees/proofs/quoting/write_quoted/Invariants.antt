@@ -2,7 +2,7 @@
 use Rattle.std.proofs.Common.{◌≡◌, ◌++◌, ◌∷◌, string_bytes}
 use Rattle.std.specs.Prelude.{chars, encode_utf8_all}
 use Rattle.std.specs.Str.{IsUtf8}
-use Rattle.cy_trees.specs.Show.{escaped}
+use Rattle.cy_lexer.specs.Words.{escaped}
 use Rattle.cy_trees.proofs.quoting.write_quoted.Given as goal
 
 abbrev pub invariant-loop-character : goal.invariant-loop-character

@@ -18,29 +18,29 @@ loop-turn-init g c = first_of (search rules, grind (arith, common_steps))
 pub returns-in_err-right : goal.returns-in_err-right
 unfolding chain_from and_then
 returns-in_err-right g c =
-    let e = turn (λ n. chain_from conjunction_operator (negation c.args.self.now.line.now (nesting c.args.self.now.line.now c.args.self.now.levels)) n (operand_of c.loop-turn.left) c.loop-turn.tokens) _ c.loop-turn._turn c.loop-turn-test.true c.loop-turn.invariant in
+    let e = turn (λ n. chain_from conjunction_operator (negation c.args.self.now.line.now c.args.self.now.levels (nesting c.args.self.now.line.now c.args.self.now.levels)) n (operand_of c.loop-turn.left) c.loop-turn.tokens) _ c.loop-turn._turn c.loop-turn-test.true c.loop-turn.invariant in
     first_of (search rules, grind (arith, common_steps))
 
 pub returns-in_err-left-2 : goal.returns-in_err-left-2
 unfolding chain_from and_then
 returns-in_err-left-2 g c =
-    let e = turn (λ n. chain_from conjunction_operator (negation c.args.self.now.line.now (nesting c.args.self.now.line.now c.args.self.now.levels)) n (operand_of c.loop-turn.left) c.loop-turn.tokens) _ c.loop-turn._turn c.loop-turn-test.true c.loop-turn.invariant in
+    let e = turn (λ n. chain_from conjunction_operator (negation c.args.self.now.line.now c.args.self.now.levels (nesting c.args.self.now.line.now c.args.self.now.levels)) n (operand_of c.loop-turn.left) c.loop-turn.tokens) _ c.loop-turn._turn c.loop-turn-test.true c.loop-turn.invariant in
     first_of (search rules, grind (arith, common_steps))
 
 pub returns-in_default : goal.returns-in_default
 unfolding chain_from and_then
 returns-in_default g c =
-    let e = turn (λ n. chain_from conjunction_operator (negation c.args.self.now.line.now (nesting c.args.self.now.line.now c.args.self.now.levels)) n (operand_of c.loop-turn.left) c.loop-turn.tokens) _ c.loop-turn._turn c.loop-turn-test.true c.loop-turn.invariant in
+    let e = turn (λ n. chain_from conjunction_operator (negation c.args.self.now.line.now c.args.self.now.levels (nesting c.args.self.now.line.now c.args.self.now.levels)) n (operand_of c.loop-turn.left) c.loop-turn.tokens) _ c.loop-turn._turn c.loop-turn-test.true c.loop-turn.invariant in
     first_of (search rules, grind (arith, common_steps))
 
 pub loop-turn-preserved : goal.loop-turn-preserved
 unfolding chain_from and_then
 loop-turn-preserved g c =
-    let e = turn (λ n. chain_from conjunction_operator (negation c.args.self.now.line.now (nesting c.args.self.now.line.now c.args.self.now.levels)) n (operand_of c.loop-turn.left) c.loop-turn.tokens) _ c.loop-turn._turn c.loop-turn-test.true c.loop-turn.invariant in
+    let e = turn (λ n. chain_from conjunction_operator (negation c.args.self.now.line.now c.args.self.now.levels (nesting c.args.self.now.line.now c.args.self.now.levels)) n (operand_of c.loop-turn.left) c.loop-turn.tokens) _ c.loop-turn._turn c.loop-turn-test.true c.loop-turn.invariant in
     first_of (search rules, grind (arith, common_steps))
 
 pub returns : goal.returns
 unfolding chain_from and_then
 returns g c =
-    let e = turned (λ n. chain_from conjunction_operator (negation c.args.self.now.line.now (nesting c.args.self.now.line.now c.args.self.now.levels)) n (operand_of c.loop-turn.left) c.loop-turn.tokens) _ c.loop-turn._turn c.loop-turn-test.false c.loop-turn.invariant in
+    let e = turned (λ n. chain_from conjunction_operator (negation c.args.self.now.line.now c.args.self.now.levels (nesting c.args.self.now.line.now c.args.self.now.levels)) n (operand_of c.loop-turn.left) c.loop-turn.tokens) _ c.loop-turn._turn c.loop-turn-test.false c.loop-turn.invariant in
     first_of (search rules, grind (arith, common_steps))

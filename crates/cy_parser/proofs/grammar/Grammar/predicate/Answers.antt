@@ -17,23 +17,23 @@ loop-turn-init g c = first_of (search rules, grind (arith, common_steps))
 pub returns-in_err-left-2 : goal.returns-in_err-left-2
 unfolding predicates_from and_then
 returns-in_err-left-2 g c =
-    let e = turn (λ n. predicates_from c.args.self.now.line.now (nesting c.args.self.now.line.now c.args.self.now.levels) n (operand_of c.loop-turn.left) c.loop-turn.tokens) _ c.loop-turn._turn c.loop-turn-test.true c.loop-turn.invariant in
+    let e = turn (λ n. predicates_from c.args.self.now.line.now c.args.self.now.levels (nesting c.args.self.now.line.now c.args.self.now.levels) n (operand_of c.loop-turn.left) c.loop-turn.tokens) _ c.loop-turn._turn c.loop-turn-test.true c.loop-turn.invariant in
     first_of (search rules, grind (arith, common_steps))
 
 pub returns-then-not-begins_predicate : goal.returns-then-not-begins_predicate
 unfolding predicates_from and_then
 returns-then-not-begins_predicate g c =
-    let e = turn (λ n. predicates_from c.args.self.now.line.now (nesting c.args.self.now.line.now c.args.self.now.levels) n (operand_of c.loop-turn.left) c.loop-turn.tokens) _ c.loop-turn._turn c.loop-turn-test.true c.loop-turn.invariant in
+    let e = turn (λ n. predicates_from c.args.self.now.line.now c.args.self.now.levels (nesting c.args.self.now.line.now c.args.self.now.levels) n (operand_of c.loop-turn.left) c.loop-turn.tokens) _ c.loop-turn._turn c.loop-turn-test.true c.loop-turn.invariant in
     first_of (search rules, grind (arith, common_steps))
 
 pub loop-turn-preserved : goal.loop-turn-preserved
 unfolding predicates_from and_then
 loop-turn-preserved g c =
-    let e = turn (λ n. predicates_from c.args.self.now.line.now (nesting c.args.self.now.line.now c.args.self.now.levels) n (operand_of c.loop-turn.left) c.loop-turn.tokens) _ c.loop-turn._turn c.loop-turn-test.true c.loop-turn.invariant in
+    let e = turn (λ n. predicates_from c.args.self.now.line.now c.args.self.now.levels (nesting c.args.self.now.line.now c.args.self.now.levels) n (operand_of c.loop-turn.left) c.loop-turn.tokens) _ c.loop-turn._turn c.loop-turn-test.true c.loop-turn.invariant in
     first_of (search rules, grind (arith, common_steps))
 
 pub returns : goal.returns
 unfolding predicates_from and_then
 returns g c =
-    let e = turned (λ n. predicates_from c.args.self.now.line.now (nesting c.args.self.now.line.now c.args.self.now.levels) n (operand_of c.loop-turn.left) c.loop-turn.tokens) _ c.loop-turn._turn c.loop-turn-test.false c.loop-turn.invariant in
+    let e = turned (λ n. predicates_from c.args.self.now.line.now c.args.self.now.levels (nesting c.args.self.now.line.now c.args.self.now.levels) n (operand_of c.loop-turn.left) c.loop-turn.tokens) _ c.loop-turn._turn c.loop-turn-test.false c.loop-turn.invariant in
     first_of (search rules, grind (arith, common_steps))

@@ -1,7 +1,7 @@
 use Rattle.std.proofs.Common.{rules, arith}
 use Rattle.std.proofs.lemmas.Grind.{common_steps}
 use Rattle.cy_parser.specs.internal.Operands.{operand_of}
-use Rattle.cy_parser.specs.internal.Expressions.{nesting, properties, properties_from}
+use Rattle.cy_parser.specs.internal.Expressions.{properties, properties_from}
 use Rattle.cy_parser.specs.internal.Reader.{and_then}
 use Rattle.cy_parser.proofs.Turns.{turn, turned}
 use Rattle.cy_parser.proofs.grammar.Grammar.properties.Goals as goal

@@ -1,5 +1,4 @@
--- Words: tokens that are written in one way each, and texts that are made of words.
--- 32 is the space, 39 the single quote, 92 the backslash and 96 the backtick.
+-- Texts that are made of words. 32 is the space.
 use Rattle.std.specs.Prelude.{◌≡◌, ⊤, ℕ, Bool, true, false, not, ◌&&◌, ◌||◌, ◌==◌, if◌then◌else◌, nat_le, List, [], ◌∷◌, ◌++◌, ◌+◌, length, codes, encode_utf8_all}
 use Rattle.std.specs.Fmt.{decimal}
 use Rattle.std.specs.Str.{all_scalars}
@@ -12,67 +11,7 @@ use Rattle.cy_lexer.specs.declared.tokens.Token.{Token}
 use Rattle.cy_lexer.specs.Keywords.{spelling}
 use Rattle.cy_lexer.specs.Numbers.{greatest_number}
 use Rattle.cy_lexer.specs.Spans.{slice_of}
-
--- a keyword, a name by its characters, a text by its characters, a number, or a symbol
-pub data Word : Type 0 where
-  keyword : Keyword → Word
-  name : List ℕ → Word
-  text : List ℕ → Word
-  number : ℕ → Word
-  symbol : Symbol → Word
-
--- the kind of the word's token: a name stands in backticks
-abbrev pub kind_of : Word → Kind
-kind_of (keyword k) = kind.Keyword k
-kind_of (name cs) = kind.QuotedName
-kind_of (text cs) = kind.Text
-kind_of (number n) = kind.Number n
-kind_of (symbol s) = kind.Symbol s
-
--- characters as they stand in backticks: each backtick doubled
-abbrev pub doubled : List ℕ → List ℕ
-doubled [] = []
-doubled (c ∷ cs) = if c == 96 then 96 ∷ 96 ∷ doubled cs else c ∷ doubled cs
-
--- characters as they stand in single quotes: a backslash before each backslash and each single quote
-abbrev pub escaped : List ℕ → List ℕ
-escaped [] = []
-escaped (c ∷ cs) = if (c == 92) || (c == 39) then 92 ∷ c ∷ escaped cs else c ∷ escaped cs
-
--- how a symbol is written
-abbrev pub signs : Symbol → List ℕ
-signs sign.DotDot = codes ".."
-signs sign.NotEqual = codes "<>"
-signs sign.LessOrEqual = codes "<="
-signs sign.GreaterOrEqual = codes ">="
-signs sign.LeftParenthesis = codes "("
-signs sign.RightParenthesis = codes ")"
-signs sign.LeftBracket = codes "["
-signs sign.RightBracket = codes "]"
-signs sign.LeftBrace = codes "{"
-signs sign.RightBrace = codes "}"
-signs sign.Comma = codes ","
-signs sign.Colon = codes ":"
-signs sign.Semicolon = codes ";"
-signs sign.Dot = codes "."
-signs sign.Bar = codes "|"
-signs sign.Plus = codes "+"
-signs sign.Minus = codes "-"
-signs sign.Star = codes "*"
-signs sign.Slash = codes "/"
-signs sign.Percent = codes "%"
-signs sign.Equal = codes "="
-signs sign.Less = codes "<"
-signs sign.Greater = codes ">"
-
--- The characters of a word: a keyword in capitals, a name in backticks, a text in single quotes, a number in decimal
--- digits.
-abbrev pub characters : Word → List ℕ
-characters (keyword k) = spelling k
-characters (name cs) = 96 ∷ (doubled cs ++ 96 ∷ [])
-characters (text cs) = 39 ∷ (escaped cs ++ 39 ∷ [])
-characters (number n) = decimal n
-characters (symbol s) = signs s
+use Rattle.cy_lexer.specs.Words.{Word, keyword, name, text, number, symbol, kind_of, characters}
 
 -- what can be written: a name isn't empty, names and texts have characters of Unicode, a number isn't too large
 abbrev pub is_word : Word → Bool
@@ -133,14 +72,6 @@ may_follow_last w (u ∷ us) vs = may_follow_last u us vs
 abbrev pub may_follow : List (Word × Bool) → List (Word × Bool) → Bool
 may_follow [] vs = true
 may_follow (w ∷ ws) vs = may_follow_last w ws vs
-
--- the characters that a word stands for: a name and a text without their quotes, each other word as it is written
-abbrev pub meant : Word → List ℕ
-meant (keyword k) = spelling k
-meant (name cs) = cs
-meant (text cs) = cs
-meant (number n) = decimal n
-meant (symbol s) = signs s
 
 -- the tokens of words that begin at a byte offset, one for each word, in order
 abbrev pub bytes_of : Word → List ℕ

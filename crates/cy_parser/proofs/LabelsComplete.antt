@@ -1,10 +1,10 @@
 -- Labels that are spelt are read.
-use Rattle.std.proofs.Common.{◌≡◌, ℕ, zero, suc, ◌≤◌, Bool, true, false, IsTrue, List, [], ◌∷◌, ◌++◌, length, Option, Some, None, refl, ap, ◌∙◌, append_assoc, arith}
+use Rattle.std.proofs.Common.{◌≡◌, ℕ, zero, suc, ◌≤◌, false, List, [], ◌∷◌, ◌++◌, length, Some, refl, ap, ◌∙◌, append_assoc, arith}
 use Rattle.cy_lexer.specs.declared.tokens.Token.{Token}
 use Rattle.cy_lexer.specs.declared.symbols.Symbol.TheVariants as sign
 use Rattle.cy_trees.specs.Trees.{Name}
 use Rattle.cy_parser.specs.Words.{is_word, denotes}
-use Rattle.cy_parser.specs.internal.Reader.{and_then, kind_ahead, is_symbol}
+use Rattle.cy_parser.specs.internal.Reader.{kind_ahead, is_symbol}
 use Rattle.cy_parser.specs.internal.Expressions.{labels, labels_from}
 use Rattle.cy_parser.specs.Spells.{SpellsLabels, last_label, next_label}
 use Rattle.cy_parser.proofs.Takes.{after, takes, eats_symbol, leaves_symbol}

@@ -11,3 +11,9 @@ pub mod LabelsComplete
 pub mod Chains
 pub mod Complete
 pub mod Stands
+pub mod ShownTokens
+pub mod ShownExpressions
+pub mod Follows
+pub mod PatternsComplete
+pub mod ProjectionsComplete
+pub mod ClausesComplete

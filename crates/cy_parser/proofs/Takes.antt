@@ -1,5 +1,5 @@
 -- What readers answer where the next tokens are known.
-use Rattle.std.proofs.Common.{◌≡◌, ℕ, ◌≤◌, Bool, true, false, IsTrue, List, [], ◌∷◌, Option, Some, None, if◌then◌else◌, refl, sym, ap, ◌∙◌, subst, nat_le, arith}
+use Rattle.std.proofs.Common.{◌≡◌, ◌≢◌, ℕ, ◌≤◌, Bool, true, false, IsTrue, List, [], ◌∷◌, Option, Some, None, if◌then◌else◌, refl, sym, ap, ◌∙◌, subst, nat_le, arith}
 use Rattle.std.proofs.lemmas.Bool.Decides.{nat_tests}
 use Rattle.cy_lexer.specs.declared.keywords.Keyword.{Keyword}
 use Rattle.cy_lexer.specs.declared.symbols.Symbol.{Symbol}
@@ -12,6 +12,8 @@ use denote.Enum.Bare.{sameb, true_same}
 use Rattle.cy_trees.specs.Trees.{Name, Expression}
 use Rattle.cy_trees.specs.Depth.{depth, greatest_depth}
 use Rattle.cy_parser.specs.Words.{denotes}
+use Rattle.cy_parser.specs.declared.refusals.Refusal.{Refusal}
+use Rattle.cy_parser.specs.declared.refusals.Refusal.TheVariants.{NoMemory}
 use Rattle.cy_parser.specs.internal.Reader.{Outcome, Reader, and_then, is_keyword, is_symbol, kind_ahead, past, sees_keyword, sees_symbol, eat_keyword, eat_symbol, peek, skip, at_kind, expect_keyword, expect_symbol, denoting, checked}
 use Rattle.cy_parser.specs.Spells.{IsKeyword, IsSymbol}
 
@@ -82,3 +84,16 @@ unfolding checked
 passes e ts shallow =
     let is : nat_le (depth e) greatest_depth ≡ true = grind (arith, nat_tests) in
     ap (λ b. if b then Some (e, ts) else None) is
+
+-- one answer
+pub answers_one : {A : Type 0} (o : Outcome A) (a b : A) (left rest : List Token) → o ≡ Some (a, left) → o ≡ Some (b, rest) → a ≡ b
+answers_one {A = A} o a b left rest first second =
+    let x : A × List Token = (a, left) in
+    let y : A × List Token = (b, rest) in
+    let both : x ≡ y = cc in
+    ap (λ p. p.0) both
+
+-- where there is an answer, want of memory alone refuses it
+pub memory_alone : {A : Type 0} (refusal : Refusal) (o : Outcome A) (x : A × List Token) → (refusal ≢ NoMemory → o ≡ None) → o ≡ Some x → refusal ≡ NoMemory
+memory_alone NoMemory o x refuses there = refl
+memory_alone refusal o x refuses there = let gone = refuses (λ e. cc) in cc

@@ -4,6 +4,8 @@ ghost use Rattle.std.specs.Prelude.{◌≡◌, ◌≢◌, ◌≤◌, length, Som
 ghost use Rattle.cy_parser.specs.declared.faults.ParseFault.TheVariants.{NoMemory};
 ghost use Rattle.cy_parser.specs.Faults.{PointsAtPlace, IsPlace};
 ghost use Rattle.cy_parser.specs.SpellsClauses.{SpellsStatement};
+ghost use Rattle.cy_parser.specs.declared.refusals.Refusal.TheVariants as refusals;
+ghost use Rattle.cy_trees.specs.Trees as tree;
 ghost use Rattle.cy_trees.specs.Views.{statement_of};
 ghost use Rattle.cy_parser.specs.internal.Clauses as spec;
 
@@ -27,7 +29,8 @@ fn offset_of(tokens: &[Token], line: &str, left: usize) -> usize
 
 /// The fault that the refusal becomes.
 fn fault_of(tokens: &[Token], line: &str, refusal: Refusal) -> ParseFault
-    ensures { PointsAtPlace tokens.now (length line.now) result }
+    ensures places { PointsAtPlace tokens.now (length line.now) result }
+    ensures memory { refusal ≡ refusals.NoMemory → result ≡ NoMemory }
 {
     let place = |left| offset_of(tokens, line, left);
     match refusal {
@@ -40,10 +43,11 @@ fn fault_of(tokens: &[Token], line: &str, refusal: Refusal) -> ParseFault
     }
 }
 
-/// A statement that the tokens of a line spell (openCypher 9, grammar, narrowed to this profile). Fails with the place where
-/// reading stops, or for want of memory.
+/// The statement that the tokens of a line spell (openCypher 9, grammar, narrowed to this profile); there is no other one.
+/// Fails with the place where reading stops, if the tokens spell none, or for want of memory.
 pub fn parse(alloc: Global, tokens: &[Token], line: &str) -> Result<Statement, ParseFault>
     ensures spelt { IfOk result (λ statement. SpellsStatement line.now (statement_of statement) tokens.now) }
+    ensures complete { (statement : tree.Statement) → SpellsStatement line.now statement tokens.now → MatchResult result (λ found. statement_of found ≡ statement) (λ fault. fault ≡ NoMemory) }
     ensures places { IfErr result (λ fault. PointsAtPlace tokens.now (length line.now) fault) }
 {
     let source = Source { alloc, line };

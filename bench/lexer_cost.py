@@ -114,13 +114,13 @@ def instructions(program, line, answer):
     return int(re.search(rb"Collected : (\d+)", run.stderr).group(1))
 
 
-def built(folder, name, program):
-    """The program over the crate in the folder, by its path."""
+def built(folder, name, program, libraries="cy_lexer"):
+    """The program over the crates in the folder, by its path."""
     os.makedirs(f"{folder}/crates/{name}/src")
     with open(f"{folder}/crates/{name}/src/main.rt", "w") as it:
         it.write(program)
     with open(f"{folder}/crates.txt", "a") as it:
-        it.write(f"{name}: cy_lexer\n")
+        it.write(f"{name}: {libraries}\n")
     subprocess.run(["rt", "run"], cwd=f"{folder}/crates/{name}", stdin=subprocess.DEVNULL, check=True)
     return f"{folder}/crates/{name}/out/{name}"
 

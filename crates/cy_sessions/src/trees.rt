@@ -495,6 +495,26 @@ const OPENINGS: &[&str] = &[
     "CASE WHEN 1 THEN 2 ELSE ",
 ];
 
+/// Expressions, each with how many levels it opens.
+const LEAVES: &[(&str, usize)] = &[
+    ("1", 0),
+    ("-5", 0),
+    ("x.k:A", 0),
+    ("1 + 2 * 3 < 4", 0),
+    ("x IS NOT NULL", 0),
+    ("[]", 1),
+    ("f()", 1),
+    ("f(*)", 1),
+    ("f(DISTINCT x)", 1),
+    ("NOT x", 1),
+    ("-x", 1),
+    ("+5", 1),
+    ("- -5", 1),
+    ("CASE WHEN a THEN b END", 1),
+    ("[1, [x]]", 2),
+    ("NOT -f(x)", 3),
+];
+
 /// The tree of a line.
 fn read(alloc: Global, line: &str) -> Result<Statement, Fail> {
     let tokens = lex(alloc, line)?;
@@ -636,15 +656,19 @@ fn open_levels_of_expressions(rt: HostRuntime) -> Result<(), Fail> {
         for opening in OPENINGS {
             let open = nested(rt.alloc(), front, (*opening, ""), 256, ("", ""))?;
             assert_eq!(rt; fault(rt.alloc(), &open)?, (20, Some(open.len())), "{open}");
-            let bad = nested(rt.alloc(), front, (*opening, ""), 257, ("x", ""))?;
+            let bad = nested(rt.alloc(), front, (*opening, ""), 257, ("", ""))?;
             assert_eq!(rt; fault(rt.alloc(), &bad)?, (21, Some(front.len())), "{bad}");
         }
     }
-    let brackets = ("(", ")");
-    let good = nested(rt.alloc(), "RETURN ", brackets, 256, ("1", " AS x"))?;
+    for (leaf, levels) in LEAVES {
+        let most = 256_usize.saturating_sub(*levels);
+        let good = nested(rt.alloc(), "RETURN ", ("(", ")"), most, (leaf, " AS x"))?;
+        assert_eq!(rt; fault(rt.alloc(), &good)?.0, 0, "{good}");
+        let bad = nested(rt.alloc(), "RETURN (", ("(", ")"), most, (leaf, ") AS x"))?;
+        assert_eq!(rt; fault(rt.alloc(), &bad)?, (21, Some(7)), "{bad}");
+    }
+    let good = nested(rt.alloc(), "RETURN ", ("(", ")"), 256, ("1", " AS x"))?;
     assert_eq!(rt; shown(rt.alloc(), &good)?.as_str(), "RETURN 1 AS `x`");
-    let bad = nested(rt.alloc(), "RETURN ", brackets, 257, ("1", " AS x"))?;
-    assert_eq!(rt; fault(rt.alloc(), &bad)?, (21, Some(7)));
     let closed = nested(rt.alloc(), "RETURN [", ("(NOT x), ", ""), 300, ("x", "]"))?;
     assert_eq!(rt; fault(rt.alloc(), &closed)?.0, 0);
     Ok(())

@@ -1,19 +1,14 @@
 -- What an expression that is spelt does to its readers: chains of operators, of predicates and of properties.
-use Rattle.std.proofs.Common.{◌≡◌, ℕ, zero, suc, ◌≤◌, Bool, true, false, not, ◌&&◌, IsTrue, List, [], ◌∷◌, ◌++◌, length, Option, Some, None, refl, sym, ap, ◌∙◌, subst, max, arith}
+use Rattle.std.proofs.Common.{◌≡◌, ℕ, zero, suc, ◌≤◌, Bool, true, ◌&&◌, List, [], ◌∷◌, length, Option, Some, None, refl, ◌∙◌, arith}
 use Rattle.cy_lexer.specs.declared.tokens.Token.{Token}
 use Rattle.cy_lexer.specs.declared.tokens.Kind.{Kind}
-use Rattle.cy_lexer.specs.declared.tokens.Kind.TheVariants as kind
-use Rattle.cy_lexer.specs.declared.keywords.Keyword.TheVariants as word
-use Rattle.cy_lexer.specs.declared.symbols.Symbol.TheVariants as sign
 use Rattle.cy_trees.specs.declared.expressions.BinaryOperator.{BinaryOperator}
-use Rattle.cy_parser.specs.declared.places.Nested.{Nested}
-use Rattle.cy_parser.specs.declared.places.Nested.TheVariants as nested
 use Rattle.cy_trees.specs.Trees.{Expression, binary}
 use Rattle.cy_trees.specs.Depth.{depth, greatest_depth}
-use Rattle.cy_parser.specs.internal.Reader.{Reader, and_then, kind_ahead, past, at_kind, checked, pure, skip, ◌>>=◌, ◌>>◌}
+use Rattle.cy_parser.specs.internal.Reader.{Reader, and_then, kind_ahead, at_kind}
 use Rattle.cy_parser.specs.internal.Expressions.{chain, chain_from}
 use Rattle.cy_parser.proofs.Stops.{lacks, lacking, both_left, both_right}
-use Rattle.cy_parser.proofs.Takes.{after, after_peek, passes}
+use Rattle.cy_parser.proofs.Takes.{after, passes}
 
 -- the reader answers the expression, where it may end at what is left
 pub record Reading (n : ℕ) (first stops : Option Kind → Bool) (read : Reader Expression) (e : Expression) (ts rest : List Token) : Type 0 where

@@ -1,5 +1,5 @@
 -- What is spelt is what is read: expressions.
-use Rattle.std.proofs.Common.{◌≡◌, ℕ, zero, suc, ◌≤◌, ◌<◌, Bool, true, false, not, ◌&&◌, IsTrue, List, [], ◌∷◌, ◌++◌, length, Option, Some, None, refl, sym, ap, ◌∙◌, subst, append_assoc, arith, nat_lt, nat_le, pos, max, if◌then◌else◌}
+use Rattle.std.proofs.Common.{◌≡◌, ℕ, zero, suc, ◌≤◌, ◌<◌, Bool, true, false, not, IsTrue, List, [], ◌∷◌, ◌++◌, length, Option, Some, None, refl, ap, ◌∙◌, append_assoc, arith, nat_lt, nat_le, pos}
 use Rattle.std.proofs.lemmas.Bool.Decides.{nat_tests}
 use Rattle.cy_lexer.specs.declared.tokens.Token.{Token}
 use Rattle.cy_lexer.specs.declared.tokens.Kind.{Kind}
@@ -17,13 +17,13 @@ use Rattle.cy_trees.specs.Trees.{Name, Expression, Expressions, list, no_more, m
 use Rattle.cy_trees.specs.Depth.{depth, deepest, links_depth, arms_depth, otherwise_depth, greatest_depth}
 use Rattle.cy_trees.specs.Views.{expressions_from, arms_from, links_from}
 use Rattle.cy_parser.specs.Words.{is_word, is_name, denotes, lowered, number_limit, negated, product_operator, sum_operator, comparator_of, conjunction_operator, exclusion_operator, disjunction_operator}
-use Rattle.cy_parser.specs.internal.Reader.{Reader, and_then, checked, skip, peek, at_kind, is_symbol, is_keyword, ◌>>◌, expect_symbol, expect_keyword, eat_symbol, eat_keyword, pure, refuse, ◌>>=◌, ◌<$>◌, kind_ahead, past, name as name_read, word as word_read}
+use Rattle.cy_parser.specs.internal.Reader.{Reader, and_then, checked, at_kind, is_symbol, is_keyword, ◌>>◌, expect_symbol, expect_keyword, refuse, ◌>>=◌, kind_ahead}
 use Rattle.cy_parser.specs.internal.Expressions as read
 use Rattle.cy_parser.specs.internal.Expressions.{chain, chain_from, begins_predicate, nesting}
-use Rattle.cy_parser.specs.Spells.{Spells, SpellsAll, SpellsLabels, Level, whole, head, postfix, bracket, IsSymbol, IsKeyword, IsNumber, last_label, next_label, last_element, next_element, empty_list, list_of, call_of, call_of_distinct, call_of_nothing, call_of_star, name, owner, is_head, with_key, is_owner, labelled, SpellsArms, last_arm, next_arm, SpellsOtherwise, no_else, else_, case_of, true_, false_, null_, number, text_, signed, minus, plus, negative, begins_with_number, is_number, is_postfix, product, is_signed, multiply, sum, is_product, add, predicate, is_sum, is_null, is_not_null, among, contains, starts_with, ends_with, SpellsLinks, last_link, next_link, comparisons, is_predicate, compare, negation, is_comparison, not as denied, conjunction, is_negation, and, exclusion, is_conjunction, xor, is_exclusion, or}
+use Rattle.cy_parser.specs.Spells.{Spells, SpellsAll, Level, whole, head, postfix, bracket, IsSymbol, IsKeyword, IsNumber, last_element, next_element, empty_list, list_of, call_of, call_of_distinct, call_of_nothing, call_of_star, name, owner, is_head, with_key, is_owner, labelled, SpellsArms, last_arm, next_arm, SpellsOtherwise, no_else, else_, case_of, true_, false_, null_, number, text_, signed, minus, plus, negative, begins_with_number, is_number, is_postfix, product, is_signed, multiply, sum, is_product, add, predicate, is_sum, is_null, is_not_null, among, contains, starts_with, ends_with, SpellsLinks, last_link, next_link, comparisons, is_predicate, compare, negation, is_comparison, not as denied, conjunction, is_negation, and, exclusion, is_conjunction, xor, is_exclusion, or}
 use Rattle.cy_parser.specs.SpellsClauses.{most_levels}
 use Rattle.cy_parser.proofs.Takes.{after, after_peek, none_branch, some_branch, then_branch, else_branch, eats_symbol, eats_keyword, leaves_symbol, leaves_keyword, expects_symbol, expects_keyword, takes, passes}
-use Rattle.cy_parser.proofs.Stops.{lacks, lacking, both_left, both_right, not_true, ends_postfix, ends_product, ends_sum, ends_predicate, ends_comparisons, ends_conjunction, ends_exclusion, ends_whole, begins_postfix, begins_signed, begins_negation, product_ends, sum_ends, comparator_ends, conjunction_ends, exclusion_ends, disjunction_ends, no_plus, no_minus, no_not, signed_begins, negation_begins, name_begins, no_bracket_end, no_parenthesis_end, no_star, no_distinct}
+use Rattle.cy_parser.proofs.Stops.{lacking, both_left, both_right, not_true, ends_postfix, ends_product, ends_sum, ends_predicate, ends_comparisons, ends_conjunction, ends_exclusion, ends_whole, begins_postfix, begins_signed, begins_negation, product_ends, sum_ends, comparator_ends, conjunction_ends, exclusion_ends, disjunction_ends, no_plus, no_minus, no_not, signed_begins, negation_begins, name_begins, no_bracket_end, no_parenthesis_end, no_star, no_distinct}
 use Rattle.cy_parser.proofs.LabelsComplete.{labels_read, labels_shorten}
 use Rattle.cy_parser.proofs.Chains.{Reading, Chaining, chain_of_one, chain_of_two, chain_whole}
 

@@ -1,20 +1,16 @@
 -- Tokens that are like those of a shown text are the tokens of its words.
-use Rattle.std.proofs.Common.{◌≡◌, ℕ, zero, suc, ◌≤◌, ◌<◌, IsTrue, Bool, true, false, List, [], ◌∷◌, ◌++◌, map, length, Result, Ok, Err, refl, sym, ap, ◌∙◌, subst, append-nil, arith}
-use Rattle.std.specs.Prelude.{⊤}
+use Rattle.std.proofs.Common.{◌≡◌, ℕ, ◌≤◌, List, [], ◌∷◌, map, length, Result, Ok, refl, sym, ap, ◌∙◌, subst}
 use Rattle.std.specs.Str.{IsUtf8}
 use Rattle.cy_lexer.specs.declared.tokens.Token.{Token}
-use Rattle.cy_lexer.specs.declared.tokens.Kind.{Kind}
 use Rattle.cy_lexer.specs.Line.{longest_line}
 use Rattle.cy_lexer.specs.Spans.{slice_of}
 use Rattle.cy_lexer.specs.Tokens.{tokens_of}
 use Rattle.cy_lexer.specs.Words.{Word, kind_of}
-use Rattle.cy_lexer.specs.internal.SpacedWords.{IsTokenOf, bytes_of}
+use Rattle.cy_lexer.specs.internal.SpacedWords.{bytes_of}
 use Rattle.cy_trees.specs.Trees.{Statement}
 use Rattle.cy_trees.specs.Show.{show, statement_pieces, words_of}
-use Rattle.cy_parser.specs.Words.{is_within}
 use Rattle.cy_parser.specs.Shown.{AreAlike, AreNeighbours, with_columns}
 use Rattle.cy_parser.specs.SpellsClauses.{SpellsStatement}
-use Rattle.cy_parser.specs.internal.WellFormed.{StatementIsWellFormed}
 use Rattle.cy_parser.proofs.PiecesLemmas.{AreTokens}
 use Rattle.cy_parser.proofs.ShownWords.{shown-is_read}
 use Rattle.cy_parser.proofs.ShownClauses.{shown-statement}
@@ -61,7 +57,7 @@ shown-again s first spelling line ts us utf8_first utf8 of_first spelt of_line s
     let same : read.0 ≡ us = cc in
     let are : AreTokens (show s) us (words_of (statement_pieces s)) = subst (λ z. AreTokens (show s) z (words_of (statement_pieces s))) same read.3 in
     shown-statement line s well ts (stands_by line utf8 ts (words_of (statement_pieces s)) of_line
-      (alike.0 ∙ kinds_are (show s) us (words_of (statement_pieces s)) are) (alike.1 ∙ slices_are (show s) us (words_of (statement_pieces s)) are))
+    (alike.0 ∙ kinds_are (show s) us (words_of (statement_pieces s)) are) (alike.1 ∙ slices_are (show s) us (words_of (statement_pieces s)) are))
 
 -- the tokens of its text
 pub shown-itself : (s : Statement) (first : List ℕ) (spelling : List Token) → IsUtf8 first → AreNeighbours first spelling → SpellsStatement first s spelling →

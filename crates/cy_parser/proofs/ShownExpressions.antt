@@ -1,7 +1,6 @@
 -- The tokens of an expression that is shown spell it.
-use Rattle.std.proofs.Common.{◌≡◌, ℕ, zero, suc, ◌≤◌, ◌<◌, ◌*◌, ◌+◌, Bool, true, false, IsTrue, List, [], ◌∷◌, ◌++◌, Option, Some, None, refl, sym, ap, ◌∙◌, subst, pos, negsuc, max, map, arith}
+use Rattle.std.proofs.Common.{◌≡◌, ℕ, zero, suc, ◌≤◌, ◌<◌, ◌*◌, Bool, true, false, List, [], ◌∷◌, ◌++◌, Some, None, refl, sym, ap, ◌∙◌, subst, pos, negsuc, arith}
 use Rattle.cy_lexer.specs.declared.tokens.Token.{Token}
-use Rattle.cy_lexer.specs.declared.tokens.Kind.TheVariants as kind
 use Rattle.cy_lexer.specs.declared.keywords.Keyword.TheVariants as word
 use Rattle.cy_lexer.specs.declared.symbols.Symbol.TheVariants as sign
 use Rattle.cy_trees.specs.declared.expressions.UnaryOperator.{UnaryOperator}
@@ -12,13 +11,13 @@ use Rattle.cy_trees.specs.declared.expressions.Comparator.{Comparator}
 use Rattle.cy_trees.specs.declared.expressions.Comparator.TheVariants as comparator
 use Rattle.cy_trees.specs.declared.expressions.Variable.{Variable}
 use Rattle.cy_trees.specs.Trees.{Name, Expression, Expressions, list, no_more, more, call, call_star, variable, property, has_labels, unary, binary, boolean, integer, null, text, Links, no_links, link, comparison, Arms, arm, no_arms, Otherwise, nothing, otherwise, case}
-use Rattle.cy_trees.specs.Depth.{depth, deepest, links_depth, arms_depth, otherwise_depth, greatest_depth}
+use Rattle.cy_trees.specs.Depth.{depth, deepest, links_depth, arms_depth, otherwise_depth}
 use Rattle.cy_lexer.specs.Words as words
-use Rattle.cy_trees.specs.Show.{Piece, word as shown_word, space, says, mark, named, bracketed, each_after, label_pieces, binary_pieces, comparator_symbol, unary_pieces, is_literal, owner_pieces, distinct_pieces, expression_pieces, elements_pieces, further_pieces, links_pieces, arms_pieces, otherwise_pieces}
-use Rattle.cy_parser.specs.Words.{is_word, is_name, denotes, lowered, number_limit, negated, product_operator, sum_operator, comparator_of, conjunction_operator, exclusion_operator, disjunction_operator}
+use Rattle.cy_trees.specs.Show.{Piece, word as shown_word, space, says, mark, named, bracketed, label_pieces, binary_pieces, comparator_symbol, unary_pieces, is_literal, owner_pieces, distinct_pieces, expression_pieces, elements_pieces, links_pieces, arms_pieces, otherwise_pieces}
+use Rattle.cy_parser.specs.Words.{lowered, number_limit, product_operator, sum_operator, comparator_of, conjunction_operator, exclusion_operator, disjunction_operator}
 use Rattle.cy_parser.specs.Spells as spell
 use Rattle.cy_parser.specs.Spells.{Spells, SpellsAll, SpellsLabels, SpellsLinks, SpellsArms, SpellsOtherwise, Level, whole, exclusion, conjunction, negation, comparisons, predicate, sum, product, signed, postfix, owner, head, IsSymbol, IsKeyword}
-use Rattle.cy_parser.specs.internal.WellFormed.{IsNamed, IsText, IsFunction, IsVariable, Every, Several, IsWellFormed, AreWellFormed, LinksAreWellFormed, ArmsAreWellFormed, OtherwiseIsWellFormed}
+use Rattle.cy_parser.specs.internal.WellFormed.{IsNamed, IsVariable, Every, Several, IsWellFormed, AreWellFormed, LinksAreWellFormed, ArmsAreWellFormed, OtherwiseIsWellFormed}
 use Rattle.cy_parser.proofs.ShownTokens.{Shown, both, at_symbol, at_keyword, at_number, at_name, at_text, last_symbol, last_keyword, in_brackets}
 use Rattle.cy_parser.proofs.Stands.{at_end}
 

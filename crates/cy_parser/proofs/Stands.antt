@@ -1,5 +1,5 @@
 -- Tokens of a line that are those of words, up to the tokens that are left.
-use Rattle.std.proofs.Common.{◌≡◌, ℕ, true, IsTrue, List, [], ◌∷◌, ◌++◌, refl}
+use Rattle.std.proofs.Common.{ℕ, IsTrue, List, [], ◌∷◌, ◌++◌}
 use Rattle.cy_lexer.specs.declared.tokens.Token.{Token}
 use Rattle.cy_lexer.specs.Words.{Word}
 use Rattle.cy_lexer.specs.internal.SpacedWords.{IsTokenOf}

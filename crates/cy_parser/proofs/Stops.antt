@@ -1,5 +1,5 @@
 -- Where an expression of a level ends, and how it begins, by the next token's kind.
-use Rattle.std.proofs.Common.{◌≡◌, ℕ, Bool, true, false, not, ◌&&◌, Option, Some, None, refl, ap, ◌∙◌, sym}
+use Rattle.std.proofs.Common.{◌≡◌, Bool, true, false, not, ◌&&◌, Option, Some, None, refl, sym}
 use Rattle.cy_lexer.specs.declared.keywords.Keyword.TheVariants as word
 use Rattle.cy_lexer.specs.declared.symbols.Symbol.TheVariants as sign
 use Rattle.cy_lexer.specs.declared.tokens.Kind.{Kind}
@@ -9,7 +9,7 @@ use Rattle.cy_trees.specs.declared.expressions.Comparator.{Comparator}
 use Rattle.cy_parser.specs.Words.{disjunction_operator, exclusion_operator, conjunction_operator, comparator_of, sum_operator, product_operator, is_name}
 use Rattle.cy_parser.specs.internal.Reader.{at_kind, is_symbol, is_keyword}
 use Rattle.cy_parser.specs.internal.Expressions.{begins_predicate}
-use Rattle.cy_parser.specs.Spells.{Level, whole, exclusion, conjunction, negation, comparisons, predicate, sum, product, signed, postfix, owner, head, is_number}
+use Rattle.cy_parser.specs.Spells.{Level, whole, exclusion, conjunction, negation, comparisons, predicate, sum, product, signed, postfix, owner, head}
 
 abbrev pub lacks : {A : Type 0} → Option A → Bool
 lacks None = true

@@ -1,20 +1,19 @@
 -- What readers answer where the next tokens are known.
-use Rattle.std.proofs.Common.{◌≡◌, ◌≢◌, ℕ, ◌≤◌, Bool, true, false, IsTrue, List, [], ◌∷◌, Option, Some, None, if◌then◌else◌, refl, sym, ap, ◌∙◌, subst, nat_le, arith}
+use Rattle.std.proofs.Common.{◌≡◌, ◌≢◌, ℕ, ◌≤◌, Bool, true, false, IsTrue, List, ◌∷◌, Option, Some, None, if◌then◌else◌, refl, ap, ◌∙◌, nat_le, arith}
 use Rattle.std.proofs.lemmas.Bool.Decides.{nat_tests}
 use Rattle.cy_lexer.specs.declared.keywords.Keyword.{Keyword}
 use Rattle.cy_lexer.specs.declared.symbols.Symbol.{Symbol}
 use Rattle.cy_lexer.specs.declared.tokens.Kind.{Kind}
-use Rattle.cy_lexer.specs.declared.tokens.Kind.TheVariants as kind
 use Rattle.cy_lexer.specs.declared.tokens.Token.{Token}
 use Rattle.cy_lexer.specs.contracts.keywords.Keyword as keyword_type
 use Rattle.cy_lexer.specs.contracts.symbols.Symbol as symbol_type
-use denote.Enum.Bare.{sameb, true_same}
-use Rattle.cy_trees.specs.Trees.{Name, Expression}
+use denote.Enum.Bare.{true_same}
+use Rattle.cy_trees.specs.Trees.{Expression}
 use Rattle.cy_trees.specs.Depth.{depth, greatest_depth}
 use Rattle.cy_parser.specs.Words.{denotes}
 use Rattle.cy_parser.specs.declared.refusals.Refusal.{Refusal}
 use Rattle.cy_parser.specs.declared.refusals.Refusal.TheVariants.{NoMemory}
-use Rattle.cy_parser.specs.internal.Reader.{Outcome, Reader, and_then, is_keyword, is_symbol, kind_ahead, past, sees_keyword, sees_symbol, eat_keyword, eat_symbol, peek, skip, at_kind, expect_keyword, expect_symbol, denoting, checked}
+use Rattle.cy_parser.specs.internal.Reader.{Outcome, Reader, and_then, is_keyword, is_symbol, kind_ahead, past, sees_keyword, sees_symbol, eat_keyword, eat_symbol, peek, expect_keyword, expect_symbol, denoting, checked}
 use Rattle.cy_parser.specs.Spells.{IsKeyword, IsSymbol}
 
 -- one reader after another

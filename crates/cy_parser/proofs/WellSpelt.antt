@@ -1,26 +1,25 @@
 -- What tokens of a line spell is well formed: expressions.
-use Rattle.std.proofs.Common.{◌≡◌, ℕ, zero, suc, ◌≤◌, ◌<◌, ◌+◌, ◌/◌, Bool, true, false, IsTrue, List, [], ◌∷◌, ◌++◌, Option, Some, None, Result, Ok, Err, refl, sym, ap, ◌∙◌, subst, append_assoc, pos, negsuc, map, if◌then◌else◌, nat_lt, ltb-true, ltb-false, arith}
-use Rattle.std.specs.Prelude.{⊤, chars, encode_utf8_all}
+use Rattle.std.proofs.Common.{◌≡◌, ℕ, zero, suc, ◌≤◌, ◌<◌, ◌+◌, ◌/◌, Bool, true, false, IsTrue, List, [], ◌∷◌, ◌++◌, Ok, refl, sym, ap, ◌∙◌, subst, append_assoc, map, if◌then◌else◌, nat_lt, arith}
+use Rattle.std.specs.Prelude.{chars, encode_utf8_all}
 use Rattle.std.specs.Char.{to_ascii_lowercase}
 use Rattle.std.specs.Str.{IsUtf8, all_scalars}
 use Rattle.std.proofs.lemmas.Bool.{and_parts, and_from}
 use Rattle.std.proofs.lemmas.Bool.Decides.{nat_tests}
 use Rattle.std.proofs.lemmas.Str.Ascii.{lowercase_ascii, lowercase-lowercase, lowercase_is}
-use Rattle.std.proofs.lemmas.Str.{encode_ascii, encodes-append}
+use Rattle.std.proofs.lemmas.Str.{encode_ascii}
 use Rattle.std.proofs.lemmas.List.{map-append}
 use lib.Utf8.{scalar, encode, next, low_scalar}
-use Rattle.cy_lexer.specs.declared.faults.LexFault.{LexFault}
 use Rattle.cy_lexer.specs.declared.tokens.Token.{Token}
 use Rattle.cy_lexer.specs.declared.tokens.Kind.{Kind}
 use Rattle.cy_lexer.specs.declared.tokens.Kind.TheVariants as kind
 use Rattle.cy_lexer.specs.Spans.{slice_of}
 use Rattle.cy_lexer.specs.Tokens.{tokens_of, denoted}
-use Rattle.cy_lexer.proofs.LexedLemmas.{IsLexed, IsMeant, HasCharacters, IsMeant-some, tokens_of-lexed, Every-back}
-use Rattle.cy_trees.specs.Trees.{Name, Expression, Expressions, list, no_more, more, call, call_star, variable, property, has_labels, unary, binary, boolean, integer, null, text, Links, no_links, link, comparison, Arms, arm, no_arms, Otherwise, nothing, otherwise, case}
-use Rattle.cy_parser.specs.Words.{is_word, is_name, denotes, lowered, number_limit, negated, is_within}
+use Rattle.cy_lexer.proofs.LexedLemmas.{IsLexed, IsMeant, IsMeant-some, tokens_of-lexed, Every-back}
+use Rattle.cy_trees.specs.Trees.{Name, Expression, Expressions, no_more, more, call, integer, Links, no_links, link, comparison, Arms, arm, no_arms, Otherwise, case}
+use Rattle.cy_parser.specs.Words.{is_word, is_name, denotes, lowered, number_limit, negated}
 use Rattle.cy_parser.specs.Spells as spell
 use Rattle.cy_parser.specs.Spells.{Spells, SpellsAll, SpellsLabels, SpellsLinks, SpellsArms, SpellsOtherwise, Level}
-use Rattle.cy_parser.specs.internal.WellFormed.{IsNamed, IsText, IsFunction, IsVariable, Every, Several, IsWellFormed, AreWellFormed, LinksAreWellFormed, ArmsAreWellFormed, OtherwiseIsWellFormed}
+use Rattle.cy_parser.specs.internal.WellFormed.{IsNamed, IsText, IsFunction, Every, Several, IsWellFormed, AreWellFormed, LinksAreWellFormed, ArmsAreWellFormed, OtherwiseIsWellFormed}
 use Rattle.cy_parser.proofs.ShownTokens.{denotes_within}
 
 -- ---- names in lower case
@@ -231,12 +230,14 @@ module _ (line : List ℕ) (utf8 : IsUtf8 line) where
         let y = otherwise_well u x.1 in
         (case_well arms o x.0 y.0, part_next end rest y.1)
     well (spell.name n t rest is) p = ((named_token t rest p (name_is_word t.kind is), refl), part_next t rest p)
-    well (spell.call_of_star n t opening star closing rest names is stars closes) p =
-        (function_named _ (named_token t (opening ∷ star ∷ closing ∷ rest) p (name_is_word t.kind names)),
-          part_next closing rest (part_next star (closing ∷ rest) (part_next opening (star ∷ closing ∷ rest) (part_next t (opening ∷ star ∷ closing ∷ rest) p))))
-    well (spell.call_of_nothing n t opening closing rest names is closes) p =
-        (function_named _ (named_token t (opening ∷ closing ∷ rest) p (name_is_word t.kind names)),
-          part_next closing rest (part_next opening (closing ∷ rest) (part_next t (opening ∷ closing ∷ rest) p)))
+    well (spell.call_of_star n t opening star closing rest names is stars closes) p = (
+      function_named _ (named_token t (opening ∷ star ∷ closing ∷ rest) p (name_is_word t.kind names)),
+      part_next closing rest (part_next star (closing ∷ rest) (part_next opening (star ∷ closing ∷ rest) (part_next t (opening ∷ star ∷ closing ∷ rest) p))),
+    )
+    well (spell.call_of_nothing n t opening closing rest names is closes) p = (
+      function_named _ (named_token t (opening ∷ closing ∷ rest) p (name_is_word t.kind names)),
+      part_next closing rest (part_next opening (closing ∷ rest) (part_next t (opening ∷ closing ∷ rest) p)),
+    )
     well (spell.call_of n es t opening closing ts rest names is s closes) p =
         let x = all_well s (part_next opening ts (part_next t (opening ∷ ts) p)) in
         (call_well _ false es (function_named _ (named_token t (opening ∷ ts) p (name_is_word t.kind names))) x.0, part_next closing rest x.1)

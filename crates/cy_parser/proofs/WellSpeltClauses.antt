@@ -1,24 +1,23 @@
 -- What tokens of a line spell is well formed: patterns, clauses and statements.
-use Rattle.std.proofs.Common.{◌≡◌, ℕ, zero, suc, ◌≤◌, ◌<◌, ◌-◌, Bool, true, false, IsTrue, List, [], ◌∷◌, ◌++◌, length, take, drop, Option, Some, None, Result, Ok, Err, refl, sym, ap, ◌∙◌, subst, append_assoc, if◌then◌else◌, slice_get, slice_range, arith}
-use Rattle.std.specs.Prelude.{⊤, chars, encode_utf8_all}
+use Rattle.std.proofs.Common.{◌≡◌, ℕ, zero, suc, ◌≤◌, ◌-◌, Bool, List, [], ◌∷◌, ◌++◌, length, take, drop, Option, Some, Ok, refl, sym, ap, ◌∙◌, subst, append_assoc, if◌then◌else◌, slice_get, slice_range, arith}
+use Rattle.std.specs.Prelude.{encode_utf8_all}
 use Rattle.std.specs.Str.{IsUtf8}
 use Rattle.std.proofs.lemmas.List.{take-append-drop}
 use Rattle.std.proofs.lemmas.Str.{encodes-chars}
 use Rattle.cy_lexer.specs.declared.symbols.Symbol.{Symbol}
 use Rattle.cy_lexer.specs.declared.keywords.Keyword.{Keyword}
 use Rattle.cy_lexer.specs.declared.tokens.Token.{Token}
-use Rattle.cy_lexer.specs.declared.tokens.Kind.{Kind}
 use Rattle.cy_lexer.specs.Spans.{slice_of}
 use Rattle.cy_lexer.specs.Tokens.{tokens_of}
 use Rattle.cy_lexer.proofs.LexedLemmas.{tokens_of-own, IsStretch}
 use Rattle.cy_trees.specs.declared.expressions.Variable.{Variable}
 use Rattle.cy_trees.specs.declared.clauses.Length.{Length}
-use Rattle.cy_trees.specs.Trees.{Name, Expression, null, boolean, integer, text, variable, property, has_labels, unary, binary, comparison, list, case, call, call_star, Entry, NodePattern, RelationshipPattern, Step, Path, Item, Key, Projection, SetItem, set_property, set_labels, RemoveItem, remove_property, remove_labels, Clause, «match», unwind, «with», «return», create, set, remove, delete, Statement}
-use Rattle.cy_parser.specs.Words.{is_word, is_name, denotes, slice_in, spanning, written, is_within}
+use Rattle.cy_trees.specs.Trees.{Name, Expression, variable, Entry, NodePattern, RelationshipPattern, Step, Path, Item, Key, Projection, SetItem, RemoveItem, Clause, Statement}
+use Rattle.cy_parser.specs.Words.{slice_in, spanning, written}
 use Rattle.cy_parser.specs.SpellsClauses as spell
-use Rattle.cy_parser.specs.internal.WellFormed.{IsNamed, IsText, IsVariable, Every, Several, IfAny, IsWhole, EntryIsWellFormed, NodeIsWellFormed, LengthIsWellFormed, RelationshipIsWellFormed, StepIsWellFormed, PathIsWellFormed, ItemIsWellFormed, KeyIsWellFormed, CountIsWellFormed, ProjectionIsWellFormed, SetItemIsWellFormed, RemoveItemIsWellFormed, ClauseIsWellFormed, ClausesAreWellFormed, StatementIsWellFormed}
+use Rattle.cy_parser.specs.internal.WellFormed.{IsNamed, IsVariable, Every, Several, IfAny, IsWhole, EntryIsWellFormed, NodeIsWellFormed, LengthIsWellFormed, RelationshipIsWellFormed, StepIsWellFormed, PathIsWellFormed, ItemIsWellFormed, KeyIsWellFormed, CountIsWellFormed, ProjectionIsWellFormed, SetItemIsWellFormed, RemoveItemIsWellFormed, ClauseIsWellFormed, ClausesAreWellFormed, StatementIsWellFormed}
 use Rattle.cy_parser.proofs.Complete.{expression-complete}
-use Rattle.cy_parser.proofs.WellSpelt.{IsPart, part_next, part_lexed, named_token, labels_well, name_is_word, some_every, well}
+use Rattle.cy_parser.proofs.WellSpelt.{IsPart, part_next, named_token, labels_well, name_is_word, some_every, well}
 
 some_all : {A : Type 0} (P : A → Type 0) (xs : List A) → Several P xs → Every P xs
 some_all P [] are = absurd are
@@ -149,9 +148,9 @@ module _ (line : List ℕ) (utf8 : IsUtf8 line) where
   unfolding slice_in
   spanning_named own t u first last_ s =
       subst IsNamed
-        (sym (ap (λ x. spanning line x (slice_get own (length own - 1))) first ∙ ap (λ x. spanning line (Some t) x) last_
-          ∙ ap (λ b. if b then slice_of line (record { kind = t.kind; start = t.start; end = u.end }) else []) s.within))
-        (stretch_named t.start u.end s)
+      (sym (ap (λ x. spanning line x (slice_get own (length own - 1))) first ∙ ap (λ x. spanning line (Some t) x) last_
+      ∙ ap (λ b. if b then slice_of line (record { kind = t.kind; start = t.start; end = u.end }) else []) s.within))
+      (stretch_named t.start u.end s)
 
   written_named : (k : ℕ) (ts : List Token) → Part ts → suc zero ≤ length ts → IsNamed (written line (take (suc k) ts))
   written_named k [] p few = absurd (omega (arith, few))
@@ -160,7 +159,7 @@ module _ (line : List ℕ) (utf8 : IsUtf8 line) where
       let own = t ∷ take k ts in
       let at : slice_get own (length own - 1) ≡ Some final.0 = ap (slice_get own) (omega arith) ∙ final.1 in
       let all : tokens_of line ≡ Ok (p.0 ++ (own ++ (drop k ts ++ p.1))) =
-          p.2 ∙ ap (λ xs. Ok (p.0 ++ (t ∷ xs))) (ap (λ ys. ys ++ p.1) (sym (take-append-drop k ts)) ∙ append_assoc (take k ts) (drop k ts) p.1) in
+      p.2 ∙ ap (λ xs. Ok (p.0 ++ (t ∷ xs))) (ap (λ ys. ys ++ p.1) (sym (take-append-drop k ts)) ∙ append_assoc (take k ts) (drop k ts) p.1) in
       spanning_named own t final.0 refl at (tokens_of-own line p.0 own (drop k ts ++ p.1) t final.0 utf8 all refl at)
 
   by_length : (k : ℕ) (ts : List Token) → Part ts → suc zero ≤ k → suc zero ≤ length ts → IsNamed (written line (take k ts))

@@ -3,7 +3,7 @@ use Rattle.std.specs.Prelude.{◌≡◌, ℕ, true, List, ◌++◌, map, Ok}
 use Rattle.cy_lexer.specs.declared.tokens.Token.{Token}
 use Rattle.cy_lexer.specs.Spans.{slice_of}
 use Rattle.cy_lexer.specs.Tokens.{tokens_of}
-use Rattle.cy_trees.specs.Trees.{Item, Projection, Clause, «match», unwind, «with», «return», create, set, remove, delete, Statement}
+use Rattle.cy_trees.specs.Trees.{Item, Projection, Clause, «with», «return», Statement}
 
 -- the tokens stand one after another among those of the line
 abbrev pub AreNeighbours : List ℕ → List Token → Type 0

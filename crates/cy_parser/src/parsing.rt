@@ -54,12 +54,10 @@ fn fault_of(tokens: &[Token], line: &str, refusal: Refusal) -> ParseFault
 pub fn parse(alloc: Global, tokens: &[Token], line: &str) -> Result<Statement, ParseFault>
     ensures spelt { IfOk result (λ statement. SpellsStatement line.now (statement_of statement) tokens.now) }
     ensures complete { (statement : tree.Statement) → SpellsStatement line.now statement tokens.now → MatchResult result (λ found. statement_of found ≡ statement) (λ fault. fault ≡ NoMemory) }
-    ensures shown {
-        (statement : tree.Statement) (first : List ℕ) (spelling us : List token.Token) → IsUtf8 first → AreNeighbours first spelling → SpellsStatement first statement spelling
+    ensures shown { (statement : tree.Statement) (first : List ℕ) (spelling us : List token.Token) → IsUtf8 first → AreNeighbours first spelling → SpellsStatement first statement spelling
         → length (shown.show statement) ≤ longest_line → tokens_of (shown.show statement) ≡ Ok us
         → AreNeighbours line.now tokens.now → AreAlike line.now tokens.now (shown.show statement) us
-        → MatchResult result (λ found. statement_of found ≡ with_columns statement) (λ fault. fault ≡ NoMemory)
-    }
+        → MatchResult result (λ found. statement_of found ≡ with_columns statement) (λ fault. fault ≡ NoMemory) }
     ensures places { IfErr result (λ fault. PointsAtPlace tokens.now (length line.now) fault) }
 {
     let source = Source { alloc, line };

@@ -1,6 +1,6 @@
 -- Trees that have tokens: names aren't empty, nor are the lists of which the grammar asks for one part at least, numbers
 -- have 64 bits, and no expression is too deep.
-use Rattle.std.specs.Prelude.{◌≡◌, ⊤, ℕ, pos, negsuc, ◌<◌, ◌≤◌, Bool, true, false, IsTrue, List, [], ◌∷◌, Option, Some, None, encode_utf8_all}
+use Rattle.std.specs.Prelude.{◌≡◌, ⊤, ℕ, pos, negsuc, ◌<◌, ◌≤◌, true, false, IsTrue, List, [], ◌∷◌, Option, Some, None, encode_utf8_all}
 use Rattle.std.specs.Str.{all_scalars}
 use Rattle.cy_trees.specs.declared.expressions.Variable.{Variable}
 use Rattle.cy_trees.specs.declared.clauses.Length.{Length}

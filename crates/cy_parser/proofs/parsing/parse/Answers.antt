@@ -1,4 +1,4 @@
-use Rattle.std.proofs.Common.{◌≡◌, subst, ap, sym, ◌∙◌, Some, [], List, length, arith}
+use Rattle.std.proofs.Common.{◌≡◌, subst, ap, ◌∙◌, [], length, arith}
 use Rattle.std.proofs.lemmas.Bool.Decides.{nat_tests}
 use Rattle.cy_parser.specs.SpellsClauses.{SpellsStatement}
 use Rattle.cy_trees.specs.Views.{statement_of}
@@ -7,7 +7,6 @@ use Rattle.cy_parser.proofs.ClausesComplete.{statement-complete, statement-some}
 use Rattle.cy_parser.proofs.ShownAgain.{shown-again}
 use Rattle.cy_parser.specs.Shown.{with_columns}
 use Rattle.cy_parser.proofs.Takes.{answers_one, memory_alone}
-use Rattle.cy_trees.specs.Trees.{Statement}
 use Rattle.cy_parser.specs.internal.Clauses.{statement as reads}
 use Rattle.cy_parser.proofs.parsing.parse.Goals as goal
 
@@ -40,4 +39,4 @@ pub returns-then-is_empty-clause-shown : goal.returns-then-is_empty-clause-shown
 returns-then-is_empty-clause-shown c = λ s first spelling us utf8 of_first spelt short tokens of_line alike.
     let none : length c.args.tokens.now ≡ 0 = grind (arith, nat_tests, c.is_empty.ensures, c.if-is_empty.ensures) in
     absurd (statement-some c.args.line.now (with_columns s) c.args.tokens.now
-      (shown-again s first spelling c.args.line.now c.args.tokens.now us utf8 c.utf8.line of_first spelt of_line short tokens alike) none)
+    (shown-again s first spelling c.args.line.now c.args.tokens.now us utf8 c.utf8.line of_first spelt of_line short tokens alike) none)

@@ -5,6 +5,7 @@ mod building;
 mod cursor;
 mod faults;
 mod grammar;
+mod laws;
 mod lengths;
 mod levels;
 mod nesting;
@@ -28,4 +29,5 @@ pub use cy_trees::{
     Statement, Step, UnaryOperator, Unwind, Variable, With, show,
 };
 pub use faults::ParseFault;
+pub use laws::trees_and_texts;
 pub use parsing::parse;

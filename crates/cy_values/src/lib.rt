@@ -10,6 +10,7 @@ mod sequences;
 #[cfg(test)]
 mod tests;
 mod texts;
+mod truth;
 
 pub use faults::Fault;
 pub use numbers::{Entity, NodeId, RelId};
@@ -18,3 +19,4 @@ pub use rows::{Cell, Row};
 pub use scalars::{Scalar, Value};
 pub use sequences::{Duplicate, Sequence};
 pub use texts::Text;
+pub use truth::{Truth, equal3, less3};

@@ -1,0 +1,6 @@
+use Rattle.std.proofs.Common.{◌≡◌, ◌++◌, take}
+use Rattle.cy_expr.proofs.arithmetic.joined_lists.Given as goal
+
+-- the left list and what was taken from the right one
+abbrev pub invariant-loop-element : goal.invariant-loop-element
+invariant-loop-element l = l.joined.items ≡ l.left ++ take l.element-index l.right

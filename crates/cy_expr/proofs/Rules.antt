@@ -14,10 +14,10 @@ use Rattle.cy_values.specs.declared.scalars.Value.TheVariants as value
 use Rattle.cy_values.specs.declared.truth.Truth.{Truth}
 use Rattle.cy_values.specs.declared.truth.Truth.TheVariants.{No, Unknown, Yes}
 use Rattle.cy_values.specs.Truth.{one_at_least}
-use Rattle.cy_values.specs.Compare.{equality}
+use Rattle.cy_values.specs.Compare.{value_in, equality}
 use Rattle.cy_expr.specs.declared.faults.EvalFault.{EvalFault}
 use Rattle.cy_expr.specs.Faults.{on_one, on_two}
-use Rattle.cy_expr.specs.Lists.{element, elements, list_of, value_in, equals_one}
+use Rattle.cy_expr.specs.Lists.{element, elements, list_of, equals_one}
 use Rattle.cy_expr.specs.Predicates.{has_within}
 
 -- a whole number's distance from zero fits where its opposite does

@@ -1,4 +1,5 @@
 pub mod Faults
+pub mod Lent
 pub mod Logic
 pub mod Comparison
 pub mod Predicates

@@ -10,7 +10,7 @@ use Rattle.cy_values.specs.declared.truth.Truth.TheVariants.{No}
 use Rattle.cy_values.specs.declared.rows.Cell.{Cell}
 use Rattle.cy_values.specs.declared.rows.Cell.TheVariants as cell
 use Rattle.cy_values.specs.Truth.{one_at_least}
-use Rattle.cy_values.specs.Compare.{equality}
+use Rattle.cy_values.specs.Compare.{value_in, equality}
 use Rattle.cy_expr.specs.declared.faults.EvalFault.{EvalFault}
 use Rattle.cy_expr.specs.declared.faults.EvalFault.TheVariants.{WrongType, NestedList}
 use Rattle.cy_expr.specs.Faults.{on_one, on_two}
@@ -23,13 +23,6 @@ element (value.Bool b) = Ok (scalar.Bool b)
 element (value.Int n) = Ok (scalar.Int n)
 element value.Null = Ok scalar.Null
 element (value.List es) = Err NestedList
-
--- an element as a value
-abbrev pub value_in : Scalar → Value
-value_in (scalar.Text t) = value.Text t
-value_in (scalar.Bool b) = value.Bool b
-value_in (scalar.Int n) = value.Int n
-value_in scalar.Null = value.Null
 
 -- the elements that are these values
 abbrev pub elements : List Value → Result (List Scalar) EvalFault

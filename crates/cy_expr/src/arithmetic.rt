@@ -3,24 +3,25 @@
 
 ghost use Rattle.std.specs.Prelude.{◌≡◌, ◌⊎◌, ◌++◌, ℤ, pos, unsigned_abs, Result, Err, SomeIff, FitsSigned, MatchResult};
 ghost use Rattle.std.specs.Int.{w64};
+ghost use Rattle.cy_values.specs.Compare.{lent};
 ghost use Rattle.cy_expr.specs.declared.faults.EvalFault.TheVariants.{NoMemory};
 ghost use Rattle.cy_expr.specs.Arithmetic as spec;
 
 use crate::faults::EvalFault;
-use cy_values::{Duplicate, Scalar, Sequence, Text, Value};
+use cy_values::{Duplicate, Scalar, Sequence, Text, Value, View};
 use std::alloc::Global;
 
 /// `+`: the sum of two integers, or two texts or two lists joined, which alone take memory.
 /// (openCypher 9, Mathematical operators, String operators, List operators; the faults: own)
-pub(crate) fn add(alloc: Global, left: &Value, right: &Value) -> Result<Value, EvalFault>
-    ensures { (result ≡ spec.sum left.now right.now) ⊎ (result ≡ Err NoMemory) }
+pub(crate) fn add(alloc: Global, left: View<'_>, right: View<'_>) -> Result<Value, EvalFault>
+    ensures { (result ≡ spec.sum (lent left.entry) (lent right.entry)) ⊎ (result ≡ Err NoMemory) }
 {
     match (left, right) {
-        (Value::Int(left), Value::Int(right)) => integer(left.checked_add(*right)),
-        (Value::Text(left), Value::Text(right)) => {
+        (View::Int(left), View::Int(right)) => integer(left.checked_add(right)),
+        (View::Text(left), View::Text(right)) => {
             Ok(Value::Text(joined_texts(alloc, left, right)?))
         }
-        (Value::List(left), Value::List(right)) => {
+        (View::List(left), View::List(right)) => {
             Ok(Value::List(joined_lists(alloc, left, right)?))
         }
         _ => other_operands(left, right),
@@ -28,73 +29,73 @@ pub(crate) fn add(alloc: Global, left: &Value, right: &Value) -> Result<Value, E
 }
 
 /// `-` of two integers.
-pub(crate) fn subtract(left: &Value, right: &Value) -> Result<Value, EvalFault>
-    ensures { result ≡ spec.difference left.now right.now }
+pub(crate) fn subtract(left: View<'_>, right: View<'_>) -> Result<Value, EvalFault>
+    ensures { result ≡ spec.difference (lent left.entry) (lent right.entry) }
 {
     match (left, right) {
-        (Value::Int(left), Value::Int(right)) => integer(left.checked_sub(*right)),
+        (View::Int(left), View::Int(right)) => integer(left.checked_sub(right)),
         _ => other_operands(left, right),
     }
 }
 
 /// `*` of two integers.
-pub(crate) fn multiply(left: &Value, right: &Value) -> Result<Value, EvalFault>
-    ensures { result ≡ spec.product left.now right.now }
+pub(crate) fn multiply(left: View<'_>, right: View<'_>) -> Result<Value, EvalFault>
+    ensures { result ≡ spec.product (lent left.entry) (lent right.entry) }
 {
     match (left, right) {
-        (Value::Int(left), Value::Int(right)) => integer(left.checked_mul(*right)),
+        (View::Int(left), View::Int(right)) => integer(left.checked_mul(right)),
         _ => other_operands(left, right),
     }
 }
 
 /// `/` of two integers, which truncates towards zero; `DivisionByZero` where the right one is zero.
-pub(crate) fn divide(left: &Value, right: &Value) -> Result<Value, EvalFault>
-    ensures { result ≡ spec.quotient left.now right.now }
+pub(crate) fn divide(left: View<'_>, right: View<'_>) -> Result<Value, EvalFault>
+    ensures { result ≡ spec.quotient (lent left.entry) (lent right.entry) }
 {
     match (left, right) {
-        (Value::Int(_), Value::Int(0)) => Err(EvalFault::DivisionByZero),
-        (Value::Int(left), Value::Int(right)) => integer(left.checked_div(*right)),
+        (View::Int(_), View::Int(0)) => Err(EvalFault::DivisionByZero),
+        (View::Int(left), View::Int(right)) => integer(left.checked_div(right)),
         _ => other_operands(left, right),
     }
 }
 
 /// `%` of two integers, with the sign of the left one; `DivisionByZero` where the right one is zero.
-pub(crate) fn remainder(left: &Value, right: &Value) -> Result<Value, EvalFault>
-    ensures { result ≡ spec.remainder left.now right.now }
+pub(crate) fn remainder(left: View<'_>, right: View<'_>) -> Result<Value, EvalFault>
+    ensures { result ≡ spec.remainder (lent left.entry) (lent right.entry) }
 {
     match (left, right) {
-        (Value::Int(_), Value::Int(0)) => Err(EvalFault::DivisionByZero),
-        (Value::Int(left), Value::Int(right)) => Ok(Value::Int(left.wrapping_rem(*right))),
+        (View::Int(_), View::Int(0)) => Err(EvalFault::DivisionByZero),
+        (View::Int(left), View::Int(right)) => Ok(Value::Int(left.wrapping_rem(right))),
         _ => other_operands(left, right),
     }
 }
 
 /// The sign `-`.
-pub(crate) fn negate(operand: &Value) -> Result<Value, EvalFault>
-    ensures { result ≡ spec.negated operand.now }
+pub(crate) fn negate(operand: View<'_>) -> Result<Value, EvalFault>
+    ensures { result ≡ spec.negated (lent operand.entry) }
 {
     match operand {
-        Value::Int(number) => integer(number.checked_neg()),
+        View::Int(number) => integer(number.checked_neg()),
         _ => other_operand(operand),
     }
 }
 
 /// The sign `+`.
-pub(crate) fn plus(operand: &Value) -> Result<Value, EvalFault>
-    ensures { result ≡ spec.unchanged operand.now }
+pub(crate) fn plus(operand: View<'_>) -> Result<Value, EvalFault>
+    ensures { result ≡ spec.unchanged (lent operand.entry) }
 {
     match operand {
-        Value::Int(number) => Ok(Value::Int(*number)),
+        View::Int(number) => Ok(Value::Int(number)),
         _ => other_operand(operand),
     }
 }
 
 /// `abs`: how far an integer is from zero. (openCypher 9, Mathematical functions)
-pub(crate) fn absolute(operand: &Value) -> Result<Value, EvalFault>
-    ensures { result ≡ spec.absolute operand.now }
+pub(crate) fn absolute(operand: View<'_>) -> Result<Value, EvalFault>
+    ensures { result ≡ spec.absolute (lent operand.entry) }
 {
     match operand {
-        Value::Int(number) => distance(*number),
+        View::Int(number) => distance(number),
         _ => other_operand(operand),
     }
 }
@@ -117,42 +118,46 @@ fn integer(number: Option<i64>) -> Result<Value, EvalFault>
 }
 
 // What an operator gives for an operand that it doesn't take: null for null.
-fn other_operand(operand: &Value) -> Result<Value, EvalFault>
-    ensures { result ≡ spec.other_operand operand.now }
+fn other_operand(operand: View<'_>) -> Result<Value, EvalFault>
+    ensures { result ≡ spec.other_operand (lent operand.entry) }
 {
     match operand {
-        Value::Null => Ok(Value::Null),
+        View::Null => Ok(Value::Null),
         _ => Err(EvalFault::WrongType),
     }
 }
 
 // What an operator gives for two operands that it doesn't take together: null where one of them is null.
-fn other_operands(left: &Value, right: &Value) -> Result<Value, EvalFault>
-    ensures { result ≡ spec.other_operands left.now right.now }
+fn other_operands(left: View<'_>, right: View<'_>) -> Result<Value, EvalFault>
+    ensures { result ≡ spec.other_operands (lent left.entry) (lent right.entry) }
 {
     match (left, right) {
-        (Value::Null, _) | (_, Value::Null) => Ok(Value::Null),
+        (View::Null, _) | (_, View::Null) => Ok(Value::Null),
         _ => Err(EvalFault::WrongType),
     }
 }
 
-fn joined_texts(alloc: Global, left: &Text, right: &Text) -> Result<Text, EvalFault>
+fn joined_texts(alloc: Global, left: &str, right: &str) -> Result<Text, EvalFault>
     ensures { MatchResult result (λ joined. joined ≡ left.now ++ right.now) (λ fault. fault ≡ NoMemory) }
 {
-    let mut joined = String::from_str(alloc, left.as_str())?;
-    joined.push_str(right.as_str())?;
+    let mut joined = String::with_capacity(alloc, left.len() + right.len())?;
+    joined.push_str(left)?;
+    joined.push_str(right)?;
     Ok(Text::new(joined))
 }
 
 fn joined_lists(
     alloc: Global,
-    left: &Sequence<Scalar>,
-    right: &Sequence<Scalar>,
+    left: &[Scalar],
+    right: &[Scalar],
 ) -> Result<Sequence<Scalar>, EvalFault>
     ensures { MatchResult result (λ joined. joined ≡ left.now ++ right.now) (λ fault. fault ≡ NoMemory) }
 {
-    let mut joined = left.copy(alloc)?.into_vec();
-    for element in right.as_slice() {
+    let mut joined = Vec::with_capacity(alloc, left.len() + right.len())?;
+    for element in left {
+        joined.push(element.copy(alloc)?)?;
+    }
+    for element in right {
         joined.push(element.copy(alloc)?)?;
     }
     Ok(Sequence::new(joined))

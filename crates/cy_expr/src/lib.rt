@@ -11,5 +11,6 @@ mod operators;
 mod predicates;
 #[cfg(test)]
 mod tests;
+mod views;
 
 pub use faults::EvalFault;

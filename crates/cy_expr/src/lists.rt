@@ -2,12 +2,14 @@
 
 ghost use Rattle.std.specs.Prelude.{◌≡◌, ◌⊎◌, Result, Err};
 ghost use Rattle.cy_expr.specs.declared.faults.EvalFault.TheVariants.{NoMemory};
-ghost use Rattle.cy_values.specs.Compare.{equality};
+ghost use Rattle.cy_values.specs.Compare.{lent};
+ghost use Rattle.cy_expr.specs.Lent.{lent_cell};
 ghost use Rattle.cy_expr.specs.Lists as spec;
 
 use crate::faults::EvalFault;
 use crate::logic::value_of;
-use cy_values::{Cell, Scalar, Sequence, Truth, Value};
+use crate::views::CellView;
+use cy_values::{Scalar, Sequence, Truth, Value, View};
 use std::alloc::Global;
 
 /// `[..]`: the list of the values, which it takes over. `NestedList` where one of them is a list.
@@ -37,49 +39,36 @@ fn element(value: Value) -> Result<Scalar, EvalFault>
 
 /// `IN`: whether the value equals an element of the list; null for a null list, and `WrongType` for what is no list.
 /// (openCypher 9, List operators; the fault: own)
-pub(crate) fn is_in(value: &Value, list: &Value) -> Result<Value, EvalFault>
-    ensures { result ≡ spec.membership value.now list.now }
+pub(crate) fn is_in(value: View<'_>, list: View<'_>) -> Result<Value, EvalFault>
+    ensures { result ≡ spec.membership (lent value.entry) (lent list.entry) }
 {
     match list {
-        Value::List(elements) => Ok(value_of(equals_one(value, elements.as_slice()))),
-        Value::Null => Ok(Value::Null),
-        Value::Text(_) | Value::Bool(_) | Value::Int(_) => Err(EvalFault::WrongType),
+        View::List(elements) => Ok(value_of(equals_one(value, elements))),
+        View::Null => Ok(Value::Null),
+        View::Text(_) | View::Bool(_) | View::Int(_) => Err(EvalFault::WrongType),
     }
 }
 
 // The OR of `=` over the elements.
-fn equals_one(value: &Value, elements: &[Scalar]) -> Truth
-    ensures { result ≡ spec.equals_one value.now elements.now }
+fn equals_one(value: View<'_>, elements: &[Scalar]) -> Truth
+    ensures { result ≡ spec.equals_one (lent value.entry) elements.now }
 {
     let mut any = Truth::No;
     for element in elements {
-        any = any.or(equals_element(value, element));
+        any = any.or(value.equal(element.view()));
     }
     any
 }
 
-// `=` of a value and an element, which isn't copied.
-fn equals_element(value: &Value, element: &Scalar) -> Truth
-    ensures { result ≡ equality value.now (spec.value_in element.now) }
-{
-    match (value, element) {
-        (Value::Null, _) | (_, Scalar::Null) => Truth::Unknown,
-        (Value::Text(left), Scalar::Text(right)) => Truth::known(left == right),
-        (Value::Bool(left), Scalar::Bool(right)) => Truth::known(left == right),
-        (Value::Int(left), Scalar::Int(right)) => Truth::known(left == right),
-        _ => Truth::No,
-    }
-}
-
 /// `size`: of a text its characters, of a list its elements, of relationships their number. (openCypher 9, size)
-pub(crate) fn size(cell: &Cell) -> Result<Value, EvalFault>
-    ensures { result ≡ spec.cell_size cell.now }
+pub(crate) fn size(cell: CellView<'_>) -> Result<Value, EvalFault>
+    ensures { result ≡ spec.cell_size (lent_cell cell.entry) }
 {
     match cell {
-        Cell::Value(Value::Text(text)) => Ok(Value::Int(text.as_str().chars().count() as i64)),
-        Cell::Value(Value::List(elements)) => Ok(Value::Int(elements.as_slice().len() as i64)),
-        Cell::Rels(numbers) => Ok(Value::Int(numbers.as_slice().len() as i64)),
-        Cell::Value(Value::Null) => Ok(Value::Null),
+        CellView::Value(View::Text(text)) => Ok(Value::Int(text.chars().count() as i64)),
+        CellView::Value(View::List(elements)) => Ok(Value::Int(elements.len() as i64)),
+        CellView::Rels(numbers) => Ok(Value::Int(numbers.len() as i64)),
+        CellView::Value(View::Null) => Ok(Value::Null),
         _ => Err(EvalFault::WrongType),
     }
 }

@@ -6,15 +6,11 @@ use crate::faults::EvalFault;
 use crate::lists::{list_of, size};
 use crate::logic::value_of;
 use crate::operators::{binary, compare, unary};
+use crate::views::{CellView, view_of};
 use cy_trees::{BinaryOperator, Comparator, UnaryOperator};
-use cy_values::{Cell, Duplicate, NodeId, RelId, Scalar, Sequence, Text, Truth, Value};
+use cy_values::{Cell, NodeId, RelId, Scalar, Sequence, Text, Truth, Value, View};
 use std::alloc::Global;
 use std::test::Fail;
-
-// A text.
-fn text(alloc: Global, characters: &str) -> Result<Value, Fail> {
-    Ok(Value::Text(Text::from_str(alloc, characters)?))
-}
 
 // A value of each type: null, true, 2, 'a' and [2].
 fn samples(alloc: Global) -> Result<Vec<Value>, Fail> {
@@ -22,7 +18,7 @@ fn samples(alloc: Global) -> Result<Vec<Value>, Fail> {
     values.push(Value::Null)?;
     values.push(Value::Bool(true))?;
     values.push(Value::Int(2))?;
-    values.push(text(alloc, "a")?)?;
+    values.push(Value::Text(Text::from_str(alloc, "a")?))?;
     let mut elements = Vec::new(alloc);
     elements.push(Scalar::Int(2))?;
     values.push(Value::List(Sequence::new(elements)))?;
@@ -100,7 +96,11 @@ fn operators_on_each_pair_of_types(rt: HostRuntime) -> Result<(), Fail> {
         let mut line = String::new(alloc);
         for left in values.iter() {
             for right in values.iter() {
-                write(alloc, &mut line, binary(alloc, operator, left, right))?;
+                write(
+                    alloc,
+                    &mut line,
+                    binary(alloc, operator, left.view(), right.view()),
+                )?;
             }
         }
         assert_eq!(rt; line.as_str(), wanted, "{operator:?}");
@@ -142,9 +142,8 @@ fn comparisons_of_each_pair_of_types(rt: HostRuntime) -> Result<(), Fail> {
         let mut line = String::new(alloc);
         for left in values.iter() {
             for right in values.iter() {
-                let left = Cell::Value(left.copy(alloc)?);
-                let right = Cell::Value(right.copy(alloc)?);
-                let truth = compare(comparator, &left, &right)?;
+                let left = CellView::Value(left.view());
+                let truth = compare(comparator, left, CellView::Value(right.view()))?;
                 write(alloc, &mut line, Ok(value_of(truth)))?;
             }
         }
@@ -167,16 +166,19 @@ fn operators_and_functions_on_each_type(rt: HostRuntime) -> Result<(), Fail> {
     for (operator, wanted) in table {
         let mut line = String::new(alloc);
         for value in values.iter() {
-            let cell = Cell::Value(value.copy(alloc)?);
-            write(alloc, &mut line, unary(operator, &cell))?;
+            write(
+                alloc,
+                &mut line,
+                unary(operator, CellView::Value(value.view())),
+            )?;
         }
         assert_eq!(rt; line.as_str(), wanted, "{operator:?}");
     }
     let mut line = String::new(alloc);
     for value in values.iter() {
-        write(alloc, &mut line, absolute(value))?;
-        write(alloc, &mut line, to_text(alloc, value))?;
-        write(alloc, &mut line, size(&Cell::Value(value.copy(alloc)?)))?;
+        write(alloc, &mut line, absolute(value.view()))?;
+        write(alloc, &mut line, to_text(alloc, value.view()))?;
+        write(alloc, &mut line, size(CellView::Value(value.view())))?;
     }
     assert_eq!(rt;
         line.as_str(),
@@ -202,16 +204,16 @@ fn integers_at_their_bounds(rt: HostRuntime) -> Result<(), Fail> {
     ];
     for (operator, left, right, wanted) in table {
         let mut line = String::new(alloc);
-        let outcome = binary(alloc, operator, &Value::Int(left), &Value::Int(right));
+        let outcome = binary(alloc, operator, View::Int(left), View::Int(right));
         write(alloc, &mut line, outcome)?;
         assert_eq!(rt; line.as_str(), wanted, "{operator:?} at {left} and {right}");
     }
-    let least = Cell::Value(Value::Int(i64::MIN));
+    let least = View::Int(i64::MIN);
     assert_eq!(rt;
-        unary(UnaryOperator::Minus, &least),
+        unary(UnaryOperator::Minus, CellView::Value(least)),
         Err(EvalFault::Overflow)
     );
-    assert_eq!(rt; absolute(&Value::Int(i64::MIN)), Err(EvalFault::Overflow));
+    assert_eq!(rt; absolute(least), Err(EvalFault::Overflow));
     Ok(())
 }
 
@@ -227,43 +229,22 @@ fn entities_lists_and_texts(rt: HostRuntime) -> Result<(), Fail> {
         (&null, Cell::Node(NodeId(1)), Truth::Unknown),
     ];
     for (left, right, wanted) in table {
-        assert_eq!(rt; compare(Comparator::Equal, left, &right), Ok(wanted));
+        let truth = compare(Comparator::Equal, view_of(left), view_of(&right));
+        assert_eq!(rt; truth, Ok(wanted));
     }
-    let mut line = String::new(alloc);
-    write(alloc, &mut line, size(&Cell::Value(text(alloc, "né")?)))?;
-    write(alloc, &mut line, list_of(alloc, samples(alloc)?))?;
-    let accented = text(alloc, "né")?;
-    write(
-        alloc,
-        &mut line,
-        binary(
-            alloc,
-            BinaryOperator::EndsWith,
-            &accented,
-            &text(alloc, "é")?,
-        ),
-    )?;
-    write(
-        alloc,
-        &mut line,
-        binary(
-            alloc,
-            BinaryOperator::Contains,
-            &accented,
-            &text(alloc, "")?,
-        ),
-    )?;
-    write(
-        alloc,
-        &mut line,
-        binary(
-            alloc,
-            BinaryOperator::StartsWith,
-            &accented,
-            &text(alloc, "e")?,
-        ),
-    )?;
-    assert_eq!(rt; line.as_str(), "2 44 true true false");
+    let table = [
+        (BinaryOperator::EndsWith, "é", true),
+        (BinaryOperator::Contains, "", true),
+        (BinaryOperator::StartsWith, "e", false),
+        (BinaryOperator::StartsWith, "née", false),
+    ];
+    for (operator, part, wanted) in table {
+        let answer = binary(alloc, operator, View::Text("né"), View::Text(part));
+        assert_eq!(rt; answer, Ok(Value::Bool(wanted)), "{operator:?} {part}");
+    }
+    let characters = size(CellView::Value(View::Text("né")));
+    assert_eq!(rt; characters, Ok(Value::Int(2)));
+    assert_eq!(rt; list_of(alloc, samples(alloc)?), Err(EvalFault::NestedList));
     Ok(())
 }
 

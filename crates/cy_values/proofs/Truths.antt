@@ -6,7 +6,7 @@ use Rattle.cy_values.specs.declared.truth.Truth.{Truth}
 use Rattle.cy_values.specs.declared.truth.Truth.TheVariants.{No, Unknown, Yes}
 use Rattle.std.proofs.lemmas.Bool.Decides.{nat_tests}
 use Rattle.cy_values.specs.Truth.{both, known}
-use Rattle.cy_values.specs.Compare.{scalar_equality, all_equality, list_less}
+use Rattle.cy_values.specs.Compare.{value_in, plain_equality, all_equality, list_less}
 
 pub both-yes : (a : Truth) → both a Yes ≡ a
 both-yes No = refl
@@ -36,8 +36,8 @@ pub equal_so_far : (a : Truth) (xs ys : List Scalar) → (xs ≡ []) ⊎ (ys ≡
 equal_so_far a xs ys none = ap (both a) (ended xs ys none) ∙ both-yes a
 
 -- one more pair
-pub equal_with : (a : Truth) (x y : Scalar) (xs ys : List Scalar) → both (both a (scalar_equality x y)) (all_equality xs ys) ≡ both a (all_equality (x ∷ xs) (y ∷ ys))
-equal_with a x y xs ys = both-both a (scalar_equality x y) (all_equality xs ys)
+pub equal_with : (a : Truth) (x y : Scalar) (xs ys : List Scalar) → both (both a (plain_equality (value_in x) (value_in y))) (all_equality xs ys) ≡ both a (all_equality (x ∷ xs) (y ∷ ys))
+equal_with a x y xs ys = both-both a (plain_equality (value_in x) (value_in y)) (all_equality xs ys)
 
 -- at the end of a list the longer one is greater
 pub less_ended : (m n : ℕ) (xs ys : List Scalar) → (xs ≡ []) ⊎ (ys ≡ []) → length xs + n ≡ length ys + m → known (nat_lt m n) ≡ list_less xs ys

@@ -11,6 +11,7 @@ mod sequences;
 mod tests;
 mod texts;
 mod truth;
+mod views;
 
 pub use faults::Fault;
 pub use numbers::{Entity, NodeId, RelId};
@@ -19,4 +20,5 @@ pub use rows::{Cell, Row};
 pub use scalars::{Scalar, Value};
 pub use sequences::{Duplicate, Sequence};
 pub use texts::Text;
-pub use truth::{Truth, equal3, less3};
+pub use truth::Truth;
+pub use views::{View, equal3, less3};

@@ -2,7 +2,7 @@ use Rattle.std.proofs.Common.{◌≡◌, ◌+◌, length}
 use Rattle.std.specs.Iterator.Adapters.{zip_first, zip_second}
 use Rattle.std.specs.Slice.Iter.{iter_rest}
 use Rattle.cy_values.specs.Compare.{list_less}
-use Rattle.cy_values.proofs.truth.list_less.Given as goal
+use Rattle.cy_values.proofs.views.list_less.Given as goal
 
 -- the elements that are left decide, and as many went from either list
 abbrev pub invariant-loop-x : goal.invariant-loop-x

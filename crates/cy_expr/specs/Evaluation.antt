@@ -10,7 +10,6 @@ use Rattle.cy_values.specs.declared.rows.Cell.{Cell}
 use Rattle.cy_values.specs.declared.rows.Cell.TheVariants as cell
 use Rattle.cy_values.specs.Truth.{both}
 use Rattle.cy_trees.specs.declared.expressions.Variable.{Variable}
-use Rattle.cy_trees.specs.declared.expressions.Comparator.{Comparator}
 use Rattle.cy_trees.specs.Trees.{Name, Expression, null, boolean, integer, text, variable, property, has_labels, unary, binary, comparison, list, case, call, call_star, Expressions, no_more, more, Links, no_links, link, Arms, no_arms, arm, Otherwise, nothing, otherwise}
 use Rattle.cy_expr.specs.declared.faults.EvalFault.{EvalFault}
 use Rattle.cy_expr.specs.declared.faults.EvalFault.TheVariants.{WrongType}
@@ -32,11 +31,6 @@ as_cell (Err fault) = Err fault
 abbrev pub column_value : Option ℕ → List Cell → Cell
 column_value (Some column) row = slice_index_or row column (cell.Value value.Null)
 column_value None row = cell.Value value.Null
-
--- a chain of comparisons is the AND of its neighbours
-abbrev pub chain : Cell → List (Comparator × Cell) → Result Truth EvalFault
-chain first [] = Ok Yes
-chain first (next_one ∷ others) = on_two (λ a b. Ok (both a b)) (compared next_one.0 first next_one.1) (chain next_one.1 others)
 
 -- A function of one argument, by its name in lower case. An aggregate has no value on a row, and no checked expression
 -- has another function or another number of arguments: a wrong type stands for these (own).
@@ -65,7 +59,7 @@ abbrev mutual
   cell_of graph row (has_labels e labels) = as_cell (on_one (labels_test graph labels) (cell_of graph row e))
   cell_of graph row (unary operator e) = as_cell (on_one (unary_value operator) (cell_of graph row e))
   cell_of graph row (binary operator a b) = as_cell (on_two (binary_value operator) (on_one value_in_cell (cell_of graph row a)) (on_one value_in_cell (cell_of graph row b)))
-  cell_of graph row (comparison e links) = as_cell (on_one (λ a. Ok (value_of a)) (on_two chain (cell_of graph row e) (linked graph row links)))
+  cell_of graph row (comparison e links) = as_cell (on_one (λ a. Ok (value_of a)) (on_one (λ c. chain graph row c links) (cell_of graph row e)))
   cell_of graph row (list es) = as_cell (on_one list_of (values_of graph row es))
   cell_of graph row (case arms e) = as_cell (choice (outcomes_of_arms graph row arms) (outcome_of_else graph row e))
   cell_of graph row (call f distinct es) = as_cell (
@@ -83,10 +77,11 @@ abbrev mutual
   values_of graph row no_more = Ok []
   values_of graph row (more e es) = on_two (λ v vs. Ok (v ∷ vs)) (on_one value_in_cell (cell_of graph row e)) (values_of graph row es)
 
-  -- the operands of a chain behind the first one, each with the comparator before it
-  pub linked : Lookups → List Cell → Links → Result (List (Comparator × Cell)) EvalFault
-  linked graph row no_links = Ok []
-  linked graph row (link comparator e links) = on_two (λ c cs. Ok ((comparator, c) ∷ cs)) (cell_of graph row e) (linked graph row links)
+  -- a chain of comparisons behind an operand: the AND of its neighbours, each operand evaluated once
+  pub chain : Lookups → List Cell → Cell → Links → Result Truth EvalFault
+  chain graph row c no_links = Ok Yes
+  chain graph row c (link comparator e links) =
+      on_one (λ d. on_two (λ a b. Ok (both a b)) (compared comparator c d) (chain graph row d links)) (cell_of graph row e)
 
   -- what each expression gives, a value or a fault
   pub outcomes_of : Lookups → List Cell → Expressions → List (Result Value EvalFault)

@@ -1,2 +1,3 @@
 pub mod Identity
 pub mod Orders
+pub mod Truths

@@ -1,2 +1,4 @@
 pub mod Order
 pub mod Bag
+pub mod Truth
+pub mod Compare

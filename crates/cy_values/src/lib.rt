@@ -10,6 +10,8 @@ mod sequences;
 #[cfg(test)]
 mod tests;
 mod texts;
+mod truth;
+mod views;
 
 pub use faults::Fault;
 pub use numbers::{Entity, NodeId, RelId};
@@ -18,3 +20,5 @@ pub use rows::{Cell, Row};
 pub use scalars::{Scalar, Value};
 pub use sequences::{Duplicate, Sequence};
 pub use texts::Text;
+pub use truth::Truth;
+pub use views::{View, equal3, less3};

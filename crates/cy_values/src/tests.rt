@@ -7,6 +7,8 @@ use crate::rows::{Cell, Row};
 use crate::scalars::{Scalar, Value};
 use crate::sequences::{Duplicate, Sequence};
 use crate::texts::Text;
+use crate::truth::Truth;
+use crate::views::{equal3, less3};
 use std::alloc::Global;
 use std::cmp::Ordering;
 use std::process::Abort;
@@ -131,4 +133,62 @@ fn rises(rt: &impl Abort, rows: &Vec<Row>) {
             assert_eq!(rt; row_order(left, right), i.cmp(&j), "rows {i} and {j}");
         }
     }
+}
+
+// A list of integers, in which 0 stands for null.
+fn list(alloc: Global, numbers: &[i64]) -> Result<Value, Fail> {
+    let mut scalars = Vec::new(alloc);
+    for number in numbers {
+        scalars.push(if *number == 0 {
+            Scalar::Null
+        } else {
+            Scalar::Int(*number)
+        })?;
+    }
+    Ok(Value::List(Sequence::new(scalars)))
+}
+
+#[test]
+fn compares_lists(rt: HostRuntime) -> Result<(), Fail> {
+    let alloc = rt.alloc();
+    let table: [(&[i64], &[i64], Truth, Truth); 6] = [
+        (&[1, 0], &[1, 2], Truth::Unknown, Truth::Unknown),
+        (&[1, 0], &[2, 0], Truth::No, Truth::Yes),
+        (&[1], &[1, 2], Truth::No, Truth::Yes),
+        (&[1, 2], &[1], Truth::No, Truth::No),
+        (&[1, 2], &[3, 0], Truth::No, Truth::Yes),
+        (&[1, 2], &[1, 2], Truth::Yes, Truth::No),
+    ];
+    for (left, right, equal, less) in table {
+        let (left, right) = (list(alloc, left)?, list(alloc, right)?);
+        assert_eq!(rt; equal3(&left, &right), equal, "{left:?} = {right:?}");
+        assert_eq!(rt; less3(&left, &right), less, "{left:?} < {right:?}");
+    }
+    Ok(())
+}
+
+#[test]
+fn compares_types(rt: HostRuntime) -> Result<(), Fail> {
+    let alloc = rt.alloc();
+    let one = Value::Int(1);
+    let text = Value::Text(Text::from_str(alloc, "a")?);
+    let table = [
+        (&one, &text, Truth::No, Truth::Unknown),
+        (&one, &Value::Null, Truth::Unknown, Truth::Unknown),
+        (&Value::Null, &Value::Null, Truth::Unknown, Truth::Unknown),
+        (&one, &Value::Int(2), Truth::No, Truth::Yes),
+        (
+            &Value::Bool(true),
+            &Value::Bool(false),
+            Truth::No,
+            Truth::No,
+        ),
+    ];
+    for (left, right, equal, less) in table {
+        assert_eq!(rt; equal3(left, right), equal, "{left:?} = {right:?}");
+        assert_eq!(rt; less3(left, right), less, "{left:?} < {right:?}");
+    }
+    assert_eq!(rt; Truth::Yes.and(Truth::Unknown).not(), Truth::Unknown);
+    assert_eq!(rt; Truth::No.or(Truth::Yes).xor(Truth::No), Truth::Yes);
+    Ok(())
 }

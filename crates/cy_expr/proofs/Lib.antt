@@ -1,0 +1,3 @@
+mod Examples
+mod ExampleTrees
+pub mod Rules

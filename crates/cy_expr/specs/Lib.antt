@@ -1,0 +1,12 @@
+pub mod Faults
+pub mod Lent
+pub mod Logic
+pub mod Comparison
+pub mod Predicates
+pub mod Arithmetic
+pub mod Lists
+pub mod Conversions
+pub mod Choice
+pub mod Operators
+pub mod Lookups
+pub mod Evaluation

@@ -1,0 +1,100 @@
+//! What each operator gives for operands that have values. (openCypher 9, Operators)
+
+ghost use Rattle.std.specs.Prelude.{◌≡◌, ◌⊎◌, Result, Err, MatchResult, Ok};
+ghost use Rattle.cy_values.specs.Compare.{lent};
+ghost use Rattle.cy_expr.specs.Lent.{lent_cell};
+ghost use Rattle.cy_expr.specs.declared.faults.EvalFault.TheVariants.{NoMemory};
+ghost use Rattle.cy_expr.specs.Operators as spec;
+
+use crate::arithmetic::{add, divide, multiply, negate, plus, remainder, subtract};
+use crate::comparison::{equal, is_null, less_or_equal, unequal};
+use crate::faults::EvalFault;
+use crate::lists::is_in;
+use crate::logic::{and, not, or, value_of, xor};
+use crate::predicates::{contains, ends_with, starts_with};
+use crate::views::CellView;
+use cy_trees::{BinaryOperator, Comparator, UnaryOperator};
+use cy_values::{Truth, Value, View};
+use std::alloc::Global;
+
+/// An operator with two values. Only `+` takes memory.
+pub(crate) fn binary(
+    alloc: Global,
+    operator: BinaryOperator,
+    left: View<'_>,
+    right: View<'_>,
+) -> Result<Value, EvalFault>
+    ensures { (result ≡ spec.binary_value operator (lent left.entry) (lent right.entry)) ⊎ (result ≡ Err NoMemory) }
+{
+    match operator {
+        BinaryOperator::Or => or(left, right),
+        BinaryOperator::Xor => xor(left, right),
+        BinaryOperator::And => and(left, right),
+        BinaryOperator::In => is_in(left, right),
+        BinaryOperator::Contains => Ok(value_of(contains(left, right))),
+        BinaryOperator::StartsWith => Ok(value_of(starts_with(left, right))),
+        BinaryOperator::EndsWith => Ok(value_of(ends_with(left, right))),
+        BinaryOperator::Add => add(alloc, left, right),
+        BinaryOperator::Subtract => subtract(left, right),
+        BinaryOperator::Multiply => multiply(left, right),
+        BinaryOperator::Divide => divide(left, right),
+        BinaryOperator::Remainder => remainder(left, right),
+    }
+}
+
+/// An operator with one operand: `IS NULL` asks any cell, the others a value.
+pub(crate) fn unary(operator: UnaryOperator, operand: CellView<'_>) -> Result<Value, EvalFault>
+    ensures { result ≡ spec.unary_value operator (lent_cell operand.entry) }
+{
+    match operator {
+        UnaryOperator::Not => not(value_in(operand)?),
+        UnaryOperator::Plus => plus(value_in(operand)?),
+        UnaryOperator::Minus => negate(value_in(operand)?),
+        UnaryOperator::IsNull => Ok(Value::Bool(is_null(operand))),
+        UnaryOperator::IsNotNull => Ok(Value::Bool(!is_null(operand))),
+    }
+}
+
+/// A comparison of two neighbours in a chain: `=` and `<>` compare any two cells, the others two values.
+pub(crate) fn compare(
+    comparator: Comparator,
+    left: CellView<'_>,
+    right: CellView<'_>,
+) -> Result<Truth, EvalFault>
+    ensures { result ≡ spec.compared comparator (lent_cell left.entry) (lent_cell right.entry) }
+{
+    match comparator {
+        Comparator::Equal => Ok(equal(left, right)),
+        Comparator::NotEqual => Ok(unequal(left, right)),
+        Comparator::Less => Ok(value_in(left)?.less(value_in(right)?)),
+        Comparator::LessOrEqual => Ok(less_or_equal(value_in(left)?, value_in(right)?)),
+        Comparator::Greater => greater(left, right),
+        Comparator::GreaterOrEqual => greater_or_equal(left, right),
+    }
+}
+
+// `>`, which is `<` turned round; the left operand's fault comes first.
+fn greater(left: CellView<'_>, right: CellView<'_>) -> Result<Truth, EvalFault>
+    ensures { result ≡ spec.compared Comparator.Greater (lent_cell left.entry) (lent_cell right.entry) }
+{
+    let left = value_in(left)?;
+    Ok(value_in(right)?.less(left))
+}
+
+// `>=`, which is `<=` turned round.
+fn greater_or_equal(left: CellView<'_>, right: CellView<'_>) -> Result<Truth, EvalFault>
+    ensures { result ≡ spec.compared Comparator.GreaterOrEqual (lent_cell left.entry) (lent_cell right.entry) }
+{
+    let left = value_in(left)?;
+    Ok(less_or_equal(value_in(right)?, left))
+}
+
+// The value in a cell; an entity and a list of relationships are none.
+fn value_in<'a>(cell: CellView<'a>) -> Result<View<'a>, EvalFault>
+    ensures { MatchResult result (λ v. spec.value_in_cell (lent_cell cell.entry) ≡ Ok (lent v)) (λ fault. spec.value_in_cell (lent_cell cell.entry) ≡ Err fault) }
+{
+    match cell {
+        CellView::Value(value) => Ok(value),
+        CellView::Node(_) | CellView::Rel(_) | CellView::Rels(_) => Err(EvalFault::WrongType),
+    }
+}

@@ -1,5 +1,9 @@
-pub mod Changes
+pub mod Contents
+pub mod Differing
+pub mod Elements
 pub mod Places
 pub mod Same
 pub mod Slots
+pub mod Steps
 pub mod Touching
+pub mod Unchanged

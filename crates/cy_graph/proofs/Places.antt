@@ -13,7 +13,7 @@ use Rattle.std.proofs.lemmas.Bool.{and_from, and_parts}
 use Rattle.std.proofs.lemmas.Map.Lookups.{exact_bytes}
 use Rattle.std.proofs.lemmas.List.Sorted.{searchable_from_sorted}
 use Rattle.cy_graph.specs.Maps.{text_order, rises, value_at, with_value, without}
-use Rattle.cy_graph.specs.Place.{IsAt, IsGapFor}
+use Rattle.cy_graph.specs.internal.Place.{IsAt, IsGapFor}
 
 -- what a test of an answer says
 less : (o : Ordering) → is_lt o ≡ true → o ≡ Less
@@ -33,10 +33,10 @@ same : (x y : List ℕ) → x ≡ y → text_order y x ≡ Equal
 same x y e = subst (λ k. text_order y k ≡ Equal) (sym e) (tied_itself nat_list_cmp_total y)
 
 -- a test in its two forms
-held : (b : Bool) → b ≡ true → T b
+pub held : (b : Bool) → b ≡ true → T b
 held b e = subst T (sym e) tt
 
-holds : (b : Bool) → T b → b ≡ true
+pub holds : (b : Bool) → T b → b ≡ true
 holds true t = refl
 holds false t = absurd t
 

@@ -1,5 +1,6 @@
 -- Nodes that `==` calls equal are the same.
-use Rattle.std.proofs.Common.{◌≡◌, ℕ, Bool, true, false, ◌&&◌, List, [], ◌∷◌, refl, ap, nat_eq}
+use Rattle.std.proofs.Common.{◌≡◌, ℕ, Bool, true, false, not, ◌&&◌, List, [], ◌∷◌, Option, None, Some, IsTrue, refl, sym, ap, ◌∙◌, nat_eq}
+use Rattle.std.specs.Option.{option_eq, option_map}
 use Rattle.std.specs.Cmp.Lexicographic.{pointwise, bytes_decides}
 use Rattle.std.proofs.lemmas.Bool.{and_from, and_parts}
 use Rattle.std.specs.Cmp.{signed_Decides}
@@ -54,7 +55,7 @@ scalar_itself (scalar.Bool true) = refl
 scalar_itself (scalar.Int n) = (signed_Decides n n).1 refl
 scalar_itself scalar.Null = refl
 
-same_values : (x y : Value) → (value_eq.eq-value).it x y ≡ true → x ≡ y
+pub same_values : (x y : Value) → (value_eq.eq-value).it x y ≡ true → x ≡ y
 same_values (value.List xs) (value.List ys) e = ap value.List (same_lists (scalar_eq.eq-value).it same_scalars xs ys e)
 same_values (value.List _) (value.Text _) e = cc
 same_values (value.List _) (value.Bool _) e = cc
@@ -110,3 +111,14 @@ pub node_itself : (n : Node) → (node_eq.eq-value).it n n ≡ true
 node_itself n = and_from _ _
     (lists_themselves (λ x y. pointwise nat_eq x.0 y.0 && true) (λ x. and_from _ _ ((bytes_decides x.0 x.0).1 refl) refl) n.labels)
     (lists_themselves (λ x y. pointwise nat_eq x.0 y.0 && (value_eq.eq-value).it x.1 y.1) (λ x. and_from _ _ ((bytes_decides x.0 x.0).1 refl) (value_itself x.1)) n.props)
+
+-- options that `==` calls equal are the same, seen through a function under which equal elements are
+pub same_options : {A B : Type 0} (eq : A → A → Bool) (f : A → B) → ((x y : A) → eq x y ≡ true → f x ≡ f y) → (a b : Option A) → option_eq eq a b ≡ true → option_map f a ≡ option_map f b
+same_options eq f each None None e = refl
+same_options eq f each None (Some y) e = cc
+same_options eq f each (Some x) None e = cc
+same_options eq f each (Some x) (Some y) e = ap Some (each x y e)
+
+pub not_other : (other same : Bool) → other ≡ not same → IsTrue (not other) → same ≡ true
+not_other other true e passes = refl
+not_other other false e passes = let clash : false ≡ true = sym (ap not e) ∙ passes in cc

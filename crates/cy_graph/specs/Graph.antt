@@ -61,6 +61,14 @@ set_or_removed key (Some value) props = with_value key value props
 abbrev pub set_at : List ℕ → Option Value → Node → Node
 set_at key value node = record node { props = set_or_removed key value node.props }
 
+-- the node with the label, and all else as it was
+abbrev pub with_label : List ℕ → Node → Node
+with_label label node = record node { labels = with_value label tt node.labels }
+
+-- the node without the label, and all else as it was
+abbrev pub without_label : List ℕ → Node → Node
+without_label label node = record node { labels = without label node.labels }
+
 -- the nodes with this one under the number, where it has one already
 abbrev pub replaced : NodeId → Option Node → List (NodeId × Node) → List (NodeId × Node)
 replaced id None nodes = nodes
@@ -70,6 +78,10 @@ replaced id (Some node) nodes = entries.put node_order id node nodes
 abbrev pub with_nodes : List (NodeId × Node) → State → State
 with_nodes nodes state = record state { content = record { nodes = nodes } }
 
+-- the graph with another node under the number, made of the one that is there, and all else as it was
+abbrev pub with_node_changed : NodeId → (Node → Node) → State → State
+with_node_changed id change state = with_nodes (replaced id (option_map change (node_at id state)) state.content.nodes) state
+
 -- whether the entity is in the graph
 abbrev pub IsThere : Entity → State → Type 0
 IsThere (entity.Node id) state = IsSome (node_at id state)
@@ -78,8 +90,7 @@ IsThere (entity.Rel id) state = ⊥
 -- the graph with the property of the entity set to the value, or with no such property where none is given, and
 -- all else as it was
 abbrev pub with_prop : Entity → List ℕ → Option Value → State → State
-with_prop (entity.Node id) key value state =
-    with_nodes (replaced id (option_map (set_at key value) (node_at id state)) state.content.nodes) state
+with_prop (entity.Node id) key value state = with_node_changed id (set_at key value) state
 with_prop (entity.Rel id) key value state = state
 
 -- the graph without the node, and all else as it was; its number stays given out

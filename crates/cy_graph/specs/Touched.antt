@@ -1,7 +1,7 @@
 -- What a change touched.
-use Rattle.std.specs.Prelude.{◌≡◌, ◌≢◌, Bool, false, not, List, [], ◌∷◌, map, filter, Contains, Option, None, Some}
+use Rattle.std.specs.Prelude.{◌≡◌, ◌≢◌, List, [], ◌∷◌, Contains, Option}
 use Rattle.std.specs.List.{AllByRecursion}
-use Rattle.std.specs.Option.{option_map, option_map_or}
+use Rattle.std.specs.Option.{option_map}
 use Rattle.cy_values.specs.declared.numbers.NodeId.{NodeId}
 use Rattle.cy_values.specs.declared.numbers.Entity.{Entity}
 use Rattle.cy_values.specs.declared.numbers.Entity.TheVariants as entity
@@ -9,9 +9,7 @@ use Rattle.cy_graph.specs.declared.nodes.Node.{Node}
 use Rattle.cy_graph.specs.declared.touched.Touched.{Touched}
 use Rattle.cy_graph.specs.declared.touched.Was.{Was}
 use Rattle.cy_graph.specs.declared.touched.Was.TheVariants as was
-use Rattle.cy_graph.specs.contracts.nodes.NodePartialEq.TheImpl as node_eq
 use Rattle.cy_graph.specs.Graph.{State, node_at}
-use Rattle.cy_graph.specs.Slots.{standing}
 
 -- an entity, with the node that it was
 abbrev pub Entry : Type 0
@@ -38,23 +36,3 @@ pub record AreTouched (before now : State) (touched : List Entry) : Type 0 where
   pub once : AreApart touched
   pub differ : (e : Entry) → Contains touched e → Differs before now e
   pub all : (id : NodeId) → node_at id before ≢ node_at id now → Contains touched (entity.Node id, node_at id before)
-
--- the number has this very node
-abbrev pub stands_as : State → NodeId × Node → Bool
-stands_as state e = option_map_or (λ node. (node_eq.eq-value).it node e.1) (node_at e.0 state) false
-
--- the entry of a node that was kept
-abbrev pub was_node : NodeId × Node → Entry
-was_node e = (entity.Node e.0, Some e.1)
-
--- the entries of the nodes that were kept and have another value now
-abbrev pub changed_of : State → List (NodeId × Node) → List Entry
-changed_of state kept = map was_node (filter (λ e. not (stands_as state e)) kept)
-
--- the entry of a node that was not there
-abbrev pub was_none : NodeId × Node → Entry
-was_none e = (entity.Node e.0, None)
-
--- the entries of the nodes in new slots
-abbrev pub added_of : List (NodeId × Option Node) → List Entry
-added_of slots = map was_none (standing slots)

@@ -1,102 +1,37 @@
 //! The graph, and one change of it at a time.
 
-ghost use Rattle.std.specs.Prelude.{◌≡◌, ◌≤◌, ◌<◌, ◌↔◌, IsTrue, IsSome, IsNone, IfSome, IfOk, IfErr, OnOk, OnErr, IsErrOf, Some, None, filter, is_some, map, slice_get};
-ghost use Rattle.std.specs.Option.{option_copied, option_map};
-ghost use Rattle.indexmap.specs.IndexMap.{spare};
-ghost use Rattle.cy_graph.specs.Change.{Keeps, KeepsNothing, Changes, ChangesNothing};
-ghost use Rattle.cy_graph.specs.Slots.{RiseFrom, kept_at, standing, restored};
-ghost use Rattle.cy_graph.specs.Graph.{Versions, empty_state, node_at, with_node, set_at, with_prop, without_node, number_end, IsThere, IsGraph};
+ghost use Rattle.std.specs.Prelude.{◌≡◌, ◌≤◌, ◌↔◌, IsTrue, IsSome, IsNone, IfSome, IfOk, IfErr, OnOk, OnErr, IsErrOf, None, Some, map};
+ghost use Rattle.std.specs.Option.{option_copied};
+ghost use Rattle.cy_graph.specs.Graph.{Versions, empty_state, node_at, with_node, with_label, without_label, with_node_changed, with_prop, without_node, number_end, IsThere, IsGraph};
 ghost use Rattle.cy_graph.specs.Touched.{entry_of, AreTouched};
 ghost use Rattle.cy_graph.specs.Stored.{is_storable, IsStorable};
 
+use crate::edits::{AddLabel, DropLabel, SetProp};
 use crate::faults::GraphFault;
 use crate::nodes::{Labels, Node, Props};
-use crate::touched::{Touched, changed, push_added};
+use crate::series::Series;
+use crate::touched::{Touched, push_nodes};
 use crate::walks::Nodes;
-use cy_values::{Duplicate, Entity, Fault, NodeId, Text, Value};
-use indexmap::IndexMap;
+use cy_values::{Entity, NodeId, Text, Value};
 use std::alloc::Global;
 use std::marker::Model;
 
-/// The first number that is never given out, 2^40 + 1.
-const NUMBER_END: u64 = (1 << 40) + 1;
-
-// What stands under a number that was given out: its node, or nothing once that was removed.
-type Slot = Option<Node>;
-
-// What a rollback goes back to.
-#[derive(Drop)]
-struct Start {
-    /// How many slots there were.
-    slots: usize,
-    /// How many of them were empty.
-    empty: usize,
-    next_node: u64,
-    next_rel: u64,
-    /// The nodes of those slots that were changed or removed since, as they were.
-    before: IndexMap<NodeId, Node>,
-}
-
-impl Start {
-    // Whether the node in this slot is as it was when the change began, so that its value has to be kept before it
-    // is changed.
-    fn is_first_change(&self, slot: usize, id: NodeId) -> bool
-        ensures { IsTrue result ↔ ((slot < self.now.slots) × (kept_at id self.now.before.entries ≡ None)) }
-    {
-        slot < self.slots && !self.before.contains_key(&id)
-    }
-
-    // Keeps a copy of the node in this slot, if this is its first change.
-    fn keep(
-        &mut self,
-        alloc: Global,
-        slot: usize,
-        id: NodeId,
-        node: &Node,
-    ) -> Result<(), GraphFault>
-        ensures ok { OnOk result (Keeps slot id node.now self.old self.new) }
-        ensures fault { IfErr result (λ fault. fault ≡ GraphFault.NoMemory) }
-        ensures err { OnErr result (KeepsNothing self.old self.new) }
-    {
-        if self.is_first_change(slot, id) {
-            self.before.insert(id, node.copy(alloc)?)?;
-        }
-        Ok(())
-    }
-
-    // Keeps the node that was taken out of this slot, if this is its first change.
-    fn keep_taken(&mut self, slot: usize, id: NodeId, node: Node)
-        requires room { 0 < spare self.old.before }
-        ensures { Keeps slot id node self.old self.new }
-    {
-        if self.is_first_change(slot, id) {
-            self.before.insert(id, node).unwrap();
-        }
-    }
-}
-
-/// A property graph in memory. Its slots stand in the map by rising number, since numbers rise and are never used
-/// again. A removed node leaves its slot empty, so no other moves; a commit drops the empty slots once they are more
-/// than half.
+/// A property graph in memory.
 #[derive(Drop)]
 pub struct Graph {
-    nodes: IndexMap<NodeId, Slot>,
-    /// About how many slots are empty. Nothing but the time of a compaction hangs on it.
-    empty: usize,
-    next_node: u64,
+    nodes: Series<Node>,
     next_rel: u64,
-    change: Option<Start>,
 }
 
 impl Model for Graph {
     ghost use Rattle.cy_graph.specs.Graph.{Versions};
-    ghost use Rattle.cy_graph.specs.Change.{versions_of, IsKept};
+    ghost use Rattle.cy_graph.specs.internal.Contents.{versions_of, AreVersions};
 
     ghost Value = { Versions };
 
-    ghost view = { λ g. versions_of g.nodes.entries g.next_node g.next_rel g.change };
+    ghost view = { λ g. versions_of g.next_rel g.nodes };
 
-    ghost invariant = { λ g. IsKept g.nodes.entries g.next_node g.next_rel g.change };
+    ghost invariant = { λ g. AreVersions g.next_rel g.nodes };
 }
 
 impl Graph {
@@ -116,11 +51,8 @@ impl Graph {
         ensures { result ≡ record { now = empty_state node rel; was = None } }
     {
         Graph {
-            nodes: IndexMap::new(alloc),
-            empty: 0,
-            next_node: node,
+            nodes: Series::starting_at(alloc, node),
             next_rel: rel,
-            change: None,
         }
     }
 
@@ -128,7 +60,7 @@ impl Graph {
     pub fn node(&self, id: NodeId) -> Option<&Node>
         ensures { option_copied result ≡ node_at id self.now.now }
     {
-        self.nodes.get(&id)?.as_ref()
+        self.nodes.get(id.0)
     }
 
     /// The nodes with their numbers, by rising number.
@@ -136,7 +68,7 @@ impl Graph {
         ensures nodes { result ≡ self.now.now.content.nodes }
         ensures graph { IsGraph self.now.now }
     {
-        Nodes::new(self.nodes.iter())
+        Nodes::new(self.nodes.values())
     }
 
     /// Opens a change, which `commit` or `rollback` ends.
@@ -144,13 +76,7 @@ impl Graph {
         requires { IsNone self.old.was }
         ensures { self.new ≡ record self.old { was = Some self.old.now } }
     {
-        self.change = Some(Start {
-            slots: self.nodes.len(),
-            empty: self.empty,
-            next_node: self.next_node,
-            next_rel: self.next_rel,
-            before: IndexMap::new(*self.nodes.allocator()),
-        });
+        self.nodes.begin();
     }
 
     /// Adds a node under the next number, which it gives. `Full` where number 2^40 was given out; else it fails
@@ -163,13 +89,7 @@ impl Graph {
         ensures full { IsErrOf result GraphFault.Full ↔ (self.old.now.next_node ≡ number_end) }
         ensures err { OnErr result (self.new ≡ self.old) }
     {
-        if self.next_node == NUMBER_END {
-            return Err(GraphFault::Full);
-        }
-        let id = NodeId(self.next_node);
-        self.nodes.insert(id, Some(Node::new(labels, props)))?;
-        self.next_node += 1;
-        Ok(id)
+        Ok(NodeId(self.nodes.add(Node::new(labels, props))?))
     }
 
     /// Sets the property of an entity at a key, or removes it where no value is given. Fails only for want of memory.
@@ -186,16 +106,32 @@ impl Graph {
         ensures fault { IfErr result (λ fault. fault ≡ GraphFault.NoMemory) }
         ensures err { OnErr result (self.new ≡ self.old) }
     {
-        let Entity::Node(id) = entity else {
-            return Ok(());
-        };
-        let alloc = *self.nodes.allocator();
-        let Some(mut start) = self.change.take() else {
-            return Ok(());
-        };
-        let done = set_in_change(alloc, &mut self.nodes, &mut start, id, key, value);
-        self.change = Some(start);
-        done
+        match entity {
+            Entity::Node(id) => self.nodes.edit(id.0, SetProp { key, value }),
+            Entity::Rel(_) => Ok(()),
+        }
+    }
+
+    /// Adds a label to a node. Fails only for want of memory.
+    pub fn add_label(&mut self, id: NodeId, label: Text) -> Result<(), GraphFault>
+        requires open { IsSome self.old.was }
+        requires there { IsSome (node_at id self.old.now) }
+        ensures ok { OnOk result (self.new ≡ record self.old { now = with_node_changed id (with_label label) self.old.now }) }
+        ensures fault { IfErr result (λ fault. fault ≡ GraphFault.NoMemory) }
+        ensures err { OnErr result (self.new ≡ self.old) }
+    {
+        self.nodes.edit(id.0, AddLabel(label))
+    }
+
+    /// Drops a label of a node, if it has it. Fails only for want of memory.
+    pub fn drop_label(&mut self, id: NodeId, label: &str) -> Result<(), GraphFault>
+        requires open { IsSome self.old.was }
+        requires there { IsSome (node_at id self.old.now) }
+        ensures ok { OnOk result (self.new ≡ record self.old { now = with_node_changed id (without_label label.now) self.old.now }) }
+        ensures fault { IfErr result (λ fault. fault ≡ GraphFault.NoMemory) }
+        ensures err { OnErr result (self.new ≡ self.old) }
+    {
+        self.nodes.edit(id.0, DropLabel(label))
     }
 
     /// Removes a node. Its number is not used again. Fails only for want of memory.
@@ -206,15 +142,7 @@ impl Graph {
         ensures fault { IfErr result (λ fault. fault ≡ GraphFault.NoMemory) }
         ensures err { OnErr result (self.new ≡ self.old) }
     {
-        let Some(mut start) = self.change.take() else {
-            return Ok(());
-        };
-        let done = remove_in_change(&mut self.nodes, &mut start, id);
-        self.change = Some(start);
-        if done.is_ok() {
-            self.empty = self.empty.saturating_add(1);
-        }
-        done
+        self.nodes.remove(id.0)
     }
 
     /// The entities whose value is another than when the change began, each once, with the value that they had. What
@@ -225,11 +153,8 @@ impl Graph {
         ensures graphs { OnOk result (IsGraph self.now.now × IfSome self.now.was (λ before. IsGraph before)) }
         ensures fault { IfErr result (λ fault. fault ≡ GraphFault.NoMemory) }
     {
-        let Some(start) = &self.change else {
-            return Ok(Vec::new(alloc));
-        };
-        let mut touched = changed(alloc, self, &start.before)?;
-        push_added(&mut touched, &self.nodes, start.slots)?;
+        let mut touched = Vec::new(alloc);
+        push_nodes(&mut touched, &self.nodes.differing(alloc)?)?;
         Ok(touched)
     }
 
@@ -238,11 +163,7 @@ impl Graph {
         requires { IsSome self.old.was }
         ensures { self.new ≡ record self.old { was = None } }
     {
-        self.change = None;
-        if self.empty > self.nodes.len() / 2 {
-            drop_empty(&mut self.nodes);
-            self.empty = 0;
-        }
+        self.nodes.commit();
     }
 
     /// Ends the change: the graph is as it was when the change began, next numbers included.
@@ -250,104 +171,6 @@ impl Graph {
         requires { IsSome self.old.was }
         ensures { IfSome self.old.was (λ before. self.new ≡ record { now = before; was = None }) }
     {
-        if let Some(start) = self.change.take() {
-            self.nodes.truncate(start.slots);
-            put_back(&mut self.nodes, start.before);
-            self.empty = start.empty;
-            self.next_node = start.next_node;
-            self.next_rel = start.next_rel;
-        }
-    }
-}
-
-// Drops the empty slots.
-fn drop_empty(nodes: &mut IndexMap<NodeId, Slot>)
-    ensures { nodes.new.entries ≡ filter (λ e. is_some e.1) nodes.old.entries }
-{
-    nodes.retain(
-        |_id: &NodeId, slot: &mut Slot| -> bool
-            ensures { (result ≡ is_some slot.old) × (slot.new ≡ slot.old) }
-        { slot.is_some() },
-    );
-}
-
-// Puts the values that were kept back into their slots.
-fn put_back(nodes: &mut IndexMap<NodeId, Slot>, mut before: IndexMap<NodeId, Node>)
-    requires { RiseFrom 1 number_end nodes.old.entries }
-    ensures { nodes.new.entries ≡ restored before.entries nodes.old.entries }
-{
-    while let Some((id, node)) = before.pop() {
-        if let Some(slot) = nodes.get_mut(&id) {
-            *slot = Some(node);
-        }
-    }
-}
-
-// The place of a node's slot, with the node, if there is one.
-fn place_of(nodes: &IndexMap<NodeId, Slot>, id: NodeId) -> Option<(usize, &Node)>
-    requires { RiseFrom 1 number_end nodes.now.entries }
-    ensures place { IfSome result (λ found. slice_get nodes.now.entries found.0 ≡ Some (id, Some found.1.now)) }
-    ensures found { is_some result ≡ is_some (kept_at id (standing nodes.now.entries)) }
-{
-    let (slot, _id, node) = nodes.get_full(&id)?;
-    Some((slot, node.as_ref()?))
-}
-
-// Sets the property of a node, or removes it, once its value from the beginning of the change is kept.
-fn set_in_change(
-    alloc: Global,
-    nodes: &mut IndexMap<NodeId, Slot>,
-    start: &mut Start,
-    id: NodeId,
-    key: Text,
-    value: Option<Value>,
-) -> Result<(), GraphFault>
-    requires rising { RiseFrom 1 number_end nodes.old.entries }
-    requires there { IsSome (kept_at id (standing nodes.old.entries)) }
-    ensures ok { OnOk result (Changes id (λ node. Some (set_at key value node)) nodes.old.entries nodes.new.entries start.old start.new) }
-    ensures fault { IfErr result (λ fault. fault ≡ GraphFault.NoMemory) }
-    ensures err { OnErr result (ChangesNothing id nodes.old.entries nodes.new.entries start.old start.new) }
-{
-    let Some((slot, node)) = place_of(nodes, id) else {
-        return Ok(());
-    };
-    start.keep(alloc, slot, id, node)?;
-    Ok(set_in(&mut nodes[slot], key, value)?)
-}
-
-// Takes a node out of its slot, and keeps it where it stood when the change began.
-fn remove_in_change(
-    nodes: &mut IndexMap<NodeId, Slot>,
-    start: &mut Start,
-    id: NodeId,
-) -> Result<(), GraphFault>
-    requires rising { RiseFrom 1 number_end nodes.old.entries }
-    requires there { IsSome (kept_at id (standing nodes.old.entries)) }
-    ensures ok { OnOk result (Changes id (λ _. None) nodes.old.entries nodes.new.entries start.old start.new) }
-    ensures fault { IfErr result (λ fault. fault ≡ GraphFault.NoMemory) }
-    ensures err { OnErr result (ChangesNothing id nodes.old.entries nodes.new.entries start.old start.new) }
-{
-    let Some((slot, _node)) = place_of(nodes, id) else {
-        return Ok(());
-    };
-    start.before.reserve(1)?;
-    if let Some(node) = nodes[slot].take() {
-        start.keep_taken(slot, id, node);
-    }
-    Ok(())
-}
-
-// Sets the property of the node in a slot, or removes it.
-fn set_in(slot: &mut Slot, key: Text, value: Option<Value>) -> Result<(), Fault>
-    ensures ok { OnOk result (slot.new ≡ option_map (set_at key value) slot.old) }
-    ensures err { OnErr result (slot.new ≡ slot.old) }
-{
-    match (slot, value) {
-        (None, _) => Ok(()),
-        (Some(node), Some(value)) => node.props.insert(key, value),
-        (Some(node), None) => {
-            node.props.remove(key.as_str());
-            Ok(())
-        }
+        self.nodes.rollback();
     }
 }

@@ -1,10 +1,12 @@
 //! The property graph: nodes with labels and properties under numbers, and one change at a time that can be taken back.
 #![tactic(auto)]
 
+mod edits;
 mod faults;
 mod graph;
 mod maps;
 mod nodes;
+mod series;
 #[cfg(test)]
 mod tests;
 mod touched;

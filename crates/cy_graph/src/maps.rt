@@ -3,7 +3,7 @@
 ghost use Rattle.std.specs.Prelude.{◌≡◌, List, ℕ, [], Some, None, IsSome, IsOk, IfOk, IfErr, OnOk, OnErr, IsTrue, is_some};
 ghost use Rattle.std.specs.Option.{option_copied};
 ghost use Rattle.cy_graph.specs.Maps.{rises, value_at, with_value, without};
-ghost use Rattle.cy_graph.specs.Place.{IsAt, IsGapFor};
+ghost use Rattle.cy_graph.specs.internal.Place.{IsAt, IsGapFor};
 
 use cy_values::{Duplicate, Fault, Text};
 use std::alloc::Global;

@@ -220,6 +220,57 @@ fn finds_what_a_node_holds(rt: HostRuntime) -> Result<(), Fail> {
     Ok(())
 }
 
+// Adds a label to a node, or drops it.
+fn label(alloc: Global, graph: &mut Graph, id: NodeId, label: &str, added: bool) -> Result<(), Fail>
+    requires { IsSome graph.old.was }
+    ensures { IsSome graph.new.was }
+{
+    if graph.node(id).is_none() {
+        return Err(Fail::from("no node"));
+    }
+    if added {
+        Ok(graph.add_label(id, Text::from_str(alloc, label)?)?)
+    } else {
+        Ok(graph.drop_label(id, label)?)
+    }
+}
+
+// The node has these labels, in this order.
+fn has_labels(rt: &impl Abort, graph: &Graph, id: NodeId, wanted: &[&str]) {
+    let Some(node) = graph.node(id) else {
+        return assert!(rt; wanted.is_empty());
+    };
+    assert_eq!(rt; node.labels.entries().len(), wanted.len());
+    for (entry, want) in node.labels.entries().iter().zip(wanted) {
+        assert_eq!(rt; entry.0.as_str(), *want);
+    }
+}
+
+#[test]
+fn labels_nodes_and_takes_it_back(rt: HostRuntime) -> Result<(), Fail> {
+    let alloc = rt.alloc();
+    let mut graph = Graph::new(alloc);
+    graph.begin();
+    let id = add(alloc, &mut graph, "B", "k")?;
+    graph.commit();
+    graph.begin();
+    let steps: [(&str, bool, &[&str]); 5] = [
+        ("B", true, &["B"]),
+        ("A", false, &["B"]),
+        ("A", true, &["A", "B"]),
+        ("C", true, &["A", "B", "C"]),
+        ("B", false, &["A", "C"]),
+    ];
+    for (name, added, wanted) in steps {
+        label(alloc, &mut graph, id, name, added)?;
+        has_labels(&rt, &graph, id, wanted);
+    }
+    assert_eq!(rt; graph.touched(alloc)?.len(), 1);
+    graph.rollback();
+    has_labels(&rt, &graph, id, &["B"]);
+    Ok(())
+}
+
 // The map's entries are these, in this order.
 fn has_entries(rt: &impl Abort, map: &TextMap<i64>, wanted: &[(&str, i64)]) {
     assert_eq!(rt; map.entries().len(), wanted.len());

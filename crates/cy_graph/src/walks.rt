@@ -2,17 +2,59 @@
 
 ghost use Rattle.std.specs.Prelude.{◌≡◌};
 ghost use Rattle.std.specs.Iterator.{item_count, YieldsFirstBy};
-ghost use Rattle.cy_graph.specs.Slots.{standing};
+ghost use Rattle.cy_graph.specs.internal.Contents.{nodes_of};
+ghost use Rattle.cy_graph.specs.internal.Slots.{standing};
 
 use crate::nodes::Node;
 use cy_values::NodeId;
 use indexmap::map;
 use std::marker::Model;
 
+/// The values of a series with their numbers, by rising number.
+#[derive(Drop)]
+pub(crate) struct Values<'a, V> {
+    slots: map::Iter<'a, u64, Option<V>>,
+}
+
+impl<'a, V> Model for Values<'a, V> {
+    ghost use Rattle.std.specs.Prelude.{List, ℕ};
+
+    ghost Value = { List (ℕ × V) };
+
+    ghost use Rattle.cy_graph.specs.internal.Slots.{standing};
+
+    ghost view = { λ v. standing v.slots };
+}
+
+impl<'a, V> Values<'a, V> {
+    pub fn new(slots: map::Iter<'a, u64, Option<V>>) -> Self
+        ensures { result ≡ standing slots.entry }
+    {
+        Values { slots }
+    }
+}
+
+impl<'a, V> Iterator for Values<'a, V> {
+    type Item = (u64, &'a V);
+
+    ghost next_gives = { YieldsFirstBy (λ p. (p.0, p.1.now)) (λ v. v) };
+
+    ghost remaining = { item_count (λ v. v) };
+
+    fn next(&mut self) -> Option<(u64, &'a V)> {
+        while let Some((number, slot)) = self.slots.next() {
+            if let Some(value) = slot {
+                return Some((*number, value));
+            }
+        }
+        None
+    }
+}
+
 /// The nodes of a graph with their numbers, by rising number.
 #[derive(Drop)]
 pub struct Nodes<'a> {
-    entries: map::Iter<'a, NodeId, Option<Node>>,
+    values: Values<'a, Node>,
 }
 
 impl<'a> Model for Nodes<'a> {
@@ -22,16 +64,16 @@ impl<'a> Model for Nodes<'a> {
 
     ghost Value = { List (NodeId × Node) };
 
-    ghost use Rattle.cy_graph.specs.Slots.{standing};
+    ghost use Rattle.cy_graph.specs.internal.Contents.{nodes_of};
 
-    ghost view = { λ n. standing n.entries };
+    ghost view = { λ n. nodes_of n.values };
 }
 
 impl<'a> Nodes<'a> {
-    pub(crate) fn new(entries: map::Iter<'a, NodeId, Option<Node>>) -> Self
-        ensures { result ≡ standing entries.entry }
+    pub(crate) fn new(values: Values<'a, Node>) -> Self
+        ensures { result ≡ nodes_of values.entry }
     {
-        Nodes { entries }
+        Nodes { values }
     }
 }
 
@@ -43,11 +85,7 @@ impl<'a> Iterator for Nodes<'a> {
     ghost remaining = { item_count (λ n. n) };
 
     fn next(&mut self) -> Option<(NodeId, &'a Node)> {
-        while let Some((number, slot)) = self.entries.next() {
-            if let Some(node) = slot {
-                return Some((*number, node));
-            }
-        }
-        None
+        let (number, node) = self.values.next()?;
+        Some((NodeId(number), node))
     }
 }

@@ -1,5 +1,5 @@
 use Rattle.std.proofs.Common.{◌<◌, length, rules, sym, ap, Some, ◌∙◌}
-use Rattle.cy_graph.specs.Place.{IsAt}
+use Rattle.cy_graph.specs.internal.Place.{IsAt}
 use Rattle.cy_graph.proofs.Places.{at_within, value_at-place, value_at-gap}
 use Rattle.cy_graph.proofs.maps.TextMap.get.Goals as goal
 

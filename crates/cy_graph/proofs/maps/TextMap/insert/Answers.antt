@@ -1,7 +1,7 @@
 use Rattle.std.proofs.Common.{◌<◌, ◌≤◌, length, rules, sym, subst, IsTrue, ◌∙◌}
 use Rattle.std.proofs.lemmas.Bool.{false≢true}
 use Rattle.cy_graph.specs.Maps.{rises}
-use Rattle.cy_graph.specs.Place.{IsAt, IsGapFor}
+use Rattle.cy_graph.specs.internal.Place.{IsAt, IsGapFor}
 use Rattle.cy_graph.proofs.Places.{at_within, gap_within, with_value-place, with_value-gap, rises-with_value, value_at-gap}
 use Rattle.cy_graph.proofs.maps.TextMap.insert.Goals as goal
 

@@ -1,6 +1,6 @@
 use Rattle.std.proofs.Common.{◌<◌, length, rules, sym, subst, IsTrue, ◌∙◌}
 use Rattle.cy_graph.specs.Maps.{rises}
-use Rattle.cy_graph.specs.Place.{IsAt}
+use Rattle.cy_graph.specs.internal.Place.{IsAt}
 use Rattle.cy_graph.proofs.Places.{at_within, without-place, without-gap, rises-without}
 use Rattle.cy_graph.proofs.maps.TextMap.remove.Goals as goal
 

@@ -1,0 +1,8 @@
+-- What proofs alone need.
+pub mod Contents
+pub mod Differences
+pub mod Entries
+pub mod Place
+pub mod Series
+pub mod Slots
+pub mod Versions

@@ -1,0 +1,9 @@
+pub mod Kinds
+pub mod Functions
+pub mod Faults
+pub mod Scopes
+pub mod ExpressionKinds
+pub mod ClauseScopes
+pub mod Sure
+pub mod Views
+pub mod internal

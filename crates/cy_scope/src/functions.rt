@@ -5,6 +5,8 @@ ghost use Rattle.std.specs.Cmp.Lexicographic.{pointwise};
 ghost use Rattle.std.specs.Prelude.{nat_eq};
 ghost use Rattle.cy_scope.specs.Functions as spec;
 
+use crate::kinds::Kind;
+
 /// A function (openCypher 9, *Functions*, narrowed to this profile).
 #[derive(Clone, Copy, Debug, PartialEq, Eq)]
 pub enum Function {
@@ -81,5 +83,19 @@ impl Function {
             self,
             Function::Count | Function::Sum | Function::Min | Function::Max | Function::Collect
         )
+    }
+
+    /// Whether it takes an argument of the kind.
+    pub(crate) fn takes(self, kind: Kind) -> bool
+        ensures { result ≡ spec.takes self kind }
+    {
+        match self {
+            Function::Id => kind.is_entity(),
+            Function::Type => kind == Kind::Relationship,
+            Function::Labels => kind == Kind::Node,
+            Function::Size => kind == Kind::Relationships || kind.is_value(),
+            Function::Count => true,
+            _ => kind.is_value(),
+        }
     }
 }

@@ -91,7 +91,7 @@ fn names_aggregate(name: &str) -> bool
 }
 
 /// Whether the expression is an aggregate.
-pub(crate) fn is_aggregate_call(expression: &Expr) -> bool
+fn is_aggregate_call(expression: &Expr) -> bool
     ensures { result ≡ spec.is_aggregate_call (expression_of expression.now) }
 {
     match expression {
@@ -101,7 +101,7 @@ pub(crate) fn is_aggregate_call(expression: &Expr) -> bool
 }
 
 /// Whether an item is an aggregate.
-fn has_aggregates(projection: &Projection) -> bool
+pub(crate) fn has_aggregates(projection: &Projection) -> bool
     ensures { result ≡ spec.has_aggregates (projection_of projection.now) }
 {
     for item in &projection.items {

@@ -11,4 +11,5 @@ pub mod Sure
 pub mod Views
 pub mod ProjectionFaults
 pub mod ClauseFaults
+pub mod Resolved
 pub mod internal

@@ -1,6 +1,7 @@
 -- The scope at a place of a statement: the variables that are bound there, each with its kind, in the order of their columns
 -- (own).
-use Rattle.std.specs.Prelude.{Bool, List, [], ◌∷◌, ◌++◌, Option, Some, None, is_some, unwrap_or, if◌then◌else◌}
+use Rattle.std.specs.Prelude.{ℕ, Bool, List, [], ◌∷◌, ◌++◌, Option, Some, None, is_some, unwrap_or, if◌then◌else◌}
+use Rattle.std.specs.List.{position_from}
 use Rattle.std.specs.Map.{lookup}
 use Rattle.std.specs.Str.{bytes_eq}
 use Rattle.cy_trees.specs.declared.expressions.Variable.{Variable}
@@ -15,6 +16,10 @@ Scope = List (Name × Kind)
 -- the kind of the first variable of the name, if there is one
 abbrev pub find_kind : Scope → Name → Option Kind
 find_kind scope name = lookup (bytes_eq name) scope
+
+-- the column of that variable
+abbrev pub find_column : Scope → Name → Option ℕ
+find_column scope name = position_from (λ v. bytes_eq name v.0) 0 scope
 
 abbrev pub is_bound : Scope → Name → Bool
 is_bound scope name = is_some (find_kind scope name)

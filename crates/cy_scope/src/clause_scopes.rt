@@ -11,7 +11,7 @@ use cy_trees::{Clause, Item};
 use std::alloc::{AllocError, Global};
 
 /// The columns of items, whose names differ.
-fn columns_of(alloc: Global, scope: &Scope, items: &[Item]) -> Result<Scope, AllocError>
+pub(crate) fn columns_of(alloc: Global, scope: &Scope, items: &[Item]) -> Result<Scope, AllocError>
     ensures { IfOk result (λ columns. columns ≡ spec.columns_of scope.now (map item_of items.now)) }
 {
     let mut columns = Scope::new(alloc);

@@ -62,7 +62,7 @@ fn check_items(
 }
 
 /// Whether an expression has the tree of an item.
-fn repeats(items: &[Item], expression: &Expr) -> bool
+pub(crate) fn repeats(items: &[Item], expression: &Expr) -> bool
     ensures { result ≡ spec.repeats (map item_of items.now) (expression_of expression.now) }
 {
     for item in items {
@@ -91,7 +91,7 @@ fn check_keys(
 }
 
 /// Whether keys see the columns alone: with DISTINCT or an aggregate.
-fn hides_variables(projection: &Projection) -> bool
+pub(crate) fn hides_variables(projection: &Projection) -> bool
     ensures { result ≡ spec.hides_variables (projection_of projection.now) }
 {
     projection.distinct || has_aggregates(projection)

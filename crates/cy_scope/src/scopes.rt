@@ -1,6 +1,6 @@
 //! The variables that are bound at a place.
 
-ghost use Rattle.std.specs.Prelude.{◌≡◌, List, ℕ, [], ◌∷◌, ◌++◌, map, OnOk, string_bytes};
+ghost use Rattle.std.specs.Prelude.{◌≡◌, List, ℕ, [], ◌∷◌, ◌++◌, map, OnOk, IfSome, string_bytes, length, ◌<◌, ◌^◌};
 ghost use Rattle.cy_scope.specs.declared.kinds.Kind.{Kind};
 ghost use Rattle.cy_scope.specs.Scopes as spec;
 ghost use Rattle.cy_scope.specs.internal.Maps.{variables_of};
@@ -39,6 +39,24 @@ impl Scope {
         ensures { result ≡ spec.find_kind self.now name.now }
     {
         self.variables.get(name).copied()
+    }
+
+    /// The column of the variable of the name, if it is bound.
+    pub(crate) fn find_column(&self, name: &str) -> Option<usize>
+        ensures value { result ≡ spec.find_column self.now name.now }
+        ensures small { IfSome result (λ column. column < 2 ^ 63) }
+    {
+        let column = self.variables.get_index_of(name)?;
+        prove!(column < self.variables.len());
+        Some(column)
+    }
+
+    /// The number of variables.
+    pub(crate) fn len(&self) -> usize
+        ensures len { result ≡ length self.now }
+        ensures small { result < 2 ^ 63 }
+    {
+        self.variables.len()
     }
 
     /// Adds a variable, if its name is new.

@@ -1,0 +1,10 @@
+-- What is done, and what the others are to become.
+use Rattle.std.proofs.Common.{◌≡◌, ◌++◌, map}
+use Rattle.cy_trees.specs.Views.{key_of, item_of}
+use Rattle.cy_scope.specs.Resolved as spec
+use Rattle.cy_scope.proofs.ResolvedLemmas.{mixed}
+use Rattle.cy_scope.proofs.clause_columns.resolve_keys.Given as goal
+
+abbrev pub invariant-loop-key : goal.invariant-loop-key
+invariant-loop-key l =
+    mixed key_of (spec.resolved_key l.before (l.columns ++ l.others) (map item_of l.items)) l.key-index l.keys ≡ map (spec.resolved_key l.before (l.columns ++ l.others) (map item_of l.items)) (map key_of l.initial.keys)

@@ -1,0 +1,10 @@
+-- What is done, and what the others are to become.
+use Rattle.std.proofs.Common.{◌≡◌, map}
+use Rattle.cy_trees.specs.Views.{remove_item_of}
+use Rattle.cy_scope.specs.Resolved as spec
+use Rattle.cy_scope.proofs.ResolvedLemmas.{mixed}
+use Rattle.cy_scope.proofs.clause_columns.resolve_removes.Given as goal
+
+abbrev pub invariant-loop-item : goal.invariant-loop-item
+invariant-loop-item l =
+    mixed remove_item_of (spec.resolved_remove l.scope) l.item-index l.items ≡ map (spec.resolved_remove l.scope) (map remove_item_of l.initial.items)

@@ -1,0 +1,26 @@
+use Rattle.std.proofs.Common.{◌≡◌, ◌⊎◌, ◌++◌, [], map, Option, Some, None, Result, Ok, Err, IsErrAnd, MatchResult, inr, ap, sym, ◌∙◌}
+use Rattle.cy_trees.specs.Views.{item_of, projection_of}
+use Rattle.cy_scope.specs.declared.faults.ScopeFault.{ScopeFault}
+use Rattle.cy_scope.specs.declared.faults.ScopeFault.TheVariants.{NoMemory}
+use Rattle.cy_scope.specs.Scopes.{Scope}
+use Rattle.cy_scope.specs.ClauseScopes.{columns_of}
+use Rattle.cy_scope.specs.Faults.{first}
+use Rattle.cy_scope.specs.ProjectionFaults.{items_fault, keys_fault, seen_by_keys}
+use Rattle.cy_scope.proofs.projection_checks.check_projection.Goals as goal
+
+refused : (r : Result Scope ScopeFault) (fault : Option ScopeFault) (columns : Scope) (f : ScopeFault) → IsErrAnd r (λ g. g ≡ f) → fault ≡ Some f →
+    MatchResult r (λ made. (fault ≡ None) × (made ≡ columns)) (λ g. (g ≡ NoMemory) ⊎ (fault ≡ Some g))
+refused (Ok s) fault columns f h is = absurd h
+refused (Err g) fault columns f h is = inr (is ∙ ap Some (sym h))
+
+pub returns-in_err-check_order : goal.returns-in_err-check_order
+returns-in_err-check_order c =
+    let p = projection_of c.args.projection.now in
+    let scope = c.args.scope.now in
+    let f = c.in_err-check_order.field-0.0 in
+    let items : items_fault c.args.naming scope [] p.items ≡ None = ap (λ is. items_fault c.args.naming scope [] (map item_of is)) (sym c.deref.ensures.value) ∙ c.in_ok-columns.ensures.0 in
+    let columns : c.in_ok-columns.columns ≡ columns_of scope p.items = c.in_ok-columns.ensures.1 ∙ ap (λ is. columns_of scope (map item_of is)) c.deref.ensures.value in
+    let keys = λ (s : Scope). keys_fault (s ++ seen_by_keys p scope) p.items p.order in
+    let fault : first (items_fault c.args.naming scope [] p.items) (keys (columns_of scope p.items)) ≡ Some f =
+    ap (λ i. first i (keys (columns_of scope p.items))) items ∙ ap keys (sym columns) ∙ c.in_err-check_order.ensures in
+    refused c.from_residual-in_err-check_order.result (first (items_fault c.args.naming scope [] p.items) (keys (columns_of scope p.items))) (columns_of scope p.items) f c.from_residual-in_err-check_order.ensures.1 fault

@@ -1,0 +1,66 @@
+-- The first fault of a statement: clauses in their order, the places of each in the order of the text (own).
+use Rattle.std.specs.Prelude.{true, false, not, List, [], ◌∷◌, Option, Some, None}
+use Rattle.cy_trees.specs.declared.expressions.Variable.{Variable}
+use Rattle.cy_trees.specs.Trees.{Expression, SetItem, set_property, set_labels, RemoveItem, remove_property, remove_labels, Clause, «match», unwind, «with», «return», create, set, remove, delete, Statement}
+use Rattle.cy_scope.specs.declared.kinds.Kind.{Kind}
+use Rattle.cy_scope.specs.declared.faults.ScopeFault.{ScopeFault}
+use Rattle.cy_scope.specs.declared.faults.ScopeFault.TheVariants.{UnknownVariable, AlreadyBound, WrongKind}
+use Rattle.cy_scope.specs.Kinds.{is_node, is_entity}
+use Rattle.cy_scope.specs.Scopes.{Scope, find_kind, is_bound, with_paths}
+use Rattle.cy_scope.specs.ClauseScopes.{columns_of, scope_after}
+use Rattle.cy_scope.specs.ExpressionFaults.{value_fault}
+use Rattle.cy_scope.specs.PatternFaults.{paths_fault}
+use Rattle.cy_scope.specs.ProjectionFaults.{projection_fault}
+use Rattle.cy_scope.specs.Faults.{first, unless}
+
+-- what stands after WHERE is a value
+abbrev pub where_fault : Scope → Option Expression → Option ScopeFault
+where_fault scope None = None
+where_fault scope (Some e) = value_fault scope e
+
+-- a variable that is changed is bound, and a node, or else an entity
+abbrev pub entity_fault : Option Kind → Option ScopeFault
+entity_fault None = Some UnknownVariable
+entity_fault (Some k) = unless (is_entity k) WrongKind
+
+abbrev pub node_only_fault : Option Kind → Option ScopeFault
+node_only_fault None = Some UnknownVariable
+node_only_fault (Some k) = unless (is_node k) WrongKind
+
+abbrev pub set_fault : Scope → SetItem → Option ScopeFault
+set_fault scope (set_property v key e) = first (entity_fault (find_kind scope v.name)) (value_fault scope e)
+set_fault scope (set_labels v labels) = node_only_fault (find_kind scope v.name)
+
+abbrev pub sets_fault : Scope → List SetItem → Option ScopeFault
+sets_fault scope [] = None
+sets_fault scope (i ∷ items) = first (set_fault scope i) (sets_fault scope items)
+
+abbrev pub remove_fault : Scope → RemoveItem → Option ScopeFault
+remove_fault scope (remove_property v key) = entity_fault (find_kind scope v.name)
+remove_fault scope (remove_labels v labels) = node_only_fault (find_kind scope v.name)
+
+abbrev pub removes_fault : Scope → List RemoveItem → Option ScopeFault
+removes_fault scope [] = None
+removes_fault scope (i ∷ items) = first (remove_fault scope i) (removes_fault scope items)
+
+abbrev pub deletes_fault : Scope → List Variable → Option ScopeFault
+deletes_fault scope [] = None
+deletes_fault scope (v ∷ variables) = first (entity_fault (find_kind scope v.name)) (deletes_fault scope variables)
+
+abbrev pub clause_fault : Scope → Clause → Option ScopeFault
+clause_fault scope («match» optional paths filter) = first (paths_fault false scope scope paths) (where_fault (with_paths scope paths) filter)
+clause_fault scope (unwind e v) = first (value_fault scope e) (unless (not (is_bound scope v.name)) AlreadyBound)
+clause_fault scope («with» p filter) = first (projection_fault true scope p) (where_fault (columns_of scope p.items) filter)
+clause_fault scope («return» p) = projection_fault false scope p
+clause_fault scope (create paths) = paths_fault true scope scope paths
+clause_fault scope (set items) = sets_fault scope items
+clause_fault scope (remove items) = removes_fault scope items
+clause_fault scope (delete detach variables) = deletes_fault scope variables
+
+abbrev pub clauses_fault : Scope → List Clause → Option ScopeFault
+clauses_fault scope [] = None
+clauses_fault scope (c ∷ cs) = first (clause_fault scope c) (clauses_fault (scope_after scope c) cs)
+
+-- the code of the first faulty place, where there is one
+abbrev pub statement_fault : Statement → Option ScopeFault
+statement_fault s = clauses_fault [] s.clauses

@@ -1,0 +1,15 @@
+pub mod Kinds
+pub mod Functions
+pub mod Faults
+pub mod Scopes
+pub mod ExpressionKinds
+pub mod ExpressionFaults
+pub mod PatternFaults
+pub mod ClauseScopes
+pub mod Same
+pub mod Sure
+pub mod Views
+pub mod ProjectionFaults
+pub mod ClauseFaults
+pub mod Resolved
+pub mod internal

@@ -1,0 +1,127 @@
+-- A statement whose variables have their columns; nothing else is changed (own).
+use Rattle.std.specs.Prelude.{List, [], ◌∷◌, ◌++◌, map, Option, option_map, if◌then◌else◌}
+use Rattle.cy_trees.specs.declared.expressions.Comparator.{Comparator}
+use Rattle.cy_trees.specs.declared.expressions.Variable.{Variable}
+use Rattle.cy_trees.specs.Trees.{Expression, null, boolean, integer, text, variable, property, has_labels, unary, binary, comparison, list, case, call, call_star, Expressions, no_more, more, Links, no_links, link, Arms, no_arms, arm, Otherwise, nothing, otherwise, Entry, NodePattern, RelationshipPattern, Step, Path, Item, Key, Projection, SetItem, set_property, set_labels, RemoveItem, remove_property, remove_labels, Clause, «match», unwind, «with», «return», create, set, remove, delete, Statement}
+use Rattle.cy_scope.specs.Scopes.{Scope, find_column}
+use Rattle.cy_scope.specs.ClauseScopes.{scope_after}
+use Rattle.cy_scope.specs.ProjectionFaults.{repeats, seen_by_keys}
+
+-- the column of the first variable of the name
+abbrev pub resolved_variable : Scope → Variable → Variable
+resolved_variable scope v = record v { column = find_column scope v.name }
+
+abbrev mutual
+  pub resolved : Scope → Expression → Expression
+  resolved scope null = null
+  resolved scope (boolean b) = boolean b
+  resolved scope (integer n) = integer n
+  resolved scope (text t) = text t
+  resolved scope (variable v) = variable (resolved_variable scope v)
+  resolved scope (property e key) = property (resolved scope e) key
+  resolved scope (has_labels e labels) = has_labels (resolved scope e) labels
+  resolved scope (unary operator e) = unary operator (resolved scope e)
+  resolved scope (binary operator a b) = binary operator (resolved scope a) (resolved scope b)
+  resolved scope (comparison e links) = comparison (resolved scope e) (resolved_links scope links)
+  resolved scope (list es) = list (resolved_expressions scope es)
+  resolved scope (case arms e) = case (resolved_arms scope arms) (resolved_otherwise scope e)
+  resolved scope (call name distinct es) = call name distinct (resolved_expressions scope es)
+  resolved scope (call_star name) = call_star name
+
+  pub resolved_expressions : Scope → Expressions → Expressions
+  resolved_expressions scope no_more = no_more
+  resolved_expressions scope (more e es) = more (resolved scope e) (resolved_expressions scope es)
+
+  pub resolved_links : Scope → Links → Links
+  resolved_links scope no_links = no_links
+  resolved_links scope (link by e links) = link by (resolved scope e) (resolved_links scope links)
+
+  pub resolved_arms : Scope → Arms → Arms
+  resolved_arms scope no_arms = no_arms
+  resolved_arms scope (arm condition outcome arms) = arm (resolved scope condition) (resolved scope outcome) (resolved_arms scope arms)
+
+  pub resolved_otherwise : Scope → Otherwise → Otherwise
+  resolved_otherwise scope nothing = nothing
+  resolved_otherwise scope (otherwise e) = otherwise (resolved scope e)
+
+abbrev pub resolved_link : Scope → Comparator × Expression → Comparator × Expression
+resolved_link scope l = (l.0, resolved scope l.1)
+
+abbrev pub resolved_arm : Scope → Expression × Expression → Expression × Expression
+resolved_arm scope a = (resolved scope a.0, resolved scope a.1)
+
+abbrev pub resolved_name : Scope → Option Variable → Option Variable
+resolved_name scope v = option_map (resolved_variable scope) v
+
+abbrev pub resolved_entry : Scope → Entry → Entry
+resolved_entry scope e = record { key = e.key; value = resolved scope e.value }
+
+abbrev pub resolved_map : Scope → Option (List Entry) → Option (List Entry)
+resolved_map scope entries = option_map (λ es. map (resolved_entry scope) es) entries
+
+abbrev pub resolved_node : Scope → NodePattern → NodePattern
+resolved_node scope n = record { variable = resolved_name scope n.variable; labels = n.labels; properties = resolved_map scope n.properties }
+
+abbrev pub resolved_relationship : Scope → RelationshipPattern → RelationshipPattern
+resolved_relationship scope r = record {
+  variable = resolved_name scope r.variable;
+  direction = r.direction;
+  types = r.types;
+  length = r.length;
+  properties = resolved_map scope r.properties;
+}
+
+abbrev pub resolved_step : Scope → Step → Step
+resolved_step scope s = record { relationship = resolved_relationship scope s.relationship; node = resolved_node scope s.node }
+
+abbrev pub resolved_path : Scope → Path → Path
+resolved_path scope p = record { start = resolved_node scope p.start; steps = map (resolved_step scope) p.steps }
+
+abbrev pub resolved_item : Scope → Item → Item
+resolved_item scope i = record { expression = resolved scope i.expression; column = i.column; named = i.named }
+
+-- a key that repeats an item is resolved as that item
+abbrev pub resolved_key : Scope → Scope → List Item → Key → Key
+resolved_key before scope items key = record {
+  expression = (if repeats items key.expression then resolved before key.expression else resolved scope key.expression);
+  descending = key.descending;
+}
+
+abbrev pub resolved_projection : Scope → Scope → Projection → Projection
+resolved_projection before columns p = record {
+  distinct = p.distinct;
+  items = map (resolved_item before) p.items;
+  order = map (resolved_key before (columns ++ seen_by_keys p before) p.items) p.order;
+  skip = p.skip;
+  limit = p.limit;
+}
+
+abbrev pub resolved_set : Scope → SetItem → SetItem
+resolved_set scope (set_property v key e) = set_property (resolved_variable scope v) key (resolved scope e)
+resolved_set scope (set_labels v labels) = set_labels (resolved_variable scope v) labels
+
+abbrev pub resolved_remove : Scope → RemoveItem → RemoveItem
+resolved_remove scope (remove_property v key) = remove_property (resolved_variable scope v) key
+resolved_remove scope (remove_labels v labels) = remove_labels (resolved_variable scope v) labels
+
+abbrev pub resolved_where : Scope → Option Expression → Option Expression
+resolved_where scope filter = option_map (resolved scope) filter
+
+-- what a clause says of the rows that it makes is resolved in the scope after it, which begins with the scope before it but for
+-- WITH and RETURN: the items of these, and what keys see of it, are resolved in the scope before
+abbrev pub resolved_clause : Scope → Scope → Clause → Clause
+resolved_clause before after («match» optional paths filter) = «match» optional (map (resolved_path after) paths) (resolved_where after filter)
+resolved_clause before after (unwind e v) = unwind (resolved after e) (resolved_variable after v)
+resolved_clause before after («with» p filter) = «with» (resolved_projection before after p) (resolved_where after filter)
+resolved_clause before after («return» p) = «return» (resolved_projection before after p)
+resolved_clause before after (create paths) = create (map (resolved_path after) paths)
+resolved_clause before after (set items) = set (map (resolved_set after) items)
+resolved_clause before after (remove items) = remove (map (resolved_remove after) items)
+resolved_clause before after (delete detach variables) = delete detach (map (resolved_variable after) variables)
+
+abbrev pub resolved_clauses : Scope → List Clause → List Clause
+resolved_clauses scope [] = []
+resolved_clauses scope (c ∷ cs) = resolved_clause scope (scope_after scope c) c ∷ resolved_clauses (scope_after scope c) cs
+
+abbrev pub resolved_statement : Statement → Statement
+resolved_statement s = record { clauses = resolved_clauses [] s.clauses }

@@ -1,0 +1,161 @@
+//! The faults of clauses (own).
+
+ghost use Rattle.std.specs.Prelude.{◌≡◌, ◌⊎◌, [], map, None, Some, MatchResult};
+ghost use Rattle.cy_trees.specs.Views.{filter_of, set_item_of, remove_item_of, clause_of};
+ghost use Rattle.cy_scope.specs.Scopes.{find_kind};
+ghost use Rattle.cy_scope.specs.ClauseScopes.{scope_after};
+ghost use Rattle.cy_scope.specs.internal.Answers.{Fault, MayFault, GoesOn};
+ghost use Rattle.cy_scope.specs.internal.Trees.{unwind_of, match_of, with_of};
+ghost use Rattle.cy_scope.specs.ClauseFaults as spec;
+
+use crate::expression_checks::{check_value, demand};
+use crate::faults::ScopeFault;
+use crate::kinds::Kind;
+use crate::pattern_checks::check_paths;
+use crate::projection_checks::check_projection;
+use crate::scopes::Scope;
+use cy_trees::{Clause, Expr, Match, RemoveItem, SetItem, Unwind, Variable, With};
+use std::alloc::Global;
+
+/// The fault of what stands after WHERE, if anything.
+fn check_where(alloc: Global, scope: &Scope, filter: &Option<Expr>) -> Result<(), ScopeFault>
+    ensures { Fault (spec.where_fault scope.now (filter_of filter.now)) result }
+{
+    match filter {
+        Some(filter) => check_value(alloc, scope, filter),
+        None => Ok(()),
+    }
+}
+
+/// The fault of a variable that has to be a node or one relationship.
+fn check_entity(scope: &Scope, variable: &Variable) -> Result<(), ScopeFault>
+    ensures { Fault (spec.entity_fault (find_kind scope.now variable.now.name)) result }
+{
+    match scope.find_kind(variable.name.as_str()) {
+        Some(kind) => demand(kind.is_entity(), ScopeFault::WrongKind),
+        None => Err(ScopeFault::UnknownVariable),
+    }
+}
+
+/// The fault of a variable that has to be a node.
+fn check_node_only(scope: &Scope, variable: &Variable) -> Result<(), ScopeFault>
+    ensures { Fault (spec.node_only_fault (find_kind scope.now variable.now.name)) result }
+{
+    match scope.find_kind(variable.name.as_str()) {
+        Some(kind) => demand(kind == Kind::Node, ScopeFault::WrongKind),
+        None => Err(ScopeFault::UnknownVariable),
+    }
+}
+
+fn check_set(alloc: Global, scope: &Scope, item: &SetItem) -> Result<(), ScopeFault>
+    ensures { Fault (spec.set_fault scope.now (set_item_of item.now)) result }
+{
+    match item {
+        SetItem::Property(variable, _, expression) => {
+            check_entity(scope, variable)?;
+            check_value(alloc, scope, expression)
+        }
+        SetItem::Labels(variable, _) => check_node_only(scope, variable),
+    }
+}
+
+fn check_sets(alloc: Global, scope: &Scope, items: &[SetItem]) -> Result<(), ScopeFault>
+    ensures { Fault (spec.sets_fault scope.now (map set_item_of items.now)) result }
+{
+    for item in items {
+        check_set(alloc, scope, item)?;
+    }
+    Ok(())
+}
+
+fn check_remove(scope: &Scope, item: &RemoveItem) -> Result<(), ScopeFault>
+    ensures { Fault (spec.remove_fault scope.now (remove_item_of item.now)) result }
+{
+    match item {
+        RemoveItem::Property(variable, _) => check_entity(scope, variable),
+        RemoveItem::Labels(variable, _) => check_node_only(scope, variable),
+    }
+}
+
+fn check_removes(scope: &Scope, items: &[RemoveItem]) -> Result<(), ScopeFault>
+    ensures { Fault (spec.removes_fault scope.now (map remove_item_of items.now)) result }
+{
+    for item in items {
+        check_remove(scope, item)?;
+    }
+    Ok(())
+}
+
+fn check_deletes(scope: &Scope, variables: &[Variable]) -> Result<(), ScopeFault>
+    ensures { Fault (spec.deletes_fault scope.now variables.now) result }
+{
+    for variable in variables {
+        check_entity(scope, variable)?;
+    }
+    Ok(())
+}
+
+fn check_unwind(alloc: Global, scope: &mut Scope, unwind: &Unwind) -> Result<(), ScopeFault>
+    ensures { let c = unwind_of unwind.now in GoesOn (spec.clause_fault scope.old c) (scope_after scope.old c) scope.new result }
+{
+    check_value(alloc, scope, &unwind.list)?;
+    let name = unwind.variable.name.as_str();
+    demand(scope.find_kind(name).is_none(), ScopeFault::AlreadyBound)?;
+    scope.add_name(Kind::Value, name)?;
+    Ok(())
+}
+
+fn check_match(alloc: Global, scope: &mut Scope, matching: &Match) -> Result<(), ScopeFault>
+    ensures { let c = match_of matching.now in GoesOn (spec.clause_fault scope.old c) (scope_after scope.old c) scope.new result }
+{
+    check_paths(alloc, false, scope, &matching.paths)?;
+    scope.add_paths(&matching.paths)?;
+    check_where(alloc, scope, &matching.filter)
+}
+
+fn check_with(alloc: Global, scope: &mut Scope, with: &With) -> Result<(), ScopeFault>
+    ensures { let c = with_of with.now in GoesOn (spec.clause_fault scope.old c) (scope_after scope.old c) scope.new result }
+{
+    let columns = check_projection(alloc, true, scope, &with.projection)?;
+    check_where(alloc, &columns, &with.filter)?;
+    *scope = columns;
+    Ok(())
+}
+
+/// Goes on over a clause: its first fault; without one, the scope after it comes in place of the scope before it.
+pub(crate) fn check_clause(
+    alloc: Global,
+    scope: &mut Scope,
+    clause: &Clause,
+) -> Result<(), ScopeFault>
+    ensures { let c = clause_of clause.now in GoesOn (spec.clause_fault scope.old c) (scope_after scope.old c) scope.new result }
+{
+    match clause {
+        Clause::Match(matching) => check_match(alloc, scope, matching),
+        Clause::Unwind(unwind) => check_unwind(alloc, scope, unwind),
+        Clause::With(with) => check_with(alloc, scope, with),
+        Clause::Return(projection) => {
+            *scope = check_projection(alloc, false, scope, projection)?;
+            Ok(())
+        }
+        Clause::Create(paths) => {
+            check_paths(alloc, true, scope, paths)?;
+            scope.add_paths(paths)?;
+            Ok(())
+        }
+        Clause::Set(items) => check_sets(alloc, scope, items),
+        Clause::Remove(items) => check_removes(scope, items),
+        Clause::Delete(delete) => check_deletes(scope, &delete.variables),
+    }
+}
+
+/// The first fault of clauses.
+pub(crate) fn check_clauses(alloc: Global, clauses: &[Clause]) -> Result<(), ScopeFault>
+    ensures { MayFault (spec.clauses_fault [] (map clause_of clauses.now)) result }
+{
+    let mut scope = Scope::new(alloc);
+    for clause in clauses {
+        check_clause(alloc, &mut scope, clause)?;
+    }
+    Ok(())
+}

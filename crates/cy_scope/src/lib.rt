@@ -1,0 +1,29 @@
+//! Kinds and scopes: which statements have a meaning, and which queries can be kept up to date.
+#![tactic(auto)]
+
+mod checked;
+mod clause_checks;
+mod clause_columns;
+mod clause_scopes;
+mod expression_checks;
+mod expression_kinds;
+mod faults;
+mod functions;
+mod kinds;
+mod pattern_checks;
+mod pattern_columns;
+mod projection_checks;
+mod resolving;
+mod same;
+mod scopes;
+mod statements;
+mod sure;
+mod sureness;
+mod views;
+
+pub use checked::{Checked, ViewQuery};
+pub use faults::{ScopeFault, ViewFault};
+pub use functions::Function;
+pub use kinds::Kind;
+pub use statements::check;
+pub use views::check_view;

@@ -1,0 +1,119 @@
+//! Clauses whose expressions are all sure (own).
+
+ghost use Rattle.std.specs.Prelude.{◌≡◌, [], map, option_map, IfOk};
+ghost use Rattle.cy_trees.specs.Views.{properties_of, filter_of, clause_of, item_of, path_of, step_of};
+ghost use Rattle.cy_scope.specs.Views as spec;
+
+use crate::clause_scopes::go_on;
+use crate::scopes::Scope;
+use crate::sure::{is_sure, is_sure_flag};
+use cy_trees::{Clause, Entry, Expr, Item, Path, Step};
+use std::alloc::{AllocError, Global};
+
+/// Whether the values of a property map are sure.
+fn is_sure_map(scope: &Scope, properties: &Option<Vec<Entry>>) -> bool
+    ensures { result ≡ spec.is_sure_map scope.now (properties_of properties.now) }
+{
+    let Some(entries) = properties else {
+        return true;
+    };
+    for entry in entries {
+        if !is_sure(scope, &entry.value) {
+            return false;
+        }
+    }
+    true
+}
+
+fn is_sure_step(scope: &Scope, step: &Step) -> bool
+    ensures { result ≡ spec.is_sure_step scope.now (step_of step.now) }
+{
+    is_sure_map(scope, &step.relationship.properties) && is_sure_map(scope, &step.node.properties)
+}
+
+/// Whether the values of the path's property maps are sure.
+fn is_sure_path(scope: &Scope, path: &Path) -> bool
+    ensures { result ≡ spec.is_sure_path scope.now (path_of path.now) }
+{
+    if !is_sure_map(scope, &path.start.properties) {
+        return false;
+    }
+    for step in &path.steps {
+        if !is_sure_step(scope, step) {
+            return false;
+        }
+    }
+    true
+}
+
+fn are_sure_paths(scope: &Scope, paths: &[Path]) -> bool
+    ensures { result ≡ spec.are_sure_paths scope.now (map path_of paths.now) }
+{
+    for path in paths {
+        if !is_sure_path(scope, path) {
+            return false;
+        }
+    }
+    true
+}
+
+fn are_sure_items(scope: &Scope, items: &[Item]) -> bool
+    ensures { result ≡ spec.are_sure_items scope.now (map item_of items.now) }
+{
+    for item in items {
+        if !is_sure(scope, &item.expression) {
+            return false;
+        }
+    }
+    true
+}
+
+/// Whether what stands after WHERE, if anything, is a sure flag.
+fn is_sure_where(scope: &Scope, filter: &Option<Expr>) -> bool
+    ensures { result ≡ spec.is_sure_where scope.now (filter_of filter.now) }
+{
+    match filter {
+        Some(filter) => is_sure_flag(scope, filter),
+        None => true,
+    }
+}
+
+/// Whether what the clause reads before it makes its columns is sure.
+fn is_sure_before(scope: &Scope, clause: &Clause) -> bool
+    ensures { result ≡ spec.is_sure_before scope.now (clause_of clause.now) }
+{
+    match clause {
+        Clause::Match(matching) => are_sure_paths(scope, &matching.paths),
+        Clause::With(with) => are_sure_items(scope, &with.projection.items),
+        Clause::Return(projection) => are_sure_items(scope, &projection.items),
+        _ => false,
+    }
+}
+
+/// Whether what the clause reads on its columns is sure.
+fn is_sure_after(scope: &Scope, clause: &Clause) -> bool
+    ensures { result ≡ spec.is_sure_after scope.now (clause_of clause.now) }
+{
+    match clause {
+        Clause::Match(matching) => is_sure_where(scope, &matching.filter),
+        Clause::With(with) => is_sure_where(scope, &with.filter),
+        _ => true,
+    }
+}
+
+/// Whether the expressions of all the clauses of a checked statement are sure, and none of the clauses is UNWIND.
+pub(crate) fn are_sure_clauses(alloc: Global, clauses: &[Clause]) -> Result<bool, AllocError>
+    ensures { IfOk result (λ sure. sure ≡ spec.are_sure_clauses [] (map clause_of clauses.now)) }
+{
+    let mut scope = Scope::new(alloc);
+    for clause in clauses {
+        if !is_sure_before(&scope, clause) {
+            return Ok(false);
+        }
+        go_on(alloc, &mut scope, clause)?;
+        if !is_sure_after(&scope, clause) {
+            return Ok(false);
+        }
+    }
+    Ok(true)
+}

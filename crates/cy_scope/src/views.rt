@@ -1,0 +1,219 @@
+//! Which statements are queries of views (own).
+
+ghost use Rattle.std.specs.Prelude.{◌≡◌, ◌⊎◌, map, None, Some, Ok, Err, MatchResult, IfOk};
+ghost use Rattle.std.specs.List.{list_any};
+ghost use Rattle.cy_trees.specs.Views.{expression_of, clause_of, statement_of, path_of, projection_of};
+ghost use Rattle.cy_scope.specs.declared.faults.ViewFault.TheVariants.{NoMemory};
+ghost use Rattle.cy_scope.specs.Views as spec;
+
+use crate::checked::{Checked, ViewQuery};
+use crate::faults::ViewFault;
+use crate::functions::Function;
+use crate::sureness::are_sure_clauses;
+use cy_trees::{Clause, Expr, Length, Path, Projection, Statement};
+use std::alloc::Global;
+
+/// The greatest upper bound of a length in a view.
+const GREATEST_LENGTH: u16 = 5;
+
+fn is_update(clause: &Clause) -> bool
+    ensures { result ≡ spec.is_update (clause_of clause.now) }
+{
+    matches!(
+        clause,
+        Clause::Create(_) | Clause::Set(_) | Clause::Remove(_) | Clause::Delete(_)
+    )
+}
+
+fn has_update(clauses: &[Clause]) -> bool
+    ensures { result ≡ list_any spec.is_update (map clause_of clauses.now) }
+{
+    for clause in clauses {
+        if is_update(clause) {
+            return true;
+        }
+    }
+    false
+}
+
+fn ends_with_return(clauses: &[Clause]) -> bool
+    ensures { result ≡ spec.ends_with_return (map clause_of clauses.now) }
+{
+    match clauses.last() {
+        Some(clause) => matches!(clause, Clause::Return(_)),
+        None => false,
+    }
+}
+
+/// Whether the clauses end with RETURN, and none of them updates.
+fn is_reading(clauses: &[Clause]) -> bool
+    ensures { result ≡ spec.is_reading (map clause_of clauses.now) }
+{
+    ends_with_return(clauses) && !has_update(clauses)
+}
+
+/// Whether the rows are ordered, or some of them cut.
+fn has_order(projection: &Projection) -> bool
+    ensures { result ≡ spec.has_order (projection_of projection.now) }
+{
+    !projection.order.is_empty() || projection.skip.is_some() || projection.limit.is_some()
+}
+
+fn is_ordered(clause: &Clause) -> bool
+    ensures { result ≡ spec.is_ordered (clause_of clause.now) }
+{
+    match clause {
+        Clause::With(with) => has_order(&with.projection),
+        Clause::Return(projection) => has_order(projection),
+        _ => false,
+    }
+}
+
+fn any_ordered(clauses: &[Clause]) -> bool
+    ensures { result ≡ list_any spec.is_ordered (map clause_of clauses.now) }
+{
+    for clause in clauses {
+        if is_ordered(clause) {
+            return true;
+        }
+    }
+    false
+}
+
+/// Whether the name is that of an aggregate.
+fn names_aggregate(name: &str) -> bool
+    ensures { result ≡ spec.names_aggregate name.now }
+{
+    match Function::named(name) {
+        Some(function) => function.is_aggregate(),
+        None => false,
+    }
+}
+
+/// Whether the expression is an aggregate.
+fn is_aggregate_call(expression: &Expr) -> bool
+    ensures { result ≡ spec.is_aggregate_call (expression_of expression.now) }
+{
+    match expression {
+        Expr::Call(name, _, _) | Expr::CallStar(name) => names_aggregate(name.as_str()),
+        _ => false,
+    }
+}
+
+/// Whether an item is an aggregate.
+pub(crate) fn has_aggregates(projection: &Projection) -> bool
+    ensures { result ≡ spec.has_aggregates (projection_of projection.now) }
+{
+    for item in &projection.items {
+        if is_aggregate_call(&item.expression) {
+            return true;
+        }
+    }
+    false
+}
+
+fn has_aggregate(clause: &Clause) -> bool
+    ensures { result ≡ spec.has_aggregate (clause_of clause.now) }
+{
+    match clause {
+        Clause::With(with) => has_aggregates(&with.projection),
+        Clause::Return(projection) => has_aggregates(projection),
+        _ => false,
+    }
+}
+
+fn any_aggregate(clauses: &[Clause]) -> bool
+    ensures { result ≡ list_any spec.has_aggregate (map clause_of clauses.now) }
+{
+    for clause in clauses {
+        if has_aggregate(clause) {
+            return true;
+        }
+    }
+    false
+}
+
+/// Whether a length has no upper bound, or one that is too large.
+fn is_unbounded_length(length: Option<Length>) -> bool
+    ensures { result ≡ spec.is_unbounded_length length }
+{
+    match length {
+        Some(
+            Length {
+                most: Some(most),
+                ..
+            },
+        ) => most > GREATEST_LENGTH,
+        Some(Length { most: None, .. }) => true,
+        None => false,
+    }
+}
+
+fn has_unbounded(path: &Path) -> bool
+    ensures { result ≡ spec.has_unbounded (path_of path.now) }
+{
+    for step in &path.steps {
+        if is_unbounded_length(step.relationship.length) {
+            return true;
+        }
+    }
+    false
+}
+
+fn has_unbounded_path(paths: &[Path]) -> bool
+    ensures { result ≡ list_any spec.has_unbounded (map path_of paths.now) }
+{
+    for path in paths {
+        if has_unbounded(path) {
+            return true;
+        }
+    }
+    false
+}
+
+fn is_unbounded(clause: &Clause) -> bool
+    ensures { result ≡ spec.is_unbounded (clause_of clause.now) }
+{
+    match clause {
+        Clause::Match(matching) => has_unbounded_path(&matching.paths),
+        _ => false,
+    }
+}
+
+fn any_unbounded(clauses: &[Clause]) -> bool
+    ensures { result ≡ list_any spec.is_unbounded (map clause_of clauses.now) }
+{
+    for clause in clauses {
+        if is_unbounded(clause) {
+            return true;
+        }
+    }
+    false
+}
+
+/// A checked statement as the query of a view. `NotAReading` where it doesn't end with RETURN or has an updating clause, then
+/// `OrderInView` where it has ORDER BY, SKIP or LIMIT, `AggregateInView` where it has an aggregate, `Unbounded` where it has a
+/// length without an upper bound or with one above 5, `MayFail` where it has UNWIND or an expression that isn't sure: each
+/// is asked of the whole statement before the next (own). `NoMemory` where memory is wanting.
+pub fn check_view(alloc: Global, checked: Checked) -> Result<ViewQuery, ViewFault>
+    ensures query { IfOk result (λ query. query.checked ≡ checked) }
+    ensures verdict { MatchResult result (λ _. spec.view_fault (statement_of checked.statement) ≡ None) (λ fault. (fault ≡ NoMemory) ⊎ (spec.view_fault (statement_of checked.statement) ≡ Some fault)) }
+{
+    let clauses = checked.statement.clauses.as_slice();
+    if !is_reading(clauses) {
+        return Err(ViewFault::NotAReading);
+    }
+    if any_ordered(clauses) {
+        return Err(ViewFault::OrderInView);
+    }
+    if any_aggregate(clauses) {
+        return Err(ViewFault::AggregateInView);
+    }
+    if any_unbounded(clauses) {
+        return Err(ViewFault::Unbounded);
+    }
+    if !are_sure_clauses(alloc, clauses)? {
+        return Err(ViewFault::MayFail);
+    }
+    Ok(ViewQuery { checked })
+}

@@ -254,17 +254,13 @@ fn labels_nodes_and_takes_it_back(rt: HostRuntime) -> Result<(), Fail> {
     let id = add(alloc, &mut graph, "B", "k")?;
     graph.commit();
     graph.begin();
-    let steps: [(&str, bool, &[&str]); 5] = [
-        ("B", true, &["B"]),
-        ("A", false, &["B"]),
-        ("A", true, &["A", "B"]),
-        ("C", true, &["A", "B", "C"]),
-        ("B", false, &["A", "C"]),
-    ];
-    for (name, added, wanted) in steps {
-        label(alloc, &mut graph, id, name, added)?;
-        has_labels(&rt, &graph, id, wanted);
-    }
+    label(alloc, &mut graph, id, "B", true)?;
+    label(alloc, &mut graph, id, "A", false)?;
+    has_labels(&rt, &graph, id, &["B"]);
+    label(alloc, &mut graph, id, "A", true)?;
+    label(alloc, &mut graph, id, "C", true)?;
+    label(alloc, &mut graph, id, "B", false)?;
+    has_labels(&rt, &graph, id, &["A", "C"]);
     assert_eq!(rt; graph.touched(alloc)?.len(), 1);
     graph.rollback();
     has_labels(&rt, &graph, id, &["B"]);

@@ -1,5 +1,5 @@
 -- How trees are written (own): as words with single spaces. Keywords stand in capitals, names in backticks, texts in
--- single quotes, and each operator of an expression in brackets. What is written reads back to its tree.
+-- single quotes, and each operator of an expression in brackets.
 use Rattle.std.specs.Prelude.{ℕ, suc, pos, negsuc, Bool, true, false, List, [], ◌∷◌, ◌++◌, map, Option, Some, None, codes, chars, encode_utf8_all}
 use Rattle.std.specs.Fmt.{decimal}
 use Rattle.std.specs.List.{flat_map}
@@ -65,11 +65,12 @@ spelt bytes = word (words.text (chars bytes))
 abbrev pub bracketed : List Piece → List Piece
 bracketed ps = mark symbol.LeftParenthesis ∷ (ps ++ mark symbol.RightParenthesis ∷ [])
 
--- one after another, with pieces between each two
+-- one after another, each after the same pieces
 abbrev pub each_after : List Piece → List (List Piece) → List Piece
 each_after between [] = []
 each_after between (ps ∷ pss) = between ++ (ps ++ each_after between pss)
 
+-- one after another, with the same pieces between each two
 abbrev pub separated : List Piece → List (List Piece) → List Piece
 separated between [] = []
 separated between (ps ∷ pss) = ps ++ each_after between pss

@@ -10,7 +10,7 @@ use crate::writing::{Separator, write_separated};
 use cy_values::{Fault, Text};
 use std::alloc::Global;
 
-/// The text of a statement (own), which reads back to it: with single spaces, keywords in capitals, names in backticks,
+/// The text of a statement (own): with single spaces, keywords in capitals, names in backticks,
 /// texts in single quotes, each item with its column, and brackets around each operator. Fails only for want of memory.
 #[tactic(auto, using(crate::proofs::ShowLemmas::clauses_fused), unfolding(crate::specs::Show::show))]
 pub fn show(alloc: Global, statement: &Statement) -> Result<Text, Fault>

@@ -5,7 +5,7 @@
 pub struct NodeId(pub u64);
 
 /// The number of a relationship: from 1 up, never used again.
-#[derive(Clone, Copy, Debug, PartialEq, Eq, PartialOrd, Ord, Hash)]
+#[derive(Clone, Copy, Debug, Default, PartialEq, Eq, PartialOrd, Ord, Hash)]
 pub struct RelId(pub u64);
 
 /// A node or a relationship.

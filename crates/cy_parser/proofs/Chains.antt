@@ -25,7 +25,7 @@ pub record Chaining (n : ℕ) (first stops : Option Kind → Bool) (read : Reade
   pub shortens : suc (length rest) ≤ length ts
   pub reads : depth e ≤ greatest_depth → stops (kind_ahead rest) ≡ true → (k : ℕ) × (length rest ≤ k) × (read ts ≡ from k e rest)
 
-chain_end : (operators : Kind → Option BinaryOperator) (operand : Reader Expression) (k : ℕ) (e : Expression) (ts : List Token) →
+pub chain_end : (operators : Kind → Option BinaryOperator) (operand : Reader Expression) (k : ℕ) (e : Expression) (ts : List Token) →
     at_kind operators (kind_ahead ts) ≡ None → chain_from operators operand k e ts ≡ Some (e, ts)
 unfolding chain_from and_then
 chain_end operators operand zero e ts stop = refl

@@ -23,6 +23,7 @@ use Rattle.cy_parser.specs.internal.Expressions.{chain, chain_from, begins_predi
 use Rattle.cy_parser.specs.Spells.{Spells, SpellsAll, Level, whole, head, postfix, bracket, IsSymbol, IsKeyword, IsNumber, last_element, next_element, empty_list, list_of, call_of, call_of_distinct, call_of_nothing, call_of_star, name, owner, is_head, with_key, is_owner, labelled, SpellsArms, last_arm, next_arm, SpellsOtherwise, no_else, else_, case_of, true_, false_, null_, number, text_, signed, minus, plus, negative, begins_with_number, is_number, is_postfix, product, is_signed, multiply, sum, is_product, add, predicate, is_sum, is_null, is_not_null, among, contains, starts_with, ends_with, SpellsLinks, last_link, next_link, comparisons, is_predicate, compare, negation, is_comparison, not as denied, conjunction, is_negation, and, exclusion, is_conjunction, xor, is_exclusion, or}
 use Rattle.cy_parser.specs.SpellsClauses.{most_levels}
 use Rattle.cy_parser.proofs.Takes.{after, after_peek, none_branch, some_branch, then_branch, else_branch, eats_symbol, eats_keyword, leaves_symbol, leaves_keyword, expects_symbol, expects_keyword, takes, passes}
+use Rattle.cy_parser.proofs.Continues.{predicates_end, links_end}
 use Rattle.cy_parser.proofs.Stops.{lacking, both_left, both_right, not_true, ends_postfix, ends_product, ends_sum, ends_predicate, ends_comparisons, ends_conjunction, ends_exclusion, ends_whole, begins_postfix, begins_signed, begins_negation, product_ends, sum_ends, comparator_ends, conjunction_ends, exclusion_ends, disjunction_ends, no_plus, no_minus, no_not, signed_begins, negation_begins, name_begins, no_bracket_end, no_parenthesis_end, no_star, no_distinct}
 use Rattle.cy_parser.proofs.LabelsComplete.{labels_read, labels_shorten}
 use Rattle.cy_parser.proofs.Chains.{Reading, Chaining, chain_of_one, chain_of_two, chain_whole}
@@ -95,12 +96,6 @@ module _ (line : List ℕ) where
 
   -- ---- predicates
 
-  predicates_end : (n k : ℕ) (e : Expression) (ts : List Token) → begins_predicate (kind_ahead ts) ≡ false →
-      read.predicates_from line (levels_at n) (inner_at n) k e ts ≡ Some (e, ts)
-  unfolding read.predicates_from
-  predicates_end n zero e ts stop = refl
-  predicates_end n (suc k) e ts stop = after_peek _ ts ∙ else_branch _ _ _ ts stop
-
   predicates_step : (n k : ℕ) (a e : Expression) (t : Token) (mid rest : List Token) → begins_predicate (Some t.kind) ≡ true →
       read.predicate_step line (levels_at n) (inner_at n) a (t ∷ mid) ≡ Some (e, rest) →
       read.predicates_from line (levels_at n) (inner_at n) (suc k) a (t ∷ mid) ≡ read.predicates_from line (levels_at n) (inner_at n) k e rest
@@ -114,7 +109,7 @@ module _ (line : List ℕ) where
     shortens = c.shortens;
     reads = λ shallow stop.
         let before = c.reads shallow (both_left _ _ stop) in
-        before.2 ∙ predicates_end n before.0 e rest (not_true _ (both_right _ _ stop));
+        before.2 ∙ predicates_end line (levels_at n) (inner_at n) before.0 e rest (not_true _ (both_right _ _ stop));
   }
 
   predicate_first : (n : ℕ) (e : Expression) (ts rest : List Token) → Claim n sum e ts rest → Claim n predicate e ts rest
@@ -206,12 +201,6 @@ module _ (line : List ℕ) where
         (first : Comparator × Expression) × (these : List (Comparator × Expression)) × (links_from (first ∷ these) ≡ ls)
         × (read.links_read line (levels_at n) (inner_at n) k found ts ≡ Some (found ++ first ∷ these, rest))
 
-  links_end : (n k : ℕ) (found : List (Comparator × Expression)) (ts : List Token) → at_kind comparator_of (kind_ahead ts) ≡ None →
-      read.links_read line (levels_at n) (inner_at n) k found ts ≡ Some (found, ts)
-  unfolding read.links_read and_then
-  links_end n zero found ts stop = refl
-  links_end n (suc k) found ts stop = none_branch _ _ (at_kind comparator_of (kind_ahead ts)) ts stop
-
   links_step : (n k : ℕ) (found : List (Comparator × Expression)) (by : Comparator) (e : Expression) (t : Token) (ts mid : List Token) →
       comparator_of t.kind ≡ Some by → read.predicate line (levels_at n) (inner_at n) ts ≡ Some (e, mid) →
       read.links_read line (levels_at n) (inner_at n) (suc k) found (t ∷ ts) ≡ read.links_read line (levels_at n) (inner_at n) k (found ++ (by, e) ∷ []) mid
@@ -235,7 +224,7 @@ module _ (line : List ℕ) where
           (first : Comparator × Expression) × (these : List (Comparator × Expression)) × (links_from (first ∷ these) ≡ link by e no_links)
           × (read.links_read line (levels_at n) (inner_at n) k found (t ∷ ts) ≡ Some (found ++ first ∷ these, rest))
       on zero found few reads stop = absurd (omega (arith, few))
-      on (suc k) found few reads stop = ((by, e), [], refl, links_step n k found by e t ts rest is reads ∙ links_end n k (found ++ (by, e) ∷ []) rest stop)
+      on (suc k) found few reads stop = ((by, e), [], refl, links_step n k found by e t ts rest is reads ∙ links_end line (levels_at n) (inner_at n) k (found ++ (by, e) ∷ []) rest stop)
 
   link_next : (n : ℕ) (by : Comparator) (e : Expression) (ls : Links) (t : Token) (ts mid rest : List Token) → comparator_of t.kind ≡ Some by →
       Claim n predicate e ts mid → LinksRead n ls mid rest → LinksRead n (link by e ls) (t ∷ ts) rest
@@ -273,7 +262,7 @@ module _ (line : List ℕ) where
         begins = p.begins;
         shortens = p.shortens;
         reads = λ shallow stop. after _ (p.reads shallow (both_left _ _ stop))
-            (after _ (links_end n (length rest) [] rest (lacking _ (both_right _ _ stop))) refl);
+            (after _ (links_end line (levels_at n) (inner_at n) (length rest) [] rest (lacking _ (both_right _ _ stop))) refl);
       }
 
   comparisons_chain : (n : ℕ) (e : Expression) (ls : Links) (ts mid rest : List Token) → Claim n predicate e ts mid → LinksRead n ls mid rest →

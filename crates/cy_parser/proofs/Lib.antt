@@ -9,6 +9,7 @@ pub mod Takes
 pub mod Stops
 pub mod LabelsComplete
 pub mod Chains
+pub mod Continues
 pub mod Complete
 pub mod Stands
 pub mod ShownTokens
@@ -26,3 +27,4 @@ pub mod PiecesLemmas
 pub mod WordsSpans
 pub mod ShownWords
 pub mod ShownAgain
+pub mod Rows

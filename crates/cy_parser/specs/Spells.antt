@@ -1,6 +1,8 @@
 -- Which tokens spell an expression: the rules of the grammar, level by level (openCypher 9, grammar, narrowed to this
--- profile). What stands from the tokens `ts` up to the tokens `rest`, which are the last of them, spells the expression
--- at the level, where so many levels may be open in it, its own counted. Each rule is one production. `line` has the tokens' texts.
+-- profile; how many brackets may be open is own, this profile's choice). What stands from the tokens `ts` up to the tokens
+-- `rest`, which are the last of them, spells the expression at a level of operators. The number before the level is one more
+-- than the brackets, lists, calls, CASE, NOT and signs that may still open: what opens one leaves one less to what stands
+-- inside, and at 0 nothing is spelt, no leaf either. Each rule is one production. `line` has the tokens' texts.
 use Rattle.std.specs.Prelude.{◌≡◌, ℕ, suc, pos, ◌<◌, ◌≤◌, true, false, IsTrue, List, [], ◌∷◌, Some, None, Bool}
 use Rattle.cy_lexer.specs.declared.tokens.Kind.{Kind}
 use Rattle.cy_lexer.specs.declared.tokens.Kind.TheVariants as kind
@@ -25,11 +27,11 @@ IsSymbol s t = t.kind ≡ kind.Symbol s
 abbrev pub IsNumber : ℕ → Token → Type 0
 IsNumber n t = t.kind ≡ kind.Number n
 
--- a number begins the tokens
 abbrev pub is_number : Kind → Bool
 is_number (kind.Number n) = true
 is_number _ = false
 
+-- a number begins the tokens
 abbrev pub begins_with_number : List Token → Bool
 begins_with_number [] = false
 begins_with_number (t ∷ ts) = is_number t.kind

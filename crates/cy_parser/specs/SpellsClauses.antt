@@ -21,7 +21,7 @@ pub data SpellsEach {A : Type 0} (each : A → List Token → List Token → Typ
   next : (a : A) (more : List A) (comma : Token) (ts mid rest : List Token) → each a ts (comma ∷ mid) → IsSymbol sign.Comma comma
       → SpellsEach each more mid rest → SpellsEach each (a ∷ more) ts rest
 
--- 256 levels may be open in an expression, and its own is one more (own)
+-- 256 levels may be open in an expression, and the number is one more (own)
 abbrev pub most_levels : ℕ
 most_levels = 257
 
@@ -99,7 +99,8 @@ pub data SpellsLengthIfAny : Option Length → List Token → List Token → Typ
   a_length : (l : Length) (star : Token) (ts rest : List Token) → IsSymbol sign.Star star → SpellsLength l ts rest
       → SpellsLengthIfAny (Some l) (star ∷ ts) rest
 
--- a relationship's direction, from whether an arrow stands on its left and on its right (openCypher 9: with both or none it is either)
+-- a relationship's direction, from whether an arrow stands on its left and on its right (openCypher 9; that both arrows mean
+-- either direction, as none do, is own)
 abbrev pub direction_of : Bool → Bool → Direction
 direction_of true true = direction.Either
 direction_of true false = direction.Left
@@ -112,7 +113,8 @@ pub data SpellsArrow (s : Symbol) : Bool → List Token → List Token → Type 
   no_arrow : (ts : List Token) → SpellsArrow s false ts ts
 
 module _ (line : List ℕ) where
-  -- what stands in the square brackets, and nothing where there are none
+  -- what stands in the square brackets, and nothing where there are none; the direction is that of the arrows around it, which
+  -- the next rule sets
   pub data SpellsDetails : RelationshipPattern → List Token → List Token → Type 0 where
     no_details : (towards : Direction) (ts : List Token)
         → SpellsDetails (record { variable = None; direction = towards; types = []; length = None; properties = None }) ts ts

@@ -14,8 +14,8 @@ use cy_values::Text;
 use std::alloc::Global;
 use std::marker::Model;
 
-/// The first number that no literal without a `-` stands for.
-const NUMBER_LIMIT: u64 = 9223372036854775808;
+/// The first number that is too large for a literal without a `-`, and for the places of clauses and patterns (own).
+pub(crate) const NUMBER_LIMIT: u64 = 9223372036854775808;
 
 /// A place between the tokens of a line, which a contract sees as the tokens from there on.
 #[derive(Drop)]

@@ -7,17 +7,17 @@ ghost use Rattle.cy_parser.specs.Faults.{code_of, at_of};
 use std::alloc::AllocError;
 use thiserror::Error;
 
-/// Why tokens spell no statement (own). The number in a variant is a byte offset in the line: that of the token where
-/// reading stops, or the line's length at its end.
+/// Why tokens spell no statement (own). The number in a variant is a byte offset in the line: that of a token, or the line's
+/// length at its end.
 #[derive(Clone, Copy, Debug, PartialEq, Eq, Error)]
 pub enum ParseFault {
     /// A number that its place can't hold.
     #[error("number too large at byte {0}")]
     NumberTooLarge(usize),
-    /// A token after which nothing can go on, or the end of the text inside of a clause.
+    /// A token that can't stand where it does, or the end of the text inside of a clause.
     #[error("unexpected at byte {0}")]
     Unexpected(usize),
-    /// An expression of depth 65, or with 257 open levels, by its first token.
+    /// An expression of depth 65, or with 257 open levels, by the first token of the outermost expression around it.
     #[error("too deep at byte {0}")]
     TooDeep(usize),
     /// A clause that may not follow those before it, or the end of the text where no statement ends.

@@ -4,13 +4,10 @@ ghost use Rattle.std.specs.Prelude.{◌≡◌, ◌≢◌, ◌≤◌, ◌<◌};
 ghost use Rattle.cy_parser.specs.internal.Clauses as spec;
 ghost use Rattle.cy_parser.specs.internal.Reader.{Reads};
 
-use crate::cursor::Cursor;
+use crate::cursor::{Cursor, NUMBER_LIMIT};
 use crate::refusals::Refusal;
 use cy_lexer::{Keyword, Kind, Symbol};
 use cy_trees::Length;
-
-/// The first number that is too large for the places of clauses and patterns (own).
-const NUMBER_LIMIT: u64 = 9223372036854775808;
 
 impl<'a> Cursor<'a> {
     /// A number, if one comes next.

@@ -1,6 +1,7 @@
 //! The levels of operators, from the tightest to the loosest.
 
 ghost use Rattle.std.specs.Prelude.{◌≡◌, ◌∷◌, [], IfOk};
+ghost use Rattle.cy_parser.specs.Words as words;
 ghost use Rattle.cy_parser.specs.internal.Expressions as spec;
 ghost use Rattle.cy_parser.specs.internal.Nests.{Nests};
 ghost use Rattle.cy_parser.specs.internal.Operands.{operand_of, links_in, LinksAreMeasured};
@@ -39,8 +40,18 @@ impl<'l, F: Fn(Global, &str, &mut Cursor<'_>, usize, Nested) -> Result<Operand, 
         unary(self.alloc, tokens, UnaryOperator::Minus, operand)
     }
 
+    /// What stands after a sign `+`.
+    #[tactic(auto, unfolding(crate::specs::internal::Reader::and_then, crate::specs::internal::Expressions::plus))]
+    fn plus(&self, tokens: &mut Cursor<'_>) -> Result<Operand, Refusal>
+        requires { Nests self.now.levels (F.pre self.now.inner) (F.post self.now.inner) }
+        ensures { Reads operand_of (spec.plus self.now.line.now (spec.nesting self.now.line.now self.now.levels) tokens.old) result tokens.new }
+    {
+        let operand = self.inside(tokens, Nested::Sign)?;
+        unary(self.alloc, tokens, UnaryOperator::Plus, operand)
+    }
+
     /// Signs, and what they stand before.
-    #[tactic(auto, unfolding(crate::specs::internal::Reader::and_then, crate::specs::internal::Expressions::signed, crate::specs::internal::Expressions::plus))]
+    #[tactic(auto, unfolding(crate::specs::internal::Reader::and_then, crate::specs::internal::Expressions::signed))]
     pub(crate) fn signed(&self, tokens: &mut Cursor<'_>) -> Result<Operand, Refusal>
         requires { Nests self.now.levels (F.pre self.now.inner) (F.post self.now.inner) }
         ensures { Reads operand_of (spec.signed self.now.line.now self.now.levels (spec.nesting self.now.line.now self.now.levels) tokens.old) result tokens.new }
@@ -48,19 +59,18 @@ impl<'l, F: Fn(Global, &str, &mut Cursor<'_>, usize, Nested) -> Result<Operand, 
         if tokens.eat_symbol(Symbol::Minus) {
             return self.minus(tokens);
         }
-        if !tokens.eat_symbol(Symbol::Plus) {
-            return self.postfix(tokens);
+        if tokens.eat_symbol(Symbol::Plus) {
+            return self.plus(tokens);
         }
-        let operand = self.inside(tokens, Nested::Sign)?;
-        unary(self.alloc, tokens, UnaryOperator::Plus, operand)
+        self.postfix(tokens)
     }
 
-    /// Operands of `*`, `/` and `%`.
-    pub(crate) fn product(&self, tokens: &mut Cursor<'_>) -> Result<Operand, Refusal>
+    /// What `*`, `/` and `%` make of a first operand and those after it.
+    fn product_after(&self, tokens: &mut Cursor<'_>, first: Operand) -> Result<Operand, Refusal>
         requires { Nests self.now.levels (F.pre self.now.inner) (F.post self.now.inner) }
-        ensures { Reads operand_of (spec.product self.now.line.now self.now.levels (spec.nesting self.now.line.now self.now.levels) tokens.old) result tokens.new }
+        ensures { Reads operand_of (spec.chain_after words.product_operator (spec.signed self.now.line.now self.now.levels (spec.nesting self.now.line.now self.now.levels)) (operand_of first) tokens.old) result tokens.new }
     {
-        let mut left = self.signed(tokens)?;
+        let mut left = first;
         for _turn in 0..tokens.count() {
             let Some(operator) = tokens.peek().and_then(product_operator) else {
                 return Ok(left);
@@ -72,12 +82,22 @@ impl<'l, F: Fn(Global, &str, &mut Cursor<'_>, usize, Nested) -> Result<Operand, 
         Ok(left)
     }
 
-    /// Operands of `+` and `-`.
-    pub(crate) fn sum(&self, tokens: &mut Cursor<'_>) -> Result<Operand, Refusal>
+    /// Operands of `*`, `/` and `%`.
+    #[tactic(auto, unfolding(crate::specs::internal::Reader::and_then, crate::specs::internal::Expressions::product))]
+    fn product(&self, tokens: &mut Cursor<'_>) -> Result<Operand, Refusal>
         requires { Nests self.now.levels (F.pre self.now.inner) (F.post self.now.inner) }
-        ensures { Reads operand_of (spec.sum self.now.line.now self.now.levels (spec.nesting self.now.line.now self.now.levels) tokens.old) result tokens.new }
+        ensures { Reads operand_of (spec.product self.now.line.now self.now.levels (spec.nesting self.now.line.now self.now.levels) tokens.old) result tokens.new }
     {
-        let mut left = self.product(tokens)?;
+        let first = self.signed(tokens)?;
+        self.product_after(tokens, first)
+    }
+
+    /// What `+` and `-` make of a first operand and those after it.
+    fn sum_after(&self, tokens: &mut Cursor<'_>, first: Operand) -> Result<Operand, Refusal>
+        requires { Nests self.now.levels (F.pre self.now.inner) (F.post self.now.inner) }
+        ensures { Reads operand_of (spec.chain_after words.sum_operator (spec.product self.now.line.now self.now.levels (spec.nesting self.now.line.now self.now.levels)) (operand_of first) tokens.old) result tokens.new }
+    {
+        let mut left = first;
         for _turn in 0..tokens.count() {
             let Some(operator) = tokens.peek().and_then(sum_operator) else {
                 return Ok(left);
@@ -87,6 +107,16 @@ impl<'l, F: Fn(Global, &str, &mut Cursor<'_>, usize, Nested) -> Result<Operand, 
             left = binary(self.alloc, tokens, operator, left, right)?;
         }
         Ok(left)
+    }
+
+    /// Operands of `+` and `-`.
+    #[tactic(auto, unfolding(crate::specs::internal::Reader::and_then, crate::specs::internal::Expressions::sum))]
+    fn sum(&self, tokens: &mut Cursor<'_>) -> Result<Operand, Refusal>
+        requires { Nests self.now.levels (F.pre self.now.inner) (F.post self.now.inner) }
+        ensures { Reads operand_of (spec.sum self.now.line.now self.now.levels (spec.nesting self.now.line.now self.now.levels) tokens.old) result tokens.new }
+    {
+        let first = self.product(tokens)?;
+        self.sum_after(tokens, first)
     }
 
     /// A test for null, after IS.
@@ -152,11 +182,11 @@ impl<'l, F: Fn(Global, &str, &mut Cursor<'_>, usize, Nested) -> Result<Operand, 
     }
 
     /// A sum with the predicates after it.
-    pub(crate) fn predicate(&self, tokens: &mut Cursor<'_>) -> Result<Operand, Refusal>
+    fn predicate_after(&self, tokens: &mut Cursor<'_>, first: Operand) -> Result<Operand, Refusal>
         requires { Nests self.now.levels (F.pre self.now.inner) (F.post self.now.inner) }
-        ensures { Reads operand_of (spec.predicate self.now.line.now self.now.levels (spec.nesting self.now.line.now self.now.levels) tokens.old) result tokens.new }
+        ensures { Reads operand_of (spec.predicates_after self.now.line.now self.now.levels (spec.nesting self.now.line.now self.now.levels) (operand_of first) tokens.old) result tokens.new }
     {
-        let mut left = self.sum(tokens)?;
+        let mut left = first;
         for _turn in 0..tokens.count() {
             if !begins_predicate(tokens.peek()) {
                 return Ok(left);
@@ -164,6 +194,39 @@ impl<'l, F: Fn(Global, &str, &mut Cursor<'_>, usize, Nested) -> Result<Operand, 
             left = self.predicate_step(tokens, left)?;
         }
         Ok(left)
+    }
+
+    /// What arithmetic and predicates make of a first operand and what comes after it.
+    #[tactic(auto, unfolding(crate::specs::internal::Reader::and_then, crate::specs::internal::Expressions::predicate_from))]
+    fn predicate_of(&self, tokens: &mut Cursor<'_>, first: Operand) -> Result<Operand, Refusal>
+        requires { Nests self.now.levels (F.pre self.now.inner) (F.post self.now.inner) }
+        ensures { Reads operand_of (spec.predicate_from self.now.line.now self.now.levels (spec.nesting self.now.line.now self.now.levels) (operand_of first) tokens.old) result tokens.new }
+    {
+        let product = self.product_after(tokens, first)?;
+        let sum = self.sum_after(tokens, product)?;
+        self.predicate_after(tokens, sum)
+    }
+
+    /// The same, where an operator may be missing.
+    #[tactic(auto, using(crate::proofs::Continues::predicate_stops))]
+    fn predicate_from(&self, tokens: &mut Cursor<'_>, first: Operand) -> Result<Operand, Refusal>
+        requires { Nests self.now.levels (F.pre self.now.inner) (F.post self.now.inner) }
+        ensures { Reads operand_of (spec.predicate_from self.now.line.now self.now.levels (spec.nesting self.now.line.now self.now.levels) (operand_of first) tokens.old) result tokens.new }
+    {
+        if !continues_predicate(tokens.peek()) {
+            return Ok(first);
+        }
+        self.predicate_of(tokens, first)
+    }
+
+    /// A sum with the predicates after it.
+    #[tactic(auto, unfolding(crate::specs::internal::Reader::and_then, crate::specs::internal::Expressions::predicate, crate::specs::internal::Expressions::sum, crate::specs::internal::Expressions::product, crate::specs::internal::Expressions::predicate_from))]
+    fn predicate(&self, tokens: &mut Cursor<'_>) -> Result<Operand, Refusal>
+        requires { Nests self.now.levels (F.pre self.now.inner) (F.post self.now.inner) }
+        ensures { Reads operand_of (spec.predicate self.now.line.now self.now.levels (spec.nesting self.now.line.now self.now.levels) tokens.old) result tokens.new }
+    {
+        let first = self.signed(tokens)?;
+        self.predicate_from(tokens, first)
     }
 
     /// The comparators after a first operand, each with its operand.
@@ -183,18 +246,50 @@ impl<'l, F: Fn(Global, &str, &mut Cursor<'_>, usize, Nested) -> Result<Operand, 
         Ok(found)
     }
 
-    /// An operand, or a chain of comparisons.
-    #[tactic(auto, unfolding(crate::specs::internal::Reader::and_then, crate::specs::internal::Expressions::comparisons))]
-    pub(crate) fn comparisons(&self, tokens: &mut Cursor<'_>) -> Result<Operand, Refusal>
+    /// An operand, or the chain of comparisons that it begins.
+    #[tactic(auto, unfolding(crate::specs::internal::Reader::and_then))]
+    fn comparisons_after(&self, tokens: &mut Cursor<'_>, first: Operand) -> Result<Operand, Refusal>
         requires { Nests self.now.levels (F.pre self.now.inner) (F.post self.now.inner) }
-        ensures { Reads operand_of (spec.comparisons self.now.line.now self.now.levels (spec.nesting self.now.line.now self.now.levels) tokens.old) result tokens.new }
+        ensures { Reads operand_of (spec.comparisons_after self.now.line.now self.now.levels (spec.nesting self.now.line.now self.now.levels) (operand_of first) tokens.old) result tokens.new }
     {
-        let first = self.predicate(tokens)?;
         let links = self.links(tokens)?;
         if links.items.is_empty() {
             return Ok(first);
         }
         comparison(self.alloc, tokens, first, links)
+    }
+
+    /// A chain of comparisons, or its first operand, from the part of it that was read first.
+    #[tactic(auto, unfolding(crate::specs::internal::Reader::and_then))]
+    fn comparisons_from(&self, tokens: &mut Cursor<'_>, first: Operand) -> Result<Operand, Refusal>
+        requires { Nests self.now.levels (F.pre self.now.inner) (F.post self.now.inner) }
+        ensures { Reads operand_of (spec.comparisons_from self.now.line.now self.now.levels (spec.nesting self.now.line.now self.now.levels) (operand_of first) tokens.old) result tokens.new }
+    {
+        let predicate = self.predicate_from(tokens, first)?;
+        self.comparisons_after(tokens, predicate)
+    }
+
+    /// An operand, or a chain of comparisons.
+    #[tactic(auto, using(crate::proofs::Continues::comparison_stops), unfolding(crate::specs::internal::Reader::and_then, crate::specs::internal::Expressions::comparisons, crate::specs::internal::Expressions::predicate, crate::specs::internal::Expressions::sum, crate::specs::internal::Expressions::product, crate::specs::internal::Expressions::predicate_from))]
+    fn comparisons(&self, tokens: &mut Cursor<'_>) -> Result<Operand, Refusal>
+        requires { Nests self.now.levels (F.pre self.now.inner) (F.post self.now.inner) }
+        ensures { Reads operand_of (spec.comparisons self.now.line.now self.now.levels (spec.nesting self.now.line.now self.now.levels) tokens.old) result tokens.new }
+    {
+        let found = self.signed(tokens);
+        if !continues_comparison(tokens.peek()) {
+            return found;
+        }
+        self.comparisons_from(tokens, found?)
+    }
+
+    /// What stands after NOT.
+    #[tactic(auto, unfolding(crate::specs::internal::Reader::and_then))]
+    fn denied(&self, tokens: &mut Cursor<'_>) -> Result<Operand, Refusal>
+        requires { Nests self.now.levels (F.pre self.now.inner) (F.post self.now.inner) }
+        ensures { Reads operand_of (spec.denied self.now.line.now (spec.nesting self.now.line.now self.now.levels) tokens.old) result tokens.new }
+    {
+        let operand = self.inside(tokens, Nested::Negation)?;
+        unary(self.alloc, tokens, UnaryOperator::Not, operand)
     }
 
     /// NOT and what it denies, or a comparison.
@@ -203,19 +298,18 @@ impl<'l, F: Fn(Global, &str, &mut Cursor<'_>, usize, Nested) -> Result<Operand, 
         requires { Nests self.now.levels (F.pre self.now.inner) (F.post self.now.inner) }
         ensures { Reads operand_of (spec.negation self.now.line.now self.now.levels (spec.nesting self.now.line.now self.now.levels) tokens.old) result tokens.new }
     {
-        if !tokens.eat_keyword(Keyword::Not) {
-            return self.comparisons(tokens);
+        if tokens.eat_keyword(Keyword::Not) {
+            return self.denied(tokens);
         }
-        let operand = self.inside(tokens, Nested::Negation)?;
-        unary(self.alloc, tokens, UnaryOperator::Not, operand)
+        self.comparisons(tokens)
     }
 
-    /// Operands of AND.
-    pub(crate) fn conjunction(&self, tokens: &mut Cursor<'_>) -> Result<Operand, Refusal>
+    /// What AND makes of a first operand and those after it.
+    fn conjunction_after(&self, tokens: &mut Cursor<'_>, first: Operand) -> Result<Operand, Refusal>
         requires { Nests self.now.levels (F.pre self.now.inner) (F.post self.now.inner) }
-        ensures { Reads operand_of (spec.conjunction self.now.line.now self.now.levels (spec.nesting self.now.line.now self.now.levels) tokens.old) result tokens.new }
+        ensures { Reads operand_of (spec.chain_after words.conjunction_operator (spec.negation self.now.line.now self.now.levels (spec.nesting self.now.line.now self.now.levels)) (operand_of first) tokens.old) result tokens.new }
     {
-        let mut left = self.negation(tokens)?;
+        let mut left = first;
         for _turn in 0..tokens.count() {
             let Some(operator) = tokens.peek().and_then(conjunction_operator) else {
                 return Ok(left);
@@ -227,12 +321,22 @@ impl<'l, F: Fn(Global, &str, &mut Cursor<'_>, usize, Nested) -> Result<Operand, 
         Ok(left)
     }
 
-    /// Operands of XOR.
-    pub(crate) fn exclusion(&self, tokens: &mut Cursor<'_>) -> Result<Operand, Refusal>
+    /// Operands of AND.
+    #[tactic(auto, unfolding(crate::specs::internal::Reader::and_then, crate::specs::internal::Expressions::conjunction))]
+    fn conjunction(&self, tokens: &mut Cursor<'_>) -> Result<Operand, Refusal>
         requires { Nests self.now.levels (F.pre self.now.inner) (F.post self.now.inner) }
-        ensures { Reads operand_of (spec.exclusion self.now.line.now self.now.levels (spec.nesting self.now.line.now self.now.levels) tokens.old) result tokens.new }
+        ensures { Reads operand_of (spec.conjunction self.now.line.now self.now.levels (spec.nesting self.now.line.now self.now.levels) tokens.old) result tokens.new }
     {
-        let mut left = self.conjunction(tokens)?;
+        let first = self.negation(tokens)?;
+        self.conjunction_after(tokens, first)
+    }
+
+    /// What XOR makes of a first operand and those after it.
+    fn exclusion_after(&self, tokens: &mut Cursor<'_>, first: Operand) -> Result<Operand, Refusal>
+        requires { Nests self.now.levels (F.pre self.now.inner) (F.post self.now.inner) }
+        ensures { Reads operand_of (spec.chain_after words.exclusion_operator (spec.conjunction self.now.line.now self.now.levels (spec.nesting self.now.line.now self.now.levels)) (operand_of first) tokens.old) result tokens.new }
+    {
+        let mut left = first;
         for _turn in 0..tokens.count() {
             let Some(operator) = tokens.peek().and_then(exclusion_operator) else {
                 return Ok(left);
@@ -244,12 +348,22 @@ impl<'l, F: Fn(Global, &str, &mut Cursor<'_>, usize, Nested) -> Result<Operand, 
         Ok(left)
     }
 
-    /// Operands of OR: a whole expression.
-    pub(crate) fn disjunction(&self, tokens: &mut Cursor<'_>) -> Result<Operand, Refusal>
+    /// Operands of XOR.
+    #[tactic(auto, unfolding(crate::specs::internal::Reader::and_then, crate::specs::internal::Expressions::exclusion))]
+    fn exclusion(&self, tokens: &mut Cursor<'_>) -> Result<Operand, Refusal>
         requires { Nests self.now.levels (F.pre self.now.inner) (F.post self.now.inner) }
-        ensures { Reads operand_of (spec.disjunction self.now.line.now self.now.levels (spec.nesting self.now.line.now self.now.levels) tokens.old) result tokens.new }
+        ensures { Reads operand_of (spec.exclusion self.now.line.now self.now.levels (spec.nesting self.now.line.now self.now.levels) tokens.old) result tokens.new }
     {
-        let mut left = self.exclusion(tokens)?;
+        let first = self.conjunction(tokens)?;
+        self.exclusion_after(tokens, first)
+    }
+
+    /// What OR makes of a first operand and those after it.
+    fn disjunction_after(&self, tokens: &mut Cursor<'_>, first: Operand) -> Result<Operand, Refusal>
+        requires { Nests self.now.levels (F.pre self.now.inner) (F.post self.now.inner) }
+        ensures { Reads operand_of (spec.chain_after words.disjunction_operator (spec.exclusion self.now.line.now self.now.levels (spec.nesting self.now.line.now self.now.levels)) (operand_of first) tokens.old) result tokens.new }
+    {
+        let mut left = first;
         for _turn in 0..tokens.count() {
             let Some(operator) = tokens.peek().and_then(disjunction_operator) else {
                 return Ok(left);
@@ -259,6 +373,30 @@ impl<'l, F: Fn(Global, &str, &mut Cursor<'_>, usize, Nested) -> Result<Operand, 
             left = binary(self.alloc, tokens, operator, left, right)?;
         }
         Ok(left)
+    }
+
+    /// A whole expression, from the first operand of AND, XOR and OR on.
+    #[tactic(auto, unfolding(crate::specs::internal::Reader::and_then))]
+    fn disjunction_from(&self, tokens: &mut Cursor<'_>, first: Operand) -> Result<Operand, Refusal>
+        requires { Nests self.now.levels (F.pre self.now.inner) (F.post self.now.inner) }
+        ensures { Reads operand_of (spec.disjunction_from self.now.line.now self.now.levels (spec.nesting self.now.line.now self.now.levels) (operand_of first) tokens.old) result tokens.new }
+    {
+        let conjunction = self.conjunction_after(tokens, first)?;
+        let exclusion = self.exclusion_after(tokens, conjunction)?;
+        self.disjunction_after(tokens, exclusion)
+    }
+
+    /// Operands of OR: a whole expression.
+    #[tactic(auto, using(crate::proofs::Continues::whole_stops), unfolding(crate::specs::internal::Reader::and_then, crate::specs::internal::Expressions::disjunction, crate::specs::internal::Expressions::exclusion, crate::specs::internal::Expressions::conjunction))]
+    fn disjunction(&self, tokens: &mut Cursor<'_>) -> Result<Operand, Refusal>
+        requires { Nests self.now.levels (F.pre self.now.inner) (F.post self.now.inner) }
+        ensures { Reads operand_of (spec.disjunction self.now.line.now self.now.levels (spec.nesting self.now.line.now self.now.levels) tokens.old) result tokens.new }
+    {
+        let found = self.negation(tokens);
+        if !continues_whole(tokens.peek()) {
+            return found;
+        }
+        self.disjunction_from(tokens, found?)
     }
 
     /// What may stand at the place.
@@ -283,5 +421,48 @@ fn begins_predicate(next: Option<Kind>) -> bool
         Some(Kind::Keyword(
             Keyword::Is | Keyword::In | Keyword::Contains | Keyword::Starts | Keyword::Ends
         ))
+    )
+}
+
+/// Whether arithmetic or a predicate goes on with the token.
+fn continues_predicate(next: Option<Kind>) -> bool
+    ensures { result ≡ spec.continues_predicate next }
+{
+    matches!(
+        next,
+        Some(
+            Kind::Symbol(
+                Symbol::Star | Symbol::Slash | Symbol::Percent | Symbol::Plus | Symbol::Minus
+            ) | Kind::Keyword(
+                Keyword::Is | Keyword::In | Keyword::Contains | Keyword::Starts | Keyword::Ends
+            )
+        )
+    )
+}
+
+/// Whether arithmetic, a predicate or a chain of comparisons goes on with the token.
+fn continues_comparison(next: Option<Kind>) -> bool
+    ensures { result ≡ spec.continues_comparison next }
+{
+    matches!(
+        next,
+        Some(Kind::Symbol(
+            Symbol::Equal
+                | Symbol::NotEqual
+                | Symbol::Less
+                | Symbol::LessOrEqual
+                | Symbol::Greater
+                | Symbol::GreaterOrEqual
+        ))
+    ) || continues_predicate(next)
+}
+
+/// Whether AND, XOR or OR comes next.
+fn continues_whole(next: Option<Kind>) -> bool
+    ensures { result ≡ spec.continues_whole next }
+{
+    matches!(
+        next,
+        Some(Kind::Keyword(Keyword::And | Keyword::Xor | Keyword::Or))
     )
 }

@@ -50,7 +50,8 @@ fn fault_of(tokens: &[Token], line: &str, refusal: Refusal) -> ParseFault
 }
 
 /// The statement that the tokens of a line spell (openCypher 9, grammar, narrowed to this profile); there is no other one.
-/// Fails with the place where reading stops, if the tokens spell none, or for want of memory.
+/// Fails if the tokens spell none, with a fault that points at a token's first byte or at the line's end, or for want of
+/// memory.
 pub fn parse(alloc: Global, tokens: &[Token], line: &str) -> Result<Statement, ParseFault>
     ensures spelt { IfOk result (λ statement. SpellsStatement line.now (statement_of statement) tokens.now) }
     ensures complete { (statement : tree.Statement) → SpellsStatement line.now statement tokens.now → MatchResult result (λ found. statement_of found ≡ statement) (λ fault. fault ≡ NoMemory) }

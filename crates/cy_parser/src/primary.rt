@@ -196,13 +196,44 @@ impl<'l, F: Fn(Global, &str, &mut Cursor<'_>, usize, Nested) -> Result<Operand, 
         has_labels(self.alloc, tokens, node, labels)
     }
 
-    /// What may stand after a name, a call and a bracket.
+    /// The properties after the owner, and the test for labels after these.
     #[tactic(auto, unfolding(crate::specs::internal::Reader::and_then, crate::specs::internal::Expressions::attributes))]
-    fn attributes(&self, tokens: &mut Cursor<'_>, owner: Operand) -> Result<Operand, Refusal>
+    fn attributes_of(&self, tokens: &mut Cursor<'_>, owner: Operand) -> Result<Operand, Refusal>
         ensures { Reads operand_of (spec.attributes self.now.line.now (operand_of owner) tokens.old) result tokens.new }
     {
         let owner = self.properties(tokens, owner)?;
         self.labelled(tokens, owner)
+    }
+
+    /// What may stand after a name, a call and a bracket.
+    #[tactic(auto, using(crate::proofs::Continues::attributes_stop))]
+    fn attributes(&self, tokens: &mut Cursor<'_>, owner: Operand) -> Result<Operand, Refusal>
+        ensures { Reads operand_of (spec.attributes self.now.line.now (operand_of owner) tokens.old) result tokens.new }
+    {
+        if !continues_owner(tokens.peek()) {
+            return Ok(owner);
+        }
+        self.attributes_of(tokens, owner)
+    }
+
+    /// A variable or a call, with what follows it.
+    #[tactic(auto, unfolding(crate::specs::internal::Reader::and_then))]
+    fn named_owner(&self, tokens: &mut Cursor<'_>) -> Result<Operand, Refusal>
+        requires { Nests self.now.levels (F.pre self.now.inner) (F.post self.now.inner) }
+        ensures { Reads operand_of (spec.named_owner self.now.line.now self.now.levels (spec.nesting self.now.line.now self.now.levels) tokens.old) result tokens.new }
+    {
+        let owner = self.named(tokens)?;
+        self.attributes(tokens, owner)
+    }
+
+    /// An expression in brackets, after the opening one, with what follows it.
+    #[tactic(auto, unfolding(crate::specs::internal::Reader::and_then))]
+    fn bracketed_owner(&self, tokens: &mut Cursor<'_>) -> Result<Operand, Refusal>
+        requires { Nests self.now.levels (F.pre self.now.inner) (F.post self.now.inner) }
+        ensures { Reads operand_of (spec.bracketed_owner self.now.line.now (spec.nesting self.now.line.now self.now.levels) tokens.old) result tokens.new }
+    {
+        let owner = self.bracketed(tokens)?;
+        self.attributes(tokens, owner)
     }
 
     /// What stands without an operator: a literal, a list, a CASE, or a name, call or bracket with what follows it.
@@ -212,14 +243,10 @@ impl<'l, F: Fn(Global, &str, &mut Cursor<'_>, usize, Nested) -> Result<Operand, 
         ensures { Reads operand_of (spec.postfix self.now.line.now self.now.levels (spec.nesting self.now.line.now self.now.levels) tokens.old) result tokens.new }
     {
         match tokens.peek() {
-            Some(Kind::Name | Kind::QuotedName) => {
-                let owner = self.named(tokens)?;
-                self.attributes(tokens, owner)
-            }
+            Some(Kind::Name | Kind::QuotedName) => self.named_owner(tokens),
             Some(Kind::Symbol(Symbol::LeftParenthesis)) => {
                 tokens.skip();
-                let owner = self.bracketed(tokens)?;
-                self.attributes(tokens, owner)
+                self.bracketed_owner(tokens)
             }
             Some(Kind::Symbol(Symbol::LeftBracket)) => {
                 tokens.skip();
@@ -262,4 +289,11 @@ fn literal(alloc: Global, line: &str, tokens: &mut Cursor<'_>) -> Result<Operand
         Some(Kind::Text) => Ok(leaf(Expr::Text(tokens.quoted(alloc, line)?))),
         _ => Err(tokens.unexpected()),
     }
+}
+
+/// Whether a property or a test for labels goes on with the token.
+fn continues_owner(next: Option<Kind>) -> bool
+    ensures { result ≡ spec.continues_owner next }
+{
+    matches!(next, Some(Kind::Symbol(Symbol::Dot | Symbol::Colon)))
 }

@@ -31,6 +31,36 @@ begins_predicate (Some (kind.Keyword word.Starts)) = true
 begins_predicate (Some (kind.Keyword word.Ends)) = true
 begins_predicate _ = false
 
+-- the token goes on with arithmetic or a predicate; with one of these or a chain of comparisons; with AND, XOR or OR
+abbrev pub continues_predicate : Option Kind → Bool
+continues_predicate (Some (kind.Symbol sign.Star)) = true
+continues_predicate (Some (kind.Symbol sign.Slash)) = true
+continues_predicate (Some (kind.Symbol sign.Percent)) = true
+continues_predicate (Some (kind.Symbol sign.Plus)) = true
+continues_predicate (Some (kind.Symbol sign.Minus)) = true
+continues_predicate k = begins_predicate k
+
+abbrev pub continues_comparison : Option Kind → Bool
+continues_comparison (Some (kind.Symbol sign.Equal)) = true
+continues_comparison (Some (kind.Symbol sign.NotEqual)) = true
+continues_comparison (Some (kind.Symbol sign.Less)) = true
+continues_comparison (Some (kind.Symbol sign.LessOrEqual)) = true
+continues_comparison (Some (kind.Symbol sign.Greater)) = true
+continues_comparison (Some (kind.Symbol sign.GreaterOrEqual)) = true
+continues_comparison k = continues_predicate k
+
+abbrev pub continues_whole : Option Kind → Bool
+continues_whole (Some (kind.Keyword word.And)) = true
+continues_whole (Some (kind.Keyword word.Xor)) = true
+continues_whole (Some (kind.Keyword word.Or)) = true
+continues_whole _ = false
+
+-- a property or a test for labels
+abbrev pub continues_owner : Option Kind → Bool
+continues_owner (Some (kind.Symbol sign.Dot)) = true
+continues_owner (Some (kind.Symbol sign.Colon)) = true
+continues_owner _ = false
+
 -- operands with operators between, grouped to the left
 unfoldable pub chain_from : (Kind → Option BinaryOperator) → Reader Expression → ℕ → Expression → Reader Expression
 chain_from operators operand zero left = pure left
@@ -41,8 +71,11 @@ chain_from operators operand (suc n) left = do
     | Some found ↦ skip >> (operand >>= (λ right. checked (binary found left right)) >>= chain_from operators operand n)
   ]
 
+abbrev pub chain_after : (Kind → Option BinaryOperator) → Reader Expression → Expression → Reader Expression
+chain_after operators operand left = λ ts. chain_from operators operand (length ts) left ts
+
 abbrev pub chain : (Kind → Option BinaryOperator) → Reader Expression → Reader Expression
-chain operators operand = operand >>= (λ left ts. chain_from operators operand (length ts) left ts)
+chain operators operand = operand >>= chain_after operators operand
 
 -- one more level opens, where so many may still open
 unfoldable pub opened : ℕ → Reader (Unit {0})
@@ -188,6 +221,13 @@ module _ (line : List ℕ) where
     unfoldable pub minus : Reader Expression
     minus = peek >>= minus_by
 
+    -- after NOT
+    abbrev pub denied : Reader Expression
+    denied = inner nested.Negation >>= (λ e. checked (unary unary_operator.Not e))
+
+    abbrev pub bracketed_owner : Reader Expression
+    bracketed_owner = bracketed >>= attributes
+
     unfoldable pub plus : Reader Expression
     plus = inner nested.Sign >>= (λ e. checked (unary unary_operator.Plus e))
 
@@ -199,10 +239,13 @@ module _ (line : List ℕ) where
       is_call ← eat_symbol sign.LeftParenthesis
       if is_call then opened levels >> called inner (lowered called_by) else pure (variable (record { name = called_by; column = None }))
 
+    abbrev pub named_owner : Reader Expression
+    named_owner = named >>= attributes
+
     abbrev pub postfix_by : Option Kind → Reader Expression
-    postfix_by (Some kind.Name) = named >>= attributes
-    postfix_by (Some kind.QuotedName) = named >>= attributes
-    postfix_by (Some (kind.Symbol sign.LeftParenthesis)) = skip >> (bracketed inner >>= attributes)
+    postfix_by (Some kind.Name) = named_owner
+    postfix_by (Some kind.QuotedName) = named_owner
+    postfix_by (Some (kind.Symbol sign.LeftParenthesis)) = skip >> bracketed_owner inner
     postfix_by (Some (kind.Symbol sign.LeftBracket)) = skip >> (opened levels >> listed inner)
     postfix_by (Some (kind.Keyword word.Case)) = skip >> (opened levels >> cases inner)
     postfix_by _ = literal
@@ -244,8 +287,15 @@ module _ (line : List ℕ) where
       next ← peek
       if begins_predicate next then (predicate_step left >>= predicates_from n) else pure left
 
+    abbrev pub predicates_after : Expression → Reader Expression
+    predicates_after left = λ ts. predicates_from (length ts) left ts
+
     unfoldable pub predicate : Reader Expression
-    predicate = sum >>= (λ left ts. predicates_from (length ts) left ts)
+    predicate = sum >>= predicates_after
+
+    -- the predicate that the operand begins
+    unfoldable pub predicate_from : Expression → Reader Expression
+    predicate_from e = chain_after product_operator signed e >>= chain_after sum_operator product >>= predicates_after
 
     unfoldable pub links_read : ℕ → List (Comparator × Expression) → Reader (List (Comparator × Expression))
     links_read zero found = pure found
@@ -263,16 +313,21 @@ module _ (line : List ℕ) where
     unfoldable pub links : Reader (List (Comparator × Expression))
     links = λ ts. links_read (length ts) [] ts
 
-    unfoldable pub comparisons : Reader Expression
-    comparisons = do
-      first ← predicate
+    abbrev pub comparisons_after : Expression → Reader Expression
+    comparisons_after first = do
       found ← links
       compared first found
+
+    abbrev pub comparisons_from : Expression → Reader Expression
+    comparisons_from e = predicate_from e >>= comparisons_after
+
+    unfoldable pub comparisons : Reader Expression
+    comparisons = predicate >>= comparisons_after
 
     unfoldable pub negation : Reader Expression
     negation = do
       is_not ← eat_keyword word.Not
-      if is_not then (inner nested.Negation >>= (λ e. checked (unary unary_operator.Not e))) else comparisons
+      if is_not then denied inner else comparisons
 
     unfoldable pub conjunction : Reader Expression
     conjunction = chain conjunction_operator negation
@@ -282,6 +337,10 @@ module _ (line : List ℕ) where
 
     unfoldable pub disjunction : Reader Expression
     disjunction = chain disjunction_operator exclusion
+
+    -- the whole expression that the operand begins
+    abbrev pub disjunction_from : Expression → Reader Expression
+    disjunction_from e = chain_after conjunction_operator negation e >>= chain_after exclusion_operator conjunction >>= chain_after disjunction_operator exclusion
 
     abbrev pub level : Nested → Reader Expression
     level nested.Whole = disjunction

@@ -1,19 +1,11 @@
 use Rattle.std.proofs.Common.{rules, arith}
 use Rattle.std.proofs.lemmas.Grind.{common_steps}
 use Rattle.cy_parser.specs.Words.{exclusion_operator}
-use Rattle.cy_parser.specs.internal.Expressions.{nesting, exclusion, conjunction, chain_from}
+use Rattle.cy_parser.specs.internal.Expressions.{nesting, conjunction, chain_from}
 use Rattle.cy_parser.specs.internal.Operands.{operand_of}
 use Rattle.cy_parser.specs.internal.Reader.{and_then}
 use Rattle.cy_parser.proofs.Turns.{turn, turned}
-use Rattle.cy_parser.proofs.grammar.Grammar.exclusion.Goals as goal
-
-pub returns-in_err-left : goal.returns-in_err-left
-unfolding exclusion and_then
-returns-in_err-left g c = first_of (search rules, grind (arith, common_steps))
-
-pub loop-turn-init : goal.loop-turn-init
-unfolding exclusion and_then
-loop-turn-init g c = first_of (search rules, grind (arith, common_steps))
+use Rattle.cy_parser.proofs.grammar.Grammar.exclusion_after.Goals as goal
 
 pub returns-in_err-right : goal.returns-in_err-right
 unfolding chain_from and_then
@@ -21,9 +13,9 @@ returns-in_err-right g c =
     let e = turn (λ n. chain_from exclusion_operator (conjunction c.args.self.now.line.now c.args.self.now.levels (nesting c.args.self.now.line.now c.args.self.now.levels)) n (operand_of c.loop-turn.left) c.loop-turn.tokens) _ c.loop-turn._turn c.loop-turn-test.true c.loop-turn.invariant in
     first_of (search rules, grind (arith, common_steps))
 
-pub returns-in_err-left-2 : goal.returns-in_err-left-2
+pub returns-in_err-left : goal.returns-in_err-left
 unfolding chain_from and_then
-returns-in_err-left-2 g c =
+returns-in_err-left g c =
     let e = turn (λ n. chain_from exclusion_operator (conjunction c.args.self.now.line.now c.args.self.now.levels (nesting c.args.self.now.line.now c.args.self.now.levels)) n (operand_of c.loop-turn.left) c.loop-turn.tokens) _ c.loop-turn._turn c.loop-turn-test.true c.loop-turn.invariant in
     first_of (search rules, grind (arith, common_steps))
 

@@ -1,2 +1,11 @@
 pub mod ScopesLemmas
 pub mod ResolvedLemmas
+pub mod Columns
+pub mod RowsLemmas
+pub mod FingerprintsLemmas
+pub mod KindsKept
+pub mod SameTrees
+pub mod KindedExpressions
+pub mod KindedPatterns
+pub mod KindedClauses
+pub mod WorkedRows

@@ -11,7 +11,7 @@ use Rattle.cy_scope.specs.declared.faults.ScopeFault.TheVariants.{UnknownVariabl
 use Rattle.cy_scope.specs.declared.functions.Function.{Function}
 use Rattle.cy_scope.specs.declared.functions.Function.TheVariants as function
 use Rattle.cy_scope.specs.Kinds.{is_value, is_entity, is_node, is_relationship}
-use Rattle.cy_scope.specs.Functions.{function_named, is_aggregate, fit, takes}
+use Rattle.cy_scope.specs.Functions.{function_named, is_aggregate, has_form, takes}
 use Rattle.cy_scope.specs.Scopes.{Scope, is_bound}
 use Rattle.cy_scope.specs.ExpressionKinds.{kind_of}
 use Rattle.cy_scope.specs.Faults.{first, unless}
@@ -58,16 +58,16 @@ abbrev pub are_taken : Function → Scope → Expressions → Bool
 are_taken function scope no_more = true
 are_taken function scope (more e es) = takes function (kind_of scope e) && are_taken function scope es
 
--- of a call, after its arguments: whether they fit, with DISTINCT in aggregates alone; an aggregate in another place than that
--- of a whole item; the kinds of the arguments
-abbrev pub function_fault : Bool → Function → Bool → Bool → Bool → Option ScopeFault
-function_fault whole function distinct fits taken =
-    first (unless (fits && (not distinct || is_aggregate function)) WrongArguments)
-    (first (unless (whole || not (is_aggregate function)) AggregateHere) (unless taken WrongKind))
+-- an aggregate stands as a whole item alone
+abbrev pub may_stand : Bool → Function → Bool
+may_stand whole function = whole || not (is_aggregate function)
 
+-- of a call after its arguments: its form, its place, and the kinds of its arguments
 abbrev pub call_fault : Bool → Scope → Option Function → Bool → Expressions → Option ScopeFault
 call_fault whole scope None distinct es = Some UnknownFunction
-call_fault whole scope (Some function) distinct es = function_fault whole function distinct (fit function es) (are_taken function scope es)
+call_fault whole scope (Some function) distinct es =
+    first (unless (has_form function distinct es) WrongArguments)
+    (first (unless (may_stand whole function) AggregateHere) (unless (are_taken function scope es) WrongKind))
 
 -- of a call with a `*`: `count` alone takes it
 abbrev pub counting_fault : Bool → Function → Option ScopeFault

@@ -1,6 +1,6 @@
 -- The functions: their names, how many operands they take and of which kinds (openCypher 9, Functions, narrowed to this
 -- profile).
-use Rattle.std.specs.Prelude.{Bool, true, false, not, List, [], ◌∷◌, Option, find, ◌||◌, codes, nat_eq}
+use Rattle.std.specs.Prelude.{Bool, true, false, not, List, [], ◌∷◌, Option, find, ◌&&◌, ◌||◌, codes, nat_eq}
 use Rattle.std.specs.Cmp.Lexicographic.{pointwise}
 use Rattle.cy_trees.specs.Trees.{Name, Expressions, no_more, more, property}
 use Rattle.cy_scope.specs.declared.kinds.Kind.{Kind}
@@ -61,6 +61,10 @@ abbrev pub fit : Function → Expressions → Bool
 fit Coalesce es = not (is_none es)
 fit Exists es = is_property es
 fit _ es = is_one es
+
+-- a call has the form of its function: the arguments fit, and DISTINCT is written in an aggregate alone
+abbrev pub has_form : Function → Bool → Expressions → Bool
+has_form function distinct es = fit function es && (not distinct || is_aggregate function)
 
 -- the function takes an argument of the kind
 abbrev pub takes : Function → Kind → Bool

@@ -1,5 +1,6 @@
 pub mod Kinds
 pub mod Functions
+pub mod Aggregates
 pub mod Faults
 pub mod Scopes
 pub mod ExpressionKinds
@@ -12,4 +13,7 @@ pub mod Views
 pub mod ProjectionFaults
 pub mod ClauseFaults
 pub mod Resolved
+pub mod Rows
+pub mod Kinded
+pub mod Checked
 pub mod internal

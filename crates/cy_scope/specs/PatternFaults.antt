@@ -36,7 +36,8 @@ is_empty (label ∷ labels) = false
 abbrev pub is_bare : NodePattern → Bool
 is_bare n = is_empty n.labels && is_none n.properties
 
--- where a name stands at a node place of CREATE, it is new, or that of a node and stands bare in a path with a relationship
+-- where a name stands at a node place of CREATE, it is new, or that of a node and stands bare in a path with a relationship,
+-- which is said by `joined`
 abbrev pub created_node_fault : Bool → Option Kind → Option ScopeFault
 created_node_fault joined None = None
 created_node_fault joined (Some k) = first (unless joined AlreadyBound) (unless (is_node k) WrongKind)
@@ -53,13 +54,13 @@ node_name_fault creating now joined (Some v) = named_node_fault creating joined 
 abbrev pub node_fault : Bool → Scope → Scope → Bool → NodePattern → Option ScopeFault
 node_fault creating before now linked n = first (node_name_fault creating now (linked && is_bare n) n.variable) (map_fault before n.properties)
 
--- where a name stands at a relationship place of MATCH, it is bound before the clause, stands at a node place of it, or at
--- another relationship place, or is new
+-- where a name stands at a relationship place of MATCH and at another place of the clause before: a node's or a relationship's
 abbrev pub repeated_fault : Option Kind → Option ScopeFault
 repeated_fault None = None
 repeated_fault (Some k) = Some (if is_node k then WrongKind else RepeatedRelationship)
 
--- where a name stands at a relationship place of CREATE, it is new
+-- where a name stands at a relationship place of CREATE, it is new; where at one of MATCH, it isn't bound before the clause, nor
+-- does it stand at another place of it before
 abbrev pub named_relationship_fault : Bool → Bool → Option Kind → Option ScopeFault
 named_relationship_fault true bound k = unless (is_none k) AlreadyBound
 named_relationship_fault false bound k = first (unless (not bound) AlreadyBound) (repeated_fault k)

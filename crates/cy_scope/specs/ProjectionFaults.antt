@@ -8,7 +8,7 @@ use Rattle.cy_scope.specs.Scopes.{Scope, is_bound, added_name}
 use Rattle.cy_scope.specs.ClauseScopes.{columns_of}
 use Rattle.cy_scope.specs.ExpressionKinds.{kind_of}
 use Rattle.cy_scope.specs.ExpressionFaults.{expression_fault, item_fault}
-use Rattle.cy_scope.specs.Views.{has_aggregates}
+use Rattle.cy_scope.specs.Aggregates.{has_aggregates}
 use Rattle.cy_scope.specs.Same.{same}
 use Rattle.cy_scope.specs.Faults.{first, unless}
 

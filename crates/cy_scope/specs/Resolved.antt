@@ -1,6 +1,5 @@
 -- A statement whose variables have their columns; nothing else is changed (own).
 use Rattle.std.specs.Prelude.{List, [], ◌∷◌, ◌++◌, map, Option, option_map, if◌then◌else◌}
-use Rattle.cy_trees.specs.declared.expressions.Comparator.{Comparator}
 use Rattle.cy_trees.specs.declared.expressions.Variable.{Variable}
 use Rattle.cy_trees.specs.Trees.{Expression, null, boolean, integer, text, variable, property, has_labels, unary, binary, comparison, list, case, call, call_star, Expressions, no_more, more, Links, no_links, link, Arms, no_arms, arm, Otherwise, nothing, otherwise, Entry, NodePattern, RelationshipPattern, Step, Path, Item, Key, Projection, SetItem, set_property, set_labels, RemoveItem, remove_property, remove_labels, Clause, «match», unwind, «with», «return», create, set, remove, delete, Statement}
 use Rattle.cy_scope.specs.Scopes.{Scope, find_column}
@@ -43,12 +42,6 @@ abbrev mutual
   pub resolved_otherwise : Scope → Otherwise → Otherwise
   resolved_otherwise scope nothing = nothing
   resolved_otherwise scope (otherwise e) = otherwise (resolved scope e)
-
-abbrev pub resolved_link : Scope → Comparator × Expression → Comparator × Expression
-resolved_link scope l = (l.0, resolved scope l.1)
-
-abbrev pub resolved_arm : Scope → Expression × Expression → Expression × Expression
-resolved_arm scope a = (resolved scope a.0, resolved scope a.1)
 
 abbrev pub resolved_name : Scope → Option Variable → Option Variable
 resolved_name scope v = option_map (resolved_variable scope) v
@@ -108,7 +101,8 @@ abbrev pub resolved_where : Scope → Option Expression → Option Expression
 resolved_where scope filter = option_map (resolved scope) filter
 
 -- what a clause says of the rows that it makes is resolved in the scope after it, which begins with the scope before it but for
--- WITH and RETURN: the items of these, and what keys see of it, are resolved in the scope before
+-- WITH and RETURN: the items of these, and what keys see of it, are resolved in the scope before. A scope grows at its end alone,
+-- so a variable has the same column in both
 abbrev pub resolved_clause : Scope → Scope → Clause → Clause
 resolved_clause before after («match» optional paths filter) = «match» optional (map (resolved_path after) paths) (resolved_where after filter)
 resolved_clause before after (unwind e v) = unwind (resolved after e) (resolved_variable after v)

@@ -1,4 +1,4 @@
--- Sure expressions: those that give a value on every row and every graph (own).
+-- Sure expressions: those whose form shows that they have a value on every row and every graph (own).
 use Rattle.std.specs.Prelude.{Bool, true, false, ◌&&◌, ◌||◌, Option, Some, None}
 use Rattle.cy_trees.specs.declared.expressions.UnaryOperator.{UnaryOperator}
 use Rattle.cy_trees.specs.declared.expressions.UnaryOperator.TheVariants as unary_operator

@@ -3,11 +3,10 @@ use Rattle.std.specs.Prelude.{ℕ, Bool, true, false, not, ◌&&◌, ◌||◌, L
 use Rattle.std.specs.List.{list_any, list_all}
 use Rattle.std.specs.Option.{option_map_or}
 use Rattle.cy_trees.specs.declared.clauses.Length.{Length}
-use Rattle.cy_trees.specs.Trees.{Name, Expression, call, call_star, Entry, Step, Path, Item, Key, Projection, Clause, «match», «with», «return», create, set, remove, delete, Statement}
-use Rattle.cy_scope.specs.declared.functions.Function.{Function}
+use Rattle.cy_trees.specs.Trees.{Expression, Entry, Step, Path, Item, Key, Projection, Clause, «match», «with», «return», create, set, remove, delete, Statement}
 use Rattle.cy_scope.specs.declared.faults.ViewFault.{ViewFault}
 use Rattle.cy_scope.specs.declared.faults.ViewFault.TheVariants.{NotAReading, MayFail, Unbounded, AggregateInView, OrderInView}
-use Rattle.cy_scope.specs.Functions.{function_named, is_aggregate}
+use Rattle.cy_scope.specs.Aggregates.{has_aggregates}
 use Rattle.cy_scope.specs.Scopes.{Scope}
 use Rattle.cy_scope.specs.ClauseScopes.{scope_after}
 use Rattle.cy_scope.specs.Sure.{is_sure, is_sure_flag}
@@ -46,21 +45,6 @@ abbrev pub is_ordered : Clause → Bool
 is_ordered («with» p filter) = has_order p
 is_ordered («return» p) = has_order p
 is_ordered _ = false
-
-abbrev pub is_aggregate_if : Option Function → Bool
-is_aggregate_if None = false
-is_aggregate_if (Some function) = is_aggregate function
-
-abbrev pub names_aggregate : Name → Bool
-names_aggregate name = is_aggregate_if (function_named name)
-
-abbrev pub is_aggregate_call : Expression → Bool
-is_aggregate_call (call name distinct es) = names_aggregate name
-is_aggregate_call (call_star name) = names_aggregate name
-is_aggregate_call _ = false
-
-abbrev pub has_aggregates : Projection → Bool
-has_aggregates p = list_any (λ i. is_aggregate_call i.expression) p.items
 
 abbrev pub has_aggregate : Clause → Bool
 has_aggregate («with» p filter) = has_aggregates p

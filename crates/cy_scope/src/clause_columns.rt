@@ -4,6 +4,7 @@ ghost use Rattle.std.specs.Prelude.{◌≡◌, ◌++◌, [], map, IfOk, OnOk};
 ghost use Rattle.cy_trees.specs.Views.{expression_of, item_of, key_of, projection_of, set_item_of, remove_item_of, clause_of};
 ghost use Rattle.cy_scope.specs.ClauseScopes.{scope_after, columns_of};
 ghost use Rattle.cy_scope.specs.ProjectionFaults.{seen_by_keys};
+ghost use Rattle.cy_scope.specs.internal.Fingerprints.{ArePlaced};
 ghost use Rattle.cy_scope.specs.internal.Trees.{unwind_of, match_of, with_of};
 ghost use Rattle.cy_scope.specs.Resolved as spec;
 
@@ -12,12 +13,14 @@ use crate::kinds::Kind;
 use crate::pattern_columns::{
     resolve, resolve_paths, resolved_expression, resolved_in, resolved_where,
 };
-use crate::projection_checks::{hides_variables, repeats};
+use crate::projection_checks::hides_variables;
+use crate::repeats::{places_of, repeats};
 use crate::resolving::resolved;
 use crate::scopes::Scope;
 use cy_trees::{
     Clause, Expr, Item, Key, Match, Projection, RemoveItem, SetItem, Unwind, Variable, With,
 };
+use indexmap::IndexMap;
 use std::alloc::{AllocError, Global};
 use std::mem;
 
@@ -35,12 +38,14 @@ fn resolve_key(
     before: &Scope,
     columns: &Scope,
     others: &Scope,
+    places: &IndexMap<u64, usize>,
     items: &[Item],
     key: &mut Key,
 )
+    requires { ArePlaced places.now.entries (map item_of items.now) }
     ensures { key_of key.new ≡ spec.resolved_key before.now (columns.now ++ others.now) (map item_of items.now) (key_of key.old) }
 {
-    let repeated = repeats(items, &key.expression);
+    let repeated = repeats(places, items, &key.expression);
     let expression = mem::replace(&mut key.expression, Expr::Null);
     key.expression = if repeated {
         resolved_expression(alloc, before, expression)
@@ -54,19 +59,31 @@ fn resolve_keys(
     before: &Scope,
     columns: &Scope,
     others: &Scope,
+    places: &IndexMap<u64, usize>,
     items: &[Item],
     keys: &mut [Key],
 )
+    requires { ArePlaced places.now.entries (map item_of items.now) }
     ensures { map key_of keys.new ≡ map (spec.resolved_key before.now (columns.now ++ others.now) (map item_of items.now)) (map key_of keys.old) }
 {
     for key in keys.iter_mut() {
-        resolve_key(alloc, before, columns, others, items, key);
+        resolve_key(alloc, before, columns, others, places, items, key);
     }
 }
 
-fn resolve_projection(alloc: Global, before: &Scope, columns: &Scope, projection: &mut Projection)
-    ensures { projection_of projection.new ≡ spec.resolved_projection before.now columns.now (projection_of projection.old) }
+/// Sets the columns of the variables of keys.
+fn resolve_order(
+    alloc: Global,
+    before: &Scope,
+    columns: &Scope,
+    projection: &mut Projection,
+) -> Result<(), AllocError>
+    ensures { let p = projection_of projection.old in OnOk result (projection_of projection.new ≡ record p { order = map (spec.resolved_key before.now (columns.now ++ seen_by_keys p before.now) p.items) p.order }) }
 {
+    if projection.order.is_empty() {
+        return Ok(());
+    }
+    let places = places_of(alloc, &projection.items)?;
     let none = Scope::new(alloc);
     let others = if hides_variables(projection) {
         &none
@@ -78,10 +95,24 @@ fn resolve_projection(alloc: Global, before: &Scope, columns: &Scope, projection
         before,
         columns,
         others,
+        &places,
         &projection.items,
         &mut projection.order,
     );
+    Ok(())
+}
+
+fn resolve_projection(
+    alloc: Global,
+    before: &Scope,
+    columns: &Scope,
+    projection: &mut Projection,
+) -> Result<(), AllocError>
+    ensures { OnOk result (projection_of projection.new ≡ spec.resolved_projection before.now columns.now (projection_of projection.old)) }
+{
+    resolve_order(alloc, before, columns, projection)?;
     resolve_items(alloc, before, &mut projection.items);
+    Ok(())
 }
 
 fn resolve_variable(scope: &Scope, variable: &mut Variable)
@@ -157,7 +188,7 @@ fn resolve_with(alloc: Global, scope: &mut Scope, with: &mut With) -> Result<(),
     ensures { let c = with_of with.old in OnOk result ((scope.new ≡ scope_after scope.old c) × (with_of with.new ≡ spec.resolved_clause scope.old (scope_after scope.old c) c)) }
 {
     let columns = columns_of(alloc, scope, &with.projection.items)?;
-    resolve_projection(alloc, scope, &columns, &mut with.projection);
+    resolve_projection(alloc, scope, &columns, &mut with.projection)?;
     with.filter = resolved_where(alloc, &columns, with.filter.take());
     *scope = columns;
     Ok(())
@@ -171,7 +202,7 @@ fn resolve_return(
     ensures { let p = projection_of projection.old in OnOk result ((scope.new ≡ columns_of scope.old p.items) × (projection_of projection.new ≡ spec.resolved_projection scope.old (columns_of scope.old p.items) p)) }
 {
     let columns = columns_of(alloc, scope, &projection.items)?;
-    resolve_projection(alloc, scope, &columns, projection);
+    resolve_projection(alloc, scope, &columns, projection)?;
     *scope = columns;
     Ok(())
 }

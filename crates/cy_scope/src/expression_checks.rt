@@ -107,20 +107,18 @@ fn fits(function: Function, arguments: &[Expr]) -> bool
     }
 }
 
-/// The fault of a call after its arguments, which may be a whole item.
-fn check_function(
-    whole: bool,
-    function: Function,
-    distinct: bool,
-    fits: bool,
-    taken: bool,
-) -> Result<(), ScopeFault>
-    ensures { let fault = spec.function_fault whole function distinct fits taken in MatchResult result (λ _. fault ≡ None) (λ f. fault ≡ Some f) }
+/// Whether a call has the form of its function.
+fn has_form(function: Function, distinct: bool, arguments: &[Expr]) -> bool
+    ensures { result ≡ functions.has_form function distinct (expressions_from (map expression_of arguments.now)) }
 {
-    let aggregate = function.is_aggregate();
-    demand(fits && (!distinct || aggregate), ScopeFault::WrongArguments)?;
-    demand(whole || !aggregate, ScopeFault::AggregateHere)?;
-    demand(taken, ScopeFault::WrongKind)
+    fits(function, arguments) && (!distinct || function.is_aggregate())
+}
+
+/// Whether the function may stand there, which may be a whole item.
+fn may_stand(whole: bool, function: Function) -> bool
+    ensures { result ≡ spec.may_stand whole function }
+{
+    whole || !function.is_aggregate()
 }
 
 /// The kind of a call with a `*`, which may be a whole item, or its fault.
@@ -249,8 +247,12 @@ fn check_call(
         return Err(ScopeFault::UnknownFunction);
     };
     let parts = check_arguments(front, back, function, arguments)?;
-    let fits = fits(function, arguments);
-    check_function(whole, function, distinct, fits, parts.taken)?;
+    demand(
+        has_form(function, distinct, arguments),
+        ScopeFault::WrongArguments,
+    )?;
+    demand(may_stand(whole, function), ScopeFault::AggregateHere)?;
+    demand(parts.taken, ScopeFault::WrongKind)?;
     Ok(call_kind(Some(function), parts.flags))
 }
 

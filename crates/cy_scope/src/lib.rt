@@ -1,6 +1,7 @@
 //! Kinds and scopes: which statements have a meaning, and which queries can be kept up to date.
 #![tactic(auto)]
 
+mod aggregates;
 mod checked;
 mod clause_checks;
 mod clause_columns;
@@ -8,11 +9,14 @@ mod clause_scopes;
 mod expression_checks;
 mod expression_kinds;
 mod faults;
+mod fingerprints;
 mod functions;
 mod kinds;
+mod laws;
 mod pattern_checks;
 mod pattern_columns;
 mod projection_checks;
+mod repeats;
 mod resolving;
 mod same;
 mod scopes;
@@ -25,5 +29,6 @@ pub use checked::{Checked, ViewQuery};
 pub use faults::{ScopeFault, ViewFault};
 pub use functions::Function;
 pub use kinds::Kind;
+pub use laws::checked_statements;
 pub use statements::check;
 pub use views::check_view;

@@ -6,15 +6,17 @@ ghost use Rattle.cy_scope.specs.declared.faults.ScopeFault.TheVariants.{NoMemory
 ghost use Rattle.cy_scope.specs.Scopes.{added_name};
 ghost use Rattle.cy_scope.specs.ExpressionKinds.{kind_of};
 ghost use Rattle.cy_scope.specs.ClauseScopes.{columns_of};
+ghost use Rattle.cy_scope.specs.internal.Fingerprints.{ArePlaced};
 ghost use Rattle.cy_scope.specs.internal.Answers.{Fault, MayFault, GoesOn};
 ghost use Rattle.cy_scope.specs.ProjectionFaults as spec;
 
+use crate::aggregates::has_aggregates;
 use crate::expression_checks::{check_expression, check_item, demand};
 use crate::faults::ScopeFault;
-use crate::same::same;
+use crate::repeats::{places_of, repeats};
 use crate::scopes::Scope;
-use crate::views::has_aggregates;
 use cy_trees::{Expr, Item, Key, Projection};
+use indexmap::IndexMap;
 use std::alloc::Global;
 
 /// Whether an item has AS, or needs none.
@@ -61,29 +63,19 @@ fn check_items(
     Ok(columns)
 }
 
-/// Whether an expression has the tree of an item.
-pub(crate) fn repeats(items: &[Item], expression: &Expr) -> bool
-    ensures { result ≡ spec.repeats (map item_of items.now) (expression_of expression.now) }
-{
-    for item in items {
-        if same(&item.expression, expression) {
-            return true;
-        }
-    }
-    false
-}
-
 /// The first fault of keys, which see the columns first.
 fn check_keys(
     columns: &Scope,
     others: &Scope,
+    places: &IndexMap<u64, usize>,
     items: &[Item],
     keys: &[Key],
 ) -> Result<(), ScopeFault>
+    requires { ArePlaced places.now.entries (map item_of items.now) }
     ensures { Fault (spec.keys_fault (columns.now ++ others.now) (map item_of items.now) (map key_of keys.now)) result }
 {
     for key in keys {
-        if !repeats(items, &key.expression) {
+        if !repeats(places, items, &key.expression) {
             check_expression(columns, others, &key.expression)?;
         }
     }
@@ -104,13 +96,25 @@ fn check_order(
     columns: &Scope,
     projection: &Projection,
 ) -> Result<(), ScopeFault>
-    ensures { let p = projection_of projection.now in Fault (spec.keys_fault (columns.now ++ spec.seen_by_keys p scope.now) p.items p.order) result }
+    ensures { let p = projection_of projection.now in MayFault (spec.keys_fault (columns.now ++ spec.seen_by_keys p scope.now) p.items p.order) result }
 {
-    if hides_variables(projection) {
-        let none = Scope::new(alloc);
-        return check_keys(columns, &none, &projection.items, &projection.order);
+    if projection.order.is_empty() {
+        return Ok(());
     }
-    check_keys(columns, scope, &projection.items, &projection.order)
+    let places = places_of(alloc, &projection.items)?;
+    let none = Scope::new(alloc);
+    let others = if hides_variables(projection) {
+        &none
+    } else {
+        scope
+    };
+    check_keys(
+        columns,
+        others,
+        &places,
+        &projection.items,
+        &projection.order,
+    )
 }
 
 /// The columns of a projection, or its first fault. Items of WITH need names.

@@ -2,15 +2,15 @@
 
 ghost use Rattle.std.specs.Prelude.{◌≡◌, ◌⊎◌, map, None, Some, Ok, Err, MatchResult, IfOk};
 ghost use Rattle.std.specs.List.{list_any};
-ghost use Rattle.cy_trees.specs.Views.{expression_of, clause_of, statement_of, path_of, projection_of};
+ghost use Rattle.cy_trees.specs.Views.{clause_of, statement_of, path_of, projection_of};
 ghost use Rattle.cy_scope.specs.declared.faults.ViewFault.TheVariants.{NoMemory};
 ghost use Rattle.cy_scope.specs.Views as spec;
 
+use crate::aggregates::has_aggregates;
 use crate::checked::{Checked, ViewQuery};
 use crate::faults::ViewFault;
-use crate::functions::Function;
 use crate::sureness::are_sure_clauses;
-use cy_trees::{Clause, Expr, Length, Path, Projection, Statement};
+use cy_trees::{Clause, Length, Path, Projection, Statement};
 use std::alloc::Global;
 
 /// The greatest upper bound of a length in a view.
@@ -74,38 +74,6 @@ fn any_ordered(clauses: &[Clause]) -> bool
 {
     for clause in clauses {
         if is_ordered(clause) {
-            return true;
-        }
-    }
-    false
-}
-
-/// Whether the name is that of an aggregate.
-fn names_aggregate(name: &str) -> bool
-    ensures { result ≡ spec.names_aggregate name.now }
-{
-    match Function::named(name) {
-        Some(function) => function.is_aggregate(),
-        None => false,
-    }
-}
-
-/// Whether the expression is an aggregate.
-fn is_aggregate_call(expression: &Expr) -> bool
-    ensures { result ≡ spec.is_aggregate_call (expression_of expression.now) }
-{
-    match expression {
-        Expr::Call(name, _, _) | Expr::CallStar(name) => names_aggregate(name.as_str()),
-        _ => false,
-    }
-}
-
-/// Whether an item is an aggregate.
-pub(crate) fn has_aggregates(projection: &Projection) -> bool
-    ensures { result ≡ spec.has_aggregates (projection_of projection.now) }
-{
-    for item in &projection.items {
-        if is_aggregate_call(&item.expression) {
             return true;
         }
     }
@@ -196,10 +164,10 @@ fn any_unbounded(clauses: &[Clause]) -> bool
 /// length without an upper bound or with one above 5, `MayFail` where it has UNWIND or an expression that isn't sure: each
 /// is asked of the whole statement before the next (own). `NoMemory` where memory is wanting.
 pub fn check_view(alloc: Global, checked: Checked) -> Result<ViewQuery, ViewFault>
-    ensures query { IfOk result (λ query. query.checked ≡ checked) }
-    ensures verdict { MatchResult result (λ _. spec.view_fault (statement_of checked.statement) ≡ None) (λ fault. (fault ≡ NoMemory) ⊎ (spec.view_fault (statement_of checked.statement) ≡ Some fault)) }
+    ensures query { IfOk result (λ query. query ≡ checked) }
+    ensures verdict { MatchResult result (λ _. spec.view_fault (statement_of checked) ≡ None) (λ fault. (fault ≡ NoMemory) ⊎ (spec.view_fault (statement_of checked) ≡ Some fault)) }
 {
-    let clauses = checked.statement.clauses.as_slice();
+    let clauses = checked.statement().clauses.as_slice();
     if !is_reading(clauses) {
         return Err(ViewFault::NotAReading);
     }

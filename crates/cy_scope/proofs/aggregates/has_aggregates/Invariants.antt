@@ -2,8 +2,8 @@
 use Rattle.std.proofs.Common.{◌≡◌, drop, map}
 use Rattle.std.specs.List.{list_any}
 use Rattle.cy_trees.specs.Views.{item_of}
-use Rattle.cy_scope.specs.Views as spec
-use Rattle.cy_scope.proofs.views.has_aggregates.Given as goal
+use Rattle.cy_scope.specs.Aggregates as spec
+use Rattle.cy_scope.proofs.aggregates.has_aggregates.Given as goal
 
 abbrev pub invariant-loop-item : goal.invariant-loop-item
 invariant-loop-item l =

@@ -2,7 +2,7 @@
 use Rattle.std.proofs.Common.{◌≡◌, drop, map}
 use Rattle.cy_trees.specs.Views.{expression_of, item_of}
 use Rattle.cy_scope.specs.ProjectionFaults.{repeats}
-use Rattle.cy_scope.proofs.projection_checks.repeats.Given as goal
+use Rattle.cy_scope.proofs.repeats.is_among.Given as goal
 
 abbrev pub invariant-loop-item : goal.invariant-loop-item
 invariant-loop-item l =

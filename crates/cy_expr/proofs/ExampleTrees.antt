@@ -1,17 +1,16 @@
 -- Worked examples over trees: a RETURN's expression on a row.
 use Rattle.std.proofs.Common.{◌≡◌, List, [], ◌∷◌, refl}
-use Rattle.std.specs.Prelude.{ℕ, true, false, pos, negsuc, codes, Option, Some, None, Result, Ok, Err}
-use Rattle.cy_values.specs.declared.numbers.NodeId.{NodeId}
+use Rattle.std.specs.Prelude.{ℕ, true, false, pos, codes, Some, Result, Ok, Err}
 use Rattle.cy_values.specs.declared.scalars.Scalar.TheVariants as scalar
 use Rattle.cy_values.specs.declared.scalars.Value.{Value}
 use Rattle.cy_values.specs.declared.scalars.Value.TheVariants as value
 use Rattle.cy_values.specs.declared.rows.Cell.{Cell}
 use Rattle.cy_values.specs.declared.rows.Cell.TheVariants as cell
-use Rattle.cy_trees.specs.declared.expressions.Variable.{Variable}
 use Rattle.cy_trees.specs.declared.expressions.UnaryOperator.TheVariants.{Not}
 use Rattle.cy_trees.specs.declared.expressions.BinaryOperator.TheVariants.{And, In, Add, Divide}
 use Rattle.cy_trees.specs.declared.expressions.Comparator.TheVariants.{Less, Greater}
 use Rattle.cy_trees.specs.Trees.{Expression, null, boolean, integer, text, variable, property, has_labels, unary, binary, comparison, list, case, call, Expressions, no_more, more, no_links, link, no_arms, arm, otherwise}
+use Rattle.cy_scope.specs.Functions.{function_named}
 use Rattle.cy_expr.specs.declared.faults.EvalFault.{EvalFault}
 use Rattle.cy_expr.specs.declared.faults.EvalFault.TheVariants.{WrongType, DivisionByZero, NestedList}
 use Rattle.cy_expr.specs.Lookups.{Lookups}
@@ -59,6 +58,7 @@ case_of_null : cell_of graph row (case (arm null division no_arms) (otherwise (i
 case_of_null = refl
 
 first_that_is : cell_of graph row (call (codes "coalesce") false (more null (more (int 3) (one_of division)))) ≡ gives (value.Int (pos 3))
+unfolding function_named
 first_that_is = refl
 
 -- `[[1]]`, `1 IN 'abc'`
@@ -76,15 +76,19 @@ labels_of_node : cell_of graph row (has_labels n (codes "A" ∷ codes "B" ∷ []
 labels_of_node = refl
 
 number_of_node : cell_of graph row (call (codes "id") false (one_of n)) ≡ gives (value.Int (pos 5))
+unfolding function_named
 number_of_node = refl
 
 list_of_labels : cell_of graph row (call (codes "labels") false (one_of n)) ≡ gives (value.List (scalar.Text (codes "A") ∷ []))
+unfolding function_named
 list_of_labels = refl
 
 property_there : cell_of graph row (call (codes "exists") false (one_of (property n (codes "k")))) ≡ gives (value.Bool true)
+unfolding function_named
 property_there = refl
 
 property_of_null : cell_of graph (cell.Value value.Null ∷ []) (call (codes "exists") false (one_of (property n (codes "k")))) ≡ gives value.Null
+unfolding function_named
 property_of_null = refl
 
 -- `NOT NOT NOT true`

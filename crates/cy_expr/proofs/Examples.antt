@@ -1,6 +1,6 @@
 -- Worked examples, computed from the definitions. Each is named by the operator or the rule that it shows.
-use Rattle.std.proofs.Common.{◌≡◌, List, [], ◌∷◌, refl}
-use Rattle.std.specs.Prelude.{ℕ, true, false, ℤ, pos, negsuc, codes, Result, Ok, Err}
+use Rattle.std.proofs.Common.{◌≡◌, [], ◌∷◌, refl}
+use Rattle.std.specs.Prelude.{ℕ, true, false, pos, negsuc, codes, Ok, Err}
 use Rattle.cy_values.specs.declared.scalars.Scalar.{Scalar}
 use Rattle.cy_values.specs.declared.scalars.Scalar.TheVariants as scalar
 use Rattle.cy_values.specs.declared.scalars.Value.{Value}
@@ -9,7 +9,7 @@ use Rattle.cy_values.specs.declared.truth.Truth.TheVariants.{No, Unknown, Yes}
 use Rattle.cy_values.specs.Truth.{both}
 use Rattle.cy_values.specs.Compare.{equality, less}
 use Rattle.cy_expr.specs.declared.faults.EvalFault.TheVariants.{NotBoolean, WrongType, Overflow, DivisionByZero, NestedList}
-use Rattle.cy_expr.specs.Faults.{on_one, on_two}
+use Rattle.cy_expr.specs.Faults.{on_two}
 use Rattle.cy_expr.specs.Logic.{conjunction, disjunction, negation}
 use Rattle.cy_expr.specs.Comparison.{less_or_equal, greater_or_equal}
 use Rattle.cy_expr.specs.Predicates.{text_starts, text_ends, text_contains}

@@ -1,3 +1,6 @@
 mod Examples
 mod ExampleTrees
 pub mod Rules
+pub mod ReadingLemmas
+pub mod KindLemmas
+pub mod SureLemmas

@@ -1,9 +1,9 @@
 -- Rules that the loops rest on.
-use Rattle.std.proofs.Common.{◌≡◌, ℕ, zero, suc, ◌+◌, ◌≤◌, ◌<◌, length, get_or, drop, drop-cons, add-one, List, [], ◌∷◌, ◌++◌, refl, sym, eq-eqb, arith, append_assoc}
+use Rattle.std.proofs.Common.{rules, ◌∙◌, ◌≢◌, ◌⊎◌, inl, inr, Vec, Global, ◌≡◌, ℕ, zero, suc, ◌+◌, ◌≤◌, ◌<◌, length, get_or, map, drop, drop-cons, add-one, List, [], ◌∷◌, ◌++◌, refl, sym, ap, eq-eqb, arith, append_assoc}
 use Rattle.std.proofs.lemmas.Bool.{eqb-true}
-use Rattle.std.proofs.lemmas.List.{append-nil}
+use Rattle.std.proofs.lemmas.List.{append-nil, drop_all}
 use Rattle.std.proofs.lemmas.Slice.Eq.{starts_is}
-use Rattle.std.specs.Prelude.{Bool, true, false, ◌||◌, Option, Some, None, SomeIff, FitsSigned, ℤ, pos, negsuc, neg_ℤ, unsigned_abs, Result, Ok, Err, IsErr, IsErrAnd, nat_eq}
+use Rattle.std.specs.Prelude.{Bool, true, false, ◌||◌, if◌then◌else◌, Option, Some, None, SomeIff, FitsSigned, ℤ, pos, negsuc, neg_ℤ, unsigned_abs, Result, Ok, Err, IsErr, IsErrAnd, MatchResult, nat_eq}
 use Rattle.std.specs.Bool.{MatchBool}
 use Rattle.std.specs.Int.{w64}
 use Rattle.std.specs.Str.Pattern.{HasMatch, FindsText, LacksTextAt}
@@ -13,12 +13,34 @@ use Rattle.cy_values.specs.declared.scalars.Value.{Value}
 use Rattle.cy_values.specs.declared.scalars.Value.TheVariants as value
 use Rattle.cy_values.specs.declared.truth.Truth.{Truth}
 use Rattle.cy_values.specs.declared.truth.Truth.TheVariants.{No, Unknown, Yes}
-use Rattle.cy_values.specs.Truth.{one_at_least}
+use Rattle.cy_values.specs.Truth.{both, one_at_least, is_yes}
 use Rattle.cy_values.specs.Compare.{value_in, equality}
+use Rattle.cy_scope.specs.declared.functions.Function.{Function}
+use Rattle.cy_scope.specs.declared.functions.Function.TheVariants as function
+use Rattle.cy_scope.specs.Functions.{function_named}
 use Rattle.cy_expr.specs.declared.faults.EvalFault.{EvalFault}
 use Rattle.cy_expr.specs.Faults.{on_one, on_two}
 use Rattle.cy_expr.specs.Lists.{element, elements, list_of, equals_one}
 use Rattle.cy_expr.specs.Predicates.{has_within}
+use Rattle.cy_expr.specs.declared.faults.EvalFault.TheVariants.{NoMemory, WrongType}
+use Rattle.cy_expr.specs.Operators.{compared, value_in_cell}
+use Rattle.cy_expr.specs.Lookups.{Lookups, existence}
+use Rattle.cy_expr.specs.Logic.{truth_of}
+use Rattle.cy_expr.specs.Choice.{choice}
+use Rattle.cy_expr.specs.internal.Arms.{chosen}
+use Rattle.cy_expr.specs.declared.held.Held.{Held}
+use Rattle.cy_expr.specs.Lent.{held_cell}
+use Rattle.cy_expr.specs.Evaluation.{as_cell, call_value, called, cell_of, cells_of, chain, outcomes_of, outcomes_of_arms, property_exists, values_of}
+use Rattle.std.specs.declared.boxed.Box.{Box}
+use Rattle.cy_trees.specs.Trees.{Name, Expression, null, boolean, integer, text, variable, property, has_labels, unary, binary, comparison, list, case, call, call_star, Expressions, no_more, more, nothing, otherwise}
+use Rattle.cy_trees.specs.Views.{arms_of, expression_of, expressions_from, link_of, links_from}
+use Rattle.cy_trees.specs.declared.expressions.Arm.{Arm}
+use Rattle.cy_trees.specs.declared.expressions.Link.{Link}
+use Rattle.cy_trees.specs.declared.expressions.Expr as coded
+use Rattle.cy_trees.specs.declared.expressions.Comparator.{Comparator}
+use Rattle.cy_trees.specs.declared.expressions.Expr.{Expr, the_lemmas}
+use Rattle.cy_values.specs.declared.rows.Cell.{Cell}
+use Rattle.cy_values.specs.declared.rows.Cell.TheVariants as cell
 
 -- a whole number's distance from zero fits where its opposite does
 pub distance_fits : (n : ℤ) (r : Option ℤ) → FitsSigned w64 n → SomeIff r (FitsSigned w64 (neg_ℤ n)) (pos (unsigned_abs n)) → SomeIff r (FitsSigned w64 (pos (unsigned_abs n))) (pos (unsigned_abs n))
@@ -128,3 +150,257 @@ lacking (c ∷ cs) t lacks =
 pub within-found : (s t : List ℕ) (b : Bool) → MatchBool b (HasMatch (FindsText t) s) (FindsText t s None) → b ≡ has_within s t
 within-found s t true (i, j, finds, fits, ends) = sym (found s t (drop j s) i (omega arith) finds.1.split)
 within-found s t false lacks = sym (lacking s t lacks)
+
+-- what is known of a chain, and the truth of what is left
+abbrev pub and_then : Truth → Result Truth EvalFault → Result Truth EvalFault
+and_then a others = on_one (λ t. Ok (both a t)) others
+
+pub and_then-yes : (others : Result Truth EvalFault) → and_then Yes others ≡ others
+and_then-yes (Ok No) = refl
+and_then-yes (Ok Unknown) = refl
+and_then-yes (Ok Yes) = refl
+and_then-yes (Err fault) = refl
+
+pub both-yes : (a : Truth) → both a Yes ≡ a
+both-yes No = refl
+both-yes Unknown = refl
+both-yes Yes = refl
+
+pub both-both : (a b c : Truth) → both (both a b) c ≡ both a (both b c)
+both-both No No No = refl
+both-both No No Unknown = refl
+both-both No No Yes = refl
+both-both No Unknown No = refl
+both-both No Unknown Unknown = refl
+both-both No Unknown Yes = refl
+both-both No Yes No = refl
+both-both No Yes Unknown = refl
+both-both No Yes Yes = refl
+both-both Unknown No No = refl
+both-both Unknown No Unknown = refl
+both-both Unknown No Yes = refl
+both-both Unknown Unknown No = refl
+both-both Unknown Unknown Unknown = refl
+both-both Unknown Unknown Yes = refl
+both-both Unknown Yes No = refl
+both-both Unknown Yes Unknown = refl
+both-both Unknown Yes Yes = refl
+both-both Yes No No = refl
+both-both Yes No Unknown = refl
+both-both Yes No Yes = refl
+both-both Yes Unknown No = refl
+both-both Yes Unknown Unknown = refl
+both-both Yes Unknown Yes = refl
+both-both Yes Yes No = refl
+both-both Yes Yes Unknown = refl
+both-both Yes Yes Yes = refl
+
+pub and_then-one : (a s : Truth) (others : Result Truth EvalFault) → and_then a (on_two (λ x y. Ok (both x y)) (Ok s) others) ≡ and_then (both a s) others
+and_then-one a s (Ok t) = ap (λ (x : Truth). Ok x) (sym (both-both a s t))
+and_then-one a s (Err fault) = refl
+
+pub ruleset chain_steps = (and_then-yes, both-yes, and_then-one)
+
+-- a link as its comparator and its operand's tree
+link_is : (by : Comparator) (e : Expr) → link_of (record { comparator = by; operand = e }) ≡ (by, expression_of e)
+link_is by e = search (rules, the_lemmas)
+
+-- one link more was compared
+pub chain-more : (graph : Lookups) (row : List Cell) (a s t : Truth) (c d : Cell) (links : List Link) (i : ℕ) (l : Link)
+    → i < length links → l ≡ get_or links i l → cell_of graph row (expression_of l.operand) ≡ Ok d → compared l.comparator c d ≡ Ok s → t ≡ both a s
+    → and_then t (chain graph row d (links_from (map link_of (drop (i + 1) links)))) ≡ and_then a (chain graph row c (links_from (map link_of (drop i links))))
+chain-more graph row a s t c d links i l inside is value truth step =
+    let seen : link_of l ≡ (l.comparator, expression_of l.operand) = link_is l.comparator l.operand in
+    rw (add-one, drop-cons links i l, ← is, seen, value, truth, step) (sym (and_then-one a s (chain graph row d (links_from (map link_of (drop (suc i) links))))))
+
+-- values, and then those of others
+abbrev pub behind_values : List Value → Result (List Value) EvalFault → Result (List Value) EvalFault
+behind_values vs others = on_one (λ ws. Ok (vs ++ ws)) others
+
+-- how many cells there are
+abbrev pub counted : Result (List Cell) EvalFault → Result ℕ EvalFault
+counted cells = on_one (λ cs. Ok (length cs)) cells
+
+abbrev pub count_from : ℕ → Result ℕ EvalFault → Result ℕ EvalFault
+count_from n others = on_one (λ m. Ok (n + m)) others
+
+pub values-more : (vs : List Value) (v : Value) (c : Cell) (r : Result (List Value) EvalFault) → (Ok v ≡ value_in_cell c) ⊎ (Ok v ≡ Err NoMemory)
+    → behind_values (vs ++ v ∷ []) r ≡ behind_values vs (on_two (λ x xs. Ok (x ∷ xs)) (value_in_cell c) r)
+values-more vs v c (Ok us) (inl is) = rw (← is, append_assoc) refl
+values-more vs v c (Err fault) (inl is) = rw (← is) refl
+values-more vs v c r (inr is) = search rules
+
+-- one element more has a value
+pub elements-more : (graph : Lookups) (row : List Cell) (vs : List Value) (v : Value) (c : Cell) (es : List Expr) (i : ℕ) (e : Expr)
+    → i < length es → e ≡ get_or es i e → cell_of graph row (expression_of e) ≡ Ok c → (Ok v ≡ value_in_cell c) ⊎ (Ok v ≡ Err NoMemory)
+    → behind_values (vs ++ v ∷ []) (values_of graph row (expressions_from (map expression_of (drop (i + 1) es)))) ≡ behind_values vs (values_of graph row (expressions_from (map expression_of (drop i es))))
+elements-more graph row vs v c es i e inside is known truth =
+    rw (add-one, drop-cons es i e, ← is, known) (values-more vs v c (values_of graph row (expressions_from (map expression_of (drop (suc i) es)))) truth)
+
+pub count_from-zero : (r : Result ℕ EvalFault) → count_from 0 r ≡ r
+count_from-zero (Ok n) = ap (λ (m : ℕ). Ok m) (omega arith)
+count_from-zero (Err fault) = refl
+
+pub count_from-more : (i : ℕ) (c : Cell) (r : Result (List Cell) EvalFault)
+    → count_from (suc i) (counted r) ≡ count_from i (counted (on_two (λ x xs. Ok (x ∷ xs)) (Ok c) r))
+count_from-more i c (Ok cs) = ap (λ (n : ℕ). Ok n) (omega arith)
+count_from-more i c (Err fault) = refl
+
+faulty : (f : List Cell → Result Value EvalFault) (r : Result (List Cell) EvalFault) (fault : EvalFault) → counted r ≡ Err fault → on_one f r ≡ Err fault
+faulty f (Ok cs) fault is = search rules
+faulty f (Err other) fault is = search rules
+
+refused : (graph : Lookups) (f : Option Function) (r : Result (List Cell) EvalFault) (n : ℕ) → n ≢ 1 → counted r ≡ Ok n → on_one (called graph f) r ≡ Err WrongType
+refused graph None (Ok cs) n others is = refl
+refused graph None (Err fault) n others is = search rules
+refused graph (Some f) (Ok []) n others is = refl
+refused graph (Some f) (Ok (c ∷ [])) n others is = search rules
+refused graph (Some f) (Ok (c ∷ d ∷ cs)) n others is = refl
+refused graph (Some f) (Err fault) n others is = search rules
+
+-- one cell more is there
+pub cells-more : (graph : Lookups) (row : List Cell) (c : Cell) (es : List Expr) (i : ℕ) (e : Expr)
+    → i < length es → e ≡ get_or es i e → cell_of graph row (expression_of e) ≡ Ok c
+    → count_from (i + 1) (counted (cells_of graph row (expressions_from (map expression_of (drop (i + 1) es))))) ≡ count_from i (counted (cells_of graph row (expressions_from (map expression_of (drop i es)))))
+cells-more graph row c es i e inside is known =
+    rw (add-one, drop-cons es i e, ← is, known) (count_from-more i c (cells_of graph row (expressions_from (map expression_of (drop (suc i) es)))))
+
+-- an argument has a fault
+cell_fault : (graph : Lookups) (row : List Cell) (f : Option Function) (fault : EvalFault) (es : List Expr) (i : ℕ) (e : Expr)
+    → i < length es → e ≡ get_or es i e → cell_of graph row (expression_of e) ≡ Err fault
+    → count_from i (counted (cells_of graph row (expressions_from (map expression_of (drop i es))))) ≡ counted (cells_of graph row (expressions_from (map expression_of es)))
+    → on_one (called graph f) (cells_of graph row (expressions_from (map expression_of es))) ≡ Err fault
+cell_fault graph row f fault es i e inside is known counts =
+    faulty (called graph f) (cells_of graph row (expressions_from (map expression_of es))) fault (sym counts ∙ rw (drop-cons es i e, ← is, known) refl)
+
+pub cell-faults : (graph : Lookups) (row : List Cell) (f : Option Function) (fault : EvalFault) (es : List Expr) (i : ℕ) (e : Expr)
+    → i < length es → e ≡ get_or es i e → (cell_of graph row (expression_of e) ≡ Err fault) ⊎ (fault ≡ NoMemory)
+    → count_from i (counted (cells_of graph row (expressions_from (map expression_of (drop i es))))) ≡ counted (cells_of graph row (expressions_from (map expression_of es)))
+    → (on_one (called graph f) (cells_of graph row (expressions_from (map expression_of es))) ≡ Err fault) ⊎ (fault ≡ NoMemory)
+cell-faults graph row f fault es i e inside is (inl known) counts = inl (cell_fault graph row f fault es i e inside is known counts)
+cell-faults graph row f fault es i e inside is (inr want) counts = inr want
+
+-- no argument is left, and there isn't one alone
+pub cells-refused : (graph : Lookups) (row : List Cell) (f : Option Function) (es : List Expr) (i : ℕ) → length es ≤ i → i ≤ length es → length es ≢ 1
+    → count_from i (counted (cells_of graph row (expressions_from (map expression_of (drop i es))))) ≡ counted (cells_of graph row (expressions_from (map expression_of es)))
+    → on_one (called graph f) (cells_of graph row (expressions_from (map expression_of es))) ≡ Err WrongType
+cells-refused graph row f es i ends within others counts =
+    let all : i ≡ length es = omega arith in
+    refused graph f (cells_of graph row (expressions_from (map expression_of es))) i (λ one. others (sym all ∙ one)) (sym counts ∙ rw (drop_all i es ends) (ap (λ (n : ℕ). Ok n) (omega arith)))
+
+-- a fault that is passed on
+pub failed : {A : Type 0} (P : A → Type 0) (Q : EvalFault → Type 0) (r : Result A EvalFault) (fault : EvalFault) → IsErr r × IsErrAnd r (λ e. e ≡ fault) → Q fault → MatchResult r P Q
+failed P Q (Ok x) fault given q = absurd given.1
+failed P Q (Err e) fault given q = rw given.1 q
+
+-- what CASE gives, by its arms and by its ELSE
+abbrev pub or_else : Result (Option Cell) EvalFault → Result Cell EvalFault → Result Cell EvalFault
+or_else (Ok None) others = others
+or_else (Ok (Some c)) others = Ok c
+or_else (Err fault) others = Err fault
+
+choice-step : (t : Result Truth EvalFault) (r c o : Result Value EvalFault) (d : Result (Option Cell) EvalFault) → as_cell c ≡ or_else d (as_cell o)
+    → as_cell (on_one (λ x. if is_yes x then r else c) t) ≡ or_else (on_one (λ x. if is_yes x then on_one (λ v. Ok (Some (cell.Value v))) r else d) t) (as_cell o)
+choice-step (Ok Yes) (Ok v) c o d same = refl
+choice-step (Ok Yes) (Err fault) c o d same = refl
+choice-step (Ok No) r c o d same = same
+choice-step (Ok Unknown) r c o d same = same
+choice-step (Err fault) r c o d same = refl
+
+pub choice_chosen : (arms : List (Result Value EvalFault × Result Value EvalFault)) (o : Result Value EvalFault)
+    → as_cell (choice arms o) ≡ or_else (chosen arms) (as_cell o)
+choice_chosen [] o = refl
+choice_chosen (a ∷ arms) o = choice-step (on_one truth_of a.0) a.1 (choice arms o) o (chosen arms) (choice_chosen arms o)
+
+-- a CASE as its arms and what stands after ELSE
+case_nothing_is : (arms : Vec Arm Global) → expression_of (coded.Case arms None) ≡ case (arms_of arms) nothing
+case_nothing_is arms = search (rules, the_lemmas)
+
+case_otherwise_is : (arms : Vec Arm Global) (e : Box Expr Global) → expression_of (coded.Case arms (Some e)) ≡ case (arms_of arms) (otherwise (expression_of e.value))
+case_otherwise_is arms e = search (rules, the_lemmas)
+
+pub case_nothing : (graph : Lookups) (row : List Cell) (arms : Vec Arm Global)
+    → cell_of graph row (expression_of (coded.Case arms None)) ≡ or_else (chosen (outcomes_of_arms graph row (arms_of arms))) (Ok (cell.Value value.Null))
+case_nothing graph row arms = rw (case_nothing_is arms) (choice_chosen (outcomes_of_arms graph row (arms_of arms)) (Ok value.Null))
+
+pub case_otherwise : (graph : Lookups) (row : List Cell) (arms : Vec Arm Global) (e : Box Expr Global)
+    → cell_of graph row (expression_of (coded.Case arms (Some e))) ≡ or_else (chosen (outcomes_of_arms graph row (arms_of arms))) (as_cell (on_one value_in_cell (cell_of graph row (expression_of e.value))))
+case_otherwise graph row arms e = rw (case_otherwise_is arms e) (choice_chosen (outcomes_of_arms graph row (arms_of arms)) (on_one value_in_cell (cell_of graph row (expression_of e.value))))
+
+-- a condition that is true, or a fault, comes before ELSE
+pub case_chosen : (graph : Lookups) (row : List Cell) (arms : Vec Arm Global) (e : Option (Box Expr Global)) (c : Cell)
+    → chosen (outcomes_of_arms graph row (arms_of arms)) ≡ Ok (Some c) → cell_of graph row (expression_of (coded.Case arms e)) ≡ Ok c
+case_chosen graph row arms None c is = case_nothing graph row arms ∙ rw is refl
+case_chosen graph row arms (Some e) c is = case_otherwise graph row arms e ∙ rw is refl
+
+pub case_fault : (graph : Lookups) (row : List Cell) (arms : Vec Arm Global) (e : Option (Box Expr Global)) (fault : EvalFault)
+    → chosen (outcomes_of_arms graph row (arms_of arms)) ≡ Err fault → cell_of graph row (expression_of (coded.Case arms e)) ≡ Err fault
+case_fault graph row arms None fault is = case_nothing graph row arms ∙ rw is refl
+case_fault graph row arms (Some e) fault is = case_otherwise graph row arms e ∙ rw is refl
+
+-- exists asks for one property
+two_asked : (graph : Lookups) (row : List Cell) (e f : Expression) (es : Expressions) → property_exists graph row (more e (more f es)) ≡ Err WrongType
+two_asked graph row null f es = refl
+two_asked graph row (boolean b) f es = refl
+two_asked graph row (integer n) f es = refl
+two_asked graph row (text t) f es = refl
+two_asked graph row (variable v) f es = refl
+two_asked graph row (property e key) f es = refl
+two_asked graph row (has_labels e labels) f es = refl
+two_asked graph row (unary operator e) f es = refl
+two_asked graph row (binary operator a b) f es = refl
+two_asked graph row (comparison e links) f es = refl
+two_asked graph row (list es) f gs = refl
+two_asked graph row (case arms e) f es = refl
+two_asked graph row (call g distinct es) f gs = refl
+two_asked graph row (call_star g) f es = refl
+
+pub others_asked : (graph : Lookups) (row : List Cell) (es : List Expr) → length es ≢ 1 → property_exists graph row (expressions_from (map expression_of es)) ≡ Err WrongType
+others_asked graph row [] others = refl
+others_asked graph row (e ∷ []) others = search rules
+others_asked graph row (e ∷ f ∷ es) others = two_asked graph row (expression_of e) (expression_of f) (expressions_from (map expression_of es))
+
+-- one argument alone
+pub alone : (es : List Expr) → length es ≡ 1 → (e : Expr) → expressions_from (map expression_of es) ≡ more (expression_of (get_or es 0 e)) no_more
+alone [] one e = search rules
+alone (f ∷ []) one e = refl
+alone (f ∷ h ∷ es) one e = search rules
+
+property_is : (e : Box Expr Global) (key : Name) → expression_of (coded.Property e key) ≡ property (expression_of e.value) key
+property_is e key = search (rules, the_lemmas)
+
+pub property_asked : (graph : Lookups) (row : List Cell) (e : Box Expr Global) (key : Name)
+    → property_exists graph row (more (expression_of (coded.Property e key)) no_more) ≡ on_one (existence graph key) (cell_of graph row (expression_of e.value))
+property_asked graph row e key = rw (property_is e key) refl
+
+pub ruleset argument_steps = (alone, others_asked)
+
+-- a call of another function than coalesce and exists
+call_is : (name : Name) (distinct : Bool) (es : Vec Expr Global) → expression_of (coded.Call name distinct es) ≡ call name distinct (expressions_from (map expression_of es.items))
+call_is name distinct es = search (rules, the_lemmas)
+
+other_function : (graph : Lookups) (f : Function) (cells : Result (List Cell) EvalFault) (outcomes : List (Result Value EvalFault)) (there : Result Value EvalFault)
+    → (f ≡ function.Coalesce → ⊥) → (f ≡ function.Exists → ⊥) → call_value graph (Some f) cells outcomes there ≡ on_one (called graph (Some f)) cells
+other_function graph function.Coalesce cells outcomes there first asked = absurd (first refl)
+other_function graph function.Exists cells outcomes there first asked = absurd (asked refl)
+other_function graph f cells outcomes there first asked = refl
+
+other_call : (graph : Lookups) (row : List Cell) (name : Name) (distinct : Bool) (es : Vec Expr Global) (f : Function)
+    → Some f ≡ function_named name → (f ≡ function.Coalesce → ⊥) → (f ≡ function.Exists → ⊥)
+    → cell_of graph row (expression_of (coded.Call name distinct es)) ≡ as_cell (on_one (called graph (Some f)) (cells_of graph row (expressions_from (map expression_of es.items))))
+other_call graph row name distinct es f named first asked =
+    ap (cell_of graph row) (call_is name distinct es)
+    ∙ ap (λ (o : Option Function). as_cell (call_value graph o (cells_of graph row (expressions_from (map expression_of es.items))) (outcomes_of graph row (expressions_from (map expression_of es.items))) (property_exists graph row (expressions_from (map expression_of es.items))))) (sym named)
+    ∙ ap as_cell (other_function graph f (cells_of graph row (expressions_from (map expression_of es.items))) (outcomes_of graph row (expressions_from (map expression_of es.items))) (property_exists graph row (expressions_from (map expression_of es.items))) first asked)
+
+pub call_answers : (graph : Lookups) (row : List Cell) (name : Name) (distinct : Bool) (es : Vec Expr Global) (f : Function) (r : Result Held EvalFault)
+    → Some f ≡ function_named name → (f ≡ function.Coalesce → ⊥) → (f ≡ function.Exists → ⊥)
+    → MatchResult r (λ h. as_cell (on_one (called graph (Some f)) (cells_of graph row (expressions_from (map expression_of es.items)))) ≡ Ok (held_cell h))
+    (λ fault. (on_one (called graph (Some f)) (cells_of graph row (expressions_from (map expression_of es.items))) ≡ Err fault) ⊎ (fault ≡ NoMemory))
+    → MatchResult r (λ h. cell_of graph row (expression_of (coded.Call name distinct es)) ≡ Ok (held_cell h))
+    (λ fault. (cell_of graph row (expression_of (coded.Call name distinct es)) ≡ Err fault) ⊎ (fault ≡ NoMemory))
+call_answers graph row name distinct es f (Ok h) named first asked is = other_call graph row name distinct es f named first asked ∙ is
+call_answers graph row name distinct es f (Err fault) named first asked (inl is) = inl (other_call graph row name distinct es f named first asked ∙ ap as_cell is)
+call_answers graph row name distinct es f (Err fault) named first asked (inr wants) = inr wants
+
+pub ruleset case_steps = (case_nothing, case_otherwise, case_chosen, case_fault, call_answers)

@@ -1,5 +1,5 @@
 -- CASE and coalesce, which evaluate only what they need: what isn't needed may fault. (openCypher 9, CASE, coalesce)
-use Rattle.std.specs.Prelude.{if◌then◌else◌, List, [], ◌∷◌, Result, Ok, Err}
+use Rattle.std.specs.Prelude.{if◌then◌else◌, List, [], ◌∷◌, Result, Ok}
 use Rattle.cy_values.specs.declared.scalars.Value.{Value}
 use Rattle.cy_values.specs.declared.scalars.Value.TheVariants as value
 use Rattle.cy_values.specs.Truth.{is_yes}

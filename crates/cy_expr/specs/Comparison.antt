@@ -1,5 +1,5 @@
 -- What comparisons answer. (single values of one type: openCypher 9, Comparison operators; lists and different types: own)
-use Rattle.std.specs.Prelude.{Bool, true, false, ◌==◌, ◌||◌, if◌then◌else◌}
+use Rattle.std.specs.Prelude.{Bool, false, ◌==◌, ◌||◌, if◌then◌else◌}
 use Rattle.cy_values.specs.declared.scalars.Value.{Value}
 use Rattle.cy_values.specs.declared.truth.Truth.{Truth}
 use Rattle.cy_values.specs.declared.truth.Truth.TheVariants.{No, Unknown}

@@ -1,7 +1,6 @@
 -- The value of an expression on a row and a graph: a cell or a fault, one equation for each form. (openCypher 9, Expressions;
 -- faults own) Of two faults the left one counts, and an operand's fault comes before its operator's own.
-use Rattle.std.specs.Prelude.{Bool, ℕ, if◌then◌else◌, List, [], ◌∷◌, Option, Some, None, Result, Ok, Err, codes, slice_index_or}
-use Rattle.std.specs.Str.{bytes_eq}
+use Rattle.std.specs.Prelude.{ℕ, List, [], ◌∷◌, Option, Some, None, Result, Ok, Err, slice_index_or}
 use Rattle.cy_values.specs.declared.scalars.Value.{Value}
 use Rattle.cy_values.specs.declared.scalars.Value.TheVariants as value
 use Rattle.cy_values.specs.declared.truth.Truth.{Truth}
@@ -9,8 +8,10 @@ use Rattle.cy_values.specs.declared.truth.Truth.TheVariants.{Yes}
 use Rattle.cy_values.specs.declared.rows.Cell.{Cell}
 use Rattle.cy_values.specs.declared.rows.Cell.TheVariants as cell
 use Rattle.cy_values.specs.Truth.{both}
-use Rattle.cy_trees.specs.declared.expressions.Variable.{Variable}
-use Rattle.cy_trees.specs.Trees.{Name, Expression, null, boolean, integer, text, variable, property, has_labels, unary, binary, comparison, list, case, call, call_star, Expressions, no_more, more, Links, no_links, link, Arms, no_arms, arm, Otherwise, nothing, otherwise}
+use Rattle.cy_trees.specs.Trees.{Expression, null, boolean, integer, text, variable, property, has_labels, unary, binary, comparison, list, case, call, call_star, Expressions, no_more, more, Links, no_links, link, Arms, no_arms, arm, Otherwise, nothing, otherwise}
+use Rattle.cy_scope.specs.declared.functions.Function.{Function}
+use Rattle.cy_scope.specs.declared.functions.Function.TheVariants as function
+use Rattle.cy_scope.specs.Functions.{function_named}
 use Rattle.cy_expr.specs.declared.faults.EvalFault.{EvalFault}
 use Rattle.cy_expr.specs.declared.faults.EvalFault.TheVariants.{WrongType}
 use Rattle.cy_expr.specs.Faults.{on_one, on_two}
@@ -32,21 +33,27 @@ abbrev pub column_value : Option ℕ → List Cell → Cell
 column_value (Some column) row = slice_index_or row column (cell.Value value.Null)
 column_value None row = cell.Value value.Null
 
--- A function of one argument, by its name in lower case. An aggregate has no value on a row, and no checked expression
--- has another function or another number of arguments: a wrong type stands for these (own).
-abbrev pub function_value : Lookups → Name → Cell → Result Value EvalFault
-function_value graph f c =
-    if bytes_eq f (codes "id") then id_value c else
-    if bytes_eq f (codes "type") then type_value graph c else
-    if bytes_eq f (codes "labels") then labels_value graph c else
-    if bytes_eq f (codes "size") then cell_size c else
-    if bytes_eq f (codes "abs") then on_one absolute (value_in_cell c) else
-    if bytes_eq f (codes "tostring") then on_one text_of (value_in_cell c) else
-    Err WrongType
+-- What a function of one argument gives. Aggregates have no value on a row, coalesce and exists have equations of their own,
+-- and no checked expression calls another function or has another number of arguments: a wrong type stands for these (own).
+abbrev pub function_value : Lookups → Function → Cell → Result Value EvalFault
+function_value graph function.Id c = id_value c
+function_value graph function.Type c = type_value graph c
+function_value graph function.Labels c = labels_value graph c
+function_value graph function.Size c = cell_size c
+function_value graph function.Abs c = on_one absolute (value_in_cell c)
+function_value graph function.ToString c = on_one text_of (value_in_cell c)
+function_value graph f c = Err WrongType
 
-abbrev pub called : Lookups → Name → List Cell → Result Value EvalFault
-called graph f (c ∷ []) = function_value graph f c
+abbrev pub called : Lookups → Option Function → List Cell → Result Value EvalFault
+called graph (Some f) (c ∷ []) = function_value graph f c
 called graph f cs = Err WrongType
+
+-- A call, by what its arguments give, each a value or a fault, and by whether the property that it asks for is there: coalesce
+-- and exists look at these, the other functions at the cells of the arguments.
+abbrev pub call_value : Lookups → Option Function → Result (List Cell) EvalFault → List (Result Value EvalFault) → Result Value EvalFault → Result Value EvalFault
+call_value graph (Some function.Coalesce) cells outcomes there = coalesce outcomes
+call_value graph (Some function.Exists) cells outcomes there = there
+call_value graph f cells outcomes there = on_one (called graph f) cells
 
 abbrev mutual
   pub cell_of : Lookups → List Cell → Expression → Result Cell EvalFault
@@ -62,11 +69,9 @@ abbrev mutual
   cell_of graph row (comparison e links) = as_cell (on_one (λ a. Ok (value_of a)) (on_one (λ c. chain graph row c links) (cell_of graph row e)))
   cell_of graph row (list es) = as_cell (on_one list_of (values_of graph row es))
   cell_of graph row (case arms e) = as_cell (choice (outcomes_of_arms graph row arms) (outcome_of_else graph row e))
-  cell_of graph row (call f distinct es) = as_cell (
-      if bytes_eq f (codes "coalesce") then coalesce (outcomes_of graph row es) else
-      if bytes_eq f (codes "exists") then property_exists graph row es else
-      on_one (called graph f) (cells_of graph row es))
-  cell_of graph row (call_star f) = Err WrongType
+  cell_of graph row (call name distinct es) =
+      as_cell (call_value graph (function_named name) (cells_of graph row es) (outcomes_of graph row es) (property_exists graph row es))
+  cell_of graph row (call_star name) = Err WrongType
 
   -- what each expression gives, if all have values
   pub cells_of : Lookups → List Cell → Expressions → Result (List Cell) EvalFault

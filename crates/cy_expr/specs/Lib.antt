@@ -10,3 +10,6 @@ pub mod Choice
 pub mod Operators
 pub mod Lookups
 pub mod Evaluation
+pub mod Reading
+pub mod Fits
+pub mod internal

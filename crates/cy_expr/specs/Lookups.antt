@@ -1,6 +1,6 @@
 -- What an expression reads of a graph, by the entities that its row names: their properties, the labels of nodes and the
 -- types of relationships. (Francis et al., property graphs) An expression has the same value on two graphs that answer these alike.
-use Rattle.std.specs.Prelude.{Bool, List, Option, unwrap_or, IfSome, Result, Ok, Err, is_some, pos, map}
+use Rattle.std.specs.Prelude.{◌≤◌, ◌^◌, ⊤, List, Option, unwrap_or, Result, Ok, Err, is_some, pos, map}
 use Rattle.std.specs.List.{list_all, list_any}
 use Rattle.std.specs.Str.{bytes_eq}
 use Rattle.cy_values.specs.declared.numbers.NodeId.{NodeId}
@@ -15,8 +15,6 @@ use Rattle.cy_values.specs.declared.rows.Cell.TheVariants as cell
 use Rattle.cy_trees.specs.Trees.{Name}
 use Rattle.cy_expr.specs.declared.faults.EvalFault.{EvalFault}
 use Rattle.cy_expr.specs.declared.faults.EvalFault.TheVariants.{WrongType}
-use Rattle.cy_expr.specs.Faults.{on_one}
-use Rattle.cy_expr.specs.Comparison.{is_null_cell}
 
 pub record Lookups : Type 0 where
   pub property_of : Entity → Name → Option Value
@@ -75,3 +73,11 @@ number_of (entity.Rel r) = value.Int (pos r.0)
 
 abbrev pub id_value : Cell → Result Value EvalFault
 id_value = on_entity number_of
+
+-- A number of a node or a relationship that a cell names is at most 2^40, the last one that a graph gives out; so id is an
+-- integer of 64 bits. (own)
+abbrev pub IsNumbered : Cell → Type 0
+IsNumbered (cell.Node n) = n.0 ≤ 2 ^ 40
+IsNumbered (cell.Rel r) = r.0 ≤ 2 ^ 40
+IsNumbered (cell.Rels rs) = ⊤
+IsNumbered (cell.Value v) = ⊤

@@ -89,8 +89,8 @@ fn greater_or_equal(left: CellView<'_>, right: CellView<'_>) -> Result<Truth, Ev
     Ok(less_or_equal(value_in(right)?, left))
 }
 
-// The value in a cell; an entity and a list of relationships are none.
-fn value_in<'a>(cell: CellView<'a>) -> Result<View<'a>, EvalFault>
+/// The value in a cell; an entity and a list of relationships are none.
+pub(crate) fn value_in<'a>(cell: CellView<'a>) -> Result<View<'a>, EvalFault>
     ensures { MatchResult result (λ v. spec.value_in_cell (lent_cell cell.entry) ≡ Ok (lent v)) (λ fault. spec.value_in_cell (lent_cell cell.entry) ≡ Err fault) }
 {
     match cell {

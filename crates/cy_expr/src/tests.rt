@@ -26,7 +26,11 @@ fn samples(alloc: Global) -> Result<Vec<Value>, Fail> {
 }
 
 // Adds an outcome to a line: a value, a list with its length, or the number of a fault.
-fn write(alloc: Global, line: &mut String, outcome: Result<Value, EvalFault>) -> Result<(), Fail> {
+pub(crate) fn write(
+    alloc: Global,
+    line: &mut String,
+    outcome: Result<Value, EvalFault>,
+) -> Result<(), Fail> {
     if !line.is_empty() {
         line.push(' ')?;
     }

@@ -1,9 +1,13 @@
 //! Cells that are lent.
 
-ghost use Rattle.std.specs.Prelude.{◌≡◌};
+ghost use Rattle.std.specs.Prelude.{◌≡◌, ◌⊎◌, MatchResult, Ok, Err};
+ghost use Rattle.cy_values.specs.Compare.{lent};
+ghost use Rattle.cy_expr.specs.declared.faults.EvalFault.TheVariants.{NoMemory};
 ghost use Rattle.cy_expr.specs.Lent.{lent_cell};
 
-use cy_values::{Cell, NodeId, RelId, View};
+use crate::faults::EvalFault;
+use cy_values::{Cell, Duplicate, NodeId, RelId, Scalar, Sequence, Text, Value, View};
+use std::alloc::Global;
 
 /// A cell that is lent: what it holds stays where it is.
 #[derive(Clone, Copy, Debug, Drop)]
@@ -24,4 +28,28 @@ pub(crate) fn view_of(cell: &Cell) -> CellView<'_>
         Cell::Rels(numbers) => CellView::Rels(numbers.as_slice()),
         Cell::Value(value) => CellView::Value(value.view()),
     }
+}
+
+/// The value that is lent, as one of its own.
+pub(crate) fn copy(alloc: Global, value: View<'_>) -> Result<Value, EvalFault>
+    ensures { (result ≡ Ok (lent value.entry)) ⊎ (result ≡ Err NoMemory) }
+{
+    match value {
+        View::List(elements) => Ok(Value::List(copy_items(alloc, elements)?)),
+        View::Text(text) => Ok(Value::Text(Text::from_str(alloc, text)?)),
+        View::Bool(truth) => Ok(Value::Bool(truth)),
+        View::Int(number) => Ok(Value::Int(number)),
+        View::Null => Ok(Value::Null),
+    }
+}
+
+/// The items that are lent, as a list of their own.
+pub(crate) fn copy_items<T: Duplicate>(alloc: Global, items: &[T]) -> Result<Sequence<T>, EvalFault>
+    ensures { MatchResult result (λ twins. twins ≡ items.now) (λ fault. fault ≡ NoMemory) }
+{
+    let mut twins = Vec::with_capacity(alloc, items.len())?;
+    for item in items {
+        twins.push(item.copy(alloc)?)?;
+    }
+    Ok(Sequence::new(twins))
 }

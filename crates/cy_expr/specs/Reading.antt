@@ -1,0 +1,61 @@
+-- What an expression reads of the graph: of the entities that its row names the properties, the labels and the types, and
+-- nothing else. (Francis et al., property graphs; columns alone: own)
+use Rattle.std.specs.Prelude.{◌≡◌, Bool, true, false, not, ◌&&◌, ⊤, Option, Some}
+use Rattle.cy_values.specs.declared.numbers.Entity.TheVariants as entity
+use Rattle.cy_values.specs.declared.rows.Cell.{Cell}
+use Rattle.cy_values.specs.declared.rows.Cell.TheVariants as cell
+use Rattle.cy_trees.specs.Trees.{Name, Expression, null, boolean, integer, text, variable, property, has_labels, unary, binary, comparison, list, case, call, call_star, Expressions, no_more, more, Links, no_links, link, Arms, no_arms, arm, Otherwise, nothing, otherwise}
+use Rattle.cy_scope.specs.declared.functions.Function.{Function}
+use Rattle.cy_scope.specs.declared.functions.Function.TheVariants as function
+use Rattle.cy_scope.specs.Functions.{function_named}
+use Rattle.cy_expr.specs.Lookups.{Lookups}
+
+-- two graphs that answer alike for the entity that a cell names
+abbrev pub AgreeAt : Lookups → Lookups → Cell → Type 0
+AgreeAt one other (cell.Node n) =
+    ((key : Name) → one.property_of (entity.Node n) key ≡ other.property_of (entity.Node n) key) × (one.labels_of n ≡ other.labels_of n)
+AgreeAt one other (cell.Rel r) =
+    ((key : Name) → one.property_of (entity.Rel r) key ≡ other.property_of (entity.Rel r) key) × (one.type_of r ≡ other.type_of r)
+AgreeAt one other (cell.Rels rs) = ⊤
+AgreeAt one other (cell.Value v) = ⊤
+
+-- a function that reads the graph: type, labels, and exists, which asks for a property
+abbrev pub reads_graph : Option Function → Bool
+reads_graph (Some function.Type) = true
+reads_graph (Some function.Labels) = true
+reads_graph (Some function.Exists) = true
+reads_graph f = false
+
+-- whether an expression reads columns of its row alone: neither a property, nor labels, nor a type
+abbrev mutual
+  pub reads_columns : Expression → Bool
+  reads_columns null = true
+  reads_columns (boolean b) = true
+  reads_columns (integer n) = true
+  reads_columns (text t) = true
+  reads_columns (variable v) = true
+  reads_columns (property e key) = false
+  reads_columns (has_labels e labels) = false
+  reads_columns (unary operator e) = reads_columns e
+  reads_columns (binary operator a b) = reads_columns a && reads_columns b
+  reads_columns (comparison e links) = reads_columns e && links_read_columns links
+  reads_columns (list es) = all_read_columns es
+  reads_columns (case arms e) = arms_read_columns arms && else_reads_columns e
+  reads_columns (call name distinct es) = not (reads_graph (function_named name)) && all_read_columns es
+  reads_columns (call_star name) = true
+
+  pub all_read_columns : Expressions → Bool
+  all_read_columns no_more = true
+  all_read_columns (more e es) = reads_columns e && all_read_columns es
+
+  pub links_read_columns : Links → Bool
+  links_read_columns no_links = true
+  links_read_columns (link comparator e links) = reads_columns e && links_read_columns links
+
+  pub arms_read_columns : Arms → Bool
+  arms_read_columns no_arms = true
+  arms_read_columns (arm condition outcome arms) = reads_columns condition && reads_columns outcome && arms_read_columns arms
+
+  pub else_reads_columns : Otherwise → Bool
+  else_reads_columns nothing = true
+  else_reads_columns (otherwise e) = reads_columns e

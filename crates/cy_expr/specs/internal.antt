@@ -1,0 +1,3 @@
+-- What proofs alone need.
+pub mod Arms
+pub mod Empty

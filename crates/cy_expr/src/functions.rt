@@ -1,0 +1,40 @@
+//! The functions of one argument.
+
+ghost use Rattle.std.specs.Prelude.{◌≡◌, ◌⊎◌, MatchResult, IfOk, Ok, Err};
+ghost use Rattle.cy_expr.specs.declared.faults.EvalFault.TheVariants.{NoMemory};
+ghost use Rattle.cy_expr.specs.Lent.{lent_cell, held_cell};
+ghost use Rattle.cy_expr.specs.Lookups.{IsNumbered};
+ghost use Rattle.cy_expr.specs.Evaluation as spec;
+
+use crate::arithmetic::absolute;
+use crate::conversions::to_text;
+use crate::faults::EvalFault;
+use crate::held::Held;
+use crate::lists::size;
+use crate::lookups::{Lookups, labels_in, number_in, type_in};
+use crate::operators::value_in;
+use crate::views::CellView;
+use cy_scope::Function;
+use std::alloc::Global;
+
+/// What a function gives for its argument. `WrongType` for an aggregate, and for those whose arguments have rules of their own.
+pub(crate) fn apply<'a, G: Lookups>(
+    alloc: Global,
+    function: Function,
+    argument: CellView<'_>,
+    graph: &'a G,
+) -> Result<Held<'a>, EvalFault>
+    requires { IsNumbered (lent_cell argument) }
+    ensures cell { MatchResult result (λ h. spec.as_cell (spec.function_value (G.lookups graph.now) function (lent_cell argument.entry)) ≡ Ok (held_cell h)) (λ fault. (spec.function_value (G.lookups graph.now) function (lent_cell argument.entry) ≡ Err fault) ⊎ (fault ≡ NoMemory)) }
+    ensures numbered { IfOk result (λ h. IsNumbered (held_cell h)) }
+{
+    match function {
+        Function::Id => Ok(Held::Made(number_in(argument)?)),
+        Function::Type => Ok(Held::Lent(CellView::Value(type_in(graph, argument)?))),
+        Function::Labels => Ok(Held::Made(labels_in(alloc, graph, argument)?)),
+        Function::Size => Ok(Held::Made(size(argument)?)),
+        Function::Abs => Ok(Held::Made(absolute(value_in(argument)?)?)),
+        Function::ToString => Ok(Held::Made(to_text(alloc, value_in(argument)?)?)),
+        _ => Err(EvalFault::WrongType),
+    }
+}

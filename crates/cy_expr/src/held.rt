@@ -1,0 +1,63 @@
+//! What an expression gives: something that stands where it is, or a value that was made.
+
+ghost use Rattle.std.specs.Prelude.{◌≡◌, ◌⊎◌, MatchResult, Result, Ok, Err};
+ghost use Rattle.cy_expr.specs.declared.faults.EvalFault.TheVariants.{NoMemory};
+ghost use Rattle.cy_expr.specs.Evaluation.{as_cell};
+ghost use Rattle.cy_expr.specs.Lent.{lent_cell, held_cell};
+ghost use Rattle.cy_expr.specs.Operators as spec;
+
+use crate::faults::EvalFault;
+use crate::operators::value_in;
+use crate::views::{CellView, copy, copy_items};
+use cy_values::{Cell, Value};
+use std::alloc::Global;
+
+/// A cell, lent or made.
+#[derive(Debug, Drop)]
+pub(crate) enum Held<'a> {
+    Lent(CellView<'a>),
+    Made(Value),
+}
+
+impl Held<'_> {
+    /// The cell, lent.
+    pub(crate) fn view(&self) -> CellView<'_>
+        ensures { lent_cell result ≡ held_cell self.now }
+    {
+        match self {
+            Held::Lent(cell) => *cell,
+            Held::Made(value) => CellView::Value(value.view()),
+        }
+    }
+
+    /// The value in the cell, which is copied where it is lent. `WrongType` for what is no value.
+    pub(crate) fn into_value(self, alloc: Global) -> Result<Value, EvalFault>
+        ensures { (result ≡ spec.value_in_cell (held_cell self.entry)) ⊎ (result ≡ Err NoMemory) }
+    {
+        match self {
+            Held::Lent(cell) => copy(alloc, value_in(cell)?),
+            Held::Made(value) => Ok(value),
+        }
+    }
+
+    /// The cell as one of its own, copied where it is lent.
+    pub(crate) fn into_cell(self, alloc: Global) -> Result<Cell, EvalFault>
+        ensures { (result ≡ Ok (held_cell self.entry)) ⊎ (result ≡ Err NoMemory) }
+    {
+        match self {
+            Held::Lent(CellView::Node(number)) => Ok(Cell::Node(number)),
+            Held::Lent(CellView::Rel(number)) => Ok(Cell::Rel(number)),
+            Held::Lent(CellView::Rels(numbers)) => Ok(Cell::Rels(copy_items(alloc, numbers)?)),
+            Held::Lent(CellView::Value(value)) => Ok(Cell::Value(copy(alloc, value)?)),
+            Held::Made(value) => Ok(Cell::Value(value)),
+        }
+    }
+}
+
+/// A cell that is a value, as it is. `WrongType` for one that is none.
+pub(crate) fn only_value(cell: Held<'_>) -> Result<Held<'_>, EvalFault>
+    ensures { MatchResult result (λ h. (h ≡ cell.entry) × (as_cell (spec.value_in_cell (held_cell cell.entry)) ≡ Ok (held_cell h))) (λ fault. spec.value_in_cell (held_cell cell.entry) ≡ Err fault) }
+{
+    value_in(cell.view())?;
+    Ok(cell)
+}

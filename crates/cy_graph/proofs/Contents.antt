@@ -1,5 +1,5 @@
 -- What each call of the series does to the content of the graph.
-use Rattle.std.proofs.Common.{◌≡◌, ℕ, ◌+◌, ◌<◌, ◌≤◌, Bool, true, false, cond, not, List, [], ◌∷◌, ◌++◌, Option, Some, None, IsTrue, IsSome, IfSome, is_some, Result, OnOk, OnErr, refl, sym, ap, subst, ◌∙◌, arith}
+use Rattle.std.proofs.Common.{◌≡◌, ℕ, ◌+◌, ◌<◌, ◌≤◌, Bool, true, false, cond, not, List, [], ◌∷◌, ◌++◌, Option, Some, None, IsTrue, IfSome, refl, sym, ap, ◌∙◌, arith}
 use Rattle.std.specs.List.{AllByRecursion}
 use Rattle.std.specs.Option.{option_map}
 use Rattle.std.specs.Ordering.{nat_cmp, is_eq, eq_by_cmp}
@@ -9,16 +9,14 @@ use Rattle.std.proofs.lemmas.Bool.{and_from, and_parts}
 use Rattle.cy_values.specs.declared.numbers.NodeId.{NodeId}
 use Rattle.cy_values.specs.declared.scalars.Value.{Value}
 use Rattle.cy_graph.specs.declared.nodes.Node.{Node}
-use Rattle.cy_graph.specs.Graph.{Versions, node_order, node_at, number_end, replaced, with_node, with_node_changed, without_node, set_at, with_label, without_label, IsGraph}
-use Rattle.cy_graph.specs.Maps.{text_order, rises, with_value}
+use Rattle.cy_graph.specs.declared.nodes.Rel.{Rel}
+use Rattle.cy_graph.specs.Graph.{node_order, replaced, set_at, rel_set_at, with_label, without_label}
+use Rattle.cy_graph.specs.Maps.{text_order, with_value}
 use Rattle.cy_graph.specs.Stored.{is_storable, IsStorable}
-use Rattle.cy_graph.specs.internal.Contents.{nodes_of, state_of, versions_of, IsNode, AreNodes, AreVersions}
+use Rattle.cy_graph.specs.internal.Contents.{nodes_of, IsNode, IsRel}
 use Rattle.cy_graph.specs.internal.Slots.{RiseFrom, value_under}
-use Rattle.cy_graph.specs.internal.Versions.{Numbered, Line, IsNumbered, with_last, with_edited, without_number, put_under}
+use Rattle.cy_graph.specs.internal.Versions.{put_under}
 use Rattle.cy_graph.proofs.Places.{rises-with_value, rises-without}
-use Rattle.std.proofs.lemmas.Result.{on_ok_weaker, on_err_weaker}
-use Rattle.cy_graph.proofs.Steps.{either}
-use Rattle.cy_graph.proofs.Slots.{sorted, all_found, all_put, all_where, all_push}
 
 -- a look-up
 pub find_named : (id : NodeId) (es : List (ℕ × Node)) → entries.find node_order id (nodes_of es) ≡ value_under id.0 es
@@ -66,28 +64,17 @@ named_below : (k : NodeId) (es : List (ℕ × Node)) → entries.below_all nat_c
 named_below k [] below = refl
 named_below k (e ∷ es) below = and_from _ _ (and_parts _ _ below).0 (named_below k es (and_parts _ _ below).1)
 
-named_sorted : (es : List (ℕ × Node)) → IsTrue (entries.is_sorted nat_cmp es) → IsTrue (entries.is_sorted node_order (nodes_of es))
+pub named_sorted : (es : List (ℕ × Node)) → IsTrue (entries.is_sorted nat_cmp es) → IsTrue (entries.is_sorted node_order (nodes_of es))
 named_sorted [] up = refl
 named_sorted (e ∷ es) up = and_from _ _ (named_below (record { 0 = e.0 }) es (and_parts _ _ up).0) (named_sorted es (and_parts _ _ up).1)
 
-named_numbers : (low high : ℕ) (es : List (ℕ × Node)) → 1 ≤ low → RiseFrom low high es → AllByRecursion (λ (e : NodeId × Node). (1 ≤ e.0.0) × (e.0.0 < high)) (nodes_of es)
+pub named_numbers : (low high : ℕ) (es : List (ℕ × Node)) → 1 ≤ low → RiseFrom low high es → AllByRecursion (λ (e : NodeId × Node). (1 ≤ e.0.0) × (e.0.0 < high)) (nodes_of es)
 named_numbers low high [] le r = tt
 named_numbers low high (e ∷ es) le r = ((omega (arith, r.0), r.1), named_numbers (e.0 + 1) high es (omega arith) r.2)
 
-named_all : (P : Node → Type 0) (es : List (ℕ × Node)) → ((node : Node) → IsNode node → P node) → AllByRecursion (λ (e : ℕ × Node). IsNode e.1) es → AllByRecursion (λ (e : NodeId × Node). P e.1) (nodes_of es)
+pub named_all : (P : Node → Type 0) (es : List (ℕ × Node)) → ((node : Node) → IsNode node → P node) → AllByRecursion (λ (e : ℕ × Node). IsNode e.1) es → AllByRecursion (λ (e : NodeId × Node). P e.1) (nodes_of es)
 named_all P [] each all = tt
 named_all P (e ∷ es) each all = (each e.1 all.0, named_all P es each all.1)
-
--- such nodes make a graph
-pub graph_of : (rel : ℕ) (nodes : Numbered Node) → IsNumbered nodes → AreNodes nodes → (1 ≤ rel) × (rel ≤ number_end) → IsGraph (state_of rel nodes)
-graph_of rel nodes numbered all range = record {
-  rising = named_sorted nodes.entries (sorted 1 nodes.next nodes.entries numbered.rising);
-  numbered = named_numbers 1 nodes.next nodes.entries (omega arith) numbered.rising;
-  in_form = named_all (λ n. IsTrue (rises n.labels) × IsTrue (rises n.props)) nodes.entries (λ n is. (is.labels, is.props)) all;
-  stored = named_all (λ n. IsStorable n.props) nodes.entries (λ n is. is.stored) all;
-  node_range = numbered.range;
-  rel_range = range;
-}
 
 -- what holds of each value holds of each once one is set
 storable_put : (key : List ℕ) (v : Value) (props : List (List ℕ × Value)) → IsTrue (is_storable v) → IsStorable props → IsStorable (with_value key v props)
@@ -118,62 +105,6 @@ node_labelled label node is = record { labels = rises-with_value label tt node.l
 pub node_unlabelled : (label : List ℕ) (node : Node) → IsNode node → IsNode (without_label label node)
 node_unlabelled label node is = record { labels = rises-without label node.labels is.labels; props = is.props; stored = is.stored }
 
--- the graph with one more node
-pub added_are : (rel : ℕ) (nodes : Line Node) (node : Node) → AreVersions rel nodes → IsNode node → AreVersions rel (record nodes { now = with_last node nodes.now })
-added_are rel nodes node all is = record { now = all_push IsNode nodes.now.entries (nodes.now.next, node) all.now is; was = all.was; rel_range = all.rel_range }
-
-pub added_versions : (rel : ℕ) (nodes : Line Node) (node : Node) → versions_of rel (record nodes { now = with_last node nodes.now }) ≡ record (versions_of rel nodes) { now = with_node node (state_of rel nodes.now) }
-added_versions rel nodes node =
-    ap (λ es. let v : Versions = record (versions_of rel nodes) { now = record { content = record { nodes = es }; next_node = nodes.now.next + 1; next_rel = rel } } in v) (named_push nodes.now.entries nodes.now.next node)
-
--- the graph with an edited node
-edited_all : (edited : Node → Node) (number : ℕ) (es : List (ℕ × Node)) (o : Option Node) → o ≡ value_under number es → ((node : Node) → IsNode node → IsNode (edited node))
-    → AllByRecursion (λ (e : ℕ × Node). IsNode e.1) es → AllByRecursion (λ (e : ℕ × Node). IsNode e.1) (put_under number (option_map edited o) es)
-edited_all edited number es None is each all = all
-edited_all edited number es (Some node) is each all = all_put IsNode number (edited node) es all (each node (all_found IsNode number es node all (sym is)))
-
-pub edited_are : (rel : ℕ) (nodes : Line Node) (edited : Node → Node) (number : ℕ) → AreVersions rel nodes → ((node : Node) → IsNode node → IsNode (edited node)) → AreVersions rel (record nodes { now = with_edited edited number nodes.now })
-edited_are rel nodes edited number all each =
-    record { now = edited_all edited number nodes.now.entries (value_under number nodes.now.entries) refl each all.now; was = all.was; rel_range = all.rel_range }
-
-pub edited_versions : (rel : ℕ) (nodes : Line Node) (edited : Node → Node) (id : NodeId)
-    → versions_of rel (record nodes { now = with_edited edited id.0 nodes.now }) ≡ record (versions_of rel nodes) { now = with_node_changed id edited (state_of rel nodes.now) }
-edited_versions rel nodes edited id =
-    ap (λ es. let v : Versions = record (versions_of rel nodes) { now = record { content = record { nodes = es }; next_node = nodes.now.next; next_rel = rel } } in v) (named_edited edited id nodes.now.entries)
-
--- the graph without a node
-pub removed_are : (rel : ℕ) (nodes : Line Node) (number : ℕ) → AreVersions rel nodes → AreVersions rel (record nodes { now = without_number number nodes.now })
-removed_are rel nodes number all = record { now = all_where IsNode (λ k. not (eq_by_cmp nat_cmp number k)) nodes.now.entries all.now; was = all.was; rel_range = all.rel_range }
-
-pub removed_versions : (rel : ℕ) (nodes : Line Node) (id : NodeId) → versions_of rel (record nodes { now = without_number id.0 nodes.now }) ≡ record (versions_of rel nodes) { now = without_node id (state_of rel nodes.now) }
-removed_versions rel nodes id =
-    ap (λ es. let v : Versions = record (versions_of rel nodes) { now = record { content = record { nodes = es }; next_node = nodes.now.next; next_rel = rel } } in v) (named_where id nodes.now.entries)
-
--- a node that is there stands in the series
-pub there_named : (rel : ℕ) (nodes : Line Node) (versions : Versions) (id : NodeId) → versions_of rel nodes ≡ versions → IsSome (node_at id versions.now) → IsSome (value_under id.0 nodes.now.entries)
-there_named rel nodes versions id view there = sym (ap is_some (find_named id nodes.now.entries)) ∙ ap (λ (v : Versions). is_some (node_at id v.now)) view ∙ there
-
--- what a call of the series makes of the versions, where it succeeds
-module _ {E : Type 0} (answer : Result (Unit {0}) E) (rel : ℕ) (nodes new : Line Node) (versions : Versions) (view : versions_of rel nodes ≡ versions) where
-  pub after_edit : (edited : Node → Node) (id : NodeId) → OnOk answer (new ≡ record nodes { now = with_edited edited id.0 nodes.now })
-      → OnOk answer (versions_of rel new ≡ record versions { now = with_node_changed id edited versions.now })
-  after_edit edited id =
-      on_ok_weaker answer (λ is. ap (versions_of rel) is ∙ edited_versions rel nodes edited id
-      ∙ ap (λ (v : Versions). let w : Versions = record v { now = with_node_changed id edited v.now } in w) view)
-
-  pub after_removal : (id : NodeId) → OnOk answer (new ≡ record nodes { now = without_number id.0 nodes.now }) → OnOk answer (versions_of rel new ≡ record versions { now = without_node id versions.now })
-  after_removal id =
-      on_ok_weaker answer (λ is. ap (versions_of rel) is ∙ removed_versions rel nodes id
-      ∙ ap (λ (v : Versions). let w : Versions = record v { now = without_node id v.now } in w) view)
-
-  pub after_refusal : OnErr answer (new ≡ nodes) → OnErr answer (versions_of rel new ≡ versions)
-  after_refusal = on_err_weaker answer (λ is. ap (versions_of rel) is ∙ view)
-
-  pub are_edited : (edited : Node → Node) (number : ℕ) → AreVersions rel nodes → ((node : Node) → IsNode node → IsNode (edited node))
-      → OnOk answer (new ≡ record nodes { now = with_edited edited number nodes.now }) → OnErr answer (new ≡ nodes) → AreVersions rel new
-  are_edited edited number all each ok err =
-      either answer ok err (λ is. subst (AreVersions rel) (sym is) (edited_are rel nodes edited number all each)) (λ is. subst (AreVersions rel) (sym is) all)
-
-  pub are_removed : (number : ℕ) → AreVersions rel nodes → OnOk answer (new ≡ record nodes { now = without_number number nodes.now }) → OnErr answer (new ≡ nodes) → AreVersions rel new
-  are_removed number all ok err =
-      either answer ok err (λ is. subst (AreVersions rel) (sym is) (removed_are rel nodes number all)) (λ is. subst (AreVersions rel) (sym is) all)
+pub rel_set : (key : List ℕ) (value : Option Value) → IfSome value (λ v. IsTrue (is_storable v)) → (rel : Rel) → IsRel rel → IsRel (rel_set_at key value rel)
+rel_set key None given rel is = record { props = rises-without key rel.props is.props; stored = storable_where _ rel.props is.stored }
+rel_set key (Some v) given rel is = record { props = rises-with_value key v rel.props is.props; stored = storable_put key v rel.props given is.stored }

@@ -186,7 +186,7 @@ module _ {V : Type 0} where
       ]
 
   -- greater numbers are other ones
-  others_stay : (id : ℕ) (low high : ℕ) (es : List (ℕ × V)) → id < low → RiseFrom low high es → entries.where_key nat_cmp (λ k. not (eq_by_cmp nat_cmp id k)) es ≡ es
+  pub others_stay : (id : ℕ) (low high : ℕ) (es : List (ℕ × V)) → id < low → RiseFrom low high es → entries.where_key nat_cmp (λ k. not (eq_by_cmp nat_cmp id k)) es ≡ es
   others_stay id low high [] lt r = refl
   others_stay id low high (e ∷ es) lt r =
       ap (λ o. cond (not (is_eq o)) (e ∷ entries.where_key nat_cmp (λ k. not (eq_by_cmp nat_cmp id k)) es) (entries.where_key nat_cmp (λ k. not (eq_by_cmp nat_cmp id k)) es)) (below id e.0 (omega (arith, r.0)))

@@ -1,26 +1,33 @@
 -- The graph and its content, as it is and as it was when the open change began.
-use Rattle.std.specs.Prelude.{ℕ, ◌+◌, ◌^◌, ◌≤◌, ◌<◌, not, List, [], ◌∷◌, ◌++◌, Option, None, Some, IsSome, IsTrue}
+use Rattle.std.specs.Prelude.{ℕ, ◌+◌, ◌^◌, ◌≤◌, ◌<◌, not, eqb, ◌||◌, map, filter, List, [], ◌∷◌, ◌++◌, Option, None, Some, IsSome, IsTrue}
 use Rattle.std.specs.Option.{option_map}
 use Rattle.std.specs.List.{AllByRecursion}
 use Rattle.std.specs.declared.cmp.Ordering.{Ordering}
 use Rattle.std.specs.Ordering.{nat_cmp, eq_by_cmp}
 use Rattle.std.specs.FinMap.Entries as entries
 use Rattle.cy_values.specs.declared.numbers.NodeId.{NodeId}
+use Rattle.cy_values.specs.declared.numbers.RelId.{RelId}
 use Rattle.cy_values.specs.declared.numbers.Entity.{Entity}
 use Rattle.cy_values.specs.declared.numbers.Entity.TheVariants as entity
 use Rattle.cy_values.specs.declared.scalars.Value.{Value}
 use Rattle.cy_graph.specs.Maps.{rises, with_value, without}
 use Rattle.cy_graph.specs.declared.nodes.Node.{Node}
+use Rattle.cy_graph.specs.declared.nodes.Rel.{Rel}
 use Rattle.cy_graph.specs.Stored.{IsStorable}
 
 -- nodes by their numbers
 abbrev pub node_order : NodeId → NodeId → Ordering
 node_order m n = nat_cmp m.0 n.0
 
--- what a graph holds: its nodes under their numbers, by rising number. Two graphs have the same content where
--- these lists are equal
+-- relationships by theirs
+abbrev pub rel_order : RelId → RelId → Ordering
+rel_order m n = nat_cmp m.0 n.0
+
+-- what a graph holds: its nodes and its relationships under their numbers, by rising number. Two graphs have the same
+-- content where these lists are equal (Francis et al.)
 pub record Content : Type 0 where
   pub nodes : List (NodeId × Node)
+  pub rels : List (RelId × Rel)
 
 -- a graph: what it holds, and the next number of each series
 pub record State : Type 0 where
@@ -39,17 +46,40 @@ number_end = 2 ^ 40 + 1
 
 -- a graph with nothing in it, whose next numbers are these
 abbrev pub empty_state : ℕ → ℕ → State
-empty_state node rel = record { content = record { nodes = [] }; next_node = node; next_rel = rel }
+empty_state node rel = record { content = record { nodes = []; rels = [] }; next_node = node; next_rel = rel }
 
 -- the node under a number
 abbrev pub node_at : NodeId → State → Option Node
 node_at id state = entries.find node_order id state.content.nodes
 
+-- the relationship under a number
+abbrev pub rel_at : RelId → State → Option Rel
+rel_at id state = entries.find rel_order id state.content.rels
+
+-- the relationships of which the node is the source, by rising number
+abbrev pub rels_from : NodeId → List (RelId × Rel) → List RelId
+rels_from node rels = map (λ e. e.0) (filter (λ e. eqb node.0 e.1.source.0) rels)
+
+-- and of which it is the target
+abbrev pub rels_into : NodeId → List (RelId × Rel) → List RelId
+rels_into node rels = map (λ e. e.0) (filter (λ e. eqb node.0 e.1.target.0) rels)
+
+-- and of which it is either
+abbrev pub rels_with : NodeId → List (RelId × Rel) → List RelId
+rels_with node rels = map (λ e. e.0) (filter (λ e. eqb node.0 e.1.source.0 || eqb node.0 e.1.target.0) rels)
+
 -- the graph with one more node, under the next number
 abbrev pub with_node : Node → State → State
 with_node node state = record state {
-  content = record { nodes = state.content.nodes ++ (record { 0 = state.next_node }, node) ∷ [] };
+  content = record state.content { nodes = state.content.nodes ++ (record { 0 = state.next_node }, node) ∷ [] };
   next_node = state.next_node + 1;
+}
+
+-- the graph with one more relationship, under the next number
+abbrev pub with_rel : Rel → State → State
+with_rel rel state = record state {
+  content = record state.content { rels = state.content.rels ++ (record { 0 = state.next_rel }, rel) ∷ [] };
+  next_rel = state.next_rel + 1;
 }
 
 -- the properties with the value at the key, or with nothing there
@@ -60,6 +90,10 @@ set_or_removed key (Some value) props = with_value key value props
 -- the node with that property
 abbrev pub set_at : List ℕ → Option Value → Node → Node
 set_at key value node = record node { props = set_or_removed key value node.props }
+
+-- the relationship with that property
+abbrev pub rel_set_at : List ℕ → Option Value → Rel → Rel
+rel_set_at key value rel = record rel { props = set_or_removed key value rel.props }
 
 -- the node with the label, and all else as it was
 abbrev pub with_label : List ℕ → Node → Node
@@ -76,33 +110,56 @@ replaced id (Some node) nodes = entries.put node_order id node nodes
 
 -- the graph with other nodes, and all else as it was
 abbrev pub with_nodes : List (NodeId × Node) → State → State
-with_nodes nodes state = record state { content = record { nodes = nodes } }
+with_nodes nodes state = record state { content = record state.content { nodes = nodes } }
+
+-- the graph with other relationships, and all else as it was
+abbrev pub with_rels : List (RelId × Rel) → State → State
+with_rels rels state = record state { content = record state.content { rels = rels } }
 
 -- the graph with another node under the number, made of the one that is there, and all else as it was
 abbrev pub with_node_changed : NodeId → (Node → Node) → State → State
 with_node_changed id change state = with_nodes (replaced id (option_map change (node_at id state)) state.content.nodes) state
 
+-- the relationships with this one under the number, where it has one already
+abbrev pub replaced_rel : RelId → Option Rel → List (RelId × Rel) → List (RelId × Rel)
+replaced_rel id None rels = rels
+replaced_rel id (Some rel) rels = entries.put rel_order id rel rels
+
+-- the graph with another relationship under the number, made of the one that is there, and all else as it was
+abbrev pub with_rel_changed : RelId → (Rel → Rel) → State → State
+with_rel_changed id change state = with_rels (replaced_rel id (option_map change (rel_at id state)) state.content.rels) state
+
 -- whether the entity is in the graph
 abbrev pub IsThere : Entity → State → Type 0
 IsThere (entity.Node id) state = IsSome (node_at id state)
-IsThere (entity.Rel id) state = ⊥
+IsThere (entity.Rel id) state = IsSome (rel_at id state)
 
 -- the graph with the property of the entity set to the value, or with no such property where none is given, and
 -- all else as it was
 abbrev pub with_prop : Entity → List ℕ → Option Value → State → State
 with_prop (entity.Node id) key value state = with_node_changed id (set_at key value) state
-with_prop (entity.Rel id) key value state = state
+with_prop (entity.Rel id) key value state = with_rel_changed id (rel_set_at key value) state
 
 -- the graph without the node, and all else as it was; its number stays given out
 abbrev pub without_node : NodeId → State → State
 without_node id state = with_nodes (entries.where_key node_order (λ k. not (eq_by_cmp node_order id k)) state.content.nodes) state
 
+-- the graph without the relationship, and all else as it was; its number stays given out
+abbrev pub without_rel : RelId → State → State
+without_rel id state = with_rels (entries.where_key rel_order (λ k. not (eq_by_cmp rel_order id k)) state.content.rels) state
+
 -- every number in use is at least 1 and below the next one, numbers rise, the labels and the keys of each node rise, so
--- that each content has one form, values are such as can be stored, and the next numbers are within bounds
+-- that each content has one form, values are such as can be stored, the ends of each relationship are nodes, and the next
+-- numbers are within bounds
 pub record IsGraph (state : State) : Type 0 where
   pub rising : IsTrue (entries.is_sorted node_order state.content.nodes)
   pub numbered : AllByRecursion (λ (e : NodeId × Node). (1 ≤ e.0.0) × (e.0.0 < state.next_node)) state.content.nodes
   pub in_form : AllByRecursion (λ (e : NodeId × Node). IsTrue (rises e.1.labels) × IsTrue (rises e.1.props)) state.content.nodes
   pub stored : AllByRecursion (λ (e : NodeId × Node). IsStorable e.1.props) state.content.nodes
+  pub rels_rising : IsTrue (entries.is_sorted rel_order state.content.rels)
+  pub rels_numbered : AllByRecursion (λ (e : RelId × Rel). (1 ≤ e.0.0) × (e.0.0 < state.next_rel)) state.content.rels
+  pub rels_in_form : AllByRecursion (λ (e : RelId × Rel). IsTrue (rises e.1.props)) state.content.rels
+  pub rels_stored : AllByRecursion (λ (e : RelId × Rel). IsStorable e.1.props) state.content.rels
+  pub ends : AllByRecursion (λ (e : RelId × Rel). IsSome (node_at e.1.source state) × IsSome (node_at e.1.target state)) state.content.rels
   pub node_range : (1 ≤ state.next_node) × (state.next_node ≤ number_end)
   pub rel_range : (1 ≤ state.next_rel) × (state.next_rel ≤ number_end)

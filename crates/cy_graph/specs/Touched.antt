@@ -1,30 +1,40 @@
 -- What a change touched.
-use Rattle.std.specs.Prelude.{◌≡◌, ◌≢◌, List, [], ◌∷◌, Contains, Option}
+use Rattle.std.specs.Prelude.{◌≡◌, ◌≢◌, List, [], ◌∷◌, Contains, Option, ◌⊎◌}
+use Rattle.std.proofs.Common.{inl, inr}
 use Rattle.std.specs.List.{AllByRecursion}
 use Rattle.std.specs.Option.{option_map}
-use Rattle.cy_values.specs.declared.numbers.NodeId.{NodeId}
 use Rattle.cy_values.specs.declared.numbers.Entity.{Entity}
 use Rattle.cy_values.specs.declared.numbers.Entity.TheVariants as entity
 use Rattle.cy_graph.specs.declared.nodes.Node.{Node}
+use Rattle.cy_graph.specs.declared.nodes.Rel.{Rel}
 use Rattle.cy_graph.specs.declared.touched.Touched.{Touched}
 use Rattle.cy_graph.specs.declared.touched.Was.{Was}
 use Rattle.cy_graph.specs.declared.touched.Was.TheVariants as was
-use Rattle.cy_graph.specs.Graph.{State, node_at}
+use Rattle.cy_graph.specs.Graph.{State, node_at, rel_at}
 
--- an entity, with the node that it was
+-- the value that an entity had: a node, or a relationship
+abbrev pub Old : Type 0
+Old = Node ⊎ Rel
+
+-- an entity, with the value that it had, if it was there
 abbrev pub Entry : Type 0
-Entry = Entity × Option Node
+Entry = Entity × Option Old
 
-abbrev pub old_node : Was → Node
-old_node (was.Node node) = node.now
+abbrev pub old_value : Was → Old
+old_value (was.Node node) = inl node.now
+old_value (was.Rel rel) = inr rel.now
 
 abbrev pub entry_of : Touched → Entry
-entry_of t = (t.entity, option_map old_node t.was)
+entry_of t = (t.entity, option_map old_value t.was)
 
--- the entity differs between the two graphs, and was this in the first
+-- the value of an entity in a graph
+abbrev pub value_of : Entity → State → Option Old
+value_of (entity.Node id) state = option_map (λ node. inl node) (node_at id state)
+value_of (entity.Rel id) state = option_map (λ rel. inr rel) (rel_at id state)
+
+-- the entity differs between the two graphs, and had this value in the first
 abbrev pub Differs : State → State → Entry → Type 0
-Differs before now ((entity.Node id), old) = (old ≡ node_at id before) × (node_at id before ≢ node_at id now)
-Differs before now ((entity.Rel id), old) = ⊥
+Differs before now e = (e.1 ≡ value_of e.0 before) × (value_of e.0 before ≢ value_of e.0 now)
 
 -- each entity is another than those after it
 abbrev pub AreApart : List Entry → Type 0
@@ -35,4 +45,4 @@ AreApart (e ∷ es) = AllByRecursion (λ (f : Entry). e.0 ≢ f.0) es × AreApar
 pub record AreTouched (before now : State) (touched : List Entry) : Type 0 where
   pub once : AreApart touched
   pub differ : (e : Entry) → Contains touched e → Differs before now e
-  pub all : (id : NodeId) → node_at id before ≢ node_at id now → Contains touched (entity.Node id, node_at id before)
+  pub all : (e : Entity) → value_of e before ≢ value_of e now → Contains touched (e, value_of e before)

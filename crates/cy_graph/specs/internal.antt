@@ -1,4 +1,5 @@
 -- What proofs alone need.
+pub mod Adjacency
 pub mod Contents
 pub mod Differences
 pub mod Entries

@@ -1,9 +1,9 @@
-//! Edits of a node.
+//! Edits of a node or a relationship.
 
 ghost use Rattle.std.specs.Prelude.{◌≡◌, OnOk, OnErr, IsTrue, not};
-ghost use Rattle.cy_graph.specs.Graph.{set_at, set_or_removed, with_label, without_label};
+ghost use Rattle.cy_graph.specs.Graph.{set_at, rel_set_at, set_or_removed, with_label, without_label};
 
-use crate::nodes::{Node, Props};
+use crate::nodes::{Node, Props, Rel};
 use crate::series::Edit;
 use cy_values::{Fault, Text, Value};
 
@@ -47,6 +47,18 @@ impl Edit<Node> for SetProp {
 
     fn apply(self, node: &mut Node) -> Result<(), Fault> {
         self.apply_to(&mut node.props)
+    }
+}
+
+impl Edit<Rel> for SetProp {
+    ghost edited = { λ s rel. rel_set_at s.key s.value rel };
+
+    fn changes(&self, rel: &Rel) -> bool {
+        self.changes_props(&rel.props)
+    }
+
+    fn apply(self, rel: &mut Rel) -> Result<(), Fault> {
+        self.apply_to(&mut rel.props)
     }
 }
 

@@ -4,13 +4,16 @@ ghost use Rattle.std.specs.Prelude.{◌≡◌, None};
 ghost use Rattle.cy_graph.specs.declared.faults.GraphFault.TheVariants.{NoMemory};
 ghost use Rattle.cy_graph.specs.Faults.{code_of};
 
-use cy_values::Fault;
+use cy_values::{Fault, RelId};
 use std::alloc::{AllocError, AllocFailed};
 use thiserror::Error;
 
 /// Why a change of the graph was refused. The graph is as it was before the call.
 #[derive(Clone, Copy, Debug, PartialEq, Eq, Error)]
 pub enum GraphFault {
+    /// The node has relationships; this is the one with the least number.
+    #[error("a relationship is still there")]
+    StillConnected(RelId),
     /// Each number of the series was given out.
     #[error("no number is left")]
     Full,
@@ -20,11 +23,12 @@ pub enum GraphFault {
 }
 
 impl GraphFault {
-    /// The number of the fault: 53 for `Full`, 90 for `NoMemory`.
+    /// The number of the fault: 50 for `StillConnected`, 53 for `Full`, 90 for `NoMemory`.
     pub fn code(&self) -> u16
         ensures { result ≡ code_of self.now }
     {
         match self {
+            GraphFault::StillConnected(_) => 50,
             GraphFault::Full => 53,
             GraphFault::NoMemory => 90,
         }

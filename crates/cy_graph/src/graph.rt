@@ -1,18 +1,20 @@
 //! The graph, and one change of it at a time.
 
-ghost use Rattle.std.specs.Prelude.{◌≡◌, ◌≤◌, ◌↔◌, IsTrue, IsSome, IsNone, IfSome, IfOk, IfErr, OnOk, OnErr, IsErrOf, None, Some, map};
+ghost use Rattle.std.specs.Prelude.{◌≡◌, ◌≤◌, ◌↔◌, IsTrue, IsSome, IsNone, IfSome, IfOk, IfErr, OnOk, OnErr, IsErrOf, None, Some, map, slice_get, ◌⊎◌};
+ghost use Rattle.cy_values.specs.declared.numbers.RelId.{RelId};
 ghost use Rattle.std.specs.Option.{option_copied};
-ghost use Rattle.cy_graph.specs.Graph.{Versions, empty_state, node_at, with_node, with_label, without_label, with_node_changed, with_prop, without_node, number_end, IsThere, IsGraph};
+ghost use Rattle.cy_graph.specs.Graph.{Versions, empty_state, node_at, rel_at, rels_from, rels_into, rels_with, with_node, with_rel, without_rel, with_label, without_label, with_node_changed, with_prop, without_node, number_end, IsThere, IsGraph};
 ghost use Rattle.cy_graph.specs.Touched.{entry_of, AreTouched};
 ghost use Rattle.cy_graph.specs.Stored.{is_storable, IsStorable};
 
+use crate::adjacency::Adjacency;
 use crate::edits::{AddLabel, DropLabel, SetProp};
 use crate::faults::GraphFault;
-use crate::nodes::{Labels, Node, Props};
+use crate::nodes::{Labels, Node, Props, Rel};
 use crate::series::Series;
-use crate::touched::{Touched, push_nodes};
-use crate::walks::Nodes;
-use cy_values::{Entity, NodeId, Text, Value};
+use crate::touched::{Touched, push_nodes, push_rels};
+use crate::walks::{Nodes, Rels};
+use cy_values::{Entity, NodeId, RelId, Text, Value};
 use std::alloc::Global;
 use std::marker::Model;
 
@@ -20,7 +22,10 @@ use std::marker::Model;
 #[derive(Drop)]
 pub struct Graph {
     nodes: Series<Node>,
-    next_rel: u64,
+    rels: Series<Rel>,
+    /// The relationships of which each node is the source, and those of which it is the target.
+    outgoing: Adjacency,
+    incoming: Adjacency,
 }
 
 impl Model for Graph {
@@ -29,9 +34,9 @@ impl Model for Graph {
 
     ghost Value = { Versions };
 
-    ghost view = { λ g. versions_of g.next_rel g.nodes };
+    ghost view = { λ g. versions_of g.nodes g.rels };
 
-    ghost invariant = { λ g. AreVersions g.next_rel g.nodes };
+    ghost invariant = { λ g. AreVersions g.nodes g.rels g.outgoing g.incoming };
 }
 
 impl Graph {
@@ -52,8 +57,19 @@ impl Graph {
     {
         Graph {
             nodes: Series::starting_at(alloc, node),
-            next_rel: rel,
+            rels: Series::starting_at(alloc, rel),
+            outgoing: Adjacency::new(alloc),
+            incoming: Adjacency::new(alloc),
         }
+    }
+
+    /// What holds of every graph: numbers rise from 1 and stay below the next ones, each content has one form, values are
+    /// such as can be stored, and the ends of each relationship are nodes.
+    pub fn laws(&self)
+        ensures { IsGraph self.now.now }
+    {
+        self.nodes.laws();
+        self.rels.laws();
     }
 
     /// The node under a number, if there is one.
@@ -68,7 +84,38 @@ impl Graph {
         ensures nodes { result ≡ self.now.now.content.nodes }
         ensures graph { IsGraph self.now.now }
     {
+        self.laws();
         Nodes::new(self.nodes.values())
+    }
+
+    /// The relationship under a number, if there is one.
+    pub fn rel(&self, id: RelId) -> Option<&Rel>
+        ensures { option_copied result ≡ rel_at id self.now.now }
+    {
+        self.rels.get(id.0)
+    }
+
+    /// The relationships with their numbers, by rising number.
+    pub fn rels(&self) -> Rels<'_>
+        ensures rels { result ≡ self.now.now.content.rels }
+        ensures graph { IsGraph self.now.now }
+    {
+        self.laws();
+        Rels::new(self.rels.values())
+    }
+
+    /// The relationships of which a node is the source, by rising number.
+    pub fn out_rels(&self, id: NodeId) -> &[RelId]
+        ensures { result.now ≡ rels_from id self.now.now.content.rels }
+    {
+        self.outgoing.at(id.0)
+    }
+
+    /// The relationships of which a node is the target, by rising number.
+    pub fn in_rels(&self, id: NodeId) -> &[RelId]
+        ensures { result.now ≡ rels_into id self.now.now.content.rels }
+    {
+        self.incoming.at(id.0)
     }
 
     /// Opens a change, which `commit` or `rollback` ends.
@@ -77,6 +124,7 @@ impl Graph {
         ensures { self.new ≡ record self.old { was = Some self.old.now } }
     {
         self.nodes.begin();
+        self.rels.begin();
     }
 
     /// Adds a node under the next number, which it gives. `Full` where number 2^40 was given out; else it fails
@@ -87,9 +135,39 @@ impl Graph {
         ensures number { IfOk result (λ id. id.0 ≡ self.old.now.next_node) }
         ensures added { IfOk result (λ _. self.new ≡ record self.old { now = with_node (record { labels = labels; props = props }) self.old.now }) }
         ensures full { IsErrOf result GraphFault.Full ↔ (self.old.now.next_node ≡ number_end) }
+        ensures fault { IfErr result (λ fault. (fault ≡ GraphFault.Full) ⊎ (fault ≡ GraphFault.NoMemory)) }
         ensures err { OnErr result (self.new ≡ self.old) }
     {
         Ok(NodeId(self.nodes.add(Node::new(labels, props))?))
+    }
+
+    /// Adds a relationship under the next number, which it gives. `Full` where number 2^40 was given out; else it fails
+    /// only for want of memory.
+    pub fn add_rel(
+        &mut self,
+        source: NodeId,
+        target: NodeId,
+        kind: Text,
+        props: Props,
+    ) -> Result<RelId, GraphFault>
+        requires open { IsSome self.old.was }
+        requires from { IsSome (node_at source self.old.now) }
+        requires to { IsSome (node_at target self.old.now) }
+        requires storable { IsStorable props }
+        ensures number { IfOk result (λ id. id.0 ≡ self.old.now.next_rel) }
+        ensures added { OnOk result (self.new ≡ record self.old { now = with_rel (record { source = source; target = target; kind = kind; props = props }) self.old.now }) }
+        ensures full { IsErrOf result GraphFault.Full ↔ (self.old.now.next_rel ≡ number_end) }
+        ensures fault { IfErr result (λ fault. (fault ≡ GraphFault.Full) ⊎ (fault ≡ GraphFault.NoMemory)) }
+        ensures err { OnErr result (self.new ≡ self.old) }
+    {
+        self.rels.laws();
+        let id = RelId(self.rels.next_number()?);
+        self.outgoing.reserve(source.0)?;
+        self.incoming.reserve(target.0)?;
+        self.rels.add(Rel::new(source, target, kind, props))?;
+        self.outgoing.link(source.0, id);
+        self.incoming.link(target.0, id);
+        Ok(id)
     }
 
     /// Sets the property of an entity at a key, or removes it where no value is given. Fails only for want of memory.
@@ -106,9 +184,10 @@ impl Graph {
         ensures fault { IfErr result (λ fault. fault ≡ GraphFault.NoMemory) }
         ensures err { OnErr result (self.new ≡ self.old) }
     {
+        self.rels.laws();
         match entity {
             Entity::Node(id) => self.nodes.edit(id.0, SetProp { key, value }),
-            Entity::Rel(_) => Ok(()),
+            Entity::Rel(id) => self.rels.edit(id.0, SetProp { key, value }),
         }
     }
 
@@ -134,15 +213,53 @@ impl Graph {
         self.nodes.edit(id.0, DropLabel(label))
     }
 
-    /// Removes a node. Its number is not used again. Fails only for want of memory.
+    /// Removes a relationship. Its number is not used again. Fails only for want of memory.
+    pub fn remove_rel(&mut self, id: RelId) -> Result<(), GraphFault>
+        requires open { IsSome self.old.was }
+        requires there { IsSome (rel_at id self.old.now) }
+        ensures ok { OnOk result (self.new ≡ record self.old { now = without_rel id self.old.now }) }
+        ensures fault { IfErr result (λ fault. fault ≡ GraphFault.NoMemory) }
+        ensures err { OnErr result (self.new ≡ self.old) }
+    {
+        let Some(rel) = self.rels.get(id.0) else {
+            return Ok(());
+        };
+        let (source, target) = (rel.source, rel.target);
+        self.outgoing.reserve_step()?;
+        self.incoming.reserve_step()?;
+        self.rels.remove(id.0)?;
+        self.outgoing.unlink(source.0, id);
+        self.incoming.unlink(target.0, id);
+        Ok(())
+    }
+
+    /// Removes a node. Its number is not used again. `StillConnected` with the least relationship at it, where there is
+    /// one; else it fails only for want of memory.
     pub fn remove_node(&mut self, id: NodeId) -> Result<(), GraphFault>
         requires open { IsSome self.old.was }
         requires there { IsSome (node_at id self.old.now) }
         ensures ok { OnOk result (self.new ≡ record self.old { now = without_node id self.old.now }) }
-        ensures fault { IfErr result (λ fault. fault ≡ GraphFault.NoMemory) }
+        ensures connected { (rel : RelId) → IsErrOf result (GraphFault.StillConnected rel) ↔ (slice_get (rels_with id self.old.now.content.rels) 0 ≡ Some rel) }
+        ensures fault { IfErr result (λ fault. ((rel : RelId) × (fault ≡ GraphFault.StillConnected rel)) ⊎ (fault ≡ GraphFault.NoMemory)) }
         ensures err { OnErr result (self.new ≡ self.old) }
     {
+        if let Some(rel) = self.least_rel(id) {
+            return Err(GraphFault::StillConnected(rel));
+        }
         self.nodes.remove(id.0)
+    }
+
+    // The relationship at a node that has the least number, if there is one.
+    fn least_rel(&self, id: NodeId) -> Option<RelId>
+        ensures { result ≡ slice_get (rels_with id self.now.now.content.rels) 0 }
+    {
+        self.laws();
+        match (self.out_rels(id).first(), self.in_rels(id).first()) {
+            (Some(out), Some(into)) => Some(if out.0 < into.0 { *out } else { *into }),
+            (Some(out), None) => Some(*out),
+            (None, Some(into)) => Some(*into),
+            (None, None) => None,
+        }
     }
 
     /// The entities whose value is another than when the change began, each once, with the value that they had. What
@@ -155,6 +272,7 @@ impl Graph {
     {
         let mut touched = Vec::new(alloc);
         push_nodes(&mut touched, &self.nodes.differing(alloc)?)?;
+        push_rels(&mut touched, &self.rels.differing(alloc)?)?;
         Ok(touched)
     }
 
@@ -164,6 +282,9 @@ impl Graph {
         ensures { self.new ≡ record self.old { was = None } }
     {
         self.nodes.commit();
+        self.rels.commit();
+        self.outgoing.commit();
+        self.incoming.commit();
     }
 
     /// Ends the change: the graph is as it was when the change began, next numbers included.
@@ -172,5 +293,8 @@ impl Graph {
         ensures { IfSome self.old.was (λ before. self.new ≡ record { now = before; was = None }) }
     {
         self.nodes.rollback();
+        self.rels.rollback();
+        self.outgoing.rollback();
+        self.incoming.rollback();
     }
 }

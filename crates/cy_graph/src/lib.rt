@@ -1,6 +1,7 @@
-//! The property graph: nodes with labels and properties under numbers, and one change at a time that can be taken back.
+//! The property graph: nodes with labels and properties, relationships with a type and properties, and one change at a time that can be taken back.
 #![tactic(auto)]
 
+mod adjacency;
 mod edits;
 mod faults;
 mod graph;
@@ -15,6 +16,6 @@ mod walks;
 pub use faults::GraphFault;
 pub use graph::Graph;
 pub use maps::TextMap;
-pub use nodes::{Labels, Node, Props};
+pub use nodes::{Labels, Node, Props, Rel};
 pub use touched::{Touched, Was};
-pub use walks::Nodes;
+pub use walks::{Nodes, Rels};

@@ -1,6 +1,6 @@
 //! Values under numbers that rise and are never used again, with one change at a time that can be taken back.
 
-ghost use Rattle.std.specs.Prelude.{◌≡◌, ◌≤◌, ◌<◌, ◌↔◌, ◌++◌, IsTrue, IsSome, IsNone, IfSome, IfOk, IfErr, OnOk, OnErr, IsErrOf, Some, None, Bool, true, not, filter, is_some, map, slice_get, drop, length, nat_eq};
+ghost use Rattle.std.specs.Prelude.{◌≡◌, ◌≤◌, ◌<◌, ◌↔◌, ◌++◌, ◌⊎◌, IsTrue, IsSome, IsNone, IfSome, IfOk, IfErr, OnOk, OnErr, IsErrOf, Some, None, Bool, true, not, filter, is_some, map, slice_get, drop, length, nat_eq};
 ghost use Rattle.std.specs.Option.{option_copied, option_map};
 ghost use Rattle.indexmap.specs.IndexMap.{spare, IsUnique};
 ghost use Rattle.cy_graph.specs.Graph.{number_end};
@@ -115,6 +115,13 @@ impl<V: Duplicate + Drop> Series<V> {
         }
     }
 
+    /// What holds of every series: the numbers rise from 1 and stay below the next one.
+    pub fn laws(&self)
+        ensures { IsNumbered self.now.now }
+    {
+        let _slots = &self.slots;
+    }
+
     /// The value under a number, if there is one.
     pub fn get(&self, number: u64) -> Option<&V>
         ensures value { option_copied result ≡ value_under number self.now.now.entries }
@@ -125,8 +132,7 @@ impl<V: Duplicate + Drop> Series<V> {
 
     /// The values with their numbers, by rising number.
     pub fn values(&self) -> Values<'_, V>
-        ensures values { result ≡ self.now.now.entries }
-        ensures numbered { IsNumbered self.now.now }
+        ensures { result ≡ self.now.now.entries }
     {
         Values::new(self.slots.iter())
     }
@@ -144,12 +150,25 @@ impl<V: Duplicate + Drop> Series<V> {
         });
     }
 
+    /// The number that the next value gets. `Full` where number 2^40 was given out.
+    pub fn next_number(&self) -> Result<u64, GraphFault>
+        ensures number { IfOk result (λ number. number ≡ self.now.now.next) }
+        ensures full { IsErrOf result GraphFault.Full ↔ (self.now.now.next ≡ number_end) }
+        ensures fault { IfErr result (λ fault. fault ≡ GraphFault.Full) }
+    {
+        if self.next == NUMBER_END {
+            return Err(GraphFault::Full);
+        }
+        Ok(self.next)
+    }
+
     /// Adds a value under the next number, which it gives. `Full` where number 2^40 was given out; else it fails only
     /// for want of memory.
     pub fn add(&mut self, value: V) -> Result<u64, GraphFault>
         ensures number { IfOk result (λ number. number ≡ self.old.now.next) }
         ensures added { OnOk result (self.new ≡ record self.old { now = with_last value self.old.now }) }
         ensures full { IsErrOf result GraphFault.Full ↔ (self.old.now.next ≡ number_end) }
+        ensures fault { IfErr result (λ fault. (fault ≡ GraphFault.Full) ⊎ (fault ≡ GraphFault.NoMemory)) }
         ensures err { OnErr result (self.new ≡ self.old) }
     {
         if self.next == NUMBER_END {

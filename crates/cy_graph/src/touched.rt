@@ -3,11 +3,11 @@
 ghost use Rattle.std.specs.Prelude.{◌≡◌, ◌++◌, IfErr, OnOk, map};
 ghost use Rattle.std.specs.Option.{option_copied};
 ghost use Rattle.cy_graph.specs.Touched.{entry_of};
-ghost use Rattle.cy_graph.specs.internal.Entries.{node_entry};
+ghost use Rattle.cy_graph.specs.internal.Entries.{node_entry, rel_entry};
 
 use crate::faults::GraphFault;
-use crate::nodes::Node;
-use cy_values::{Entity, NodeId};
+use crate::nodes::{Node, Rel};
+use cy_values::{Entity, NodeId, RelId};
 
 /// An entity whose value is another than before the change: made, changed or removed.
 #[derive(Clone, Copy, Debug, Drop)]
@@ -21,6 +21,7 @@ pub struct Touched<'a> {
 #[derive(Clone, Copy, Debug, Drop)]
 pub enum Was<'a> {
     Node(&'a Node),
+    Rel(&'a Rel),
 }
 
 /// Adds the nodes that were found to differ.
@@ -35,6 +36,23 @@ pub(crate) fn push_nodes<'a>(
         touched.push(Touched {
             entity: Entity::Node(NodeId(*number)),
             was: was.map(Was::Node),
+        })?;
+    }
+    Ok(())
+}
+
+/// Adds the relationships that were found to differ.
+pub(crate) fn push_rels<'a>(
+    touched: &mut Vec<Touched<'a>>,
+    found: &[(u64, Option<&'a Rel>)],
+) -> Result<(), GraphFault>
+    ensures ok { OnOk result (map entry_of touched.new.items ≡ map entry_of touched.old.items ++ map rel_entry (map (λ f. (f.0, option_copied f.1)) found.now)) }
+    ensures fault { IfErr result (λ fault. fault ≡ GraphFault.NoMemory) }
+{
+    for (number, was) in found.iter() {
+        touched.push(Touched {
+            entity: Entity::Rel(RelId(*number)),
+            was: was.map(Was::Rel),
         })?;
     }
     Ok(())

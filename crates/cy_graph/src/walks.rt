@@ -2,11 +2,11 @@
 
 ghost use Rattle.std.specs.Prelude.{◌≡◌};
 ghost use Rattle.std.specs.Iterator.{item_count, YieldsFirstBy};
-ghost use Rattle.cy_graph.specs.internal.Contents.{nodes_of};
+ghost use Rattle.cy_graph.specs.internal.Contents.{nodes_of, rels_of};
 ghost use Rattle.cy_graph.specs.internal.Slots.{standing};
 
-use crate::nodes::Node;
-use cy_values::NodeId;
+use crate::nodes::{Node, Rel};
+use cy_values::{NodeId, RelId};
 use indexmap::map;
 use std::marker::Model;
 
@@ -87,5 +87,44 @@ impl<'a> Iterator for Nodes<'a> {
     fn next(&mut self) -> Option<(NodeId, &'a Node)> {
         let (number, node) = self.values.next()?;
         Some((NodeId(number), node))
+    }
+}
+
+/// The relationships of a graph with their numbers, by rising number.
+#[derive(Drop)]
+pub struct Rels<'a> {
+    values: Values<'a, Rel>,
+}
+
+impl<'a> Model for Rels<'a> {
+    ghost use Rattle.std.specs.Prelude.{List};
+    ghost use Rattle.cy_values.specs.declared.numbers.RelId.{RelId};
+    ghost use Rattle.cy_graph.specs.declared.nodes.Rel.{Rel};
+
+    ghost Value = { List (RelId × Rel) };
+
+    ghost use Rattle.cy_graph.specs.internal.Contents.{rels_of};
+
+    ghost view = { λ r. rels_of r.values };
+}
+
+impl<'a> Rels<'a> {
+    pub(crate) fn new(values: Values<'a, Rel>) -> Self
+        ensures { result ≡ rels_of values.entry }
+    {
+        Rels { values }
+    }
+}
+
+impl<'a> Iterator for Rels<'a> {
+    type Item = (RelId, &'a Rel);
+
+    ghost next_gives = { YieldsFirstBy (λ p. (p.0, p.1.now)) (λ r. r) };
+
+    ghost remaining = { item_count (λ r. r) };
+
+    fn next(&mut self) -> Option<(RelId, &'a Rel)> {
+        let (number, rel) = self.values.next()?;
+        Some((RelId(number), rel))
     }
 }

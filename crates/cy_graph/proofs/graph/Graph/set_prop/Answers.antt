@@ -1,18 +1,38 @@
-use Rattle.std.proofs.Common.{subst}
-use Rattle.cy_graph.specs.Graph.{set_at, IsThere}
-use Rattle.cy_graph.proofs.Contents.{there_named, node_set, after_edit, are_edited}
+use Rattle.std.proofs.Common.{refl, subst}
+use Rattle.cy_graph.specs.Graph.{set_at, rel_set_at, IsThere}
+use Rattle.cy_graph.proofs.Contents.{node_set, rel_set}
+use Rattle.cy_graph.proofs.Graphs.{there_named, there_joined}
+use Rattle.cy_graph.proofs.Edited.{node_edited_are, node_edited_versions, rel_edited_stay, rel_edited_versions_are}
 use Rattle.cy_graph.proofs.graph.Graph.set_prop.Goals as goal
 
 pub edit-requires-clause-there : goal.edit-requires-clause-there
 edit-requires-clause-there c =
-    there_named c.self.inside.next_rel c.self.inside.nodes c.args.self.now c.in-Node.id c.self.view_is (subst (λ entity. IsThere entity c.args.self.now.now) c.in-Node.is c.requires.there)
+    there_named c.self.inside.nodes c.self.inside.rels c.args.self.now c.in-Node.id c.self.view_is (subst (λ entity. IsThere entity c.args.self.now.now) c.in-Node.is c.requires.there)
+
+pub edit-requires-in-Rel-clause-there : goal.edit-requires-in-Rel-clause-there
+edit-requires-in-Rel-clause-there c =
+    there_joined c.self.inside.nodes c.self.inside.rels c.args.self.now c.in-Rel.id c.self.view_is (subst (λ entity. IsThere entity c.args.self.now.now) c.in-Rel.is c.requires.there)
 
 pub invariant_of-self : goal.invariant_of-self
 invariant_of-self c =
-    are_edited c.edit.result c.self.inside.next_rel c.self.inside.nodes c.edit.new.self c.args.self.now c.self.view_is
-    (set_at c.args.key c.args.value) c.in-Node.id.0 c.self.invariant (node_set c.args.key c.args.value c.requires.storable) c.edit.ensures.ok c.edit.ensures.err
+    let inside = c.self.inside in
+    node_edited_are c.edit.result inside.nodes c.edit.new.self inside.rels inside.outgoing inside.incoming (set_at c.args.key c.args.value) c.in-Node.id.0 c.self.invariant
+    (node_set c.args.key c.args.value c.requires.storable) c.edit.ensures.ok c.edit.ensures.err
 
 -- the node has the property
 pub returns-in-Node-clause-ok : goal.returns-in-Node-clause-ok
 returns-in-Node-clause-ok c =
-    rw c.in-Node.is (after_edit c.edit.result c.self.inside.next_rel c.self.inside.nodes c.edit.new.self c.args.self.now c.self.view_is (set_at c.args.key c.args.value) c.in-Node.id c.edit.ensures.ok)
+    rw c.in-Node.is (node_edited_versions c.edit.result c.self.inside.nodes c.edit.new.self c.self.inside.rels c.args.self.now c.self.view_is (set_at c.args.key c.args.value) c.in-Node.id c.edit.ensures.ok)
+
+pub invariant_of-self-in-Rel : goal.invariant_of-self-in-Rel
+invariant_of-self-in-Rel c =
+    let inside = c.self.inside in
+    let edit = c.edit-in-Rel in
+    rel_edited_stay edit.result inside.nodes inside.rels edit.new.self inside.outgoing inside.incoming (rel_set_at c.args.key c.args.value) c.in-Rel.id.0 c.self.invariant c.laws.ensures
+    (rel_set c.args.key c.args.value c.requires.storable) (λ rel. refl) (λ rel. refl) edit.ensures.ok edit.ensures.err
+
+-- the relationship has the property
+pub returns-in-Rel-clause-ok : goal.returns-in-Rel-clause-ok
+returns-in-Rel-clause-ok c =
+    let edit = c.edit-in-Rel in
+    rw c.in-Rel.is (rel_edited_versions_are edit.result c.self.inside.nodes c.self.inside.rels edit.new.self c.args.self.now c.self.view_is (rel_set_at c.args.key c.args.value) c.in-Rel.id edit.ensures.ok)

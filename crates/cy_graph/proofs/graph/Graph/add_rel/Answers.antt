@@ -1,0 +1,72 @@
+use Rattle.std.proofs.Common.{IsSome, sym, ap, subst, ◌∙◌}
+use Rattle.cy_graph.specs.declared.nodes.Rel.{Rel}
+use Rattle.cy_graph.specs.Graph.{Versions}
+use Rattle.cy_graph.specs.internal.Contents.{AreVersions}
+use Rattle.cy_graph.specs.internal.Versions.{Line, with_last}
+use Rattle.cy_graph.proofs.Graphs.{there_named, rel_added_versions}
+use Rattle.cy_graph.proofs.Kept.{joined_linked}
+use Rattle.cy_graph.proofs.Relating.{joined_reserved, list_rises, reserved_are, rel_added_are, some_in_rels}
+use Rattle.cy_graph.proofs.graph.Graph.add_rel.Goals as goal
+
+-- room alone changes nothing
+pub invariant_of-self : goal.invariant_of-self
+invariant_of-self c =
+    let inside = c.self.inside in
+    let room = c.reserve.ensures in
+    reserved_are inside.nodes inside.rels inside.outgoing inside.incoming c.reserve.new.self inside.incoming c.self.invariant
+    (joined_reserved (λ rel. rel.source.0) inside.rels inside.outgoing c.reserve.new.self c.self.invariant.out_joined room.ids room.room room.steps) c.self.invariant.in_joined
+
+pub invariant_of-self-in_err-reserve-2 : goal.invariant_of-self-in_err-reserve-2
+invariant_of-self-in_err-reserve-2 c =
+    let inside = c.self.inside in
+    let out = c.reserve.ensures in
+    let into = c.reserve-2.ensures in
+    reserved_are inside.nodes inside.rels inside.outgoing inside.incoming c.reserve.new.self c.reserve-2.new.self c.self.invariant
+    (joined_reserved (λ rel. rel.source.0) inside.rels inside.outgoing c.reserve.new.self c.self.invariant.out_joined out.ids out.room out.steps)
+    (joined_reserved (λ rel. rel.target.0) inside.rels inside.incoming c.reserve-2.new.self c.self.invariant.in_joined into.ids into.room into.steps)
+
+pub invariant_of-self-in_err-add : goal.invariant_of-self-in_err-add
+invariant_of-self-in_err-add c =
+    let inside = c.self.inside in
+    let out = c.reserve.ensures in
+    let into = c.reserve-2.ensures in
+    subst (λ r. AreVersions inside.nodes r c.reserve.new.self c.reserve-2.new.self) (sym c.in_err-add.ensures.err) (reserved_are inside.nodes inside.rels inside.outgoing inside.incoming c.reserve.new.self c.reserve-2.new.self c.self.invariant
+    (joined_reserved (λ rel. rel.source.0) inside.rels inside.outgoing c.reserve.new.self c.self.invariant.out_joined out.ids out.room out.steps)
+    (joined_reserved (λ rel. rel.target.0) inside.rels inside.incoming c.reserve-2.new.self c.self.invariant.in_joined into.ids into.room into.steps))
+
+-- the numbers at both ends rise
+pub link-requires-clause-rising : goal.link-requires-clause-rising
+link-requires-clause-rising c =
+    let inside = c.self.inside in
+    let room = c.reserve.ensures in
+    list_rises (λ rel. rel.source.0) inside.rels c.reserve.new.self c.laws.ensures (joined_reserved (λ rel. rel.source.0) inside.rels inside.outgoing c.reserve.new.self c.self.invariant.out_joined room.ids room.room room.steps) c.args.source.0
+
+pub link-requires-2-clause-rising : goal.link-requires-2-clause-rising
+link-requires-2-clause-rising c =
+    let inside = c.self.inside in
+    let room = c.reserve-2.ensures in
+    list_rises (λ rel. rel.target.0) inside.rels c.reserve-2.new.self c.laws.ensures (joined_reserved (λ rel. rel.target.0) inside.rels inside.incoming c.reserve-2.new.self c.self.invariant.in_joined room.ids room.room room.steps) c.args.target.0
+
+-- the relationship is in the lists of its ends
+pub invariant_of-self-2 : goal.invariant_of-self-2
+invariant_of-self-2 c =
+    let inside = c.self.inside in
+    let rel : Rel = record { source = c.args.source; target = c.args.target; kind = c.args.kind; props = c.args.props } in
+    let open_change = some_in_rels inside.nodes.was inside.rels.was c.self.invariant.both (subst (λ (v : Versions). IsSome v.was) (sym c.self.view_is) c.requires.open) in
+    let number = c.in_ok-next_number.ensures.number in
+    let out = c.in_ok-reserve.ensures in
+    let into = c.in_ok-reserve-2.ensures in
+    let linked_out = rw number at c.link.ensures in
+    let linked_into = rw number at c.link-2.ensures in
+    subst (λ r. AreVersions inside.nodes r c.link.new.self c.link-2.new.self) (sym (c.in_ok-add.ensures.added ∙ ap (λ x. let l : Line Rel = record inside.rels { now = with_last x inside.rels.now } in l) c.new.ensures.rel))
+    (rel_added_are inside.nodes inside.rels inside.outgoing inside.incoming c.link.new.self c.link-2.new.self c.self.invariant rel (record { props = c.new.ensures.props_rise; stored = c.requires.storable })
+    (there_named inside.nodes inside.rels c.args.self.now c.args.source c.self.view_is c.requires.from, there_named inside.nodes inside.rels c.args.self.now c.args.target c.self.view_is c.requires.to)
+    (joined_linked (λ x. x.source.0) inside.rels rel c.laws.ensures open_change inside.outgoing c.reserve.new.self c.link.new.self c.self.invariant.out_joined out.ids out.room out.steps out.ok linked_out.ids linked_out.room linked_out.steps)
+    (joined_linked (λ x. x.target.0) inside.rels rel c.laws.ensures open_change inside.incoming c.reserve-2.new.self c.link-2.new.self c.self.invariant.in_joined into.ids into.room into.steps into.ok linked_into.ids linked_into.room linked_into.steps))
+
+-- it goes last
+pub returns-clause-added : goal.returns-clause-added
+returns-clause-added c =
+    let inside = c.self.inside in
+    let rel : Rel = record { source = c.args.source; target = c.args.target; kind = c.args.kind; props = c.args.props } in
+    rw (← c.self.view_is, c.in_ok-add.ensures.added, c.new.ensures.rel) (rel_added_versions inside.nodes inside.rels rel)

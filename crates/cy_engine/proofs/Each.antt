@@ -10,8 +10,8 @@ use Rattle.cy_values.specs.declared.numbers.NodeId.{NodeId}
 use Rattle.cy_values.specs.declared.scalars.Value.{Value}
 use Rattle.cy_graph.specs.declared.nodes.Node.{Node}
 use Rattle.cy_graph.specs.Graph.{State, node_order, set_at, replaced, with_nodes}
-use Rattle.cy_engine.specs.declared.trees.SetProperty.{SetProperty}
-use Rattle.cy_engine.specs.Each.{set_each, CanSet, without_each, CanRemove}
+use Rattle.cy_engine.specs.declared.forms.SetProperty.{SetProperty}
+use Rattle.cy_engine.specs.internal.Each.{set_each, CanSet, without_each, CanRemove}
 use Rattle.cy_engine.specs.Meaning.{has_label, set_at_label, unless_null}
 
 -- these numbers are above one

@@ -1,45 +1,47 @@
 -- Views keep names of their own.
-use Rattle.std.proofs.Common.{◌≡◌, ◌<◌, ℕ, zero, suc, true, false, cond, List, [], ◌∷◌, ◌++◌, find, length, get_or, None, Some, Result, Ok, Err, refl, sym, ap, subst, ◌∙◌, arith}
+use Rattle.std.proofs.Common.{◌≡◌, ◌⊎◌, ◌<◌, ℕ, zero, suc, true, false, cond, List, [], ◌∷◌, ◌++◌, find, length, get_or, None, Some, refl, sym, ap, subst, ◌∙◌, arith, inl, inr}
 use Rattle.std.specs.Prelude.{Contains}
 use Rattle.std.specs.Str.{bytes_eq}
 use Rattle.std.proofs.lemmas.Slice.Eq.{bytes_eq-Decides}
-use Rattle.cy_engine.specs.declared.entries.Entry.{Entry}
-use Rattle.cy_engine.specs.declared.faults.Fault.{Fault}
-use Rattle.cy_engine.specs.declared.replies.Reply.{Reply}
-use Rattle.cy_engine.specs.declared.replies.Reply.TheVariants as reply
-use Rattle.cy_engine.specs.Step.{EngineState, Machine, View, view_at, Step}
-use Rattle.cy_engine.specs.Run.{Run}
+use Rattle.cy_engine.specs.State.{EngineState, Entries, View, view_at}
+use Rattle.cy_engine.specs.Step.{Answer, Step}
+use Rattle.cy_engine.proofs.Effects.{Effects}
 
 -- a name that none of these views has
-abbrev IsNew : List ℕ → List View → Type 0
+abbrev pub IsNew : List ℕ → List View → Type 0
 IsNew name [] = Unit {0}
 IsNew name (v ∷ vs) = (bytes_eq v.name name ≡ false) × IsNew name vs
 
 -- no two of these views have one name
-abbrev AreNamed : List View → Type 0
+abbrev pub AreNamed : List View → Type 0
 AreNamed [] = Unit {0}
 AreNamed (v ∷ vs) = IsNew v.name vs × AreNamed vs
+
+-- one of these views
+abbrev pub Among : View → List View → Type 0
+Among view [] = ⊥
+Among view (v ∷ vs) = (v ≡ view) ⊎ Among view vs
 
 same_name : (a b : List ℕ) → bytes_eq a b ≡ true → a ≡ b
 same_name a b h = (bytes_eq-Decides a b).0 h
 
-itself : (a : List ℕ) → bytes_eq a a ≡ true
+pub itself : (a : List ℕ) → bytes_eq a a ≡ true
 itself a = (bytes_eq-Decides a a).1 refl
 
-turned : (a b : List ℕ) → bytes_eq a b ≡ false → bytes_eq b a ≡ false
+pub turned : (a b : List ℕ) → bytes_eq a b ≡ false → bytes_eq b a ≡ false
 turned a b h =
     elim (bytes_eq b a) as (λ t. bytes_eq b a ≡ t → t ≡ false) [
       | true ↦ λ is. let wrong : true ≡ false = sym (itself a) ∙ ap (λ (c : List ℕ). bytes_eq a c) (sym (same_name b a is)) ∙ h in absurd (cc)
       | false ↦ λ is. refl
     ] refl
 
--- a view that is not found is new, behind the others
-new_behind : (name : List ℕ) (v : View) (vs : List View) → v.name ≡ name → find (λ w. bytes_eq name w.name) vs ≡ None → AreNamed vs → AreNamed (vs ++ v ∷ [])
-new_behind name v [] is none named = (tt, tt)
-new_behind name v (w ∷ vs) is none named =
+-- a view that is not found is new, after the others
+new_last : (name : List ℕ) (v : View) (vs : List View) → v.name ≡ name → find (λ w. bytes_eq name w.name) vs ≡ None → AreNamed vs → AreNamed (vs ++ v ∷ [])
+new_last name v [] is none named = (tt, tt)
+new_last name v (w ∷ vs) is none named =
     elim (bytes_eq name w.name) as (λ b. bytes_eq name w.name ≡ b → cond b (Some w) (find (λ u. bytes_eq name u.name) vs) ≡ None → AreNamed (w ∷ vs ++ v ∷ [])) [
       | true ↦ λ h e. absurd (cc)
-      | false ↦ λ h e. (one_more vs named.0 (turned_name h), new_behind name v vs is e named.1)
+      | false ↦ λ h e. (one_more vs named.0 (turned_name h), new_last name v vs is e named.1)
     ] refl none
   where
     turned_name : bytes_eq name w.name ≡ false → bytes_eq v.name w.name ≡ false
@@ -49,33 +51,46 @@ new_behind name v (w ∷ vs) is none named =
     one_more [] new other = (other, tt)
     one_more (u ∷ us) new other = (new.0, one_more us new.1 other)
 
-step_named : (old new : EngineState) (line : List ℕ) (result : Result Reply Fault) (entries : List (List ℕ × Entry)) → Step old line result entries new → AreNamed old.views → AreNamed new.views
-step_named old new line (Ok reply.Nothing) entries step named = subst (λ (s : EngineState). AreNamed s.views) (sym step.2) named
-step_named old new line (Ok (reply.Statement changed columns rows)) entries step named = subst (λ (s : EngineState). AreNamed s.views) (sym step.is) named
-step_named old new line (Ok (reply.Made columns tick name)) entries step named =
-    subst (λ (s : EngineState). AreNamed s.views) (sym step.0.is) (new_behind name _ old.views refl step.0.free named)
-step_named old new line (Ok (reply.Rows rows tick name)) entries step named = subst (λ (s : EngineState). AreNamed s.views) (sym step.4) named
-step_named old new line (Err fault) entries step named = subst (λ (s : EngineState). AreNamed s.views) (sym step.2) named
+pub still_among : (view : View) (vs ws : List View) → Among view vs → Among view (vs ++ ws)
+still_among view [] ws here = absurd here
+still_among view (v ∷ vs) ws (inl is) = inl is
+still_among view (v ∷ vs) ws (inr here) = inr (still_among view vs ws here)
 
-run_named : (old new : Machine) (lines : List (List ℕ)) (results : List (Result Reply Fault)) → Run old lines results new → AreNamed old.state.views → AreNamed new.state.views
-run_named old new [] [] run named = subst (λ (m : Machine). AreNamed m.state.views) (sym run) named
-run_named old new (line ∷ lines) (result ∷ results) run named = run_named run.0 new lines results run.2 (step_named old.state run.0.state line result run.0.entries run.1 named)
-run_named old new [] (result ∷ results) run named = absurd run
-run_named old new (line ∷ lines) [] run named = absurd run
+pub among_either : (view last : View) (vs : List View) → Among view (vs ++ last ∷ []) → Among view vs ⊎ (last ≡ view)
+among_either view last [] (inl is) = inr is
+among_either view last [] (inr here) = absurd here
+among_either view last (v ∷ vs) (inl is) = inl (inl is)
+among_either view last (v ∷ vs) (inr here) = turn (among_either view last vs here)
+  where
+    turn : Among view vs ⊎ (last ≡ view) → Among view (v ∷ vs) ⊎ (last ≡ view)
+    turn (inl rest) = inl (inr rest)
+    turn (inr is) = inr is
 
-not_first : (name : List ℕ) (vs : List View) (k : ℕ) (d : View) → IsNew name vs → k < length vs → bytes_eq (get_or vs k d).name name ≡ false
-not_first name [] k d new lt = absurd (omega arith)
-not_first name (v ∷ vs) zero d new lt = new.0
-not_first name (v ∷ vs) (suc k) d new lt = not_first name vs k d new.1 (omega arith)
+pub among_from : (vs : List View) (view : View) (k : ℕ) → k < length vs → get_or vs k view ≡ view → Among view vs
+among_from [] view k below is = absurd (omega arith)
+among_from (v ∷ vs) view zero below is = inl is
+among_from (v ∷ vs) view (suc k) below is = inr (among_from vs view k (omega arith) is)
 
-found_at : (vs : List View) (view : View) (k : ℕ) → AreNamed vs → k < length vs → get_or vs k view ≡ view → find (λ v. bytes_eq view.name v.name) vs ≡ Some view
-found_at [] view k named lt is = absurd (omega arith)
-found_at (v ∷ vs) view zero named lt is =
+-- a view among others has a name that is not that of a new one
+pub other_name : (name : List ℕ) (view : View) (vs : List View) → IsNew name vs → Among view vs → bytes_eq view.name name ≡ false
+other_name name view [] new here = absurd here
+other_name name view (v ∷ vs) new (inl is) = ap (λ (w : View). bytes_eq w.name name) (sym is) ∙ new.0
+other_name name view (v ∷ vs) new (inr here) = other_name name view vs new.1 here
+
+module _ (old : EngineState) (answer : Answer) (entries : Entries) (new : EngineState) where
+  pub effects_named : Effects old answer entries new → AreNamed old.views → AreNamed new.views
+  effects_named (inl (left, none)) named = subst (λ (s : EngineState). AreNamed s.views) (sym left) named
+  effects_named (inr (inl (carried, a))) named = subst (λ (s : EngineState). AreNamed s.views) (sym a.left) named
+  effects_named (inr (inr (view, free, a))) named = subst (λ (s : EngineState). AreNamed s.views) (sym a.left) (new_last view.name view old.views refl free named)
+
+  pub effects_among : (view : View) → Effects old answer entries new → Among view old.views → Among view new.views
+  effects_among view (inl (left, none)) here = subst (λ (s : EngineState). Among view s.views) (sym left) here
+  effects_among view (inr (inl (carried, a))) here = subst (λ (s : EngineState). Among view s.views) (sym a.left) here
+  effects_among view (inr (inr (made, free, a))) here = subst (λ (s : EngineState). Among view s.views) (sym a.left) (still_among view old.views (made ∷ []) here)
+
+pub found : (vs : List View) (view : View) → AreNamed vs → Among view vs → find (λ v. bytes_eq view.name v.name) vs ≡ Some view
+found [] view named here = absurd here
+found (v ∷ vs) view named (inl is) =
     ap (λ b. cond b (Some v) (find (λ w. bytes_eq view.name w.name) vs)) (ap (λ (w : View). bytes_eq view.name w.name) is ∙ itself view.name) ∙ ap Some is
-found_at (v ∷ vs) view (suc k) named lt is =
-    let other : bytes_eq view.name v.name ≡ false = ap (λ (w : View). bytes_eq w.name v.name) (sym is) ∙ not_first v.name vs k view named.0 (omega arith) in
-    ap (λ b. cond b (Some v) (find (λ w. bytes_eq view.name w.name) vs)) other ∙ found_at vs view k named.1 (omega arith) is
-
-pub views_have_names : (old now : Machine) (lines : List (List ℕ)) (results : List (Result Reply Fault)) (view : View) → Run old lines results now → old.state.views ≡ [] → Contains now.state.views view → view_at view.name now.state ≡ Some view
-views_have_names old now lines results view run none here =
-    found_at now.state.views view here.0 (run_named old now lines results run (subst AreNamed (sym none) tt)) here.1 here.2
+found (v ∷ vs) view named (inr here) =
+    ap (λ b. cond b (Some v) (find (λ w. bytes_eq view.name w.name) vs)) (other_name v.name view vs named.0 here) ∙ found vs view named.1 here

@@ -4,8 +4,9 @@ use Rattle.std.specs.Option.{option_map}
 use Rattle.std.specs.Str.{bytes_eq}
 use Rattle.std.proofs.lemmas.Slice.Eq.{bytes_eq-Decides}
 use Rattle.cy_engine.specs.declared.views.Registered.{Registered}
-use Rattle.cy_engine.specs.Kept.{view_of, named, registered_at}
-use Rattle.cy_engine.specs.Step.{View}
+use Rattle.cy_engine.specs.internal.Representation.{named, registered_at}
+use Rattle.cy_engine.specs.Model.{view_of}
+use Rattle.cy_engine.specs.State.{View}
 
 pub not_other : (b : Bool) → not b ≡ false → b ≡ true
 not_other true h = refl

@@ -7,7 +7,8 @@ use Rattle.cy_values.specs.declared.scalars.Value.{Value}
 use Rattle.cy_values.specs.declared.scalars.Value.TheVariants as value
 use Rattle.cy_graph.specs.Maps.{text_order, with_value, without}
 use Rattle.cy_graph.specs.Stored.{is_storable, IsStorable}
-use Rattle.cy_engine.specs.Meaning.{set_one, set_all, is_literal, AreLiterals}
+use Rattle.cy_engine.specs.Meaning.{set_one, set_all}
+use Rattle.cy_engine.specs.internal.Literals.{is_literal, AreLiterals}
 
 first : (a b : Bool) → (a && b) ≡ true → a ≡ true
 first true b h = refl

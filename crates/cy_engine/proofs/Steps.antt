@@ -1,122 +1,169 @@
--- Steps of the engine: a line that is refused, a statement that is carried out, a view that is made.
-use Rattle.std.proofs.Common.{◌≡◌, ℕ, true, ◌&&◌, List, [], ◌∷◌, Ok, Err, ◌+◌, ◌++◌, map, String, Global, refl, ap, inl, inr}
-use Rattle.std.specs.List.{list_all}
-use Rattle.cy_values.specs.declared.scalars.Value.{Value}
+-- What the parts of the engine's work on a line come to.
+use Rattle.std.proofs.Common.{◌≡◌, ◌⊎◌, ℕ, ◌<◌, ◌≤◌, Bool, true, false, nat_lt, length, is_some, arith, List, [], ◌∷◌, ◌++◌, map, Option, Some, None, Result, Ok, Err, String, Global, refl, sym, ap, subst, ◌∙◌, inl, inr}
+use Rattle.std.proofs.lemmas.Bool.Decides.{nat_tests}
+use Rattle.std.specs.Result.{MatchResult}
+use Rattle.cy_lexer.specs.declared.tokens.Token.{Token}
+use Rattle.cy_trees.specs.Trees.{Statement}
+use Rattle.cy_graph.specs.Graph.{State, Versions}
+use Rattle.cy_engine.specs.declared.engine.Effect.{Effect}
 use Rattle.cy_engine.specs.declared.faults.Fault.{Fault}
 use Rattle.cy_engine.specs.declared.faults.Fault.TheVariants as fault
-use Rattle.cy_engine.specs.declared.reading.Unread.{Unread}
-use Rattle.cy_engine.specs.declared.reading.Unread.TheVariants as unread
-use Rattle.cy_engine.specs.declared.trees.Query.{Query}
-use Rattle.cy_engine.specs.declared.trees.Statement.{Statement as Tree}
-use Rattle.cy_engine.specs.declared.trees.Statement.TheVariants as tree
-use Rattle.cy_engine.specs.Asked.{asked, place_of, StatementOf, ViewOf}
-use Rattle.cy_engine.specs.Grammar.{Says, IsQuery, Literal, Positive, Negative, Quoted, True, False, Null, Entries, Map}
-use Rattle.cy_engine.specs.Kept.{fault_of, state_of, view_of, named}
-use Rattle.cy_engine.specs.Meaning.{is_literal, AreLiterals, HasLiterals}
-use Rattle.cy_engine.specs.Parts.{Changes, MayMake}
-use Rattle.cy_engine.specs.Step.{EngineState, View, Refused, IsStatement, IsView, Carries, Makes}
-use Rattle.cy_engine.specs.declared.engine.Effect.{Effect}
-use Rattle.cy_engine.specs.declared.views.Registered.{Registered}
-use Rattle.cy_graph.specs.Graph.{State, Versions}
+use Rattle.cy_engine.specs.declared.forms.Form.{Form}
+use Rattle.cy_engine.specs.declared.forms.Query.{Query}
+use Rattle.cy_engine.specs.declared.replies.Reply.{Reply}
+use Rattle.cy_engine.specs.declared.replies.Reply.TheVariants as reply
 use Rattle.cy_values.specs.declared.rows.Cell.{Cell}
+use Rattle.cy_engine.specs.declared.views.Registered.{Registered}
+use Rattle.cy_engine.specs.internal.Parts.{HasTree, Fails, AnswersOrWants, Changes}
+use Rattle.cy_engine.specs.internal.Representation.{named}
+use Rattle.cy_engine.specs.Model.{view_of, state_of}
+use Rattle.cy_engine.specs.Meaning.{Outcome, carried_out}
+use Rattle.cy_engine.specs.Requests.{Request, StatementOf, ViewOf, first_offset}
+use Rattle.cy_engine.specs.State.{EngineState, Entries, View, view_at, view_limit}
+use Rattle.cy_engine.specs.Step.{Answer, Carries, IsCarried, IsMade, IsRefused, Makes}
+use Rattle.cy_engine.specs.Verdicts.{◌>>=◌, unless, needs, Carried, tick_after, next_tick, carry_verdict, form_verdict, statement_verdict, query_verdict, make_verdict, view_verdict}
 
--- a statement that wasn't read
-pub unread_statement : (state : EngineState) (line text : List ℕ) → asked line ≡ StatementOf text → (u : Unread) → (u ≡ unread.Outside → (tree : Tree) → Says text tree → ⊥) → Refused state line (fault_of u (place_of text line))
-unread_statement state line text is unread.Outside outside = inl (text, is, refl, outside refl)
-unread_statement state line text is unread.NoMemory outside = rw is tt
+-- ---- what carrying a form out comes to
 
--- a query that wasn't read
-pub unread_query : (state : EngineState) (line name text : List ℕ) → asked line ≡ ViewOf name text → (u : Unread) → (u ≡ unread.Outside → (tree : Query) → IsQuery text tree → ⊥) → Refused state line (fault_of u (place_of text line))
-unread_query state line name text is unread.Outside outside = inr (name, text, is, refl, outside refl)
-unread_query state line name text is unread.NoMemory outside = rw is tt
+module _ (form : Form) (graph : State) (tick : ℕ) where
+  pub carried : (outcome : Outcome) (after : ℕ) → carried_out form graph ≡ Ok outcome → tick_after graph.content outcome.graph.content tick ≡ Ok after
+      → carry_verdict form graph tick ≡ Ok (record { outcome = outcome; tick = after })
+  carried outcome after means ticks = rw (means, ticks) refl
 
--- a view that may not be made
-pub view_refused : (state : EngineState) (line name : List ℕ) (tree : Query) → IsView line name tree → (f : Fault) → MayMake state name tree (Err f) → Refused state line f
-view_refused state line name tree view fault.UnknownVariable why = inr (name, tree, view, why)
-view_refused state line name tree view fault.ViewNameTaken why = (name, tree, view, why.0, why.1)
-view_refused state line name tree view fault.TooManyViews why = (name, tree, view, why.0, why.1, why.2)
-view_refused state line name tree view fault.Full why = inr (name, tree, view, why.0, why.1, why.2, why.3)
-view_refused state line name tree view (fault.Unexpected at) why = absurd why
-view_refused state line name tree view fault.NoSuchView why = absurd why
-view_refused state line name tree view fault.UnknownCommand why = absurd why
-view_refused state line name tree view fault.BadArgument why = absurd why
-view_refused state line name tree view fault.NoMemory why = absurd why
+  pub carry_refused : (why : Fault) → carried_out form graph ≡ Err why → carry_verdict form graph tick ≡ Err why
+  carry_refused why means = rw means refl
 
-is_a_literal : {v : Value} {text rest : List ℕ} → Literal v text rest → is_literal v ≡ true
-is_a_literal (Positive n small digits) = refl
-is_a_literal (Negative n unsigned small sign digits) = refl
-is_a_literal (Quoted characters inside plain quote is) = refl
-is_a_literal (True word) = refl
-is_a_literal (False word) = refl
-is_a_literal (Null word) = refl
+  pub carry_late : (outcome : Outcome) (why : Fault) → carried_out form graph ≡ Ok outcome → tick_after graph.content outcome.graph.content tick ≡ Err why
+      → carry_verdict form graph tick ≡ Err why
+  carry_late outcome why means ticks = rw (means, ticks) refl
 
-both : (v : Value) (es : List (List ℕ × Value)) → is_literal v ≡ true → AreLiterals es → (is_literal v && list_all (λ (e : List ℕ × Value). is_literal e.1) es) ≡ true
-both v es one all = rw one all
+-- ---- refusals
 
-literal_entries : (es : List (List ℕ × Value)) (text rest : List ℕ) → Entries es text rest → AreLiterals es
-literal_entries [] text rest entries = absurd entries
-literal_entries (e ∷ []) text rest entry = both e.1 [] (is_a_literal entry.literal) refl
-literal_entries (e ∷ f ∷ es) text rest entries = both e.1 (f ∷ es) (is_a_literal entries.2.literal) (literal_entries (f ∷ es) entries.1 rest entries.4)
+pub refused : (why : Fault) (old : EngineState) (entries : Entries) (new : EngineState) → entries ≡ [] → new ≡ old → IsRefused why old (Err why) entries new
+refused why old entries new none same = record { answered = refl; no_entries = none; left = same }
 
-literal_map : (es : List (List ℕ × Value)) (text rest : List ℕ) → Map es text rest → AreLiterals es
-literal_map [] text rest map = refl
-literal_map (e ∷ es) text rest map = literal_entries (e ∷ es) map.0 map.1 map.3
+module _ (line : List ℕ) (tokens : List Token) (old : EngineState) (entries : Entries) (new : EngineState) (none : entries ≡ []) (same : new ≡ old) where
+  pub wants_memory : (asked : Request) (why : Fault) → why ≡ fault.NoMemory → AnswersOrWants line asked old (Err why) entries new
+  wants_memory asked why is = inl (record { answered = ap Err is; no_entries = none; left = same })
 
--- the values of a statement that is read are literals
-pub literals_of : (text : List ℕ) (tree : Tree) → Says text tree → HasLiterals tree
-literals_of text (tree.Create create) says = literal_map _ says.after_label says.after_map says.map
-literals_of text (tree.Set set) says = is_a_literal says.value
-literals_of text (tree.Delete delete) says = tt
+  -- a statement that has no form
+  pub no_form : (why : Fault) → Fails (λ tree. form_verdict tree (first_offset line tokens)) line tokens why → AnswersOrWants line (StatementOf tokens) old (Err why) entries new
+  no_form why (inl wants) = wants_memory (StatementOf tokens) why wants
+  no_form why (inr (inl (parsed, unspelt, is))) = inr (inr (parsed, unspelt, record { answered = ap Err is; no_entries = none; left = same }))
+  no_form why (inr (inr tree)) = inr (inl (tree.tree, tree.spelt, rw tree.that (refused why old entries new none same)))
 
--- a statement that is refused when it is carried out
-pub change_refused : (state : EngineState) (line text : List ℕ) (statement : Tree) → asked line ≡ StatementOf text → Says text statement
-    → (f : Fault) (new : State) → Changes statement state.views state.graph state.tick (Err f) new → Refused state line f
-change_refused state line text statement is says f new changes = refused f changes
-  where
-    told : IsStatement line statement
-    told = record { text = text; is = is; spelled = says }
+  -- a query that has none
+  pub no_query : (name : List ℕ) (why : Fault) → Fails (λ tree. query_verdict tree (first_offset line tokens)) line tokens why → AnswersOrWants line (ViewOf name tokens) old (Err why) entries new
+  no_query name why (inl wants) = wants_memory (ViewOf name tokens) why wants
+  no_query name why (inr (inl (parsed, unspelt, is))) = inr (inr (parsed, unspelt, record { answered = ap Err is; no_entries = none; left = same }))
+  no_query name why (inr (inr tree)) = inr (inl (tree.tree, tree.spelt, rw tree.that (refused why old entries new none same)))
 
-    refused : (f : Fault) → Changes statement state.views state.graph state.tick (Err f) new → Refused state line f
-    refused fault.UnknownVariable why = inl (statement, told, why)
-    refused fault.Full (inl full) = inl (statement, told, inl full)
-    refused fault.Full (inr late) = inl (statement, told, inr (record { outcome = late.0; meaning = late.1; differs = late.2; last = late.3 }))
-    refused fault.NoMemory why = rw is tt
-    refused (fault.Unexpected at) why = absurd why
-    refused fault.ViewNameTaken why = absurd why
-    refused fault.TooManyViews why = absurd why
-    refused fault.NoSuchView why = absurd why
-    refused fault.UnknownCommand why = absurd why
-    refused fault.BadArgument why = absurd why
+  -- a form that isn't carried out
+  pub form_refused : (form : Form) (why : Fault) → HasTree line tokens (λ tree. form_verdict tree (first_offset line tokens) ≡ Ok form)
+      → (why ≡ fault.NoMemory) ⊎ (carry_verdict form old.graph old.tick ≡ Err why) → AnswersOrWants line (StatementOf tokens) old (Err why) entries new
+  form_refused form why tree (inl wants) = wants_memory (StatementOf tokens) why wants
+  form_refused form why tree (inr verdict) = inr (inl (tree.tree, tree.spelt, rw (tree.that, verdict) (refused why old entries new none same)))
 
--- what is kept before a line: the graph, the views, the tick and the history
-module _ (graph : Versions) (views : List (String Global × Registered)) (tick history : ℕ) (line : List ℕ) where
-  pub carries : (text : List ℕ) (statement : Tree) (after : State) (effect : Effect) (columns : List (List ℕ)) (rows : List (List Cell)) (new : Versions)
-      → asked line ≡ StatementOf text → Says text statement → Changes statement (map view_of views) graph.now tick (Ok effect) after
-      → columns ≡ [] → rows ≡ [] → new.now ≡ after
-      → Carries (state_of graph views tick history) line effect.changed columns rows effect.entries (state_of new views effect.tick history)
-  carries text statement after effect columns rows new is says changes no_columns no_rows committed = record {
-    tree = statement;
-    graph = after;
-    tick = effect.tick;
-    statement = record { text = text; is = is; spelled = says };
-    meaning = rw (no_columns, no_rows) changes.0;
-    ticks = changes.1;
-    entries_are = changes.2;
-    is = ap (λ (g : State). let s : EngineState = record { graph = g; views = map view_of views; tick = effect.tick; history = history } in s) committed;
-  }
+  -- a view that isn't made
+  pub view_refused : (name : List ℕ) (query : Query) (why : Fault) → HasTree line tokens (λ tree. query_verdict tree (first_offset line tokens) ≡ Ok query)
+      → make_verdict name query old ≡ Err why → AnswersOrWants line (ViewOf name tokens) old (Err why) entries new
+  view_refused name query why tree verdict = inr (inl (tree.tree, tree.spelt, rw (tree.that, verdict) (refused why old entries new none same)))
 
-  pub makes : (name text : List ℕ) (tree : Query) (entries : List (String Global × Registered))
-      → asked line ≡ ViewOf name text → IsQuery text tree → MayMake (state_of graph views tick history) name tree (Ok tt)
-      → map view_of entries ≡ map view_of views ++ named name (record { query = tree; made = tick + 1 }) ∷ []
-      → Makes (state_of graph views tick history) line (tree.column ∷ []) (tick + 1) name (state_of graph entries (tick + 1) history)
-  makes name text tree entries is spelled may added = record {
-    tree = tree;
-    view = record { text = text; is = is; spelled = spelled };
-    bound = may.0;
-    free = may.1;
-    room = may.2;
-    tick_left = may.3;
-    columns_are = refl;
-    tick_is = refl;
-    is = ap (λ (vs : List View). let s : EngineState = record { graph = graph.now; views = vs; tick = tick + 1; history = history } in s) added;
-  }
+-- ---- what is done
+
+module _ (line : List ℕ) (tokens : List Token) (old : EngineState) (answer : Answer) (entries : Entries) (new : EngineState) where
+  pub form_carried : (form : Form) (carried : Carried) → HasTree line tokens (λ tree. form_verdict tree (first_offset line tokens) ≡ Ok form)
+      → carry_verdict form old.graph old.tick ≡ Ok carried → IsCarried carried old answer entries new → AnswersOrWants line (StatementOf tokens) old answer entries new
+  form_carried form carried tree verdict is = inr (inl (tree.tree, tree.spelt, rw (tree.that, verdict) is))
+
+  pub view_made : (name : List ℕ) (query : Query) (view : View) → HasTree line tokens (λ tree. query_verdict tree (first_offset line tokens) ≡ Ok query)
+      → make_verdict name query old ≡ Ok view → IsMade view old answer entries new → AnswersOrWants line (ViewOf name tokens) old answer entries new
+  view_made name query view tree verdict is = inr (inl (tree.tree, tree.spelt, rw (tree.that, verdict) is))
+
+-- ---- whether a view may be made
+
+abbrev Answered : List ℕ → Query → EngineState → Result ℕ Fault → Type 0
+Answered name query state r = MatchResult r (λ made. make_verdict name query state ≡ Ok (record { name = name; query = query; made = made })) (λ why. make_verdict name query state ≡ Err why)
+
+module _ (name : List ℕ) (query : Query) (state : EngineState) where
+  pub name_taken : is_some (view_at name state) ≡ true → make_verdict name query state ≡ Err fault.ViewNameTaken
+  name_taken some =
+      elim (view_at name state) as (λ o. is_some o ≡ true → (unless (λ _. fault.ViewNameTaken) o >>= λ _. needs (nat_lt (length state.views) view_limit) fault.TooManyViews >>= λ _. next_tick state.tick >>= λ tick. let v : View = record { name = name; query = query; made = tick } in Ok v) ≡ Err fault.ViewNameTaken) [
+        | Some v ↦ λ h. refl
+        | None ↦ λ h. cc
+      ] some
+
+  pub many_views : view_at name state ≡ None → view_limit ≤ length state.views → make_verdict name query state ≡ Err fault.TooManyViews
+  many_views free many =
+      let few : nat_lt (length state.views) view_limit ≡ false = grind (arith, nat_tests) in
+      rw (free, few) refl
+
+  pub may_make : (tick : ℕ) → state.tick ≡ tick → view_at name state ≡ None → length state.views < view_limit → Answered name query state (next_tick tick)
+  may_make tick is free room =
+      let few : nat_lt (length state.views) view_limit ≡ true = grind (arith, nat_tests) in
+      at_tick (next_tick tick) (ap next_tick is) few
+    where
+      at_tick : (r : Result ℕ Fault) → next_tick state.tick ≡ r → nat_lt (length state.views) view_limit ≡ true → Answered name query state r
+      at_tick (Ok made) is few = rw (free, few, is) refl
+      at_tick (Err why) is few = rw (free, few, is) refl
+
+  made_same : (t made : ℕ) → (let v : View = record { name = name; query = query; made = t } in let r : Result View Fault = Ok v in r) ≡ Ok (record { name = name; query = query; made = made }) → t ≡ made
+  made_same t made is = ap (made_of t) is
+    where
+      made_of : ℕ → Result View Fault → ℕ
+      made_of t (Ok v) = v.made
+      made_of t (Err why) = t
+
+  -- what holds where a view may be made
+  at_limit : (made : ℕ) → make_verdict name query state ≡ Ok (record { name = name; query = query; made = made }) → (view_at name state ≡ None) × (length state.views < view_limit) × (next_tick state.tick ≡ Ok made)
+  at_limit made is = from (view_at name state) refl is
+    where
+      after_room : (b : Bool) → nat_lt (length state.views) view_limit ≡ b → (needs b fault.TooManyViews >>= λ _. next_tick state.tick >>= λ tick. let v : View = record { name = name; query = query; made = tick } in Ok v) ≡ Ok (record { name = name; query = query; made = made })
+          → (length state.views < view_limit) × (next_tick state.tick ≡ Ok made)
+      after_room true few is = (grind (arith, nat_tests), after_tick (next_tick state.tick) is)
+        where
+          after_tick : (r : Result ℕ Fault) → (r >>= λ tick. let v : View = record { name = name; query = query; made = tick } in Ok v) ≡ Ok (record { name = name; query = query; made = made }) → r ≡ Ok made
+          after_tick (Ok t) is = ap Ok (made_same t made is)
+          after_tick (Err why) is = cc
+      after_room false few is = cc
+
+      from : (o : Option View) → view_at name state ≡ o → (unless (λ _. fault.ViewNameTaken) o >>= λ _. needs (nat_lt (length state.views) view_limit) fault.TooManyViews >>= λ _. next_tick state.tick >>= λ tick. let v : View = record { name = name; query = query; made = tick } in Ok v) ≡ Ok (record { name = name; query = query; made = made })
+          → (view_at name state ≡ None) × (length state.views < view_limit) × (next_tick state.tick ≡ Ok made)
+      from None free is = let rest = after_room (nat_lt (length state.views) view_limit) refl is in (free, rest.0, rest.1)
+      from (Some v) free is = cc
+
+  pub made_free : (made : ℕ) → make_verdict name query state ≡ Ok (record { name = name; query = query; made = made }) → view_at name state ≡ None
+  made_free made is = (at_limit made is).0
+
+  pub made_room : (made : ℕ) → make_verdict name query state ≡ Ok (record { name = name; query = query; made = made }) → length state.views < view_limit
+  made_room made is = (at_limit made is).1
+
+  pub made_tick : (made : ℕ) → make_verdict name query state ≡ Ok (record { name = name; query = query; made = made }) → next_tick state.tick ≡ Ok made
+  made_tick made is = (at_limit made is).2
+
+-- ---- what is kept, and the step that it makes
+
+pub form_done : (graph new : Versions) (views : List (String Global × Registered)) (tick history : ℕ) (line : List ℕ) (tokens : List Token) (form : Form) (effect : Effect) (after : State) (columns : List (List ℕ)) (rows : List (List Cell))
+    → HasTree line tokens (λ tree. form_verdict tree (first_offset line tokens) ≡ Ok form) → Changes form (map view_of views) graph.now tick effect after → columns ≡ [] → rows ≡ [] → new.now ≡ after
+    → AnswersOrWants line (StatementOf tokens) (state_of graph views tick history) (Ok (reply.Statement effect.changed columns rows)) effect.entries (state_of new views effect.tick history)
+form_done graph new views tick history line tokens form effect after columns rows tree changes no_columns no_rows committed =
+    form_carried line tokens (state_of graph views tick history) (Ok (reply.Statement effect.changed columns rows)) effect.entries (state_of new views effect.tick history) form
+    (record { outcome = record { graph = after; changed = effect.changed; columns = []; rows = [] }; tick = effect.tick }) tree changes.verdict
+    (record {
+      answered = λ i. Ok (reply.Statement effect.changed (no_columns i) (no_rows i));
+      entries_are = changes.entries_are;
+      left = ap (λ (g : State). let s : EngineState = record { graph = g; views = map view_of views; tick = effect.tick; history = history } in s) committed;
+    })
+
+pub view_done : (graph : Versions) (views more : List (String Global × Registered)) (tick history made : ℕ) (line name : List ℕ) (tokens : List Token) (query : Query) (entries : Entries) (answer : Reply)
+    → HasTree line tokens (λ tree. query_verdict tree (first_offset line tokens) ≡ Ok query)
+    → make_verdict name query (state_of graph views tick history) ≡ Ok (record { name = name; query = query; made = made })
+    → entries ≡ [] → answer ≡ reply.Made (query.column ∷ []) made name → map view_of more ≡ map view_of views ++ named name (record { query = query; made = made }) ∷ []
+    → AnswersOrWants line (ViewOf name tokens) (state_of graph views tick history) (Ok answer) entries (state_of graph more made history)
+view_done graph views more tick history made line name tokens query entries answer tree verdict none is added =
+    view_made line tokens (state_of graph views tick history) (Ok answer) entries (state_of graph more made history) name query (record { name = name; query = query; made = made }) tree verdict
+    (record {
+      answered = ap Ok is;
+      no_entries = none;
+      left = ap (λ (vs : List View). let s : EngineState = record { graph = graph.now; views = vs; tick = made; history = history } in s) added;
+    })

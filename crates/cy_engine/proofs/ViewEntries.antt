@@ -13,28 +13,29 @@ use Rattle.cy_engine.specs.declared.entries.Change.{Change}
 use Rattle.cy_engine.specs.declared.entries.Entry.{Entry}
 use Rattle.cy_engine.specs.declared.faults.Fault.{Fault}
 use Rattle.cy_engine.specs.declared.views.Registered.{Registered}
-use Rattle.cy_engine.specs.declared.trees.Query.{Query}
+use Rattle.cy_engine.specs.declared.forms.Query.{Query}
 use Rattle.cy_engine.specs.Difference.{IsSameBag, IsAbove, IsDifference}
-use Rattle.cy_engine.specs.Excess.{IsExcess}
-use Rattle.cy_engine.specs.Kept.{view_of}
+use Rattle.cy_engine.specs.internal.Surplus.{IsSurplus}
+use Rattle.cy_engine.specs.Model.{view_of}
 use Rattle.cy_engine.specs.Meaning.{rows_of}
-use Rattle.cy_engine.specs.Step.{View, IsEntry, AreEntries}
-use Rattle.cy_engine.specs.Touching.{AreTold, rows_before, rows_after}
+use Rattle.cy_engine.specs.State.{View}
+use Rattle.cy_engine.specs.Step.{IsEntry, AreEntries}
+use Rattle.cy_engine.specs.internal.Touched.{AreTold, rows_before, rows_after}
 use Rattle.cy_engine.proofs.TouchedRows.{rows_balanced}
 
 -- what the touched nodes' rows have above each other is what all rows have above each other
 module _ (query : Query) (before now : State) (es : List Mark) (touched : AreTouched before now es) (graph_before : IsGraph before) (graph_now : IsGraph now)
     (old new : List (List Cell × ℕ)) (old_bag : IsBagOf (rows_before query es) old) (new_bag : IsBagOf (rows_after query now es) new) where
-  pub removed_above : (pairs : List (List Cell × ℕ)) → IsExcess old new pairs → IsAbove (rows_of query before.content) (rows_of query now.content) pairs
-  removed_above pairs excess = record {
-    counts = λ row. omega (arith, excess.counts row, old_bag row, new_bag row, rows_balanced query row before now es touched graph_before graph_now);
-    canonical = excess.canonical;
+  pub removed_above : (pairs : List (List Cell × ℕ)) → IsSurplus old new pairs → IsAbove (rows_of query before.content) (rows_of query now.content) pairs
+  removed_above pairs surplus = record {
+    counts = λ row. omega (arith, surplus.counts row, old_bag row, new_bag row, rows_balanced query row before now es touched graph_before graph_now);
+    canonical = surplus.canonical;
   }
 
-  pub added_above : (pairs : List (List Cell × ℕ)) → IsExcess new old pairs → IsAbove (rows_of query now.content) (rows_of query before.content) pairs
-  added_above pairs excess = record {
-    counts = λ row. omega (arith, excess.counts row, old_bag row, new_bag row, rows_balanced query row before now es touched graph_before graph_now);
-    canonical = excess.canonical;
+  pub added_above : (pairs : List (List Cell × ℕ)) → IsSurplus new old pairs → IsAbove (rows_of query now.content) (rows_of query before.content) pairs
+  added_above pairs surplus = record {
+    counts = λ row. omega (arith, surplus.counts row, old_bag row, new_bag row, rows_balanced query row before now es touched graph_before graph_now);
+    canonical = surplus.canonical;
   }
 
 -- nothing is above where the bags are the same
@@ -80,7 +81,7 @@ one_some (Some x) gives p = gives x p
 -- the difference of the touched nodes' rows is that of all rows
 pub told_difference : (query : Query) (graph : Versions) (es : List Mark) (old new : List (List Cell × ℕ)) (r : Result Change Fault)
     → AreTold graph es → IsBagOf (rows_before query es) old → IsBagOf (rows_after query graph.now es) new
-    → IfOk r (λ change. IsExcess old new change.removed) → IfOk r (λ change. IsExcess new old change.added)
+    → IfOk r (λ change. IsSurplus old new change.removed) → IfOk r (λ change. IsSurplus new old change.added)
     → IfOk r (λ change. IfSome graph.was (λ before. IsDifference (rows_of query before.content) (rows_of query graph.now.content) change))
 told_difference query graph es old new (Err fault) told old_bag new_bag removed added = tt
 told_difference query graph es old new (Ok change) told old_bag new_bag removed added =

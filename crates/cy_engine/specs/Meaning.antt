@@ -1,6 +1,6 @@
--- What statements and queries mean on a graph. Nothing here knows of views.
-use Rattle.std.specs.Prelude.{ℕ, Bool, true, false, not, ◌==◌, if◌then◌else◌, IsTrue, List, [], ◌∷◌, length, map, filter, Option, Some, None, Result, Ok, Err, is_some, unwrap_or}
-use Rattle.std.specs.List.{list_all}
+-- What the statements and queries that are carried out mean on a graph (Francis et al., narrowed to these forms). Nothing here
+-- knows of views.
+use Rattle.std.specs.Prelude.{ℕ, Bool, true, false, not, ◌==◌, if◌then◌else◌, List, [], ◌∷◌, length, map, filter, Option, Some, None, Result, Ok, Err, is_some, unwrap_or}
 use Rattle.std.specs.Str.{bytes_eq}
 use Rattle.cy_values.specs.declared.numbers.NodeId.{NodeId}
 use Rattle.cy_values.specs.declared.scalars.Value.{Value}
@@ -11,11 +11,13 @@ use Rattle.cy_graph.specs.Maps.{value_at, with_value}
 use Rattle.cy_graph.specs.Graph.{Content, State, number_end, set_or_removed, with_node, with_nodes}
 use Rattle.cy_graph.specs.declared.nodes.Node.{Node}
 use Rattle.cy_engine.specs.declared.replies.Changed.{Changed}
-use Rattle.cy_engine.specs.declared.trees.Create.{Create}
-use Rattle.cy_engine.specs.declared.trees.Query.{Query}
-use Rattle.cy_engine.specs.declared.trees.SetProperty.{SetProperty}
-use Rattle.cy_engine.specs.declared.trees.Statement.{Statement}
-use Rattle.cy_engine.specs.declared.trees.Statement.TheVariants as statement
+use Rattle.cy_engine.specs.declared.forms.Create.{Create}
+use Rattle.cy_engine.specs.declared.forms.Query.{Query}
+use Rattle.cy_engine.specs.declared.forms.SetProperty.{SetProperty}
+use Rattle.cy_engine.specs.declared.faults.Fault.{Fault}
+use Rattle.cy_engine.specs.declared.faults.Fault.TheVariants.{Full}
+use Rattle.cy_engine.specs.declared.forms.Form.{Form}
+use Rattle.cy_engine.specs.declared.forms.Form.TheVariants as form
 
 -- null stands for no value
 abbrev pub unless_null : Value → Option Value
@@ -33,20 +35,6 @@ set_one key v props = set_or_removed key (unless_null v) props
 abbrev pub set_all : List (List ℕ × Value) → List (List ℕ × Value) → List (List ℕ × Value)
 set_all props [] = props
 set_all props (e ∷ es) = set_all (set_one e.0 e.1 props) es
-
--- a literal is no list
-abbrev pub is_literal : Value → Bool
-is_literal (value.List elements) = false
-is_literal v = true
-
-abbrev pub AreLiterals : List (List ℕ × Value) → Type 0
-AreLiterals entries = IsTrue (list_all (λ e. is_literal e.1) entries)
-
--- the values in a statement are literals
-abbrev pub HasLiterals : Statement → Type 0
-HasLiterals (statement.Create tree) = AreLiterals tree.entries
-HasLiterals (statement.Set tree) = IsTrue (is_literal tree.value)
-HasLiterals (statement.Delete tree) = Unit {0}
 
 -- whether a node has a label
 abbrev pub has_label : List ℕ → NodeId × Node → Bool
@@ -76,16 +64,14 @@ created tree = record { labels = with_value tree.label tt []; props = set_all []
 abbrev pub set_at_label : SetProperty → NodeId × Node → NodeId × Node
 set_at_label tree e = if has_label tree.label e then (e.0, record e.1 { props = set_one tree.key tree.value e.1.props }) else e
 
--- CREATE makes one node, or is refused as 53 where each number was given out. The other two are refused as 30 where they
--- name another variable than MATCH; else SET sets a property of the nodes that MATCH gives, and DETACH DELETE removes
--- these nodes.
-abbrev pub carried_out : Statement → State → Result Outcome ℕ
-carried_out (statement.Create tree) graph =
-    if graph.next_node == number_end then Err 53 else Ok (outcome (with_node (created tree) graph) 1 0)
-carried_out (statement.Set tree) graph =
-    if bytes_eq tree.target tree.variable then Ok (outcome (with_nodes (map (set_at_label tree) graph.content.nodes) graph) 0 0) else Err 30
-carried_out (statement.Delete tree) graph =
-    if bytes_eq tree.target tree.variable then Ok (outcome (with_nodes (filter (λ e. not (has_label tree.label e)) graph.content.nodes) graph) 0 (length (filter (has_label tree.label) graph.content.nodes))) else Err 30
+-- CREATE makes one node, where a number is left. SET sets a property of the nodes that MATCH gives, and DETACH DELETE removes
+-- these nodes
+abbrev pub carried_out : Form → State → Result Outcome Fault
+carried_out (form.Create tree) graph =
+    if graph.next_node == number_end then Err Full else Ok (outcome (with_node (created tree) graph) 1 0)
+carried_out (form.Set tree) graph = Ok (outcome (with_nodes (map (set_at_label tree) graph.content.nodes) graph) 0 0)
+carried_out (form.Delete tree) graph =
+    Ok (outcome (with_nodes (filter (λ e. not (has_label tree.label e)) graph.content.nodes) graph) 0 (length (filter (has_label tree.label) graph.content.nodes)))
 
 -- the value of a property, null where it isn't there
 abbrev pub property : List ℕ → Node → Value

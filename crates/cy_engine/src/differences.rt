@@ -2,7 +2,7 @@
 
 ghost use Rattle.std.specs.Prelude.{◌≡◌, IfErr, IfOk};
 ghost use Rattle.cy_values.specs.Bag.{IsCanonical, weight_of};
-ghost use Rattle.cy_engine.specs.Excess.{IsExcess, excess_of};
+ghost use Rattle.cy_engine.specs.internal.Surplus.{IsSurplus, surplus_of};
 
 use crate::entries::Change;
 use crate::faults::Fault;
@@ -17,35 +17,39 @@ pub(crate) fn difference(
 ) -> Result<Change, Fault>
     requires before { IsCanonical before.now }
     requires after { IsCanonical after.now }
-    ensures removed { IfOk result (λ change. IsExcess before.now after.now change.removed) }
-    ensures added { IfOk result (λ change. IsExcess after.now before.now change.added) }
+    ensures removed { IfOk result (λ change. IsSurplus before.now after.now change.removed) }
+    ensures added { IfOk result (λ change. IsSurplus after.now before.now change.added) }
     ensures memory { IfErr result (λ fault. fault ≡ Fault.NoMemory) }
 {
     Ok(Change {
-        removed: Sequence::new(excess(alloc, before, after)?),
-        added: Sequence::new(excess(alloc, after, before)?),
+        removed: Sequence::new(surplus(alloc, before, after)?),
+        added: Sequence::new(surplus(alloc, after, before)?),
     })
 }
 
 // What the first rows have above the second ones, both with their counts, in canonical order.
-fn excess(alloc: Global, more: &[(Row, u64)], less: &[(Row, u64)]) -> Result<Vec<(Row, u64)>, Fault>
+fn surplus(
+    alloc: Global,
+    more: &[(Row, u64)],
+    less: &[(Row, u64)],
+) -> Result<Vec<(Row, u64)>, Fault>
     requires more { IsCanonical more.now }
     requires less { IsCanonical less.now }
-    ensures excess { IfOk result (λ excess. IsExcess more.now less.now excess.items) }
+    ensures surplus { IfOk result (λ surplus. IsSurplus more.now less.now surplus.items) }
     ensures memory { IfErr result (λ fault. fault ≡ Fault.NoMemory) }
 {
     row_order_laws();
-    what_is_above(alloc, more, less)
+    surplus_rows(alloc, more, less)
 }
 
 // Each row that counts more than among the others, with how much.
-fn what_is_above(
+fn surplus_rows(
     alloc: Global,
     more: &[(Row, u64)],
     less: &[(Row, u64)],
 ) -> Result<Vec<(Row, u64)>, Fault>
     requires { IsCanonical less.now }
-    ensures above { IfOk result (λ above. above.items ≡ excess_of more.now less.now) }
+    ensures above { IfOk result (λ above. above.items ≡ surplus_of more.now less.now) }
     ensures memory { IfErr result (λ fault. fault ≡ Fault.NoMemory) }
 {
     let mut above = Vec::new(alloc);

@@ -1,23 +1,25 @@
 //! The engine: one line at a time.
 
-ghost use Rattle.std.specs.Prelude.{◌≡◌, ◌≤◌, ◌<◌, ◌⊎◌, ◌∷◌, [], length, map, None, Some, IfErr, IfOk, IsSome, MatchResult, OnErr};
+ghost use Rattle.std.specs.Prelude.{◌≡◌, ◌≤◌, ◌⊎◌, [], map, None, Some, IfErr, IfOk, IsSome, MatchResult, Ok, Err};
 ghost use Rattle.std.specs.Option.{option_copied};
-ghost use Rattle.cy_engine.specs.Asked.{asked, StatementOf, ViewOf, place_of};
-ghost use Rattle.cy_engine.specs.Kept.{fault_of, view_of};
-ghost use Rattle.cy_engine.specs.Parts.{Changes, MayMake, ShowsRows};
-ghost use Rattle.cy_engine.specs.Meaning.{HasLiterals};
-ghost use Rattle.cy_engine.specs.Step.{AreRows, Step, entry_at, last_tick, new_machine, view_at, view_limit};
+ghost use Rattle.cy_engine.specs.internal.Literals.{HasLiterals};
+ghost use Rattle.cy_engine.specs.Requests.{StatementOf, ViewOf, RowsOf};
+ghost use Rattle.cy_engine.specs.State.{View, entry_at, last_tick, new_machine, view_at};
+ghost use Rattle.cy_engine.specs.Step.{AreRows, Step};
+ghost use Rattle.cy_engine.specs.Verdicts.{carry_verdict, make_verdict, next_tick};
+ghost use Rattle.cy_engine.specs.internal.Parts.{AnswersOrWants, Changes, ShowsRows};
+ghost use Rattle.cy_engine.specs.Model.{view_of};
 
-use crate::asked::{Asked, classify};
 use crate::entries::{Entry, entries_of};
 use crate::faults::Fault;
-use crate::reading::{Unread, read_query, read_statement};
+use crate::forms::{Form, Query};
+use crate::reading::{read_form, read_query};
 use crate::replies::{Changed, Reply};
+use crate::requests::{Request, read_request};
 use crate::statements::carry_out;
-use crate::trees::{Query, Statement};
 use crate::views::{Registered, made_reply, register, rows_with_counts};
-use crate::words::skip;
 use cy_graph::Graph;
+use cy_lexer::{Token, lex};
 use cy_values::{Row, Sequence, Text};
 use indexmap::IndexMap;
 use std::alloc::Global;
@@ -42,7 +44,7 @@ pub struct Engine {
     entries: Sequence<(Text, Entry)>,
 }
 
-// What a statement does: what it tells, the tick that follows, and the entries of the views.
+// What a statement does: what it says, the tick that follows, and the entries of the views.
 #[derive(Drop)]
 struct Effect {
     changed: Changed,
@@ -51,8 +53,9 @@ struct Effect {
 }
 
 impl Model for Engine {
-    ghost use Rattle.cy_engine.specs.Step.{Machine};
-    ghost use Rattle.cy_engine.specs.Kept.{machine_of, IsAtRest};
+    ghost use Rattle.cy_engine.specs.State.{Machine};
+    ghost use Rattle.cy_engine.specs.internal.Representation.{IsAtRest};
+    ghost use Rattle.cy_engine.specs.Model.{machine_of};
 
     ghost Value = { Machine };
 
@@ -80,24 +83,21 @@ impl Engine {
 
     /// Answers a line. A refused line leaves the engine as it was.
     ///
-    /// A statement is, in this order, `Unexpected` where it isn't one of the language, `UnknownVariable` where it sets or
-    /// removes another variable than it matches, or `Full` where number 2^40 was given out, or where it would change the
-    /// content of the graph and the tick is the last. A view is, in this order, `Unexpected` where its query isn't one of the language, `UnknownVariable`
-    /// where it returns another variable than it matches, `ViewNameTaken`, `TooManyViews`, or `Full` where the last tick
-    /// was given out. Rows are refused as `NoSuchView`; other commands as `UnknownCommand`, and a command whose
-    /// arguments are missing or too many as `BadArgument`. `NoMemory` comes only of a statement, a view to be made, or
-    /// the rows of a view that is there.
+    /// The line is made of tokens, or `Lex`. A colon begins a command: `UnknownCommand` or `BadArgument` where it isn't one. A
+    /// statement is, in this order, `Parse`, `Scope`, `Unexpected` where it isn't carried out so far, or `Full` where number 2^40
+    /// was given out, or where it would change the content of the graph and the tick is the last. A view is, in this order,
+    /// `Parse`, `Scope`, `View`, `Unexpected`, `ViewNameTaken`, `TooManyViews`, or `Full` where the last tick was given out. Rows
+    /// are refused as `NoSuchView`. `NoMemory` may come of any line that isn't too long.
     pub fn line(&mut self, line: &str) -> Result<Reply, Fault>
         ensures { Step self.old.state line.now result self.new.entries self.new.state }
     {
         self.entries = Sequence::new(Vec::new(self.alloc));
-        match classify(line) {
-            Asked::Blank => Ok(Reply::Nothing),
-            Asked::Statement(text) => self.carry_out(line, text),
-            Asked::View { name, query } => self.make_view(line, name, query),
-            Asked::Rows { name } => self.show_rows(name),
-            Asked::UnknownCommand => Err(Fault::UnknownCommand),
-            Asked::BadArgument => Err(Fault::BadArgument),
+        let tokens = lex(self.alloc, line)?;
+        match read_request(self.alloc, tokens.as_slice(), line)? {
+            Request::Nothing => Ok(Reply::Nothing),
+            Request::Statement(tokens) => self.carry_out(line, tokens),
+            Request::View { name, query } => self.make_view(line, name.as_str(), query),
+            Request::Rows { name } => self.show_rows(name.as_str()),
         }
     }
 
@@ -111,7 +111,7 @@ impl Engine {
     /// The rows of a view with their counts: what its query means on the graph, each row once, in canonical order.
     /// `NoSuchView` where there is no view of this name; else it fails only for want of memory.
     pub fn rows(&self, view: &str) -> Result<Vec<(Row, u64)>, Fault>
-        ensures rows { IfOk result (λ rows. AreRows self.now.state view.now rows.items) }
+        ensures rows { IfOk result (λ rows. (found : View) × (view_at view.now self.now.state ≡ Some found) × AreRows self.now.state found rows.items) }
         ensures refused { IfErr result (λ fault. ((fault ≡ Fault.NoSuchView) × (view_at view.now self.now.state ≡ None)) ⊎ ((fault ≡ Fault.NoMemory) × IsSome (view_at view.now self.now.state))) }
     {
         match self.views.get(view) {
@@ -138,17 +138,13 @@ impl Engine {
     }
 
     // Carries a statement out.
-    fn carry_out(&mut self, line: &str, text: &str) -> Result<Reply, Fault>
-        requires asks { asked line.now ≡ StatementOf text.now }
+    fn carry_out(&mut self, line: &str, tokens: &[Token]) -> Result<Reply, Fault>
         requires no_entries { self.old.entries ≡ [] }
-        ensures { Step self.old.state line.now result self.new.entries self.new.state }
+        ensures { AnswersOrWants line.now (StatementOf tokens.now) self.old.state result self.new.entries self.new.state }
     {
-        let tree = match read_statement(self.alloc, text) {
-            Ok(tree) => tree,
-            Err(unread) => return Err(unread_fault(unread, line, text)),
-        };
+        let form = read_form(self.alloc, line, tokens)?;
         self.graph.begin();
-        match change(self.alloc, &mut self.graph, &self.views, tree, self.tick) {
+        match change(self.alloc, &mut self.graph, &self.views, form, self.tick) {
             Ok(
                 Effect {
                     changed,
@@ -173,17 +169,12 @@ impl Engine {
     }
 
     // Makes a view.
-    fn make_view(&mut self, line: &str, name: &str, text: &str) -> Result<Reply, Fault>
-        requires asks { asked line.now ≡ ViewOf name.now text.now }
+    fn make_view(&mut self, line: &str, name: &str, tokens: &[Token]) -> Result<Reply, Fault>
         requires no_entries { self.old.entries ≡ [] }
-        ensures { Step self.old.state line.now result self.new.entries self.new.state }
+        ensures { AnswersOrWants line.now (ViewOf name.now tokens.now) self.old.state result self.new.entries self.new.state }
     {
-        let query = match read_query(self.alloc, text) {
-            Ok(query) => query,
-            Err(unread) => return Err(unread_fault(unread, line, text)),
-        };
-        self.may_make(name, &query)?;
-        let made = self.tick + 1;
+        let query = read_query(self.alloc, line, tokens)?;
+        let made = self.next_view(name, &query)?;
         let reply = made_reply(self.alloc, &query, made, name)?;
         register(
             self.alloc,
@@ -195,23 +186,18 @@ impl Engine {
         Ok(reply)
     }
 
-    // Whether a view of this name and query may be made.
-    fn may_make(&self, name: &str, query: &Query) -> Result<(), Fault>
-        ensures { MayMake self.now.state name.now query.now result }
+    // The tick of a view that is made now, of this name and query.
+    fn next_view(&self, name: &str, query: &Query) -> Result<u64, Fault>
+        ensures made { MatchResult result (λ made. make_verdict name.now query.now self.now.state ≡ Ok (record { name = name.now; query = query.now; made = made })) (λ fault. make_verdict name.now query.now self.now.state ≡ Err fault) }
+        ensures in_time { IfOk result (λ made. made ≤ last_tick) }
     {
-        if query.returned != query.variable {
-            return Err(Fault::UnknownVariable);
-        }
         if self.views.contains_key(name) {
             return Err(Fault::ViewNameTaken);
         }
         if self.views.len() >= VIEW_LIMIT {
             return Err(Fault::TooManyViews);
         }
-        if self.tick == LAST_TICK {
-            return Err(Fault::Full);
-        }
-        Ok(())
+        next_tick(self.tick)
     }
 
     // Shows the rows of a view.
@@ -227,21 +213,36 @@ impl Engine {
     }
 }
 
+// The tick after this one.
+fn next_tick(tick: u64) -> Result<u64, Fault>
+    requires in_time { tick ≤ last_tick }
+    ensures next { result ≡ next_tick tick }
+    ensures in_time { IfOk result (λ next. next ≤ last_tick) }
+{
+    if tick == LAST_TICK {
+        return Err(Fault::Full);
+    }
+    Ok(tick + 1)
+}
+
 // Carries a statement out in the open change. After a fault the change is to be rolled back.
 fn change(
     alloc: Global,
     graph: &mut Graph,
     views: &IndexMap<String, Registered>,
-    tree: Statement,
+    form: Form,
     tick: u64,
 ) -> Result<Effect, Fault>
     requires open { graph.old.was ≡ Some graph.old.now }
-    requires literals { HasLiterals tree }
+    requires bare { graph.old.now.content.rels ≡ [] }
+    requires literals { HasLiterals form }
     requires in_time { tick ≤ last_tick }
-    ensures changes { Changes tree (map view_of views.now.entries) graph.old.now tick result graph.new.now }
+    ensures changes { IfOk result (λ effect. Changes form (map view_of views.now.entries) graph.old.now tick effect graph.new.now) }
+    ensures refused { IfErr result (λ fault. (fault ≡ Fault.NoMemory) ⊎ (carry_verdict form graph.old.now tick ≡ Err fault)) }
+    ensures in_time { IfOk result (λ effect. effect.tick ≤ last_tick) }
     ensures open { graph.new.was ≡ graph.old.was }
 {
-    let changed = carry_out(alloc, graph, tree)?;
+    let changed = carry_out(alloc, graph, form)?;
     let touched = graph.touched(alloc)?;
     if touched.is_empty() {
         return Ok(Effect {
@@ -250,26 +251,11 @@ fn change(
             entries: Sequence::new(Vec::new(alloc)),
         });
     }
-    if tick == LAST_TICK {
-        return Err(Fault::Full);
-    }
-    let tick = tick + 1;
+    let tick = next_tick(tick)?;
     let entries = entries_of(alloc, views, graph, touched.as_slice(), tick)?;
     Ok(Effect {
         changed,
         tick,
         entries: Sequence::new(entries),
     })
-}
-
-// What is told of a text that was not read.
-fn unread_fault(unread: Unread, line: &str, text: &str) -> Fault
-    ensures { result ≡ fault_of unread (place_of text.now line.now) }
-{
-    match unread {
-        Unread::Outside => Fault::Unexpected {
-            at: line.len().saturating_sub(skip(text).len()),
-        },
-        Unread::NoMemory => Fault::NoMemory,
-    }
 }

@@ -5,14 +5,14 @@ ghost use Rattle.std.specs.Option.{option_copied};
 ghost use Rattle.cy_graph.specs.Touched.{entry_of};
 ghost use Rattle.cy_values.specs.Bag.{IsBagOf, IsCanonical};
 ghost use Rattle.cy_engine.specs.Difference.{IsDifference};
-ghost use Rattle.cy_engine.specs.Kept.{view_of};
+ghost use Rattle.cy_engine.specs.Model.{view_of};
 ghost use Rattle.cy_engine.specs.Meaning.{rows_of};
 ghost use Rattle.cy_engine.specs.Step.{AreEntries};
-ghost use Rattle.cy_engine.specs.Touching.{AreTold, IsChangeOf, row_if, rows_after, rows_before};
+ghost use Rattle.cy_engine.specs.internal.Touched.{AreTold, IsChangeOf, row_if, rows_after, rows_before};
 
 use crate::differences::difference;
 use crate::faults::Fault;
-use crate::trees::Query;
+use crate::forms::Query;
 use crate::views::{Registered, counted_in_order, row};
 use cy_graph::{Graph, Node, Touched, Was};
 use cy_values::{Entity, Row, Sequence, Text, row_order_laws};

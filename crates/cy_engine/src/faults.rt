@@ -1,22 +1,38 @@
 //! Why a line was refused.
 
 ghost use Rattle.std.specs.Prelude.{◌≡◌};
-ghost use Rattle.cy_engine.specs.Faults.{code_of, offset_of, of_graph};
+ghost use Rattle.cy_engine.specs.Faults.{code_of, offset_of, of_graph, of_lexer, of_parser, of_scope, of_view};
 ghost use Rattle.cy_engine.specs.declared.faults.Fault.TheVariants.{NoMemory};
 
+use cy_graph::GraphFault;
+use cy_lexer::LexFault;
+use cy_parser::ParseFault;
+use cy_scope::{ScopeFault, ViewFault};
+use cy_values::RelId;
 use std::alloc::{AllocError, AllocFailed};
 use thiserror::Error;
 
-/// Why a line was refused. The engine is as it was before the line.
+/// Why a line was refused (own). The engine is as it was before the line.
 #[derive(Clone, Copy, Debug, PartialEq, Eq, Error)]
 pub enum Fault {
-    /// A statement or a query is not in the language. It points at the first character of it that is neither blank
-    /// nor tab, or at the line's length where there is none.
-    #[error("outside the language at byte {at}")]
+    /// The line isn't made of tokens.
+    #[error("{0}")]
+    Lex(LexFault),
+    /// Its tokens spell no statement.
+    #[error("{0}")]
+    Parse(ParseFault),
+    /// Its statement has no meaning.
+    #[error("{0}")]
+    Scope(ScopeFault),
+    /// Its query can't be a view's.
+    #[error("{0}")]
+    View(ViewFault),
+    /// A statement or a query that isn't carried out so far, by its first token.
+    #[error("not carried out at byte {at}")]
     Unexpected { at: usize },
-    /// A variable that nothing binds.
-    #[error("unknown variable")]
-    UnknownVariable,
+    /// A node that is to go has relationships; this is the one with the least number.
+    #[error("a relationship is still there")]
+    StillConnected(RelId),
     /// All 2^40 numbers of nodes were given out, or the tick is at its end.
     #[error("no number is left")]
     Full,
@@ -27,7 +43,7 @@ pub enum Fault {
     /// There are 256 views.
     #[error("too many views")]
     TooManyViews,
-    /// The word of a command is missing or no command's.
+    /// The word of a command is missing, quoted or no command's.
     #[error("unknown command")]
     UnknownCommand,
     /// An argument of a command is missing, wrong or one too many.
@@ -44,8 +60,12 @@ impl Fault {
         ensures { result ≡ code_of self.now }
     {
         match self {
+            Fault::Lex(fault) => fault.code(),
+            Fault::Parse(fault) => fault.code(),
+            Fault::Scope(fault) => fault.code(),
+            Fault::View(fault) => fault.code(),
             Fault::Unexpected { .. } => 20,
-            Fault::UnknownVariable => 30,
+            Fault::StillConnected(_) => 50,
             Fault::Full => 53,
             Fault::ViewNameTaken => 60,
             Fault::NoSuchView => 61,
@@ -61,6 +81,8 @@ impl Fault {
         ensures { result ≡ offset_of self.now }
     {
         match self {
+            Fault::Lex(fault) => fault.at(),
+            Fault::Parse(fault) => fault.at(),
             Fault::Unexpected { at } => Some(*at),
             _ => None,
         }
@@ -83,13 +105,58 @@ impl<T: Drop> From<AllocFailed<T>> for Fault {
     }
 }
 
-impl From<cy_graph::GraphFault> for Fault {
+impl From<LexFault> for Fault {
+    ghost from_gives = { λ lexed fault. fault ≡ of_lexer lexed };
+
+    fn from(lexed: LexFault) -> Fault {
+        match lexed {
+            LexFault::NoMemory => Fault::NoMemory,
+            _ => Fault::Lex(lexed),
+        }
+    }
+}
+
+impl From<ParseFault> for Fault {
+    ghost from_gives = { λ parsed fault. fault ≡ of_parser parsed };
+
+    fn from(parsed: ParseFault) -> Fault {
+        match parsed {
+            ParseFault::NoMemory => Fault::NoMemory,
+            _ => Fault::Parse(parsed),
+        }
+    }
+}
+
+impl From<ScopeFault> for Fault {
+    ghost from_gives = { λ checked fault. fault ≡ of_scope checked };
+
+    fn from(checked: ScopeFault) -> Fault {
+        match checked {
+            ScopeFault::NoMemory => Fault::NoMemory,
+            _ => Fault::Scope(checked),
+        }
+    }
+}
+
+impl From<ViewFault> for Fault {
+    ghost from_gives = { λ tested fault. fault ≡ of_view tested };
+
+    fn from(tested: ViewFault) -> Fault {
+        match tested {
+            ViewFault::NoMemory => Fault::NoMemory,
+            _ => Fault::View(tested),
+        }
+    }
+}
+
+impl From<GraphFault> for Fault {
     ghost from_gives = { λ refused fault. fault ≡ of_graph refused };
 
-    fn from(refused: cy_graph::GraphFault) -> Fault {
+    fn from(refused: GraphFault) -> Fault {
         match refused {
-            cy_graph::GraphFault::Full => Fault::Full,
-            cy_graph::GraphFault::NoMemory => Fault::NoMemory,
+            GraphFault::StillConnected(rel) => Fault::StillConnected(rel),
+            GraphFault::Full => Fault::Full,
+            GraphFault::NoMemory => Fault::NoMemory,
         }
     }
 }

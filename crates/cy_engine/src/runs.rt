@@ -1,11 +1,13 @@
 //! Runs over lists of lines.
 
 ghost use Rattle.std.specs.Prelude.{◌≡◌, IfErr, IfOk, OnErr, map};
-ghost use Rattle.cy_engine.specs.Run.{Run, ViewsHaveNames, RowsAreTheQuerys, EntriesAreTheDifferences, RefusedLinesChangeNothing, RefusedLinesLeaveNoTrace};
+ghost use Rattle.cy_engine.specs.Runs.{EntriesAreExact, IsDetermined, RefusedLinesLeaveNoTrace, Runs, ViewsAreKept};
 
 use crate::engine::Engine;
 use crate::faults::Fault;
 use crate::replies::Reply;
+use cy_parser::trees_and_texts;
+use cy_values::row_order_laws;
 use std::alloc::Global;
 
 /// Answers lines one after another. Where the answers themselves find no room, no line is answered.
@@ -14,7 +16,7 @@ pub fn answer_all(
     engine: &mut Engine,
     lines: &[&str],
 ) -> Result<Vec<Result<Reply, Fault>>, Fault>
-    ensures run { IfOk result (λ results. Run engine.old (map (λ line. line.now) lines.now) results.items engine.new) }
+    ensures run { IfOk result (λ results. Runs engine.old engine.new (map (λ line. line.now) lines.now) results.items) }
     ensures refused { IfErr result (λ fault. fault ≡ Fault.NoMemory) }
     ensures err { OnErr result (engine.new ≡ engine.old) }
 {
@@ -25,13 +27,26 @@ pub fn answer_all(
     Ok(results)
 }
 
-/// The headline. After any list of lines each view is found by its name; its rows are, as a bag, exactly what its query
-/// means on the current graph; the entries of a line are the exact differences that it made in the rows of views; and a refused line leaves all as it
-/// was: every run has the answers and the end that it would have without its refused lines.
+/// What becomes of a line is determined, but for want of memory and the parser's choice among its faults.
+pub fn determined()
+    ensures { IsDetermined }
+{
+    trees_and_texts();
+    row_order_laws();
+}
+
+/// Refused lines leave no trace: of two runs from one state, one over lines and one over those of them that the first did not
+/// refuse, the lines that both have are answered alike, make the same entries and lead to the same state.
+pub fn no_trace()
+    ensures { RefusedLinesLeaveNoTrace }
+{
+    determined();
+}
+
+/// The headline. After any list of lines, each view's rows are, as a bag, those that it had when it was made, changed by every
+/// later entry of its own; each entry is the exact difference of the rows before and after its line. What the rows are is said by
+/// `Engine::rows` and `Engine::line`: what the view's query means on the current graph.
 pub fn headline()
-    ensures names { ViewsHaveNames }
-    ensures rows { RowsAreTheQuerys }
-    ensures entries { EntriesAreTheDifferences }
-    ensures refused { RefusedLinesChangeNothing }
-    ensures no_trace { RefusedLinesLeaveNoTrace }
+    ensures views { ViewsAreKept }
+    ensures entries { EntriesAreExact }
 {}

@@ -4,28 +4,30 @@ ghost use Rattle.std.specs.Prelude.{◌≡◌, ◌⊎◌, [], length, map, filte
 ghost use Rattle.std.specs.FinMap.Entries.{is_sorted};
 ghost use Rattle.cy_graph.specs.Graph.{node_order};
 ghost use Rattle.cy_graph.specs.Stored.{IsStorable, is_storable};
-ghost use Rattle.cy_engine.specs.Each.{CanRemove, CanSet, set_each, without_each};
-ghost use Rattle.cy_engine.specs.Meaning.{AreLiterals, HasLiterals, carried_out, has_label, is_literal, outcome, set_all, set_one, unless_null};
+ghost use Rattle.cy_engine.specs.internal.Each.{CanRemove, CanSet, set_each, without_each};
+ghost use Rattle.cy_engine.specs.Meaning.{carried_out, has_label, outcome, set_all, set_one, unless_null};
+ghost use Rattle.cy_engine.specs.internal.Literals.{AreLiterals, HasLiterals, is_literal};
 
 use crate::faults::Fault;
+use crate::forms::{Create, DetachDelete, Form, SetProperty};
 use crate::replies::Changed;
-use crate::trees::{Create, DetachDelete, SetProperty, Statement};
 use cy_graph::{Graph, Labels, Props, TextMap};
 use cy_values::{Duplicate, Entity, NodeId, Text, Value};
 use std::alloc::Global;
 
-/// Carries a statement out in the open change, and tells what changed. After a fault the change is to be rolled back.
-pub(crate) fn carry_out(alloc: Global, graph: &mut Graph, tree: Statement) -> Result<Changed, Fault>
+/// Carries a statement out in the open change, and says what changed. After a fault the change is to be rolled back.
+pub(crate) fn carry_out(alloc: Global, graph: &mut Graph, form: Form) -> Result<Changed, Fault>
     requires open { IsSome graph.old.was }
-    requires literals { HasLiterals tree }
-    ensures meaning { IfOk result (λ changed. carried_out tree graph.old.now ≡ Ok (record { graph = graph.new.now; changed = changed; columns = []; rows = [] })) }
-    ensures refused { IfErr result (λ fault. ((fault ≡ Fault.Full) × (carried_out tree graph.old.now ≡ Err 53)) ⊎ ((fault ≡ Fault.UnknownVariable) × (carried_out tree graph.old.now ≡ Err 30)) ⊎ (fault ≡ Fault.NoMemory)) }
+    requires bare { graph.old.now.content.rels ≡ [] }
+    requires literals { HasLiterals form }
+    ensures meaning { IfOk result (λ changed. carried_out form graph.old.now ≡ Ok (record { graph = graph.new.now; changed = changed; columns = []; rows = [] })) }
+    ensures refused { IfErr result (λ fault. (fault ≡ Fault.NoMemory) ⊎ (carried_out form graph.old.now ≡ Err fault)) }
     ensures open { graph.new.was ≡ graph.old.was }
 {
-    match tree {
-        Statement::Create(tree) => create(alloc, graph, tree),
-        Statement::Set(tree) => set_property(alloc, graph, &tree),
-        Statement::Delete(tree) => detach_delete(alloc, graph, &tree),
+    match form {
+        Form::Create(tree) => create(alloc, graph, tree),
+        Form::Set(tree) => set_property(alloc, graph, &tree),
+        Form::Delete(tree) => detach_delete(alloc, graph, &tree),
     }
 }
 
@@ -33,8 +35,8 @@ pub(crate) fn carry_out(alloc: Global, graph: &mut Graph, tree: Statement) -> Re
 fn create(alloc: Global, graph: &mut Graph, tree: Create) -> Result<Changed, Fault>
     requires open { IsSome graph.old.was }
     requires literals { AreLiterals tree.entries }
-    ensures meaning { IfOk result (λ changed. carried_out (Statement.Create tree) graph.old.now ≡ Ok (record { graph = graph.new.now; changed = changed; columns = []; rows = [] })) }
-    ensures refused { IfErr result (λ fault. ((fault ≡ Fault.Full) × (carried_out (Statement.Create tree) graph.old.now ≡ Err 53)) ⊎ (fault ≡ Fault.NoMemory)) }
+    ensures meaning { IfOk result (λ changed. carried_out (Form.Create tree) graph.old.now ≡ Ok (record { graph = graph.new.now; changed = changed; columns = []; rows = [] })) }
+    ensures refused { IfErr result (λ fault. (fault ≡ Fault.NoMemory) ⊎ (carried_out (Form.Create tree) graph.old.now ≡ Err fault)) }
     ensures open { graph.new.was ≡ graph.old.was }
 {
     let Create { label, entries } = tree;
@@ -45,7 +47,7 @@ fn create(alloc: Global, graph: &mut Graph, tree: Create) -> Result<Changed, Fau
     Ok(changed(1, 0))
 }
 
-// What a statement tells that made and removed so many nodes.
+// What a statement says that made and removed so many nodes.
 fn changed(nodes_made: u64, nodes_gone: u64) -> Changed
     ensures { result ≡ record { nodes_made = nodes_made; nodes_gone = nodes_gone; rels_made = 0; rels_gone = 0 } }
 {
@@ -87,13 +89,10 @@ fn set(props: &mut Props, key: Text, value: Value) -> Result<(), Fault>
 fn set_property(alloc: Global, graph: &mut Graph, tree: &SetProperty) -> Result<Changed, Fault>
     requires open { IsSome graph.old.was }
     requires literal { IsTrue (is_literal tree.now.value) }
-    ensures meaning { IfOk result (λ changed. carried_out (Statement.Set tree.now) graph.old.now ≡ Ok (record { graph = graph.new.now; changed = changed; columns = []; rows = [] })) }
-    ensures refused { IfErr result (λ fault. ((fault ≡ Fault.UnknownVariable) × (carried_out (Statement.Set tree.now) graph.old.now ≡ Err 30)) ⊎ (fault ≡ Fault.NoMemory)) }
+    ensures meaning { IfOk result (λ changed. carried_out (Form.Set tree.now) graph.old.now ≡ Ok (record { graph = graph.new.now; changed = changed; columns = []; rows = [] })) }
+    ensures memory { IfErr result (λ fault. fault ≡ Fault.NoMemory) }
     ensures open { graph.new.was ≡ graph.old.was }
 {
-    if tree.target != tree.variable {
-        return Err(Fault::UnknownVariable);
-    }
     let ids = labelled(alloc, graph, &tree.label)?;
     set_nodes(alloc, graph, ids, &tree.key, &tree.value)?;
     Ok(changed(0, 0))
@@ -102,13 +101,11 @@ fn set_property(alloc: Global, graph: &mut Graph, tree: &SetProperty) -> Result<
 // Removes the nodes that MATCH gives.
 fn detach_delete(alloc: Global, graph: &mut Graph, tree: &DetachDelete) -> Result<Changed, Fault>
     requires open { IsSome graph.old.was }
-    ensures meaning { IfOk result (λ changed. carried_out (Statement.Delete tree.now) graph.old.now ≡ Ok (record { graph = graph.new.now; changed = changed; columns = []; rows = [] })) }
-    ensures refused { IfErr result (λ fault. ((fault ≡ Fault.UnknownVariable) × (carried_out (Statement.Delete tree.now) graph.old.now ≡ Err 30)) ⊎ (fault ≡ Fault.NoMemory)) }
+    requires bare { graph.old.now.content.rels ≡ [] }
+    ensures meaning { IfOk result (λ changed. carried_out (Form.Delete tree.now) graph.old.now ≡ Ok (record { graph = graph.new.now; changed = changed; columns = []; rows = [] })) }
+    ensures memory { IfErr result (λ fault. fault ≡ Fault.NoMemory) }
     ensures open { graph.new.was ≡ graph.old.was }
 {
-    if tree.target != tree.variable {
-        return Err(Fault::UnknownVariable);
-    }
     let ids = labelled(alloc, graph, &tree.label)?;
     let gone = ids.len() as u64;
     remove_nodes(graph, ids)?;
@@ -166,6 +163,7 @@ fn stored(alloc: Global, value: &Value) -> Result<Option<Value>, Fault>
 // Removes each of these nodes.
 fn remove_nodes(graph: &mut Graph, ids: Vec<NodeId>) -> Result<(), Fault>
     requires open { IsSome graph.old.was }
+    requires bare { graph.old.now.content.rels ≡ [] }
     requires there { CanRemove ids.items graph.old.now }
     ensures removed { OnOk result (graph.new.now ≡ without_each ids.items graph.old.now) }
     ensures memory { IfErr result (λ fault. fault ≡ Fault.NoMemory) }

@@ -1,14 +1,15 @@
 //! Views: their queries, and the rows that a query has on a graph.
 
 ghost use Rattle.std.specs.Prelude.{◌≡◌, ◌+◌, [], ◌∷◌, ◌++◌, length, map, None, IfErr, IfOk, OnErr, OnOk, reverse};
-ghost use Rattle.cy_engine.specs.Kept.{named, registered_at, view_of};
+ghost use Rattle.cy_engine.specs.internal.Representation.{named, registered_at};
+ghost use Rattle.cy_engine.specs.Model.{view_of};
 ghost use Rattle.cy_values.specs.Bag.{IsBagOf, IsCanonical};
-ghost use Rattle.cy_engine.specs.Counting.{counted_rows};
+ghost use Rattle.cy_engine.specs.internal.Counting.{counted_rows};
 ghost use Rattle.cy_engine.specs.Meaning.{row_of, rows_of};
 
 use crate::faults::Fault;
+use crate::forms::Query;
 use crate::replies::Reply;
-use crate::trees::Query;
 use cy_graph::{Graph, Node};
 use cy_values::{Cell, Duplicate, Row, Sequence, Text, Value, row_order, row_order_laws};
 use indexmap::IndexMap;

@@ -5,8 +5,7 @@ use Rattle.std.proofs.lemmas.List.{append-nil}
 use lib.Dec.{leb}
 use Rattle.std.proofs.lemmas.Str.{IsUtf8-from_is_utf8, is_utf8-from_IsUtf8}
 use Rattle.std.specs.Str.{IsUtf8, is_utf8}
-use Rattle.cy_engine.specs.declared.replies.Reply.TheVariants as reply
-use Rattle.cy_engine.proofs.CallerLemmas.{MayBeLeft, may_be_left}
+use Rattle.cy_engine.specs.declared.faults.Fault.TheVariants as fault
 use Rattle.cy_shell.specs.Lines.{line_limit}
 use Rattle.cy_shell.specs.Printed.{no_memory_text, IsAnswerText, IsFeedText, IsLineText, fed}
 use Rattle.cy_engine.specs.declared.faults.Fault.{Fault}
@@ -35,12 +34,13 @@ nothing_fed false = refl
 no_feed : (feed : Bool) (result : Result Reply Fault) (text : List ℕ) → IsAnswerText result text → IsLineText feed result [] text
 no_feed feed result text answered = record { answer = text; told = []; is = sym (append-nil text); answered = answered; feeds = nothing_fed feed }
 
-left_answer : (state : Serving) (line : List ℕ) → length line ≤ line_limit → IsUtf8 line → MayBeLeft state.engine line → HasAnswer state line
-left_answer state line short utf8 (inl blank) = ([], Carried (Ok reply.Nothing) [] short utf8 (blank, refl, refl) refl (no_feed state.feed (Ok reply.Nothing) [] refl))
-left_answer state line short utf8 (inr refused) = (no_memory_text, Carried (Err refused.0) [] short utf8 (refused.1, refl, refl) refl (no_feed state.feed (Err refused.0) no_memory_text (inr refl)))
+-- want of memory may refuse it
+left_answer : (state : Serving) (line : List ℕ) → length line ≤ line_limit → IsUtf8 line → HasAnswer state line
+left_answer state line short utf8 =
+    (no_memory_text, Carried (Err fault.NoMemory) [] short utf8 (inl (short, record { answered = refl; no_entries = refl; left = refl })) refl (no_feed state.feed (Err fault.NoMemory) no_memory_text (inr refl)))
 
 short_answer : (state : Serving) (line : List ℕ) → length line ≤ line_limit → (b : Bool) → is_utf8 line ≡ b → HasAnswer state line
-short_answer state line short true is = left_answer state line short (IsUtf8-from_is_utf8 line is) (may_be_left state.engine line)
+short_answer state line short true is = left_answer state line short (IsUtf8-from_is_utf8 line is)
 short_answer state line short false is =
     (no_memory_text, NotUtf8 short (λ utf8. let opposite : true ≡ false = sym (is_utf8-from_IsUtf8 line utf8) ∙ is in cc) (inr refl))
 

@@ -6,7 +6,7 @@ use Rattle.cy_lexer.specs.Faults.{at_of, code_of}
 use Rattle.cy_lexer.specs.Line.{IsTextOf}
 use Rattle.cy_lexer.specs.declared.faults.LexFault.{LexFault}
 use Rattle.cy_lexer.specs.declared.faults.LexFault.TheVariants as fault
-use Rattle.cy_engine.specs.Step.{EngineState, Machine}
+use Rattle.cy_engine.specs.State.{EngineState, Machine}
 use Rattle.cy_shell.specs.internal.Feeding.{Answers, IsAnswer}
 use Rattle.cy_shell.specs.Lines.{line_limit, kept}
 use Rattle.cy_shell.specs.Printed.{IsFaultText}

@@ -1,7 +1,8 @@
 -- A line is answered, and then its entries are printed.
 use Rattle.std.specs.Prelude.{◌≡◌, ℕ, ◌≤◌, Bool, true, false, List, ◌++◌, length, Option, Result}
 use Rattle.std.specs.Str.{IsUtf8}
-use Rattle.cy_engine.specs.Step.{EngineState, Machine, Step}
+use Rattle.cy_engine.specs.State.{EngineState, Machine}
+use Rattle.cy_engine.specs.Step.{Step}
 use Rattle.cy_engine.specs.declared.entries.Entry.{Entry}
 use Rattle.cy_engine.specs.declared.faults.Fault.{Fault}
 use Rattle.cy_engine.specs.declared.replies.Reply.{Reply}

@@ -2,9 +2,9 @@ use Rattle.std.proofs.Common.{[], map, Some, Option, refl, subst, ◌∙◌}
 use Rattle.std.proofs.lemmas.List.{append-nil}
 use Rattle.cy_engine.specs.declared.entries.Change.{Change}
 use Rattle.cy_engine.specs.declared.entries.Entry.{Entry}
-use Rattle.cy_engine.specs.Kept.{view_of}
+use Rattle.cy_engine.specs.Model.{view_of}
 use Rattle.cy_engine.specs.Step.{AreEntries}
-use Rattle.cy_engine.specs.Touching.{IsChangeOf}
+use Rattle.cy_engine.specs.internal.Touched.{IsChangeOf}
 use Rattle.cy_engine.proofs.ViewEntries.{one_some, both_some, one_entry}
 use Rattle.cy_engine.proofs.entries.entries_of.Goals as goal
 

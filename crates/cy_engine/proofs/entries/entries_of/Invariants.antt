@@ -1,6 +1,6 @@
 use Rattle.std.proofs.Common.{◌++◌, List, ℕ, IfSome, map}
 use Rattle.cy_engine.specs.declared.entries.Entry.{Entry}
-use Rattle.cy_engine.specs.Kept.{view_of}
+use Rattle.cy_engine.specs.Model.{view_of}
 use Rattle.cy_engine.specs.Step.{AreEntries}
 use Rattle.cy_engine.proofs.entries.entries_of.Given as goal
 

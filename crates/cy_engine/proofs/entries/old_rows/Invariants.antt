@@ -1,6 +1,6 @@
 use Rattle.std.proofs.Common.{◌≡◌, ◌++◌, map, drop}
 use Rattle.cy_graph.specs.Touched.{entry_of}
-use Rattle.cy_engine.specs.Touching.{rows_before}
+use Rattle.cy_engine.specs.internal.Touched.{rows_before}
 use Rattle.cy_engine.proofs.entries.old_rows.Given as goal
 
 -- the rows so far and those of the entities that are left are all

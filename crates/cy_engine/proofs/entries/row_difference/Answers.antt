@@ -1,7 +1,7 @@
 use Rattle.std.proofs.Common.{map}
 use Rattle.cy_values.specs.Bag.{IsBagOf}
 use Rattle.cy_graph.specs.Touched.{entry_of}
-use Rattle.cy_engine.specs.Touching.{rows_before, rows_after}
+use Rattle.cy_engine.specs.internal.Touched.{rows_before, rows_after}
 use Rattle.cy_engine.proofs.ViewEntries.{told_difference}
 use Rattle.cy_engine.proofs.entries.row_difference.Goals as goal
 

@@ -1,6 +1,6 @@
 use Rattle.std.proofs.Common.{◌≡◌, ◌+◌, ◌++◌, ◌∷◌, [], ◌<◌, Bool, cond, length, take, map, get_or, is_ok, vec_len, ap, ◌∙◌, arith, List, ℕ, Bor}
 use Rattle.std.proofs.lemmas.List.{take_more, length-map, get_or-map}
-use Rattle.cy_engine.proofs.Chains.{run_more}
+use Rattle.cy_engine.proofs.Chains.{runs_more}
 use Rattle.cy_engine.proofs.runs.answer_all.Goals as goal
 use Rattle.cy_engine.proofs.runs.answer_all.Goals.{After-unwrap}
 
@@ -15,7 +15,7 @@ loop-line-preserved c =
     let one : take (i + 1) texts ≡ take i texts ++ (get_or c.args.lines.now i (record { ref_ptr = (0, 0); now = [] })).now ∷ [] =
     take_more texts i [] within ∙ ap (λ text. take i texts ++ text ∷ []) (get_or-map (λ (line : Bor (List ℕ)). line.now) c.args.lines.now i (record { ref_ptr = (0, 0); now = [] }) [] c.loop-line-test.true) in
     record {
-      run = rw (one, answered c) (run_more _ _ _ _ _ _ _ c.loop-line.invariant.run c.line.ensures);
+      run = rw (one, answered c) (runs_more _ _ _ _ _ _ _ c.loop-line.invariant.run c.line.ensures);
       count = c.push.ensures.len ∙ ap (λ (ok : Bool). cond ok (vec_len c.loop-line.results + 1) (vec_len c.loop-line.results)) (ap is_ok c.unwrap.ensures) ∙ ap (λ n. n + 1) c.loop-line.invariant.count;
       room = omega (arith, c.push.ensures.capacity, c.loop-line.invariant.room);
     }

@@ -1,7 +1,8 @@
 use Rattle.std.proofs.Common.{◌≡◌, []}
 use Rattle.std.specs.Vec.Iter.{into_iter_items}
 use Rattle.cy_graph.specs.Stored.{IsStorable}
-use Rattle.cy_engine.specs.Meaning.{AreLiterals, set_all}
+use Rattle.cy_engine.specs.Meaning.{set_all}
+use Rattle.cy_engine.specs.internal.Literals.{AreLiterals}
 use Rattle.cy_engine.proofs.statements.props_of.Given as goal
 
 -- what is set so far, with the entries that are left, is all that they set

@@ -1,6 +1,6 @@
 use Rattle.std.proofs.Common.{◌≡◌, IsSome}
 use Rattle.std.specs.Vec.Iter.{into_iter_items}
-use Rattle.cy_engine.specs.Each.{CanSet, set_each}
+use Rattle.cy_engine.specs.internal.Each.{CanSet, set_each}
 use Rattle.cy_engine.specs.Meaning.{unless_null}
 use Rattle.cy_engine.proofs.statements.set_nodes.Given as goal
 

@@ -2,7 +2,7 @@ use Rattle.std.proofs.Common.{◌≡◌, List, true, refl, sym, ap, ◌∙◌, m
 use Rattle.std.specs.Str.{bytes_eq}
 use Rattle.cy_values.specs.declared.numbers.NodeId.{NodeId}
 use Rattle.cy_graph.specs.Graph.{with_nodes}
-use Rattle.cy_engine.specs.Each.{set_each}
+use Rattle.cy_engine.specs.internal.Each.{set_each}
 use Rattle.cy_engine.specs.Meaning.{set_at_label, unless_null}
 use Rattle.cy_engine.proofs.Each.{sets_labelled}
 use Rattle.cy_engine.proofs.Registry.{not_other}
@@ -18,7 +18,6 @@ returns-clause-meaning c =
     let nodes = c.args.graph.now.now.content.nodes in
     let tree = c.args.tree.now in
     let all = sets_labelled c.args.graph.now.now tree nodes c.labelled.ensures.rising in
-    let same : bytes_eq tree.target tree.variable ≡ true = not_other _ (sym c.ne.ensures ∙ c.if-ne.false) in
     let after : c.set_nodes.new.graph.now ≡ with_nodes (map (set_at_label tree) nodes) c.args.graph.now.now =
     c.in_ok-set_nodes.ensures.set ∙ ap (λ (ids : List NodeId). set_each tree.key (unless_null tree.value) ids c.args.graph.now.now) c.in_ok-ids.ensures.ids ∙ all.1 in
-    rw (same, after, c.changed.ensures) refl
+    rw (after, c.changed.ensures) refl

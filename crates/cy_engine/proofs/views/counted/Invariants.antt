@@ -1,5 +1,5 @@
 use Rattle.std.proofs.Common.{◌≡◌, ◌+◌, ◌≤◌, ◌++◌, reverse, vec_len}
-use Rattle.cy_engine.specs.Counting.{counted_from, counted_rows}
+use Rattle.cy_engine.specs.internal.Counting.{counted_from, counted_rows}
 use Rattle.cy_engine.proofs.views.counted.Given as goal
 
 -- what is counted, and what the row at hand and those left count, are all

@@ -3,7 +3,7 @@ use Rattle.std.proofs.lemmas.List.{reverse-reverse}
 use Rattle.std.proofs.lemmas.List.Sorted.{sum_by-IsPermutation}
 use Rattle.std.proofs.lemmas.Result.{IfOk-weaker}
 use Rattle.cy_values.specs.Bag.{IsBagOf, IsCanonical, count_of, weight_of}
-use Rattle.cy_engine.specs.Counting.{counted_rows}
+use Rattle.cy_engine.specs.internal.Counting.{counted_rows}
 use Rattle.cy_engine.proofs.Counting.{bag_of_counted, canonical_of_counted}
 use Rattle.cy_engine.proofs.views.counted_in_order.Goals as goal
 use Rattle.cy_engine.proofs.views.counted_in_order.Goals.{After-counted}

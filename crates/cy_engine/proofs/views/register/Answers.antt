@@ -1,7 +1,8 @@
 use Rattle.std.proofs.Common.{◌≡◌, ◌∷◌, [], ◌++◌, List, ℕ, length, map, None, subst, sym, ap, ◌∙◌, length-append}
 use Rattle.std.specs.String.{string_eq}
 use Rattle.indexmap.proofs.CallerLemmas.{insert_entry-new}
-use Rattle.cy_engine.specs.Kept.{registered_at, view_of}
+use Rattle.cy_engine.specs.internal.Representation.{registered_at}
+use Rattle.cy_engine.specs.Model.{view_of}
 use Rattle.cy_engine.proofs.Registry.{push_view}
 use Rattle.cy_engine.proofs.views.register.Goals as goal
 use Rattle.cy_engine.proofs.views.register.Goals.{In_ok-insert}

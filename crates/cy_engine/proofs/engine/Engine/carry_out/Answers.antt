@@ -1,37 +1,39 @@
-use Rattle.std.proofs.Common.{◌≡◌, refl, ap, subst, ◌∙◌, map, Ok, Err, Some, None}
+use Rattle.std.proofs.Common.{◌≡◌, ◌⊎◌, refl, ap, subst, ◌∙◌, map, Ok, Err, Some, None}
+use Rattle.std.proofs.lemmas.Result.{err_from_is_err_and}
 use Rattle.cy_graph.specs.Graph.{Versions}
 use Rattle.cy_engine.specs.declared.engine.Effect.{Effect}
-use Rattle.cy_engine.specs.Kept.{state_of, view_of}
-use Rattle.cy_engine.specs.Parts.{Changes}
-use Rattle.cy_engine.specs.Step.{Machine}
-use Rattle.cy_engine.proofs.Steps.{unread_statement, literals_of, change_refused, carries}
+use Rattle.cy_engine.specs.declared.faults.Fault.TheVariants as fault
+use Rattle.cy_engine.specs.internal.Parts.{Changes}
+use Rattle.cy_engine.specs.Model.{state_of, view_of}
+use Rattle.cy_engine.specs.State.{Machine}
+use Rattle.cy_engine.specs.Verdicts.{carry_verdict}
+use Rattle.cy_engine.proofs.Steps.{no_form, form_refused, form_done}
 use Rattle.cy_engine.proofs.engine.Engine.carry_out.Goals as goal
 
-pub returns-in-Err : goal.returns-in-Err
-returns-in-Err c = (rw c.unread_fault.ensures (unread_statement c.args.self.now.state c.args.line.now c.args.text.now c.requires.asks c.in-Err.unread (λ outside. c.in-Err.ensures.outside (ap Err outside))), c.requires.no_entries, refl)
+pub returns-in_err-form : goal.returns-in_err-form
+returns-in_err-form c =
+    let p = err_from_is_err_and c.from_residual.result c.from_residual.ensures.1 in
+    rw (p.1, p.2) (no_form c.args.line.now c.args.tokens.now c.args.self.now.state c.args.self.now.entries c.args.self.now.state c.requires.no_entries refl c.in_err-form.field-0.0 c.in_err-form.ensures.form)
 
-pub change-requires-clause-literals : goal.change-requires-clause-literals
-change-requires-clause-literals c = literals_of c.args.text.now c.in-Ok.tree c.in-Ok.ensures.found
-
-pub returns-in-Ok-change : goal.returns-in-Ok-change
-returns-in-Ok-change c =
-    let effect : Effect = c.in-Ok-change.field-0 in
-    rw (← c.self.view_is) (carries c.self.inside.graph c.self.inside.views.entries c.self.inside.tick c.self.inside.history c.args.line.now
-    c.args.text.now c.in-Ok.tree c.change.new.graph.now effect _ _ c.commit.new.self
-    c.requires.asks c.in-Ok.ensures.found
-    (subst (λ (g : Versions). Changes c.in-Ok.tree (map view_of c.self.inside.views.entries) g.now c.self.inside.tick (Ok effect) c.change.new.graph.now) c.begin.ensures c.in-Ok-change.ensures.changes)
-    (c.new-in-Ok-change.ensures ∙ c.new.ensures.items)
-    (c.new-in-Ok-change-3.ensures ∙ c.new-in-Ok-change-2.ensures.items)
+pub returns-in-Ok : goal.returns-in-Ok
+returns-in-Ok c =
+    let effect : Effect = c.in-Ok.field-0 in
+    rw (← c.self.view_is) (form_done c.self.inside.graph c.commit.new.self c.self.inside.views.entries c.self.inside.tick c.self.inside.history c.args.line.now c.args.tokens.now
+    c.in_ok-form.form effect c.change.new.graph.now _ _ c.in_ok-form.ensures.form
+    (subst (λ (g : Versions). Changes c.in_ok-form.form (map view_of c.self.inside.views.entries) g.now c.self.inside.tick effect c.change.new.graph.now) c.begin.ensures c.in-Ok.ensures.changes)
+    (c.new-in-Ok.ensures ∙ c.new.ensures.items)
+    (c.new-in-Ok-3.ensures ∙ c.new-in-Ok-2.ensures.items)
     (ap (λ (g : Versions). g.now) c.commit.ensures))
 
-pub returns-in-Err-change : goal.returns-in-Err-change
-returns-in-Err-change c =
+pub returns-in-Err : goal.returns-in-Err
+returns-in-Err c =
     let before = c.self.inside.graph.now in
-    let was : c.change.new.graph.was ≡ Some before = c.in-Err-change.ensures.open ∙ ap (λ (g : Versions). g.was) c.begin.ensures in
+    let was : c.change.new.graph.was ≡ Some before = c.in-Err.ensures.open ∙ ap (λ (g : Versions). g.was) c.begin.ensures in
     let same : Versions = record { now = before; was = None } in
     let back : c.rollback.new.self ≡ same = rw was at c.rollback.ensures in
-    let changes = subst (λ (g : Versions). Changes c.in-Ok.tree (map view_of c.self.inside.views.entries) g.now c.self.inside.tick (Err c.in-Err-change.fault) c.change.new.graph.now) c.begin.ensures c.in-Err-change.ensures.changes in (
-      rw (← c.self.view_is) (change_refused (state_of c.self.inside.graph c.self.inside.views.entries c.self.inside.tick c.self.inside.history) c.args.line.now c.args.text.now c.in-Ok.tree c.requires.asks c.in-Ok.ensures.found c.in-Err-change.fault c.change.new.graph.now changes),
-      ap (λ (m : Machine). m.entries) c.self.view_is ∙ c.requires.no_entries,
-      ap (λ (g : Versions). state_of g c.self.inside.views.entries c.self.inside.tick c.self.inside.history) back ∙ ap (λ (m : Machine). m.state) c.self.view_is,
-    )
+    let old = state_of c.self.inside.graph c.self.inside.views.entries c.self.inside.tick c.self.inside.history in
+    let why = subst (λ (g : Versions). (c.in-Err.fault ≡ fault.NoMemory) ⊎ (carry_verdict c.in_ok-form.form g.now c.self.inside.tick ≡ Err c.in-Err.fault)) c.begin.ensures c.in-Err.ensures.refused in
+    rw (← c.self.view_is) (form_refused c.args.line.now c.args.tokens.now old _ _
+    (ap (λ (m : Machine). m.entries) c.self.view_is ∙ c.requires.no_entries)
+    (ap (λ (g : Versions). state_of g c.self.inside.views.entries c.self.inside.tick c.self.inside.history) back)
+    c.in_ok-form.form c.in-Err.fault c.in_ok-form.ensures.form why)

@@ -2,9 +2,9 @@ use Rattle.std.proofs.Common.{◌≡◌, IsSome, sym, ap, IfOk, inl, inr, is_som
 use Rattle.std.proofs.lemmas.Result.{IfErr-weaker}
 use Rattle.cy_values.specs.Bag.{IsBagOf, IsCanonical}
 use Rattle.cy_engine.specs.Meaning.{rows_of}
-use Rattle.cy_engine.specs.Step.{view_at}
+use Rattle.cy_engine.specs.State.{view_at}
 use Rattle.cy_engine.specs.declared.faults.Fault.TheVariants.{NoMemory}
-use Rattle.cy_engine.specs.Kept.{named}
+use Rattle.cy_engine.specs.internal.Representation.{named}
 use Rattle.cy_engine.proofs.Registry.{view_there, view_absent, view_present}
 use Rattle.cy_engine.proofs.engine.Engine.rows.Goals as goal
 use Rattle.cy_engine.proofs.engine.Engine.rows.Goals.{After-rows_with_counts}
@@ -19,12 +19,11 @@ returns-in-Some-clause-rows c =
     (λ rows. IsBagOf (rows_of c.in-Some.found.now.query c.self.inside.graph.now.content) rows.items)
     (λ rows. IsCanonical rows.items)
     _
-    (λ rows bag canonical. record {
-      view = named c.args.view.now c.in-Some.found.now;
-      there = view_there c.args.view.now c.self.inside.views.entries c.in-Some.found.now c.in-Some.ensures.value;
-      bag = bag;
-      canonical = canonical;
-    })
+    (λ rows bag canonical. (
+      named c.args.view.now c.in-Some.found.now,
+      view_there c.args.view.now c.self.inside.views.entries c.in-Some.found.now c.in-Some.ensures.value,
+      record { bag = bag; canonical = canonical },
+    ))
     c.rows_with_counts.ensures.bag c.rows_with_counts.ensures.canonical)
 
 pub returns-in-Some-clause-refused : goal.returns-in-Some-clause-refused

@@ -1,0 +1,81 @@
+-- A line, from its tokens to its step.
+use Rattle.std.proofs.Common.{◌≡◌, ◌≢◌, ◌⊎◌, ◌<◌, ◌≤◌, ℕ, nat_lt, Bool, true, false, List, [], ◌∷◌, length, Option, Some, None, Result, Ok, Err, refl, sym, ap, subst, ◌∙◌, inl, inr, arith}
+use Rattle.std.proofs.lemmas.Bool.Decides.{nat_tests}
+use Rattle.cy_lexer.specs.declared.faults.LexFault.{LexFault}
+use Rattle.cy_lexer.specs.declared.faults.LexFault.TheVariants as lex
+use Rattle.cy_lexer.specs.declared.tokens.Token.{Token}
+use Rattle.cy_lexer.specs.Line.{longest_line}
+use Rattle.cy_lexer.specs.Tokens.{tokens_of}
+use Rattle.cy_values.specs.declared.rows.Cell.{Cell}
+use Rattle.cy_engine.specs.declared.faults.Fault.{Fault}
+use Rattle.cy_engine.specs.declared.faults.Fault.TheVariants as fault
+use Rattle.cy_engine.specs.declared.replies.Reply.{Reply}
+use Rattle.cy_engine.specs.declared.replies.Reply.TheVariants as reply
+use Rattle.cy_engine.specs.Faults.{of_lexer}
+use Rattle.cy_engine.specs.internal.Parts.{AnswersOrWants, ShowsRows}
+use Rattle.cy_engine.specs.Requests.{Request, RowsOf, Refused, request}
+use Rattle.cy_engine.specs.State.{EngineState, Entries, View, view_at}
+use Rattle.cy_engine.specs.Step.{Answer, Answers, IsRefused, Lexed, Shows, Step}
+use Rattle.cy_engine.specs.Verdicts.{there, rows_verdict}
+use Rattle.cy_engine.proofs.FromTokens.{lexed}
+
+short_or_long : (n m : ℕ) → (n ≤ m) ⊎ (m < n)
+short_or_long n m =
+    elim (nat_lt m n) as (λ b. nat_lt m n ≡ b → (n ≤ m) ⊎ (m < n)) [
+      | true ↦ λ h. inr (grind (arith, nat_tests))
+      | false ↦ λ h. inl (grind (arith, nat_tests))
+    ] refl
+
+module _ (line : List ℕ) (old : EngineState) (entries : Entries) (new : EngineState) where
+  -- a line that isn't made of tokens
+  pub lex_refused : (why : LexFault) → entries ≡ [] → new ≡ old → (why ≢ lex.NoMemory → tokens_of line ≡ Err why) → (longest_line < length line → why ≡ lex.LineTooLong) → Step old line (Err (of_lexer why)) entries new
+  lex_refused why none same said long = from (lexed why)
+    where
+      no_want : of_lexer why ≡ fault.NoMemory → (length line ≤ longest_line) ⊎ (longest_line < length line) → length line ≤ longest_line
+      no_want is (inl short) = short
+      no_want is (inr past) = let wrong : of_lexer lex.LineTooLong ≡ fault.NoMemory = ap of_lexer (sym (long past)) ∙ is in absurd (cc)
+
+      from : ((of_lexer why ≡ fault.NoMemory) ⊎ ((why ≢ lex.NoMemory) × (of_lexer why ≡ fault.Lex why))) → Step old line (Err (of_lexer why)) entries new
+      from (inl is) = inl (no_want is (short_or_long (length line) longest_line), record { answered = ap Err is; no_entries = none; left = same })
+      from (inr (is_other, is)) =
+          inr (subst (λ (r : Result (List Token) LexFault). Lexed line r old (Err (of_lexer why)) entries new) (sym (said is_other))
+          (let refused : IsRefused (fault.Lex why) old (Err (of_lexer why)) entries new = record { answered = ap Err is; no_entries = none; left = same } in refused))
+
+  -- a line of tokens is answered as it asks
+  pub line_step : (answer : Answer) (tokens : List Token) (asked : Request) → tokens_of line ≡ Ok tokens → (longest_line < length line → ⊥) → request line tokens ≡ asked
+      → AnswersOrWants line asked old answer entries new → Step old line answer entries new
+  line_step answer tokens asked made short asks (inl wants) = inl (from (short_or_long (length line) longest_line), wants)
+    where
+      from : (length line ≤ longest_line) ⊎ (longest_line < length line) → length line ≤ longest_line
+      from (inl h) = h
+      from (inr h) = absurd (short h)
+  line_step answer tokens asked made short asks (inr answers) =
+      inr (subst (λ (r : Result (List Token) LexFault). Lexed line r old answer entries new) (sym made)
+      (subst (λ (q : Request). Answers line q old answer entries new) (sym asks) answers))
+
+  -- a command that is refused
+  pub request_refused : (why : Fault) (tokens : List Token) → entries ≡ [] → new ≡ old → tokens_of line ≡ Ok tokens → (longest_line < length line → ⊥)
+      → (why ≡ fault.NoMemory) ⊎ (request line tokens ≡ Refused why) → Step old line (Err why) entries new
+  request_refused why tokens none same made short (inl wants) =
+      line_step (Err why) tokens (request line tokens) made short refl (inl (record { answered = ap Err wants; no_entries = none; left = same }))
+  request_refused why tokens none same made short (inr asks) =
+      line_step (Err why) tokens (Refused why) made short asks (inr (record { answered = refl; no_entries = none; left = same }))
+
+-- what is answered to `:rows`
+pub rows_answered : (line name : List ℕ) (state : EngineState) (entries : Entries) (answer : Answer) → entries ≡ [] → ShowsRows state name answer → AnswersOrWants line (RowsOf name) state answer entries state
+rows_answered line name state entries (Ok reply.Nothing) none shows = absurd shows
+rows_answered line name state entries (Ok (reply.Statement changed columns rows)) none shows = absurd shows
+rows_answered line name state entries (Ok (reply.Made columns tick view)) none shows = absurd shows
+rows_answered line name state entries (Ok (reply.Rows rows tick view)) none (found, is, are, ticks, named) =
+    inr (subst (λ (v : Result View Fault). Shows name v state (Ok (reply.Rows rows tick view)) entries state) (sym (ap (there fault.NoSuchView) is))
+    (rows, are, record { answered = λ i. Ok (reply.Rows rows (ticks i) (named i)); no_entries = none; left = refl }))
+rows_answered line name state entries (Err why) none (inl wants) = inl (record { answered = ap Err wants; no_entries = none; left = refl })
+rows_answered line name state entries (Err why) none (inr (missing, is)) =
+    inr (subst (λ (v : Result View Fault). Shows name v state (Err why) entries state) (sym (ap (there fault.NoSuchView) missing))
+    (let refused : IsRefused fault.NoSuchView state (Err why) entries state = record { answered = ap Err is; no_entries = none; left = refl } in refused))
+
+pub no_error : {A : Type 0} (x : A) (why : LexFault) → (let r : Result A LexFault = Ok x in r) ≡ Err why → ⊥
+no_error x why is = cc
+
+pub same_error : {A : Type 0} (why other : LexFault) → (let r : Result A LexFault = Err why in r) ≡ Err other → why ≡ other
+same_error why other is = cc

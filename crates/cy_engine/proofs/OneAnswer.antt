@@ -1,0 +1,122 @@
+-- What becomes of a line is determined.
+use Rattle.std.proofs.Common.{◌≡◌, ◌≢◌, ◌⊎◌, ℕ, true, List, [], ◌∷◌, Result, Ok, Err, refl, sym, ap, subst, ◌∙◌, inl, inr}
+use Rattle.std.specs.Prelude.{IsTrue}
+use Rattle.std.specs.Cmp.{IsTotalOrder}
+use Rattle.cy_lexer.specs.declared.faults.LexFault.{LexFault}
+use Rattle.cy_lexer.specs.declared.tokens.Token.{Token}
+use Rattle.cy_lexer.specs.Tokens.{tokens_of}
+use Rattle.cy_parser.specs.SpellsClauses.{SpellsStatement}
+use Rattle.cy_trees.specs.Trees.{Statement}
+use Rattle.cy_values.specs.declared.rows.Cell.{Cell}
+use Rattle.cy_values.specs.Bag.{IsCanonical}
+use Rattle.cy_values.specs.Order.{row_cmp}
+use Rattle.cy_values.proofs.Identity.{same_rows}
+use Rattle.cy_graph.specs.Graph.{Content}
+use Rattle.cy_engine.specs.declared.entries.Change.{Change}
+use Rattle.cy_engine.specs.declared.entries.Entry.{Entry}
+use Rattle.cy_engine.specs.declared.faults.Fault.{Fault}
+use Rattle.cy_engine.specs.declared.faults.Fault.TheVariants as fault
+use Rattle.cy_engine.specs.declared.forms.Query.{Query}
+use Rattle.cy_engine.specs.declared.replies.Reply.{Reply}
+use Rattle.cy_engine.specs.declared.replies.Reply.TheVariants as reply
+use Rattle.cy_engine.specs.Difference.{IsAbove, IsDifference}
+use Rattle.cy_engine.specs.Meaning.{rows_of}
+use Rattle.cy_engine.specs.Requests.{Request, Nothing, StatementOf, ViewOf, RowsOf, Refused, request, first_offset}
+use Rattle.cy_engine.specs.Runs.{is_parsers, Agree, HasRoom}
+use Rattle.cy_engine.specs.State.{EngineState, Entries, View}
+use Rattle.cy_engine.specs.Step.{Answer, AreRows, IsEntry, AreEntries, IsRefused, IsReplied, Carries, Makes, Shows, Reads, Answers, Lexed, Step}
+use Rattle.cy_engine.specs.Verdicts.{Carried, statement_verdict, view_verdict, rows_verdict}
+use Rattle.cy_engine.proofs.Surpluses.{same_pairs}
+
+abbrev IsOne : Type 0
+IsOne = (line : List ℕ) (tokens : List Token) (statement other : Statement) → SpellsStatement line statement tokens → SpellsStatement line other tokens → statement ≡ other
+
+module _ (total : IsTotalOrder row_cmp) where
+  above_one : (more less : List (List Cell)) (ps qs : List (List Cell × ℕ)) → IsAbove more less ps → IsAbove more less qs → ps ≡ qs
+  above_one more less ps qs a b = same_pairs total same_rows ps qs a.canonical b.canonical (λ row. a.counts row ∙ sym (b.counts row))
+
+  change_one : (before after : List (List Cell)) (c d : Change) → IsDifference before after c → IsDifference before after d → c ≡ d
+  change_one before after c d a b =
+      let removed : c.removed ≡ d.removed = above_one before after c.removed d.removed a.removed b.removed in
+      let added : c.added ≡ d.added = above_one after before c.added d.added a.added b.added in
+      λ i. record { removed = removed i; added = added i }
+
+  entry_one : (query : Query) (before after : Content) (tick : ℕ) (e f : Entry) → IsEntry query before after tick e → IsEntry query before after tick f → e ≡ f
+  entry_one query before after tick e f a b =
+      let ticks : e.tick ≡ f.tick = a.tick_is ∙ sym b.tick_is in
+      let changes : e.change ≡ f.change = change_one (rows_of query before) (rows_of query after) e.change f.change a.difference b.difference in
+      λ i. record { tick = ticks i; change = changes i }
+
+  entries_one : (views : List View) (before after : Content) (tick : ℕ) (es fs : Entries) → AreEntries views before after tick es → AreEntries views before after tick fs → es ≡ fs
+  entries_one [] before after tick es fs a b = a ∙ sym b
+  entries_one (view ∷ views) before after tick es fs (inl a) (inl b) = entries_one views before after tick es fs a.1 b.1
+  entries_one (view ∷ views) before after tick es fs (inl a) (inr (entry, others, is, told, rest)) = absurd (told.differs a.0)
+  entries_one (view ∷ views) before after tick es fs (inr (entry, others, is, told, rest)) (inl b) = absurd (told.differs b.0)
+  entries_one (view ∷ views) before after tick es fs (inr (entry, others, is, told, rest)) (inr (entry_2, others_2, is_2, told_2, rest_2)) =
+      let one : entry ≡ entry_2 = entry_one view.query before after tick entry entry_2 told told_2 in
+      let more : others ≡ others_2 = entries_one views before after tick others others_2 rest rest_2 in
+      is ∙ (λ i. (view.name, one i) ∷ more i) ∙ sym is_2
+
+  rows_one : (state : EngineState) (view : View) (rows more : List (List Cell × ℕ)) → AreRows state view rows → AreRows state view more → rows ≡ more
+  rows_one state view rows more a b = same_pairs total same_rows rows more a.canonical b.canonical (λ row. a.bag row ∙ sym (b.bag row))
+
+  module _ (one : IsOne) (old : EngineState) (answer again : Answer) (entries more : Entries) (new other : EngineState) where
+    abbrev Same : Type 0
+    Same = Agree answer again × (entries ≡ more) × (new ≡ other)
+
+    refused_one : (why : Fault) → IsRefused why old answer entries new → IsRefused why old again more other → Same
+    refused_one why a b = (inl (a.answered ∙ sym b.answered), a.no_entries ∙ sym b.no_entries, a.left ∙ sym b.left)
+
+    replied_one : (r s : Reply) → r ≡ s → IsReplied r old answer entries new → IsReplied s old again more other → Same
+    replied_one r s same a b = (inl (a.answered ∙ ap Ok same ∙ sym b.answered), a.no_entries ∙ sym b.no_entries, a.left ∙ sym b.left)
+
+    carries_one : (v : Result Carried Fault) → Carries v old answer entries new → Carries v old again more other → Same
+    carries_one (Err why) a b = refused_one why a b
+    carries_one (Ok carried) a b = (
+      inl (a.answered ∙ sym b.answered),
+      entries_one old.views old.graph.content carried.outcome.graph.content carried.tick entries more a.entries_are b.entries_are,
+      a.left ∙ sym b.left,
+    )
+
+    makes_one : (v : Result View Fault) → Makes v old answer entries new → Makes v old again more other → Same
+    makes_one (Err why) a b = refused_one why a b
+    makes_one (Ok view) a b = (inl (a.answered ∙ sym b.answered), a.no_entries ∙ sym b.no_entries, a.left ∙ sym b.left)
+
+    shows_one : (name : List ℕ) (v : Result View Fault) → Shows name v old answer entries new → Shows name v old again more other → Same
+    shows_one name (Err why) a b = refused_one why a b
+    shows_one name (Ok view) (rows, are, a) (rows_2, are_2, b) =
+        replied_one (reply.Rows rows old.tick name) (reply.Rows rows_2 old.tick name) (ap (λ (r : List (List Cell × ℕ)). reply.Rows r old.tick name) (rows_one old view rows rows_2 are are_2)) a b
+
+    parsers : (a : Answer) (why : Fault) → a ≡ Err why → is_parsers (Err why) ≡ true → IsTrue (is_parsers a)
+    parsers a why is known = ap is_parsers is ∙ known
+
+    reads_one : (line : List ℕ) (tokens : List Token) (goes_on : Statement → EngineState → Answer → Entries → EngineState → Type 0)
+        → ((tree : Statement) → goes_on tree old answer entries new → goes_on tree old again more other → Same)
+        → Reads line tokens goes_on old answer entries new → Reads line tokens goes_on old again more other → Same
+    reads_one line tokens goes_on each (inl (tree, spelt, a)) (inl (tree_2, spelt_2, b)) =
+        each tree a (subst (λ (t : Statement). goes_on t old again more other) (one line tokens tree_2 tree spelt_2 spelt) b)
+    reads_one line tokens goes_on each (inl (tree, spelt, a)) (inr (why, unspelt, b)) = absurd (unspelt.unspelt tree spelt)
+    reads_one line tokens goes_on each (inr (why, unspelt, a)) (inl (tree, spelt, b)) = absurd (unspelt.unspelt tree spelt)
+    reads_one line tokens goes_on each (inr (why, unspelt, a)) (inr (why_2, unspelt_2, b)) = (
+      inr (parsers answer (fault.Parse why) a.answered refl, parsers again (fault.Parse why_2) b.answered refl),
+      a.no_entries ∙ sym b.no_entries,
+      a.left ∙ sym b.left,
+    )
+
+    answers_one : (line : List ℕ) (asked : Request) → Answers line asked old answer entries new → Answers line asked old again more other → Same
+    answers_one line Nothing a b = replied_one reply.Nothing reply.Nothing refl a b
+    answers_one line (StatementOf tokens) a b =
+        reads_one line tokens (λ tree. Carries (statement_verdict tree (first_offset line tokens) old)) (λ tree. carries_one (statement_verdict tree (first_offset line tokens) old)) a b
+    answers_one line (ViewOf name tokens) a b =
+        reads_one line tokens (λ tree. Makes (view_verdict tree name (first_offset line tokens) old)) (λ tree. makes_one (view_verdict tree name (first_offset line tokens) old)) a b
+    answers_one line (RowsOf name) a b = shows_one name (rows_verdict name old) a b
+    answers_one line (Refused why) a b = refused_one why a b
+
+    lexed_one : (line : List ℕ) (lexed : Result (List Token) LexFault) → Lexed line lexed old answer entries new → Lexed line lexed old again more other → Same
+    lexed_one line (Err why) a b = refused_one (fault.Lex why) a b
+    lexed_one line (Ok tokens) a b = answers_one line (request line tokens) a b
+
+    pub step_one : (line : List ℕ) → Step old line answer entries new → Step old line again more other → HasRoom answer → HasRoom again → Same
+    step_one line (inl a) b room room_2 = absurd (room a.1.answered)
+    step_one line (inr a) (inl b) room room_2 = absurd (room_2 b.1.answered)
+    step_one line (inr a) (inr b) room room_2 = lexed_one line (tokens_of line) a b

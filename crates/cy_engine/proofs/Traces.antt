@@ -1,0 +1,97 @@
+-- Refused lines leave no trace.
+use Rattle.std.proofs.Common.{◌≡◌, ◌≢◌, ◌⊎◌, ℕ, true, false, List, [], ◌∷◌, map, Result, Ok, Err, refl, sym, ap, subst, ◌∙◌, inl, inr}
+use Rattle.std.specs.List.{AllByRecursion}
+use Rattle.cy_lexer.specs.declared.faults.LexFault.{LexFault}
+use Rattle.cy_lexer.specs.declared.tokens.Token.{Token}
+use Rattle.cy_lexer.specs.Tokens.{tokens_of}
+use Rattle.cy_trees.specs.Trees.{Statement}
+use Rattle.cy_engine.specs.declared.faults.Fault.{Fault}
+use Rattle.cy_engine.specs.declared.replies.Reply.{Reply}
+use Rattle.cy_engine.specs.Requests.{Request, Nothing, StatementOf, ViewOf, RowsOf, Refused, request, first_offset}
+use Rattle.cy_engine.specs.Runs.{Event, Run, Agree, HasRoom, IsDetermined, accepted, accepted_before, is_parsers}
+use Rattle.cy_engine.specs.State.{EngineState, Entries, View}
+use Rattle.cy_engine.specs.Step.{Answer, Carries, Makes, Shows, Reads, Answers, Lexed, Step}
+use Rattle.cy_engine.specs.Verdicts.{Carried, statement_verdict, view_verdict, rows_verdict}
+
+abbrev is_ok : Answer → Type 0
+is_ok answer = (reply : Reply) × (answer ≡ Ok reply)
+
+module _ (old : EngineState) (answer : Answer) (entries : Entries) (new : EngineState) (why : Fault) (refused : answer ≡ Err why) where
+  no_reply : (reply : Reply) → answer ≡ Ok reply → ⊥
+  no_reply reply is = let wrong : Err why ≡ Ok reply = sym refused ∙ is in cc
+
+  carries_left : (v : Result Carried Fault) → Carries v old answer entries new → new ≡ old
+  carries_left (Ok carried) a = absurd (no_reply _ a.answered)
+  carries_left (Err other) a = a.left
+
+  makes_left : (v : Result View Fault) → Makes v old answer entries new → new ≡ old
+  makes_left (Ok view) a = absurd (no_reply _ a.answered)
+  makes_left (Err other) a = a.left
+
+  shows_left : (name : List ℕ) (v : Result View Fault) → Shows name v old answer entries new → new ≡ old
+  shows_left name (Ok view) (rows, are, a) = a.left
+  shows_left name (Err other) a = a.left
+
+  answers_left : (line : List ℕ) (asked : Request) → Answers line asked old answer entries new → new ≡ old
+  answers_left line Nothing a = a.left
+  answers_left line (StatementOf tokens) (inl (tree, spelt, a)) = carries_left (statement_verdict tree (first_offset line tokens) old) a
+  answers_left line (StatementOf tokens) (inr (parsed, unspelt, a)) = a.left
+  answers_left line (ViewOf name tokens) (inl (tree, spelt, a)) = makes_left (view_verdict tree name (first_offset line tokens) old) a
+  answers_left line (ViewOf name tokens) (inr (parsed, unspelt, a)) = a.left
+  answers_left line (RowsOf name) a = shows_left name (rows_verdict name old) a
+  answers_left line (Refused other) a = a.left
+
+  lexed_left : (line : List ℕ) (lexed : Result (List Token) LexFault) → Lexed line lexed old answer entries new → new ≡ old
+  lexed_left line (Err other) a = a.left
+  lexed_left line (Ok tokens) a = answers_left line (request line tokens) a
+
+  pub step_left : (line : List ℕ) → Step old line answer entries new → new ≡ old
+  step_left line (inl a) = a.1.left
+  step_left line (inr a) = lexed_left line (tokens_of line) a
+
+pub run_accepted : (old new : EngineState) (events : List Event) → Run old events new → Run old (accepted events) new
+run_accepted old new [] run = run
+run_accepted old new (e ∷ events) (mid, step, run) =
+    elim e.answer as (λ (r : Answer). e.answer ≡ r → Run old (accepted_before r e (accepted events)) new) [
+      | Ok reply ↦ λ is. (mid, step, run_accepted mid new events run)
+      | Err why ↦ λ is. subst (λ (s : EngineState). Run s (accepted events) new) (step_left old e.answer e.entries mid why is e.line step) (run_accepted mid new events run)
+    ] refl
+
+pub all_accepted : (events : List Event) → AllByRecursion (λ (e : Event). is_ok e.answer) (accepted events)
+all_accepted [] = tt
+all_accepted (e ∷ events) =
+    elim e.answer as (λ (r : Answer). e.answer ≡ r → AllByRecursion (λ (f : Event). is_ok f.answer) (accepted_before r e (accepted events))) [
+      | Ok reply ↦ λ is. ((reply, is), all_accepted events)
+      | Err why ↦ λ is. all_accepted events
+    ] refl
+
+has_room : (answer : Answer) → is_ok answer → HasRoom answer
+has_room answer (reply, is) none = let wrong : Ok reply ≡ Err _ = sym is ∙ none in cc
+
+no_parser : (answer other : Answer) → is_ok answer → Agree answer other → answer ≡ other
+no_parser answer other ok (inl same) = same
+no_parser answer other (reply, is) (inr both) = let wrong : false ≡ true = sym (ap is_parsers is) ∙ both.0 in absurd (cc)
+
+heads : (e f : Event) (es fs : List Event) → map (λ (x : Event). x.line) (f ∷ fs) ≡ map (λ (x : Event). x.line) (e ∷ es) → (f.line ≡ e.line) × (map (λ (x : Event). x.line) fs ≡ map (λ (x : Event). x.line) es)
+heads e f es fs is = (cc, cc)
+
+module _ (determined : IsDetermined) where
+  runs_one : (old new other : EngineState) (es fs : List Event) → Run old es new → Run old fs other → map (λ (x : Event). x.line) fs ≡ map (λ (x : Event). x.line) es
+      → AllByRecursion (λ (x : Event). is_ok x.answer) es → AllByRecursion (λ (x : Event). HasRoom x.answer) fs → (fs ≡ es) × (other ≡ new)
+  runs_one old new other [] [] run again lines ok room = (refl, again ∙ sym run)
+  runs_one old new other [] (f ∷ fs) run again lines ok room = absurd (cc)
+  runs_one old new other (e ∷ es) [] run again lines ok room = absurd (cc)
+  runs_one old new other (e ∷ es) (f ∷ fs) (mid, step, run) (mid_2, step_2, again) lines ok room =
+      let line = heads e f es fs lines in
+      let step_of_e : Step old e.line f.answer f.entries mid_2 = subst (λ (l : List ℕ). Step old l f.answer f.entries mid_2) line.0 step_2 in
+      let one = determined old mid mid_2 e.line e.answer f.answer e.entries f.entries step step_of_e (has_room e.answer ok.0) room.0 in
+      let answer : e.answer ≡ f.answer = no_parser e.answer f.answer ok.0 one.0 in
+      let entries : e.entries ≡ f.entries = one.1 in
+      let rest = runs_one mid new other es fs run (subst (λ (s : EngineState). Run s fs other) (sym one.2) again) line.1 ok.1 room.1 in
+      let event : f ≡ e = λ i. record { line = line.0 i; answer = sym answer i; entries = sym entries i } in
+      ((λ i. event i ∷ rest.0 i), rest.1)
+
+  pub traces : (old new other : EngineState) (events alone : List Event) → Run old events new → Run old alone other
+      → map (λ (x : Event). x.line) alone ≡ map (λ (x : Event). x.line) (accepted events) → AllByRecursion (λ (x : Event). HasRoom x.answer) alone
+      → (alone ≡ accepted events) × (other ≡ new)
+  traces old new other events alone run again lines room = runs_one old new other (accepted events) alone (run_accepted old new events run) again lines (all_accepted events) room

@@ -1,0 +1,7 @@
+use Rattle.std.proofs.Common.{◌≡◌, ◌++◌, drop}
+use Rattle.cy_engine.specs.internal.Surplus.{surplus_of}
+use Rattle.cy_engine.proofs.differences.surplus_rows.Given as goal
+
+-- what is found so far and what is above among those left are all
+abbrev pub invariant-loop-row : goal.invariant-loop-row
+invariant-loop-row l = l.above.items ++ surplus_of (drop l.row-index l.more) l.less ≡ surplus_of l.more l.less

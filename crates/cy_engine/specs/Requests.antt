@@ -1,0 +1,73 @@
+-- What a line asks for, by its tokens (own).
+use Rattle.std.specs.Prelude.{ℕ, Bool, true, false, List, [], ◌∷◌, length, codes, Option, Some, None, if◌then◌else◌}
+use Rattle.cy_lexer.specs.declared.tokens.Kind.{Kind}
+use Rattle.cy_lexer.specs.declared.tokens.Kind.TheVariants as kind
+use Rattle.cy_lexer.specs.declared.tokens.Token.{Token}
+use Rattle.cy_lexer.specs.declared.symbols.Symbol.TheVariants as sign
+use Rattle.cy_lexer.specs.Keywords.{same_word}
+use Rattle.cy_parser.specs.Words.{is_word, denotes, slice_in}
+use Rattle.cy_engine.specs.declared.faults.Fault.{Fault}
+use Rattle.cy_engine.specs.declared.faults.Fault.TheVariants.{UnknownCommand, BadArgument}
+
+pub data Request : Type 0 where
+  -- the line has no token
+  Nothing : Request
+  -- a statement, of these tokens
+  StatementOf : (statement : List Token) → Request
+  -- `:view NAME query`, of the query's tokens
+  ViewOf : (name : List ℕ) → (query : List Token) → Request
+  -- `:rows NAME`
+  RowsOf : (name : List ℕ) → Request
+  -- a command that is refused
+  Refused : Fault → Request
+
+abbrev pub is_colon : Kind → Bool
+is_colon (kind.Symbol sign.Colon) = true
+is_colon _ = false
+
+abbrev pub is_semicolon : Kind → Bool
+is_semicolon (kind.Symbol sign.Semicolon) = true
+is_semicolon _ = false
+
+-- a name without quotes
+abbrev pub is_unquoted : Kind → Bool
+is_unquoted kind.Name = true
+is_unquoted _ = false
+
+-- the tokens without one `;` at their end
+abbrev pub without_end : List Token → List Token
+without_end [] = []
+without_end (t ∷ []) = if is_semicolon t.kind then [] else t ∷ []
+without_end (t ∷ u ∷ ts) = t ∷ without_end (u ∷ ts)
+
+-- a name may be a keyword or quoted; what stands after it is the parser's
+abbrev pub view_request : List ℕ → List Token → Request
+view_request line [] = Refused BadArgument
+view_request line (name ∷ query) = if is_word name.kind then ViewOf (denotes line name) query else Refused BadArgument
+
+-- one name and no more
+abbrev pub rows_request : List ℕ → List Token → Request
+rows_request line (name ∷ []) = if is_word name.kind then RowsOf (denotes line name) else Refused BadArgument
+rows_request line _ = Refused BadArgument
+
+-- whether the token is this word, whatever the case of its ASCII letters
+abbrev pub is_command : List ℕ → List ℕ → Token → Bool
+is_command spelling line word = if is_unquoted word.kind then same_word spelling (slice_in line word) else false
+
+-- what stands after the colon: the word of the command, and its arguments
+abbrev pub command_request : List ℕ → List Token → Request
+command_request line [] = Refused UnknownCommand
+command_request line (word ∷ arguments) =
+    if is_command (codes "VIEW") line word then view_request line arguments
+    else if is_command (codes "ROWS") line word then rows_request line (without_end arguments)
+    else Refused UnknownCommand
+
+-- a colon begins a command, any other token a statement
+abbrev pub request : List ℕ → List Token → Request
+request line [] = Nothing
+request line (t ∷ ts) = if is_colon t.kind then command_request line ts else StatementOf (t ∷ ts)
+
+-- where the first of the tokens begins, or where the line ends
+abbrev pub first_offset : List ℕ → List Token → ℕ
+first_offset line [] = length line
+first_offset line (t ∷ ts) = t.start

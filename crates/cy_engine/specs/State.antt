@@ -1,0 +1,54 @@
+-- The state of the engine.
+use Rattle.std.specs.Prelude.{ℕ, ◌-◌, ◌^◌, List, [], find, Option}
+use Rattle.std.specs.Option.{option_map}
+use Rattle.std.specs.Str.{bytes_eq}
+use Rattle.cy_graph.specs.Graph.{State, empty_state}
+use Rattle.cy_engine.specs.declared.entries.Entry.{Entry}
+use Rattle.cy_engine.specs.declared.forms.Query.{Query}
+
+-- a view: its name, its query and the tick at which it was made. Its rows are no part of it: they are what its
+-- query means on the graph
+pub record View : Type 0 where
+  pub name : List ℕ
+  pub query : Query
+  pub made : ℕ
+
+-- the graph with its next numbers, the views in the order in which they were made, the tick, and how many entries
+-- a view's history has
+pub record EngineState : Type 0 where
+  pub graph : State
+  pub views : List View
+  pub tick : ℕ
+  pub history : ℕ
+
+-- the entries that a line made, each with the name of its view, in the order in which the views were made
+abbrev pub Entries : Type 0
+Entries = List (List ℕ × Entry)
+
+-- an engine between two lines: its state, and the entries that the last line made
+pub record Machine : Type 0 where
+  pub state : EngineState
+  pub entries : Entries
+
+-- the last tick
+abbrev pub last_tick : ℕ
+last_tick = 2 ^ 62 - 1
+
+-- how many views there may be
+abbrev pub view_limit : ℕ
+view_limit = 256
+
+-- an empty graph, no view, tick 0
+abbrev pub empty_engine : ℕ → EngineState
+empty_engine history = record { graph = empty_state 1 1; views = []; tick = 0; history = history }
+
+abbrev pub new_machine : ℕ → Machine
+new_machine history = record { state = empty_engine history; entries = [] }
+
+-- the view of a name
+abbrev pub view_at : List ℕ → EngineState → Option View
+view_at name state = find (λ v. bytes_eq name v.name) state.views
+
+-- the entry of the view of a name, if there is one
+abbrev pub entry_at : List ℕ → Entries → Option Entry
+entry_at name entries = option_map (λ e. e.1) (find (λ e. bytes_eq name e.0) entries)

@@ -1,0 +1,131 @@
+-- Verdicts: what is done with a statement, a query that is to be a view, and a command, or the first reason against it. Each order
+-- of reasons is said here, once (own).
+use Rattle.std.specs.Prelude.{ℕ, Bool, true, false, ◌+◌, ◌==◌, ◌&&◌, List, length, Option, Some, None, Result, Ok, Err, if◌then◌else◌, is_some, nat_lt}
+use Rattle.std.specs.Ordering.{eq_by_cmp}
+use Rattle.std.specs.Cmp.Lexicographic.{pointwise}
+use Rattle.std.specs.Str.{bytes_eq}
+use Rattle.cy_trees.specs.Trees.{Statement}
+use Rattle.cy_scope.specs.ClauseFaults.{statement_fault}
+use Rattle.cy_scope.specs.Resolved.{resolved_statement}
+use Rattle.cy_scope.specs.Views.{view_fault}
+use Rattle.cy_values.specs.Order.{value_order}
+use Rattle.cy_values.specs.declared.numbers.NodeId.{NodeId}
+use Rattle.cy_values.specs.declared.numbers.RelId.{RelId}
+use Rattle.cy_values.specs.declared.scalars.Value.{Value}
+use Rattle.cy_graph.specs.Graph.{Content, State}
+use Rattle.cy_graph.specs.declared.nodes.Node.{Node}
+use Rattle.cy_graph.specs.declared.nodes.Rel.{Rel}
+use Rattle.cy_engine.specs.declared.faults.Fault.{Fault}
+use Rattle.cy_engine.specs.declared.faults.Fault.TheVariants as fault
+use Rattle.cy_engine.specs.declared.forms.Form.{Form}
+use Rattle.cy_engine.specs.declared.forms.Query.{Query}
+use Rattle.cy_engine.specs.Forms.{served_statement, served_query}
+use Rattle.cy_engine.specs.Meaning.{Outcome, carried_out}
+use Rattle.cy_engine.specs.State.{EngineState, View, view_at, last_tick, view_limit}
+
+infixl 10 ◌>>=◌
+abbrev pub ◌>>=◌ : {A B : Type 0} → Result A Fault → (A → Result B Fault) → Result B Fault
+(Ok x) >>= f = f x
+(Err e) >>= f = Err e
+
+-- nothing is against it, or this is
+abbrev pub unless : {F : Type 0} → (F → Fault) → Option F → Result (Unit {0}) Fault
+unless why None = Ok tt
+unless why (Some fault) = Err (why fault)
+
+-- it is there, or this is against it
+abbrev pub there : {A : Type 0} → Fault → Option A → Result A Fault
+there why None = Err why
+there why (Some x) = Ok x
+
+-- it holds, or this is against it
+abbrev pub needs : Bool → Fault → Result (Unit {0}) Fault
+needs true why = Ok tt
+needs false why = Err why
+
+-- ---- the tick
+
+abbrev pub same_label : List ℕ × Unit {0} → List ℕ × Unit {0} → Bool
+same_label k l = bytes_eq k.0 l.0
+
+abbrev pub same_entry : List ℕ × Value → List ℕ × Value → Bool
+same_entry p q = bytes_eq p.0 q.0 && eq_by_cmp value_order p.1 q.1
+
+abbrev pub same_value : Node → Node → Bool
+same_value m n = pointwise same_label m.labels n.labels && pointwise same_entry m.props n.props
+
+abbrev pub same_node : NodeId × Node → NodeId × Node → Bool
+same_node m n = (m.0.0 == n.0.0) && same_value m.1 n.1
+
+abbrev pub same_ends : Rel → Rel → Bool
+same_ends m n = (m.source.0 == n.source.0) && (m.target.0 == n.target.0)
+
+abbrev pub same_link : Rel → Rel → Bool
+same_link m n = same_ends m n && (bytes_eq m.kind n.kind && pointwise same_entry m.props n.props)
+
+abbrev pub same_relationship : RelId × Rel → RelId × Rel → Bool
+same_relationship m n = (m.0.0 == n.0.0) && same_link m.1 n.1
+
+-- whether two graphs hold the same
+abbrev pub same_content : Content → Content → Bool
+same_content c d = pointwise same_node c.nodes d.nodes && pointwise same_relationship c.rels d.rels
+
+-- the tick rises, unless it is the last one
+abbrev pub next_tick : ℕ → Result ℕ Fault
+next_tick tick = if tick == last_tick then Err fault.Full else Ok (tick + 1)
+
+-- the tick after a line that leads from one content to another: it rises where they differ
+abbrev pub tick_after : Content → Content → ℕ → Result ℕ Fault
+tick_after before after tick = if same_content before after then Ok tick else next_tick tick
+
+-- ---- statements
+
+-- the statement with the columns of its variables, or its fault of scope
+abbrev pub scope_verdict : Statement → Result Statement Fault
+scope_verdict tree = unless fault.Scope (statement_fault tree) >>= λ _. Ok (resolved_statement tree)
+
+-- then, where a statement isn't one that is carried out so far, its first token, which is at the offset
+abbrev pub form_verdict : Statement → ℕ → Result Form Fault
+form_verdict tree at = scope_verdict tree >>= λ resolved. there (fault.Unexpected at) (served_statement resolved)
+
+-- what a statement leaves and says, and the tick after it
+pub record Carried : Type 0 where
+  pub outcome : Outcome
+  pub tick : ℕ
+
+-- what carrying out a form from a graph and a tick gives, or what is against it; then the last tick
+abbrev pub carry_verdict : Form → State → ℕ → Result Carried Fault
+carry_verdict form graph tick =
+    carried_out form graph >>= λ outcome.
+    tick_after graph.content outcome.graph.content tick >>= λ after.
+    Ok (record { outcome = outcome; tick = after })
+
+abbrev pub statement_verdict : Statement → ℕ → EngineState → Result Carried Fault
+statement_verdict tree at state = form_verdict tree at >>= λ form. carry_verdict form state.graph state.tick
+
+-- ---- views
+
+-- the fault of scope, then that of a view's query; then, where the query isn't one that is carried out so far, its first token,
+-- which is at the offset
+abbrev pub query_verdict : Statement → ℕ → Result Query Fault
+query_verdict tree at =
+    scope_verdict tree >>= λ resolved.
+    unless fault.View (view_fault resolved) >>= λ _.
+    there (fault.Unexpected at) (served_query resolved)
+
+-- then, whether a view of the name is there, whether there are too many views, and the last tick
+abbrev pub make_verdict : List ℕ → Query → EngineState → Result View Fault
+make_verdict name query state =
+    unless (λ _. fault.ViewNameTaken) (view_at name state) >>= λ _.
+    needs (nat_lt (length state.views) view_limit) fault.TooManyViews >>= λ _.
+    next_tick state.tick >>= λ tick.
+    Ok (record { name = name; query = query; made = tick })
+
+abbrev pub view_verdict : Statement → List ℕ → ℕ → EngineState → Result View Fault
+view_verdict tree name at state = query_verdict tree at >>= λ query. make_verdict name query state
+
+-- ---- commands
+
+-- the view whose rows are asked for
+abbrev pub rows_verdict : List ℕ → EngineState → Result View Fault
+rows_verdict name state = there fault.NoSuchView (view_at name state)

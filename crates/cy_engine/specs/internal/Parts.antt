@@ -1,0 +1,57 @@
+-- What the parts of the engine's work on a line promise one another.
+use Rattle.std.specs.Prelude.{◌≡◌, ℕ, ◌⊎◌, List, [], None, Some, Result, Ok, Err}
+use Rattle.cy_lexer.specs.declared.tokens.Token.{Token}
+use Rattle.cy_parser.specs.SpellsClauses.{SpellsStatement}
+use Rattle.cy_parser.specs.declared.faults.ParseFault.{ParseFault}
+use Rattle.cy_trees.specs.Trees.{Statement}
+use Rattle.cy_graph.specs.Graph.{State}
+use Rattle.cy_engine.specs.declared.engine.Effect.{Effect}
+use Rattle.cy_engine.specs.declared.faults.Fault.{Fault}
+use Rattle.cy_engine.specs.declared.faults.Fault.TheVariants as fault
+use Rattle.cy_engine.specs.declared.forms.Form.{Form}
+use Rattle.cy_engine.specs.declared.replies.Reply.{Reply}
+use Rattle.cy_engine.specs.declared.replies.Reply.TheVariants as reply
+use Rattle.cy_engine.specs.declared.requests.Request.{Request as Code}
+use Rattle.cy_engine.specs.declared.requests.Request.TheVariants as code
+use Rattle.cy_engine.specs.Requests.{Request, Nothing, StatementOf, ViewOf, RowsOf}
+use Rattle.cy_engine.specs.State.{EngineState, Entries, View, view_at}
+use Rattle.cy_engine.specs.Step.{Answer, Answers, AreEntries, AreRows, IsRefused, IsUnspelt}
+use Rattle.cy_engine.specs.Verdicts.{carry_verdict}
+
+-- the request that the code has
+abbrev pub shown : Code → Request
+shown code.Nothing = Nothing
+shown (code.Statement tokens) = StatementOf tokens.now
+shown (code.View name query) = ViewOf name query.now
+shown (code.Rows name) = RowsOf name
+
+-- a tree that the tokens spell
+pub record HasTree (line : List ℕ) (tokens : List Token) (P : Statement → Type 0) : Type 0 where
+  pub tree : Statement
+  pub spelt : SpellsStatement line tree tokens
+  pub that : P tree
+
+-- why no tree is given, where a verdict on it says this
+abbrev pub Fails : {A : Type 0} → (Statement → Result A Fault) → List ℕ → List Token → Fault → Type 0
+Fails verdict line tokens why =
+    (why ≡ fault.NoMemory) ⊎ ((refused : ParseFault) × IsUnspelt line tokens refused × (why ≡ fault.Parse refused)) ⊎ HasTree line tokens (λ tree. verdict tree ≡ Err why)
+
+-- a function gives what the verdict on the tree that the tokens spell says
+abbrev pub Gives : {X A : Type 0} → (X → A) → (Statement → Result A Fault) → List ℕ → List Token → Result X Fault → Type 0
+Gives see verdict line tokens (Ok x) = HasTree line tokens (λ tree. verdict tree ≡ Ok (see x))
+Gives see verdict line tokens (Err why) = Fails verdict line tokens why
+
+-- a line that asks for this is answered, or refused for want of memory
+abbrev pub AnswersOrWants : List ℕ → Request → EngineState → Answer → Entries → EngineState → Type 0
+AnswersOrWants line asked old answer entries new = IsRefused fault.NoMemory old answer entries new ⊎ Answers line asked old answer entries new
+
+-- what becomes of a form, from a graph, the views and a tick: its effect, and the graph after it
+pub record Changes (form : Form) (views : List View) (old : State) (tick : ℕ) (effect : Effect) (new : State) : Type 0 where
+  pub verdict : carry_verdict form old tick ≡ Ok (record { outcome = record { graph = new; changed = effect.changed; columns = []; rows = [] }; tick = effect.tick })
+  pub entries_are : AreEntries views old.content new.content effect.tick effect.entries
+
+-- what is answered to `:rows`
+abbrev pub ShowsRows : EngineState → List ℕ → Result Reply Fault → Type 0
+ShowsRows state name (Ok (reply.Rows rows tick view)) = (found : View) × (view_at name state ≡ Some found) × AreRows state found rows × (tick ≡ state.tick) × (view ≡ name)
+ShowsRows state name (Ok _) = ⊥
+ShowsRows state name (Err why) = (why ≡ fault.NoMemory) ⊎ ((view_at name state ≡ None) × (why ≡ fault.NoSuchView))

@@ -1,6 +1,6 @@
 //! The calls of an engine, with ample memory.
 
-use cy_engine::{Changed, Engine, Fault, Reply, answer_all, headline};
+use cy_engine::{Changed, Engine, Fault, Reply, answer_all, determined, headline, no_trace};
 use cy_values::{Cell, Row, Value};
 use std::process::Abort;
 use std::test::Fail;
@@ -72,6 +72,8 @@ pub(crate) fn expect_fault<T: Drop>(
 
 #[test]
 fn answers_lines_and_shows_rows(rt: HostRuntime) -> Result<(), Fail> {
+    determined();
+    no_trace();
     headline();
     let alloc = rt.alloc();
     let mut engine = Engine::new(alloc, 64);

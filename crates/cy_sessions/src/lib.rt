@@ -6,11 +6,15 @@ mod engine;
 #[cfg(test)]
 mod entries;
 #[cfg(test)]
+mod lines;
+#[cfg(test)]
 mod options;
 #[cfg(test)]
 mod plain;
 #[cfg(test)]
 mod refused;
+#[cfg(test)]
+mod scopes;
 #[cfg(test)]
 mod stops;
 #[cfg(test)]

@@ -108,7 +108,7 @@ fn prints_changes(rt: HostRuntime) -> Result<(), Fail> {
 fn leaves_no_trace_of_texts(rt: HostRuntime) -> Result<(), Fail> {
     let alloc = rt.alloc();
     let table: [(&str, &str, u16, &str); 13] = [
-        ("CREATE (:A {k: 1}\n", "0", 20, "Unexpected"),
+        ("CREATE (:A {k: 1}\n", "17", 20, "Unexpected"),
         (" MATCH (n:A) SET n.k = [5]\n", "1", 20, "Unexpected"),
         ("MATCH (n:A) DELETE n\n", "0", 20, "Unexpected"),
         (":view w MATCH (n:A) RETURN n\n", "8", 20, "Unexpected"),
@@ -130,7 +130,7 @@ fn leaves_no_trace_of_texts(rt: HostRuntime) -> Result<(), Fail> {
         (":\n", "null", 70, "UnknownCommand"),
         (":view\n", "null", 72, "BadArgument"),
         (":rows v w\n", "null", 72, "BadArgument"),
-        (":rows v;\n", "null", 72, "BadArgument"),
+        (":rows v ; ;\n", "null", 72, "BadArgument"),
     ];
     for (line, at, code, word) in table {
         let refusal = fault(alloc, at, code, word)?;

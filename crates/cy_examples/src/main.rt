@@ -45,21 +45,20 @@ fn replay_file<R: Files + Print + AllocGlobal>(rt: &R, name: &str, feed: bool) -
     println!(rt; "{name}: {as_written} of {count} sessions as written")
 }
 
-// Whether a session is answered as it says in each way. Where it isn't, what is written instead is printed.
+// Whether a session is answered as it says in each way. What is written in the first way where it isn't is printed.
 fn is_as_written<R: Print + AllocGlobal>(
     rt: &R,
     name: &str,
     session: &Session,
     feed: bool,
 ) -> io::Result<bool> {
-    let mut is_same = true;
     for way in [Way::Whole, Way::WithoutRefused, Way::WithoutFeed] {
         if let Some(output) = difference(rt.alloc(), session, way, feed)? {
-            is_same = false;
             print_difference(rt, name, session.place, way, output.as_str())?;
+            return Ok(false);
         }
     }
-    Ok(is_same)
+    Ok(true)
 }
 
 fn print_difference<R: Print>(

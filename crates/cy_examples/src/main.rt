@@ -1,56 +1,74 @@
-//! Runs the sessions of the examples, and compares what they write with the answers that stand beside them.
+//! Runs the sessions of the transcripts again, and reports where what is written is something else.
 #![tactic(auto)]
 
-use cy_shell::{MemorySink, MemorySource, Settings, run};
-use std::fs;
-use std::io::{self, ErrorKind};
+mod replay;
+mod transcript;
+
+use crate::replay::{Way, difference};
+use crate::transcript::{Session, sessions};
 use std::rt::Files;
+use std::{fs, io};
 
-/// The lines of a session, and their answers, with the entries that they make or without.
-#[derive(Clone, Copy)]
-struct Session {
-    lines: &'static str,
-    answers: &'static str,
-    feed: bool,
-}
-
-const SESSIONS: [Session; 2] = [
-    Session {
-        lines: "dashboard.cypher",
-        answers: "dashboard.out",
-        feed: false,
-    },
-    Session {
-        lines: "dashboard.cypher",
-        answers: "dashboard_feed.out",
-        feed: true,
-    },
+/// The transcripts, and whether entries follow the answers.
+const TRANSCRIPTS: [(&str, bool); 11] = [
+    ("dashboard.session", true),
+    ("values.session", false),
+    ("spellings.session", false),
+    ("rows.session", false),
+    ("entries.session", true),
+    ("refused.session", true),
+    ("tokens.session", false),
+    ("grammar.session", false),
+    ("scope.session", false),
+    ("views.session", false),
+    ("later.session", false),
 ];
 
 fn main(rt: HostRuntime) -> io::Result<()> {
-    for session in SESSIONS {
-        let verdict = if is_answered(&rt, &session)? {
-            "as written"
-        } else {
-            "otherwise"
-        };
-        println!(rt; "{}: answered {verdict}", session.answers)?;
+    for (name, feed) in TRANSCRIPTS {
+        replay_file(&rt, name, feed)?;
     }
     Ok(())
 }
 
-// Whether a session is answered as its answers say.
-fn is_answered<R: Files + AllocGlobal>(rt: &R, session: &Session) -> io::Result<bool> {
-    let lines = fs::read_to_string(rt, session.lines)?;
-    let answers = fs::read_to_string(rt, session.answers)?;
-    let mut source = MemorySource::new(lines.as_str().as_bytes());
-    let mut sink = MemorySink::new(rt.alloc(), answers.len().saturating_add(1))?;
-    let settings = Settings {
-        history: 64,
-        feed: session.feed,
-    };
-    run(rt.alloc(), &mut source, &mut sink, settings).map_err(|_| io::Error::from(
-        ErrorKind::Other,
-    ))?;
-    Ok(sink.as_slice() == answers.as_str().as_bytes())
+// Runs the sessions of a file.
+fn replay_file<R: Files + Print + AllocGlobal>(rt: &R, name: &str, feed: bool) -> io::Result<()> {
+    let text = fs::read_to_string(rt, name)?;
+    let sessions = sessions(rt.alloc(), text.as_str())?;
+    let mut as_written = 0usize;
+    for session in &sessions {
+        if is_as_written(rt, name, session, feed)? {
+            as_written = as_written.saturating_add(1);
+        }
+    }
+    let count = sessions.len();
+    println!(rt; "{name}: {as_written} of {count} sessions as written")
+}
+
+// Whether a session is answered as it says in each way. What is written in the first way where it isn't is printed.
+fn is_as_written<R: Print + AllocGlobal>(
+    rt: &R,
+    name: &str,
+    session: &Session,
+    feed: bool,
+) -> io::Result<bool> {
+    for way in [Way::Whole, Way::WithoutRefused, Way::WithoutFeed] {
+        if let Some(output) = difference(rt.alloc(), session, way, feed)? {
+            print_difference(rt, name, session.place, way, output.as_str())?;
+            return Ok(false);
+        }
+    }
+    Ok(true)
+}
+
+fn print_difference<R: Print>(
+    rt: &R,
+    name: &str,
+    place: usize,
+    way: Way,
+    output: &str,
+) -> io::Result<()> {
+    let words = way.words();
+    println!(rt; "{name}: the session at line {place}, run {words}, is answered:")?;
+    print!(rt; "{output}")
 }

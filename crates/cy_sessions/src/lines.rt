@@ -1,218 +1,195 @@
-//! Lines as the language says: every fault of reading, by its number and offset, and what is accepted in each spelling.
+//! Lines that no transcript holds: bytes that are no text, very long lines, control characters, and lines that are generated.
 
-use crate::tests::{expect_faults, fault, written};
-use std::alloc::Global;
+ghost use Rattle.std.specs.Prelude.{◌≡◌, false};
+
+use crate::depths::nested;
+use cy_shell::{MemorySink, MemorySource, Settings, run};
+use std::alloc::{AllocError, Global};
 use std::process::Abort;
 use std::test::Fail;
 
-// Lines that aren't made of tokens, or whose tokens spell no statement.
+const CREATED: &str = r#"{"changed":[1,0,0,0],"columns":[],"rows":[]}"#;
+
+const TOO_LONG: &str = r#"{"at":65536,"code":17,"error":"LineTooLong"}"#;
+
+const NOT_UTF8: &str = r#"{"at":16,"code":18,"error":"NotUtf8"}"#;
+
+const ROOM: usize = 400_000;
+
+// What is written for an input is this, with ample memory.
+fn expect_written(
+    rt: &impl Abort,
+    alloc: Global,
+    input: &[u8],
+    output: &str,
+    what: &str,
+) -> Result<(), Fail> {
+    let mut source = MemorySource::new(input);
+    let mut sink = MemorySink::new(alloc, ROOM)?;
+    let settings = Settings {
+        history: 64,
+        feed: false,
+    };
+    let outcome = run(alloc, &mut source, &mut sink, settings);
+    assert!(rt; outcome.is_ok(), "{what}");
+    assert!(rt; sink.as_slice() == output.as_bytes(), "{what}");
+    Ok(())
+}
+
+// A line that makes a view.
+fn view_line(alloc: Global, number: u16) -> Result<String, AllocError> {
+    format!(in alloc; ":view v{number} MATCH (n:A) RETURN n.k\n")
+}
+
+// The answer to the line that makes the view, which is the first or comes after all with lesser numbers.
+fn view_answer(alloc: Global, number: u16) -> Result<String, AllocError> {
+    format!(in alloc; "{{\"columns\":[\"n.k\"],\"tick\":{number},\"view\":\"v{number}\"}}\n")
+}
+
+const AFTER_ALL_VIEWS: &str = r#":view w MATCH (n:A) RETURN n.k
+:rows w
+CREATE (:A)
+:rows v256
+"#;
+
+const AFTER_ALL_ANSWERS: &str = r#"{"at":null,"code":68,"error":"TooManyViews"}
+{"at":null,"code":61,"error":"NoSuchView"}
+{"changed":[1,0,0,0],"columns":[],"rows":[]}
+{"rows":[[[null],1]],"tick":257,"view":"v256"}
+"#;
+
+// There may be 256 views, and the lines after one more find all as it was.
 #[test]
-fn refuses_what_cannot_be_read(rt: HostRuntime) -> Result<(), Fail> {
-    expect_faults(
+fn counts_views(rt: HostRuntime) -> Result<(), Fail> {
+    let alloc = rt.alloc();
+    let mut input = String::new(alloc);
+    let mut output = String::new(alloc);
+    for number in 1..=256u16 {
+        input.push_str(view_line(alloc, number)?.as_str())?;
+        output.push_str(view_answer(alloc, number)?.as_str())?;
+    }
+    input.push_str(AFTER_ALL_VIEWS)?;
+    output.push_str(AFTER_ALL_ANSWERS)?;
+    expect_written(&rt, alloc, input.as_bytes(), output.as_str(), "views")
+}
+
+// A line of so many bytes that makes a node with a text.
+fn long_line(alloc: Global, count: usize) -> Result<Vec<u8>, AllocError> {
+    let mut line = Vec::with_capacity(alloc, 65_600)?;
+    line.extend_from_slice(b"CREATE (:A {k: '")?;
+    line.resize(count.saturating_sub(3), b'a')?;
+    line.extend_from_slice(b"'})")?;
+    Ok(line)
+}
+
+// The longest line that can be carried out, and one byte more.
+#[test]
+fn carries_out_the_longest_line(rt: HostRuntime) -> Result<(), Fail> {
+    let alloc = rt.alloc();
+    let mut line = long_line(alloc, 65_536)?;
+    let created = format!(in alloc; "{CREATED}\n")?;
+    expect_written(
         &rt,
-        rt.alloc(),
-        &[
-            ("RETURN # AS x", "7", 10, "BadCharacter"),
-            ("RETURN 'ab", "7", 11, "UnclosedText"),
-            (":foo 'abc", "5", 11, "UnclosedText"),
-            ("RETURN \"a\\q\" AS x", "9", 12, "BadEscape"),
-            ("RETURN 'a\\q", "9", 12, "BadEscape"),
-            ("RETURN '\\uD800' AS x", "8", 12, "BadEscape"),
-            ("/* a", "0", 13, "UnclosedComment"),
-            ("RETURN `a``", "7", 14, "UnclosedName"),
-            ("RETURN 01 AS x", "7", 15, "BadNumber"),
-            ("RETURN 1x AS y", "7", 15, "BadNumber"),
-            ("RETURN 1.5 AS x", "7", 15, "BadNumber"),
-            ("RETURN 9223372036854775808 AS x", "7", 16, "NumberTooLarge"),
-            ("MATCH (n RETURN n", "9", 20, "Unexpected"),
-            ("RETURN 1 AS x UNION RETURN 2 AS x", "14", 20, "Unexpected"),
-            ("MATCH (n)", "9", 22, "ClauseOrder"),
-            ("CREATE (n) MATCH (m) RETURN m", "11", 22, "ClauseOrder"),
-            ("MATCH (n) DELETE n RETURN 1 AS x", "19", 22, "ClauseOrder"),
-            ("MATCH (a)-[*3..2]->(b) RETURN a", "15", 24, "BadRange"),
-        ],
+        alloc,
+        line.as_slice(),
+        created.as_str(),
+        "the longest line",
+    )?;
+    line.push(b' ')?;
+    line.extend_from_slice(b"\nCREATE (:A)\n")?;
+    let output = format!(in alloc; "{TOO_LONG}\n{CREATED}\n")?;
+    expect_written(
+        &rt,
+        alloc,
+        line.as_slice(),
+        output.as_str(),
+        "one byte more",
     )
 }
 
-// A line with a piece so many times in it.
-fn repeated(
-    alloc: Global,
-    before: &str,
-    piece: &str,
-    times: usize,
-    after: &str,
-) -> Result<String, Fail> {
-    let mut line = String::from_str(alloc, before)?;
-    for _ in 0..times {
-        line.push_str(piece)?;
+// A session, each of whose lines has one that is refused before it.
+fn with_refused(alloc: Global, refused: &[u8]) -> Result<Vec<u8>, AllocError> {
+    let mut input = Vec::new(alloc);
+    for line in [
+        "CREATE (:A {k: 7})",
+        ":view v MATCH (n:A) RETURN n.k",
+        ":rows v",
+    ] {
+        input.extend_from_slice(refused)?;
+        input.push(b'\n')?;
+        input.extend_from_slice(line.as_bytes())?;
+        input.push(b'\n')?;
     }
-    line.push_str(after)?;
-    Ok(line)
+    Ok(input)
+}
+
+// Its answers.
+fn with_refusals(alloc: Global, refusal: &str) -> Result<String, AllocError> {
+    let mut output = String::new(alloc);
+    for answer in [
+        CREATED,
+        r#"{"columns":["n.k"],"tick":2,"view":"v"}"#,
+        r#"{"rows":[[[7],1]],"tick":2,"view":"v"}"#,
+    ] {
+        output.push_str(refusal)?;
+        output.push('\n')?;
+        output.push_str(answer)?;
+        output.push('\n')?;
+    }
+    Ok(output)
+}
+
+// Lines that would be carried out if they were a text or shorter.
+#[test]
+fn leaves_no_trace_of_bytes(rt: HostRuntime) -> Result<(), Fail> {
+    let alloc = rt.alloc();
+    let input = with_refused(alloc, b"CREATE (:A {k: '\xFF'})")?;
+    let output = with_refusals(alloc, NOT_UTF8)?;
+    expect_written(&rt, alloc, input.as_slice(), output.as_str(), "no text")?;
+    let line = long_line(alloc, 65_537)?;
+    let input = with_refused(alloc, line.as_slice())?;
+    let output = with_refusals(alloc, TOO_LONG)?;
+    expect_written(&rt, alloc, input.as_slice(), output.as_str(), "too long")
+}
+
+// An item whose expression is too deep.
+fn expect_too_deep(rt: &impl Abort, alloc: Global, deep: &str) -> Result<(), Fail> {
+    let line = format!(in alloc; "RETURN {deep} AS x")?;
+    let output = "{\"at\":7,\"code\":21,\"error\":\"TooDeep\"}\n";
+    expect_written(rt, alloc, line.as_bytes(), output, deep)
 }
 
 #[test]
 fn refuses_what_is_too_deep(rt: HostRuntime) -> Result<(), Fail> {
     let alloc = rt.alloc();
-    let negations = repeated(alloc, "RETURN ", "NOT ", 64, "true AS x")?;
-    let opened = repeated(alloc, "RETURN ", "(", 257, "1")?;
-    let brackets = repeated(alloc, opened.as_str(), ")", 257, " AS x")?;
-    expect_faults(
-        &rt,
-        alloc,
-        &[
-            (negations.as_str(), "7", 21, "TooDeep"),
-            (brackets.as_str(), "7", 21, "TooDeep"),
-        ],
-    )
+    let negations = nested(alloc, ("NOT ", ""), 64, "true")?;
+    expect_too_deep(&rt, alloc, negations.as_str())?;
+    let brackets = nested(alloc, ("(", ")"), 257, "1")?;
+    expect_too_deep(&rt, alloc, brackets.as_str())
 }
 
-// Statements without a meaning, and queries that can't be views.
-#[test]
-fn refuses_what_has_no_meaning(rt: HostRuntime) -> Result<(), Fail> {
-    expect_faults(
-        &rt,
-        rt.alloc(),
-        &[
-            ("RETURN x", "null", 30, "UnknownVariable"),
-            ("CREATE (a), (a)", "null", 31, "AlreadyBound"),
-            (
-                "MATCH (a), (a)-[a]->() RETURN 1 AS x",
-                "null",
-                32,
-                "WrongKind",
-            ),
-            ("WITH 1 RETURN 2 AS x", "null", 33, "MissingAlias"),
-            ("RETURN 1 AS x, 2 AS x", "null", 34, "DuplicateColumn"),
-            (
-                "MATCH (n) WHERE count(n) > 1 RETURN n",
-                "null",
-                35,
-                "AggregateHere",
-            ),
-            ("RETURN foo(1) AS x", "null", 36, "UnknownFunction"),
-            ("RETURN abs() AS x", "null", 37, "WrongArguments"),
-            ("RETURN size(*) AS x", "null", 37, "WrongArguments"),
-            (
-                "MATCH ()-[r]->(), ()-[r]->() RETURN r",
-                "null",
-                38,
-                "RepeatedRelationship",
-            ),
-            ("CREATE (a)-[:T]-(b)", "null", 39, "BadCreate"),
-            (":view v CREATE (n)", "null", 62, "NotAReading"),
-            (
-                ":view v MATCH (n) RETURN count(*) AS c LIMIT 1",
-                "null",
-                66,
-                "OrderInView",
-            ),
-            (
-                ":view v MATCH (n) RETURN count(*) AS c",
-                "null",
-                65,
-                "AggregateInView",
-            ),
-            (
-                ":view v MATCH (a)-[*1..6]->(b) RETURN a",
-                "null",
-                64,
-                "Unbounded",
-            ),
-            (
-                ":view v MATCH (a)-[*]->(b) RETURN a",
-                "null",
-                64,
-                "Unbounded",
-            ),
-            (
-                ":view v MATCH (n) WHERE n.x RETURN n",
-                "null",
-                63,
-                "MayFail",
-            ),
-            (":view v UNWIND [1] AS x RETURN x", "null", 63, "MayFail"),
-            (
-                ":view v MATCH (n) RETURN n.x + 1 AS y",
-                "null",
-                63,
-                "MayFail",
-            ),
-        ],
-    )
-}
-
-// A session in pairs of line and answer.
-const SPELLINGS: [(&str, &str); 11] = [
-    (
-        "CREATE (:`A b` {`k``k`: 7}) ; // made",
-        "{\"changed\":[1,0,0,0],\"columns\":[],\"rows\":[]}",
-    ),
-    (
-        ": View `my view` MATCH (n:`A b`) RETURN n.`k``k`;",
-        "{\"columns\":[\"n.`k``k`\"],\"tick\":2,\"view\":\"my view\"}",
-    ),
-    (
-        ":rows `my view` ;",
-        "{\"rows\":[[[7],1]],\"tick\":2,\"view\":\"my view\"}",
-    ),
-    (
-        "match /* every */ (m:`A b`) set m.`k``k` = \"\\u0041'\"",
-        "{\"changed\":[0,0,0,0],\"columns\":[],\"rows\":[]}",
-    ),
-    (
-        ":view create MATCH (n:`A b`) RETURN n.`k``k` AS `c d`",
-        "{\"columns\":[\"c d\"],\"tick\":4,\"view\":\"create\"}",
-    ),
-    (
-        ":ROWS CREATE",
-        "{\"at\":null,\"code\":61,\"error\":\"NoSuchView\"}",
-    ),
-    (
-        ":ROWS create",
-        "{\"rows\":[[[\"A'\"],1]],\"tick\":4,\"view\":\"create\"}",
-    ),
-    (
-        ":view create MATCH (n) RETURN n",
-        "{\"at\":13,\"code\":20,\"error\":\"Unexpected\"}",
-    ),
-    (
-        ":view create MATCH (n:A) RETURN n.k",
-        "{\"at\":null,\"code\":60,\"error\":\"ViewNameTaken\"}",
-    ),
-    (
-        "MATCH (n:`A b`) DETACH DELETE n;",
-        "{\"changed\":[0,1,0,0],\"columns\":[],\"rows\":[]}",
-    ),
-    (
-        ":rows `create`",
-        "{\"rows\":[],\"tick\":5,\"view\":\"create\"}",
-    ),
-];
-
-#[test]
-fn reads_each_spelling(rt: HostRuntime) -> Result<(), Fail> {
-    let alloc = rt.alloc();
-    let mut input = String::new(alloc);
-    let mut output = String::new(alloc);
-    for (line, answer) in SPELLINGS {
-        input.push_str(line)?;
-        input.push_str("\n")?;
-        output.push_str(answer)?;
-        output.push_str("\n")?;
-    }
-    let sink = written(&rt, alloc, input.as_bytes(), "spellings")?;
-    assert!(rt; sink.as_slice() == output.as_bytes());
-    Ok(())
-}
-
-// A line without tokens has no reply, and a line of one CR neither.
+// A line of one CR, an empty line, and a last one.
 #[test]
 fn answers_nothing_to_gaps(rt: HostRuntime) -> Result<(), Fail> {
-    let alloc = rt.alloc();
-    let sink = written(&rt, alloc, b"\r\n// a\n/* b */ \n\n", "gaps")?;
-    assert!(rt; sink.as_slice().is_empty());
-    let refusal = fault(alloc, "0", 20, "Unexpected")?;
-    let sink = written(&rt, alloc, b"; // c", "an end alone")?;
-    assert!(rt; sink.as_slice() == refusal.as_bytes());
-    Ok(())
+    let input = b"\r\n// a\n/* b */ \n\n";
+    expect_written(&rt, rt.alloc(), input, "", "gaps")
+}
+
+const CONTROLS: &str = "CREATE (:A {k: '\"\u{1}\t'})\n:view v MATCH (n:A) RETURN n.k\n:rows v\n";
+
+const CONTROLS_ANSWERS: &str = r#"{"changed":[1,0,0,0],"columns":[],"rows":[]}
+{"columns":["n.k"],"tick":2,"view":"v"}
+{"rows":[[["\"\u0001\t"],1]],"tick":2,"view":"v"}
+"#;
+
+// Control characters in a text are printed by their escapes.
+#[test]
+fn keeps_control_characters(rt: HostRuntime) -> Result<(), Fail> {
+    expect_written(
+        &rt,
+        rt.alloc(),
+        CONTROLS.as_bytes(),
+        CONTROLS_ANSWERS,
+        "controls",
+    )
 }

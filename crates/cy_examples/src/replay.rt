@@ -1,0 +1,87 @@
+//! Sessions are run again, and what is written is compared with what stands in the transcript.
+
+use crate::transcript::{Exchange, Session};
+use cy_shell::{MemorySource, OutputSink, Settings, run};
+use std::alloc::{AllocError, Global};
+use std::io::{self, ErrorKind};
+use std::str;
+
+/// How a session is run.
+#[derive(Clone, Copy, PartialEq, Eq)]
+pub(crate) enum Way {
+    /// As it stands.
+    Whole,
+    /// Without the lines that are refused: the other answers stay.
+    WithoutRefused,
+    /// Without a feed: the answers stay, and no entries follow them.
+    WithoutFeed,
+}
+
+impl Way {
+    /// What is said of a session that isn't answered so.
+    pub(crate) fn words(self) -> &'static str {
+        match self {
+            Way::Whole => "as it stands",
+            Way::WithoutRefused => "without its refused lines",
+            Way::WithoutFeed => "without a feed",
+        }
+    }
+
+    fn sends(self, exchange: &Exchange) -> bool {
+        self != Way::WithoutRefused || !exchange.is_refused()
+    }
+
+    fn expects(self, answer: &str) -> bool {
+        self != Way::WithoutFeed || !answer.starts_with("{\"added\"")
+    }
+}
+
+/// What is written, where it is something else than the session says.
+pub(crate) fn difference(
+    alloc: Global,
+    session: &Session,
+    way: Way,
+    feed: bool,
+) -> io::Result<Option<String>> {
+    let mut input = String::new(alloc);
+    let mut expected = String::new(alloc);
+    for exchange in &session.exchanges {
+        if way.sends(exchange) {
+            add_line(&mut input, exchange.line)?;
+            add_answers(&mut expected, exchange, way)?;
+        }
+    }
+    let output = written(alloc, input.as_str(), feed && way != Way::WithoutFeed)?;
+    if output.as_str() == expected.as_str() {
+        Ok(None)
+    } else {
+        Ok(Some(output))
+    }
+}
+
+fn add_answers(text: &mut String, exchange: &Exchange, way: Way) -> Result<(), AllocError> {
+    for answer in &exchange.answers {
+        if way.expects(answer) {
+            add_line(text, answer)?;
+        }
+    }
+    Ok(())
+}
+
+fn add_line(text: &mut String, line: &str) -> Result<(), AllocError> {
+    text.push_str(line)?;
+    text.push('\n')
+}
+
+// What a fresh engine writes for an input.
+fn written(alloc: Global, input: &str, feed: bool) -> io::Result<String> {
+    let mut output = Vec::new(alloc);
+    let mut source = MemorySource::new(input.as_bytes());
+    let mut sink = OutputSink::new(&mut output);
+    let settings = Settings { history: 64, feed };
+    run(alloc, &mut source, &mut sink, settings).map_err(|_| io::Error::from(ErrorKind::Other))?;
+    match str::from_utf8(output.as_slice()) {
+        Ok(text) => Ok(String::from_str(alloc, text)?),
+        Err(_) => Err(io::Error::from(ErrorKind::InvalidData)),
+    }
+}

@@ -1,5 +1,5 @@
 -- Lemmas on the characters of a line.
-use Rattle.std.proofs.Common.{◌≡◌, ℕ, suc, ◌+◌, ◌-◌, ◌<◌, Bool, true, ◌||◌, ◌==◌, List, ◌∷◌, ◌++◌, length, take, drop, get_or, refl, sym, ap, ◌∙◌, arith, add-one}
+use Rattle.std.proofs.Common.{◌≡◌, ℕ, suc, ◌+◌, ◌-◌, ◌<◌, Bool, true, false, ◌||◌, ◌==◌, List, ◌∷◌, ◌++◌, length, take, drop, get_or, refl, sym, ap, ◌∙◌, arith, add-one}
 use Rattle.std.specs.Char.{encode_utf8, is_ascii, is_ascii_alphabetic, is_ascii_alphanumeric}
 use Rattle.std.specs.List.{prefix_len}
 use Rattle.std.proofs.Math.Seq.{drop-cons}
@@ -75,3 +75,6 @@ pub run_step : (p : ℕ → Bool) (c : ℕ) (whole cs : List ℕ) → whole ≡ 
 run_step p c whole cs e goes =
     let one : 1 + prefix_len p cs ≡ suc (prefix_len p cs) = omega arith in
     rw e (rw goes (ap (λ (n : ℕ). drop n (c ∷ cs)) one))
+
+pub run_stop : (p : ℕ → Bool) (c : ℕ) (whole cs : List ℕ) → whole ≡ c ∷ cs → p c ≡ false → drop (prefix_len p whole) whole ≡ whole
+run_stop p c whole cs e stops = rw e (rw stops refl)

@@ -1,5 +1,5 @@
 -- Lemmas on keywords.
-use Rattle.std.proofs.Common.{◌≡◌, ℕ, Bool, true, false, List, [], ◌∷◌, Some, None, refl, sym, ap, ◌∙◌, arith}
+use Rattle.std.proofs.Common.{◌≡◌, ℕ, ◌<◌, Bool, true, false, List, [], ◌∷◌, length, Some, None, refl, sym, ap, ◌∙◌, arith}
 use Rattle.std.specs.Char.{to_ascii_lowercase, to_ascii_uppercase}
 use Rattle.std.specs.List.{find, filter, slice_get}
 use Rattle.std.proofs.lemmas.Bool.{eqb-true, eq-eqb, and_parts}
@@ -42,6 +42,33 @@ keyword_of-letter [] letter known e kept = absurd cc
 keyword_of-letter (b ∷ bytes) letter known e kept =
     let first : letter ≡ b = cc in
     rw (kept, first) (find-kept (λ k. same_word (spelling k) (b ∷ bytes)) (begins_keyword b) (begins_as_spelled b bytes) keywords)
+
+by_none : {X : Type 0} → (p : X → Bool) (x : X) (xs : List X) (found : Bool) → p x ≡ found → (p x ≡ true → ⊥) → find p xs ≡ None → find p (x ∷ xs) ≡ None
+by_none p x xs true found never known = absurd (never found)
+by_none p x xs false found never known = rw found known
+
+-- a test that nothing passes finds nothing
+find-none : {X : Type 0} → (p : X → Bool) → ((x : X) → p x ≡ true → ⊥) → (xs : List X) → find p xs ≡ None
+find-none p never [] = refl
+find-none p never (x ∷ xs) = by_none p x xs (p x) refl (never x) (find-none p never xs)
+
+-- a keyword has two letters or more
+two_letters : (k : Keyword) → (c : ℕ) × (d : ℕ) × (cs : List ℕ) × (spelling k ≡ c ∷ d ∷ cs)
+two_letters word.All = (_, _, _, refl)
+two_letters k = (_, _, _, refl)
+
+longer_than_one : (letter : ℕ) (k : Keyword) → same_word (spelling k) (letter ∷ []) ≡ true → ⊥
+longer_than_one letter k same =
+    let front = two_letters k in
+    let both = and_parts _ _ (rw front.3 at same) in
+    let end : false ≡ true = both.1 in cc
+
+-- one letter is no keyword, and nothing is none
+pub keyword_of_short : (word : List ℕ) → length word < 2 → None ≡ keyword_of word
+unfolding keyword_of
+keyword_of_short [] e = refl
+keyword_of_short (b ∷ []) e = sym (find-none (λ k. same_word (spelling k) (b ∷ [])) (longer_than_one b) keywords)
+keyword_of_short (b ∷ d ∷ bytes) e = absurd (omega arith)
 
 -- nothing is no keyword
 pub keyword_of-nothing : (word : List ℕ) → None ≡ slice_get word 0 → None ≡ keyword_of word

@@ -60,25 +60,12 @@ pub(crate) fn begins_with(text: &str, c: char) -> bool
     }
 }
 
-/// What follows the ASCII characters at the front, or some of them, that go on with the run.
-fn after_ascii(run: Run, text: &str) -> &str
-    ensures value { drop (prefix_len (goes_on run) (chars result.now)) (chars result.now) ≡ drop (prefix_len (goes_on run) (chars text.now)) (chars text.now) }
-    ensures shorter { length result.now ≤ length text.now }
-{
-    let bytes = text.as_bytes();
-    let mut at = 0;
-    while at < bytes.len() && bytes[at].is_ascii() && run.goes_on(bytes[at] as char) {
-        at += 1;
-    }
-    text.split_at(at).1
-}
-
-/// What follows the characters at the front that go on with the run.
-pub(crate) fn after_run(run: Run, text: &str) -> &str
+/// What follows the characters at the front that go on with the run, from a character on that may not be ASCII.
+fn after_characters(run: Run, text: &str) -> &str
     ensures value { chars result.now ≡ drop (prefix_len (goes_on run) (chars text.now)) (chars text.now) }
     ensures shorter { length result.now ≤ length text.now }
 {
-    let mut rest = after_ascii(run, text);
+    let mut rest = text;
     while let Some((first, after)) = split_first(rest) {
         if !run.goes_on(first) {
             break;
@@ -86,4 +73,20 @@ pub(crate) fn after_run(run: Run, text: &str) -> &str
         rest = after;
     }
     rest
+}
+
+/// What follows the characters at the front that go on with the run.
+pub(crate) fn after_run(run: Run, text: &str) -> &str
+    ensures value { chars result.now ≡ drop (prefix_len (goes_on run) (chars text.now)) (chars text.now) }
+    ensures shorter { length result.now ≤ length text.now }
+{
+    let bytes = text.as_bytes();
+    let mut at = 0;
+    while at < bytes.len() && bytes[at].is_ascii() {
+        if !run.goes_on(bytes[at] as char) {
+            return text.split_at(at).1;
+        }
+        at += 1;
+    }
+    after_characters(run, text.split_at(at).1)
 }

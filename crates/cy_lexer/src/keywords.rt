@@ -195,9 +195,14 @@ fn first_spelled(keywords: &[Keyword], word: &str) -> Option<Keyword>
 }
 
 /// The keyword that the word is, whatever the case of its ASCII letters.
+#[tactic(auto, using(crate::proofs::KeywordsLemmas::keyword_of_short))]
 pub(crate) fn keyword_of(word: &str) -> Option<Keyword>
     ensures { result ≡ keyword_of word.now }
 {
+    // No keyword has one letter alone.
+    if word.len() < 2 {
+        return None;
+    }
     let letter = word.as_bytes().first()?;
     first_spelled(keywords_with(*letter), word)
 }

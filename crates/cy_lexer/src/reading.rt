@@ -27,8 +27,8 @@ pub fn lex(alloc: Global, line: &str) -> Result<Vec<Token>, LexFault>
     if line.len() > LONGEST_LINE {
         return Err(LexFault::LineTooLong);
     }
-    // Tokens and the gaps after them take some three bytes each.
-    let mut tokens = Vec::with_capacity(alloc, line.len() / 3)?;
+    // A token and the gap after it mostly take two bytes or more.
+    let mut tokens = Vec::with_capacity(alloc, line.len() / 2)?;
     let mut rest = line;
     while let Some((first, after)) = split_first(rest) {
         let start = line.len() - rest.len();

@@ -742,14 +742,17 @@ module _ (line : List ℕ) where
   mutual
     complete : {n : ℕ} {l : Level} {e : Expression} {ts rest : List Token} → Spells line n l e ts rest → Claim n l e ts rest
     complete (is_exclusion n e ts rest s) = chain_of_one n _ _ _ _ e ts rest (exclusion_of n e ts rest (complete s))
-    complete (or n o a b t ts mid rest s is u) =
-        chain_of_two n _ _ _ _ o a b t ts mid rest (complete s) is (disjunction_ends t.kind o is) (exclusion_of n b mid rest (complete u))
+    complete (or n a b t ts mid rest s is u) =
+        let by : disjunction_operator t.kind ≡ Some operator.Or = ap disjunction_operator is in
+        chain_of_two n _ _ _ _ operator.Or a b t ts mid rest (complete s) by (disjunction_ends t.kind operator.Or by) (exclusion_of n b mid rest (complete u))
     complete (is_conjunction n e ts rest s) = chain_of_one n _ _ _ _ e ts rest (conjunction_of n e ts rest (complete s))
-    complete (xor n o a b t ts mid rest s is u) =
-        chain_of_two n _ _ _ _ o a b t ts mid rest (complete s) is (exclusion_ends t.kind o is) (conjunction_of n b mid rest (complete u))
+    complete (xor n a b t ts mid rest s is u) =
+        let by : exclusion_operator t.kind ≡ Some operator.Xor = ap exclusion_operator is in
+        chain_of_two n _ _ _ _ operator.Xor a b t ts mid rest (complete s) by (exclusion_ends t.kind operator.Xor by) (conjunction_of n b mid rest (complete u))
     complete (is_negation n e ts rest s) = chain_of_one n _ _ _ _ e ts rest (complete s)
-    complete (and n o a b t ts mid rest s is u) =
-        chain_of_two n _ _ _ _ o a b t ts mid rest (complete s) is (conjunction_ends t.kind o is) (complete u)
+    complete (and n a b t ts mid rest s is u) =
+        let by : conjunction_operator t.kind ≡ Some operator.And = ap conjunction_operator is in
+        chain_of_two n _ _ _ _ operator.And a b t ts mid rest (complete s) by (conjunction_ends t.kind operator.And by) (complete u)
     complete (is_comparison n e ts rest s) = negation_single n e ts rest (complete s)
     complete (denied n e t ts rest is s) = negation_not n e t ts rest is (complete s)
     complete (is_predicate n e ts rest s) = comparisons_single n e ts rest (complete s)

@@ -28,3 +28,5 @@ pub mod WordsSpans
 pub mod ShownWords
 pub mod ShownAgain
 pub mod Rows
+pub mod ChainRow
+pub mod LengthRow

@@ -14,7 +14,7 @@ use Rattle.cy_trees.specs.Trees.{Name, Expression, Expressions, list, no_more, m
 use Rattle.cy_trees.specs.Depth.{depth, deepest, links_depth, arms_depth, otherwise_depth}
 use Rattle.cy_lexer.specs.Words as words
 use Rattle.cy_trees.specs.Show.{Piece, word as shown_word, space, says, mark, named, bracketed, label_pieces, binary_pieces, comparator_symbol, unary_pieces, is_literal, owner_pieces, distinct_pieces, expression_pieces, elements_pieces, links_pieces, arms_pieces, otherwise_pieces}
-use Rattle.cy_parser.specs.Words.{lowered, number_limit, product_operator, sum_operator, comparator_of, conjunction_operator, exclusion_operator, disjunction_operator}
+use Rattle.cy_parser.specs.Words.{lowered, number_limit, product_operator, sum_operator, comparator_of}
 use Rattle.cy_parser.specs.Spells as spell
 use Rattle.cy_parser.specs.Spells.{Spells, SpellsAll, SpellsLabels, SpellsLinks, SpellsArms, SpellsOtherwise, Level, whole, exclusion, conjunction, negation, comparisons, predicate, sum, product, signed, postfix, owner, head, IsSymbol, IsKeyword}
 use Rattle.cy_parser.specs.internal.WellFormed.{IsNamed, IsVariable, Every, Several, IsWellFormed, AreWellFormed, LinksAreWellFormed, ArmsAreWellFormed, OtherwiseIsWellFormed}
@@ -79,14 +79,14 @@ module _ (line : List ℕ) where
       Shown line (binary_pieces o) from mid → Spells line n signed b mid rest → Spells line n whole (binary o a b) ts rest
   binary_whole n two.Or a b ts from mid rest s shown u =
       last_keyword line (λ us. Spells line n signed a ts us → Spells line n whole (binary two.Or a b) ts rest) word.Or from mid shown (λ t is l.
-      spell.or n two.Or a b t ts mid rest (as_whole n a ts (t ∷ mid) l) (ap disjunction_operator is) (from_conjunction n b mid rest (from_negation n b mid rest (as_negation n b mid rest u)))) s
+      spell.or n a b t ts mid rest (as_whole n a ts (t ∷ mid) l) is (from_conjunction n b mid rest (from_negation n b mid rest (as_negation n b mid rest u)))) s
   binary_whole n two.Xor a b ts from mid rest s shown u =
       last_keyword line (λ us. Spells line n signed a ts us → Spells line n whole (binary two.Xor a b) ts rest) word.Xor from mid shown (λ t is l.
-      from_exclusion n _ ts rest (spell.xor n two.Xor a b t ts mid rest (from_conjunction n a ts (t ∷ mid) (from_negation n a ts (t ∷ mid) (as_negation n a ts (t ∷ mid) l))) (ap exclusion_operator is)
+      from_exclusion n _ ts rest (spell.xor n a b t ts mid rest (from_conjunction n a ts (t ∷ mid) (from_negation n a ts (t ∷ mid) (as_negation n a ts (t ∷ mid) l))) is
       (from_negation n b mid rest (as_negation n b mid rest u)))) s
   binary_whole n two.And a b ts from mid rest s shown u =
       last_keyword line (λ us. Spells line n signed a ts us → Spells line n whole (binary two.And a b) ts rest) word.And from mid shown (λ t is l.
-      from_exclusion n _ ts rest (from_conjunction n _ ts rest (spell.and n two.And a b t ts mid rest (from_negation n a ts (t ∷ mid) (as_negation n a ts (t ∷ mid) l)) (ap conjunction_operator is)
+      from_exclusion n _ ts rest (from_conjunction n _ ts rest (spell.and n a b t ts mid rest (from_negation n a ts (t ∷ mid) (as_negation n a ts (t ∷ mid) l)) is
       (as_negation n b mid rest u)))) s
   binary_whole n two.In a b ts from mid rest s shown u =
       last_keyword line (λ us. Spells line n signed a ts us → Spells line n whole (binary two.In a b) ts rest) word.In from mid shown (λ t is l.

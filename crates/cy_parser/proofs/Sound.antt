@@ -422,6 +422,37 @@ module _ (line : List ℕ) (n : ℕ) (inner : Nested → Reader Expression)
         shallow = subst (λ z. depth z ≤ greatest_depth) (sym k.0) k.2;
       }) (checked_there (unary unary_operator.Plus e) mid))
 
+-- a keyword that stands for an operator
+or_is : (k : Kind) (o : BinaryOperator) → disjunction_operator k ≡ Some o → (k ≡ kind.Keyword word.Or) × (o ≡ operator.Or)
+or_is (kind.Keyword word.Or) o e = (refl, cc)
+or_is _ o e = absurd cc
+
+xor_is : (k : Kind) (o : BinaryOperator) → exclusion_operator k ≡ Some o → (k ≡ kind.Keyword word.Xor) × (o ≡ operator.Xor)
+xor_is (kind.Keyword word.Xor) o e = (refl, cc)
+xor_is _ o e = absurd cc
+
+and_is : (k : Kind) (o : BinaryOperator) → conjunction_operator k ≡ Some o → (k ≡ kind.Keyword word.And) × (o ≡ operator.And)
+and_is (kind.Keyword word.And) o e = (refl, cc)
+and_is _ o e = absurd cc
+
+or_by : {line : List ℕ} (n : ℕ) (o : BinaryOperator) (a b : Expression) (t : Token) (ts mid rest : List Token) → Spells line n whole a ts (t ∷ mid)
+    → disjunction_operator t.kind ≡ Some o → Spells line n exclusion b mid rest → Spells line n whole (binary o a b) ts rest
+or_by {line} n o a b t ts mid rest s by u =
+    let found = or_is t.kind o by in
+    subst (λ z. Spells line n whole (binary z a b) ts rest) (sym found.1) (or n a b t ts mid rest s found.0 u)
+
+xor_by : {line : List ℕ} (n : ℕ) (o : BinaryOperator) (a b : Expression) (t : Token) (ts mid rest : List Token) → Spells line n exclusion a ts (t ∷ mid)
+    → exclusion_operator t.kind ≡ Some o → Spells line n conjunction b mid rest → Spells line n exclusion (binary o a b) ts rest
+xor_by {line} n o a b t ts mid rest s by u =
+    let found = xor_is t.kind o by in
+    subst (λ z. Spells line n exclusion (binary z a b) ts rest) (sym found.1) (xor n a b t ts mid rest s found.0 u)
+
+and_by : {line : List ℕ} (n : ℕ) (o : BinaryOperator) (a b : Expression) (t : Token) (ts mid rest : List Token) → Spells line n conjunction a ts (t ∷ mid)
+    → conjunction_operator t.kind ≡ Some o → Spells line n negation b mid rest → Spells line n conjunction (binary o a b) ts rest
+and_by {line} n o a b t ts mid rest s by u =
+    let found = and_is t.kind o by in
+    subst (λ z. Spells line n conjunction (binary z a b) ts rest) (sym found.1) (and n a b t ts mid rest s found.0 u)
+
 -- a chain of operators of one level, from its parts
 module _ (line : List ℕ) (n : ℕ) (upper lower : Level) (operators : Kind → Option BinaryOperator) (operand : Reader Expression)
     (operand-sound : (ts : List Token) → Gives (operand ts) (Spelt line n lower ts))
@@ -637,15 +668,15 @@ module _ (line : List ℕ) (n : ℕ) (inner : Nested → Reader Expression) (ins
 
   conjunction-sound : (ts : List Token) → Gives (conjunction_read line n inner ts) (Spelt line (suc n) conjunction ts)
   unfolding conjunction_read
-  conjunction-sound ts = chain-sound line (suc n) conjunction negation conjunction_operator (negation_read line n inner) negation-sound (is_negation (suc n)) (and (suc n)) ts
+  conjunction-sound ts = chain-sound line (suc n) conjunction negation conjunction_operator (negation_read line n inner) negation-sound (is_negation (suc n)) (and_by (suc n)) ts
 
   exclusion-sound : (ts : List Token) → Gives (exclusion_read line n inner ts) (Spelt line (suc n) exclusion ts)
   unfolding exclusion_read
-  exclusion-sound ts = chain-sound line (suc n) exclusion conjunction exclusion_operator (conjunction_read line n inner) conjunction-sound (is_conjunction (suc n)) (xor (suc n)) ts
+  exclusion-sound ts = chain-sound line (suc n) exclusion conjunction exclusion_operator (conjunction_read line n inner) conjunction-sound (is_conjunction (suc n)) (xor_by (suc n)) ts
 
   disjunction-sound : (ts : List Token) → Gives (disjunction line n inner ts) (Spelt line (suc n) whole ts)
   unfolding disjunction
-  disjunction-sound ts = chain-sound line (suc n) whole exclusion disjunction_operator (exclusion_read line n inner) exclusion-sound (is_exclusion (suc n)) (or (suc n)) ts
+  disjunction-sound ts = chain-sound line (suc n) whole exclusion disjunction_operator (exclusion_read line n inner) exclusion-sound (is_exclusion (suc n)) (or_by (suc n)) ts
 
   level-sound : Inside line (suc n) (level line n inner)
   level-sound = record { whole_is = disjunction-sound; negation_is = negation-sound; sign_is = signed-sound }

@@ -182,11 +182,11 @@ module _ (line : List ℕ) (utf8 : IsUtf8 line) where
   mutual
     pub well : {n : ℕ} {l : Level} {e : Expression} {ts rest : List Token} → Spells line n l e ts rest → IsPart ts → IsWellFormed e × IsPart rest
     well (spell.is_exclusion n e ts rest s) p = well s p
-    well (spell.or n o a b t ts mid rest s is u) p = let x = well s p in let y = well u (part_next t mid x.1) in ((x.0, y.0), y.1)
+    well (spell.or n a b t ts mid rest s is u) p = let x = well s p in let y = well u (part_next t mid x.1) in ((x.0, y.0), y.1)
     well (spell.is_conjunction n e ts rest s) p = well s p
-    well (spell.xor n o a b t ts mid rest s is u) p = let x = well s p in let y = well u (part_next t mid x.1) in ((x.0, y.0), y.1)
+    well (spell.xor n a b t ts mid rest s is u) p = let x = well s p in let y = well u (part_next t mid x.1) in ((x.0, y.0), y.1)
     well (spell.is_negation n e ts rest s) p = well s p
-    well (spell.and n o a b t ts mid rest s is u) p = let x = well s p in let y = well u (part_next t mid x.1) in ((x.0, y.0), y.1)
+    well (spell.and n a b t ts mid rest s is u) p = let x = well s p in let y = well u (part_next t mid x.1) in ((x.0, y.0), y.1)
     well (spell.is_comparison n e ts rest s) p = well s p
     well (spell.not n e t ts rest is s) p = well s (part_next t ts p)
     well (spell.is_predicate n e ts rest s) p = well s p

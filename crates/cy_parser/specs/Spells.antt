@@ -16,7 +16,7 @@ use Rattle.cy_trees.specs.declared.expressions.BinaryOperator.{BinaryOperator}
 use Rattle.cy_trees.specs.declared.expressions.BinaryOperator.TheVariants as operator
 use Rattle.cy_trees.specs.declared.expressions.Comparator.{Comparator}
 use Rattle.cy_trees.specs.Trees.{Name, Expression, null, boolean, integer, text, variable, property, has_labels, unary, binary, comparison, list, case, call, call_star, Expressions, no_more, more, Links, no_links, link, Arms, no_arms, arm, Otherwise, nothing, otherwise}
-use Rattle.cy_parser.specs.Words.{is_name, is_word, lowered, denotes, negated, number_limit, disjunction_operator, exclusion_operator, conjunction_operator, comparator_of, sum_operator, product_operator}
+use Rattle.cy_parser.specs.Words.{is_name, is_word, lowered, denotes, negated, number_limit, comparator_of, sum_operator, product_operator}
 
 abbrev pub IsKeyword : Keyword → Token → Type 0
 IsKeyword k t = t.kind ≡ kind.Keyword k
@@ -63,21 +63,21 @@ mutual
     -- expr = xor { "OR" xor }
     is_exclusion : (n : ℕ) (e : Expression) (ts rest : List Token)
         → Spells line n exclusion e ts rest → Spells line n whole e ts rest
-    or : (n : ℕ) (o : BinaryOperator) (a b : Expression) (t : Token) (ts mid rest : List Token)
-        → Spells line n whole a ts (t ∷ mid) → disjunction_operator t.kind ≡ Some o → Spells line n exclusion b mid rest
-        → Spells line n whole (binary o a b) ts rest
+    or : (n : ℕ) (a b : Expression) (t : Token) (ts mid rest : List Token)
+        → Spells line n whole a ts (t ∷ mid) → IsKeyword word.Or t → Spells line n exclusion b mid rest
+        → Spells line n whole (binary operator.Or a b) ts rest
     -- xor = and { "XOR" and }
     is_conjunction : (n : ℕ) (e : Expression) (ts rest : List Token)
         → Spells line n conjunction e ts rest → Spells line n exclusion e ts rest
-    xor : (n : ℕ) (o : BinaryOperator) (a b : Expression) (t : Token) (ts mid rest : List Token)
-        → Spells line n exclusion a ts (t ∷ mid) → exclusion_operator t.kind ≡ Some o → Spells line n conjunction b mid rest
-        → Spells line n exclusion (binary o a b) ts rest
+    xor : (n : ℕ) (a b : Expression) (t : Token) (ts mid rest : List Token)
+        → Spells line n exclusion a ts (t ∷ mid) → IsKeyword word.Xor t → Spells line n conjunction b mid rest
+        → Spells line n exclusion (binary operator.Xor a b) ts rest
     -- and = not { "AND" not }
     is_negation : (n : ℕ) (e : Expression) (ts rest : List Token)
         → Spells line n negation e ts rest → Spells line n conjunction e ts rest
-    and : (n : ℕ) (o : BinaryOperator) (a b : Expression) (t : Token) (ts mid rest : List Token)
-        → Spells line n conjunction a ts (t ∷ mid) → conjunction_operator t.kind ≡ Some o → Spells line n negation b mid rest
-        → Spells line n conjunction (binary o a b) ts rest
+    and : (n : ℕ) (a b : Expression) (t : Token) (ts mid rest : List Token)
+        → Spells line n conjunction a ts (t ∷ mid) → IsKeyword word.And t → Spells line n negation b mid rest
+        → Spells line n conjunction (binary operator.And a b) ts rest
     -- not = "NOT" not | cmp
     is_comparison : (n : ℕ) (e : Expression) (ts rest : List Token)
         → Spells line n comparisons e ts rest → Spells line n negation e ts rest

@@ -1,11 +1,11 @@
 //! A statement from the tokens of a line.
 
-ghost use Rattle.std.specs.Prelude.{◌≡◌, ◌≢◌, ◌≤◌, ℕ, List, length, Some, None, Ok, IfOk, IfErr, MatchResult};
+ghost use Rattle.std.specs.Prelude.{◌≡◌, ◌≢◌, ◌≤◌, ℕ, List, [], length, Some, None, Ok, Err, IfOk, IfErr, MatchResult};
 ghost use Rattle.std.specs.Str.{IsUtf8};
 ghost use Rattle.cy_lexer.specs.declared.tokens.Token as token;
 ghost use Rattle.cy_lexer.specs.Line.{longest_line};
 ghost use Rattle.cy_lexer.specs.Tokens.{tokens_of};
-ghost use Rattle.cy_parser.specs.declared.faults.ParseFault.TheVariants.{NoMemory};
+ghost use Rattle.cy_parser.specs.declared.faults.ParseFault.TheVariants.{NoMemory, Unexpected};
 ghost use Rattle.cy_parser.specs.Faults.{PointsAtPlace, IsPlace};
 ghost use Rattle.cy_parser.specs.SpellsClauses.{SpellsStatement};
 ghost use Rattle.cy_parser.specs.declared.refusals.Refusal.TheVariants as refusals;
@@ -51,7 +51,7 @@ fn fault_of(tokens: &[Token], line: &str, refusal: Refusal) -> ParseFault
 
 /// The statement that the tokens of a line spell (openCypher 9, grammar, narrowed to this profile); there is no other one.
 /// Fails if the tokens spell none, with a fault that points at a token's first byte or at the line's end, or for want of
-/// memory.
+/// memory. Where there are no tokens, the line's end is unexpected.
 pub fn parse(alloc: Global, tokens: &[Token], line: &str) -> Result<Statement, ParseFault>
     ensures spelt { IfOk result (λ statement. SpellsStatement line.now (statement_of statement) tokens.now) }
     ensures complete { (statement : tree.Statement) → SpellsStatement line.now statement tokens.now → MatchResult result (λ found. statement_of found ≡ statement) (λ fault. fault ≡ NoMemory) }
@@ -60,6 +60,7 @@ pub fn parse(alloc: Global, tokens: &[Token], line: &str) -> Result<Statement, P
         → AreNeighbours line.now tokens.now → AreAlike line.now tokens.now (shown.show statement) us
         → MatchResult result (λ found. statement_of found ≡ with_columns statement) (λ fault. fault ≡ NoMemory) }
     ensures places { IfErr result (λ fault. PointsAtPlace tokens.now (length line.now) fault) }
+    ensures none { tokens.now ≡ [] → result ≡ Err (Unexpected (length line.now)) }
 {
     let source = Source { alloc, line };
     if tokens.is_empty() {

@@ -76,6 +76,7 @@ impl<'l> Source<'l> {
 
     /// A map, after its `{`.
     #[tactic(auto, unfolding(crate::specs::internal::Reader::and_then, crate::specs::internal::Clauses::map_read))]
+    #[inline(never)]
     fn map_read(&self, tokens: &mut Cursor<'_>) -> Result<Vec<Entry>, Refusal>
         ensures { Reads (λ es. map entry_of es.items) (spec.map_read self.now.line.now tokens.old) result tokens.new }
     {

@@ -8,7 +8,7 @@ use crate::refusals::Refusal;
 use cy_lexer::{Keyword, Kind, Symbol, Token};
 use cy_trees::{BinaryOperator, Comparator};
 use cy_values::Text;
-use std::alloc::{AllocError, Global};
+use std::alloc::Global;
 
 /// A name that is no keyword.
 pub(crate) fn is_name(kind: Kind) -> bool
@@ -99,10 +99,12 @@ pub(crate) fn product_operator(kind: Kind) -> Option<BinaryOperator>
 }
 
 /// The text with its ASCII letters in lower case.
-pub(crate) fn lowered(alloc: Global, text: &Text) -> Result<Text, AllocError>
-    ensures { IfOk result (λ t. t ≡ spec.lowered text.now) }
+pub(crate) fn lowered(text: Text) -> Text
+    ensures { result ≡ spec.lowered text }
 {
-    Ok(Text::new(text.as_str().to_ascii_lowercase(alloc)?))
+    let mut string = text.into_string();
+    string.make_ascii_lowercase();
+    Text::new(string)
 }
 
 /// The text of the token as it stands in the line; nothing, where it has no place in it.

@@ -1,15 +1,13 @@
-use Rattle.std.proofs.Common.{◌≡◌, ◌≤◌, length, drop}
-use Rattle.std.specs.Str.{chars}
+use Rattle.std.proofs.Common.{◌≡◌, ◌-◌, ◌≤◌, length, drop}
+use Rattle.std.specs.Str.{chars, IsCharBoundary}
 use Rattle.std.specs.List.{prefix_len}
 use Rattle.cy_lexer.specs.Characters.{goes_on}
-use denote.Text.{Utf8}
-use denote.Shadow.{shadow}
 use Rattle.cy_lexer.proofs.characters.after_run.Given as goal
 
--- what the run leaves of the rest is what it leaves of the text
-abbrev pub invariant-loop-first : goal.invariant-loop-first
-invariant-loop-first l =
-    shadow (Utf8 l.rest) × (drop (prefix_len (goes_on l.run) (chars l.rest)) (chars l.rest) ≡ drop (prefix_len (goes_on l.run) (chars l.text)) (chars l.text)) × (length l.rest ≤ length l.text)
+-- what the run leaves from here on is what it leaves of the text
+abbrev pub invariant-loop-at : goal.invariant-loop-at
+invariant-loop-at l =
+    (l.at ≤ length l.text) × IsCharBoundary l.text l.at × (drop (prefix_len (goes_on l.run) (chars (drop l.at l.text))) (chars (drop l.at l.text)) ≡ drop (prefix_len (goes_on l.run) (chars l.text)) (chars l.text))
 
-abbrev pub decreases-loop-first : goal.decreases-loop-first
-decreases-loop-first l = length l.rest
+abbrev pub decreases-loop-at : goal.decreases-loop-at
+decreases-loop-at l = length l.bytes - l.at

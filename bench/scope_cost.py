@@ -164,7 +164,7 @@ def shapes(n):
 def main():
     with tempfile.TemporaryDirectory() as folder:
         for crate in CRATES:
-            shutil.copytree(f"crates/{crate}", f"{folder}/crates/{crate}", ignore=shutil.ignore_patterns("incremental"))
+            shutil.copytree(f"crates/{crate}", f"{folder}/crates/{crate}")
         with open(f"{folder}/crates.txt", "w") as it:
             it.writelines(f"{crate}: {below}\n" for crate, below in CRATES.items())
         program = built(folder, "scope_cost", PROGRAM, LIBRARIES)

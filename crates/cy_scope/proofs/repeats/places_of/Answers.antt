@@ -1,4 +1,4 @@
-use Rattle.std.proofs.Common.{rules, ℕ, ◌+◌, ◌<◌, ◌≤◌, List, length, take, subst, sym, ap, ◌∙◌}
+use Rattle.std.proofs.Common.{rules, ◌+◌, ◌<◌, ◌≤◌, length, take, subst, sym, ap, ◌∙◌}
 use Rattle.std.specs.List.{All}
 use Rattle.cy_trees.specs.Views.{expression_of}
 use Rattle.cy_scope.specs.internal.TreeWords.{words_of}

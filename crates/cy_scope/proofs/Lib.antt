@@ -2,7 +2,7 @@ pub mod ScopesLemmas
 pub mod ResolvedLemmas
 pub mod Columns
 pub mod RowsLemmas
-pub mod FingerprintsLemmas
+pub mod TreeWordsLemmas
 pub mod KindsKept
 pub mod SameTrees
 pub mod KindedExpressions

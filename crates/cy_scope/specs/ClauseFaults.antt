@@ -11,7 +11,7 @@ use Rattle.cy_scope.specs.ClauseScopes.{columns_of, scope_after}
 use Rattle.cy_scope.specs.ExpressionFaults.{value_fault}
 use Rattle.cy_scope.specs.PatternFaults.{paths_fault}
 use Rattle.cy_scope.specs.ProjectionFaults.{projection_fault}
-use Rattle.cy_scope.specs.Faults.{first, unless}
+use Rattle.cy_scope.specs.Faults.{first, first_fault, unless}
 
 -- what stands after WHERE is a value
 abbrev pub where_fault : Scope → Option Expression → Option ScopeFault
@@ -32,20 +32,17 @@ set_fault scope (set_property v key e) = first (entity_fault (find_kind scope v.
 set_fault scope (set_labels v labels) = node_only_fault (find_kind scope v.name)
 
 abbrev pub sets_fault : Scope → List SetItem → Option ScopeFault
-sets_fault scope [] = None
-sets_fault scope (i ∷ items) = first (set_fault scope i) (sets_fault scope items)
+sets_fault scope items = first_fault (set_fault scope) items
 
 abbrev pub remove_fault : Scope → RemoveItem → Option ScopeFault
 remove_fault scope (remove_property v key) = entity_fault (find_kind scope v.name)
 remove_fault scope (remove_labels v labels) = node_only_fault (find_kind scope v.name)
 
 abbrev pub removes_fault : Scope → List RemoveItem → Option ScopeFault
-removes_fault scope [] = None
-removes_fault scope (i ∷ items) = first (remove_fault scope i) (removes_fault scope items)
+removes_fault scope items = first_fault (remove_fault scope) items
 
 abbrev pub deletes_fault : Scope → List Variable → Option ScopeFault
-deletes_fault scope [] = None
-deletes_fault scope (v ∷ variables) = first (entity_fault (find_kind scope v.name)) (deletes_fault scope variables)
+deletes_fault scope variables = first_fault (λ v. entity_fault (find_kind scope v.name)) variables
 
 abbrev pub clause_fault : Scope → Clause → Option ScopeFault
 clause_fault scope («match» optional paths filter) = first (paths_fault false scope scope paths) (where_fault (with_paths scope paths) filter)

@@ -1,5 +1,5 @@
 -- The numbers of the faults (own).
-use Rattle.std.specs.Prelude.{ℕ, Bool, true, false, Option, Some, None}
+use Rattle.std.specs.Prelude.{ℕ, Bool, true, false, List, [], ◌∷◌, Option, Some, None}
 use Rattle.cy_scope.specs.declared.faults.ScopeFault.{ScopeFault}
 use Rattle.cy_scope.specs.declared.faults.ScopeFault.TheVariants as scope
 use Rattle.cy_scope.specs.declared.faults.ViewFault.{ViewFault}
@@ -35,3 +35,8 @@ unless false fault = Some fault
 abbrev pub first : Option ScopeFault → Option ScopeFault → Option ScopeFault
 first None later = later
 first (Some fault) later = Some fault
+
+-- the first fault among the places of a list, each with its own
+abbrev pub first_fault : {A : Type 0} → (A → Option ScopeFault) → List A → Option ScopeFault
+first_fault fault [] = None
+first_fault fault (x ∷ xs) = first (fault x) (first_fault fault xs)

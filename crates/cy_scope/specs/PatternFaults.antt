@@ -11,13 +11,12 @@ use Rattle.cy_scope.specs.declared.faults.ScopeFault.{ScopeFault}
 use Rattle.cy_scope.specs.declared.faults.ScopeFault.TheVariants.{AlreadyBound, WrongKind, RepeatedRelationship, BadCreate}
 use Rattle.cy_scope.specs.Kinds.{is_node}
 use Rattle.cy_scope.specs.Scopes.{Scope, find_kind, is_bound, added, relationship_kind, with_step, with_path}
-use Rattle.cy_scope.specs.Faults.{first, unless}
+use Rattle.cy_scope.specs.Faults.{first, first_fault, unless}
 use Rattle.cy_scope.specs.ExpressionFaults.{value_fault}
 
 -- the values of a map are values
 abbrev pub entries_fault : Scope → List Entry → Option ScopeFault
-entries_fault before [] = None
-entries_fault before (e ∷ entries) = first (value_fault before e.value) (entries_fault before entries)
+entries_fault before entries = first_fault (λ e. value_fault before e.value) entries
 
 abbrev pub map_fault : Scope → Option (List Entry) → Option ScopeFault
 map_fault before None = None

@@ -10,7 +10,7 @@ use Rattle.cy_scope.specs.ExpressionKinds.{kind_of}
 use Rattle.cy_scope.specs.ExpressionFaults.{expression_fault, item_fault}
 use Rattle.cy_scope.specs.Aggregates.{has_aggregates}
 use Rattle.cy_scope.specs.Same.{same}
-use Rattle.cy_scope.specs.Faults.{first, unless}
+use Rattle.cy_scope.specs.Faults.{first, first_fault, unless}
 
 abbrev pub is_variable : Expression → Bool
 is_variable (variable v) = true
@@ -42,10 +42,11 @@ seen_by_keys p before = (if hides_variables p then [] else before)
 abbrev pub repeats : List Item → Expression → Bool
 repeats items e = list_any (λ i. same i.expression e) items
 
+abbrev pub key_fault : Scope → List Item → Key → Option ScopeFault
+key_fault scope items key = (if repeats items key.expression then None else expression_fault scope key.expression)
+
 abbrev pub keys_fault : Scope → List Item → List Key → Option ScopeFault
-keys_fault scope items [] = None
-keys_fault scope items (key ∷ keys) =
-    first (if repeats items key.expression then None else expression_fault scope key.expression) (keys_fault scope items keys)
+keys_fault scope items keys = first_fault (key_fault scope items) keys
 
 abbrev pub projection_fault : Bool → Scope → Projection → Option ScopeFault
 projection_fault naming before p =

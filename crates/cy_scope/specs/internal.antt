@@ -1,4 +1,4 @@
 pub mod Answers
 pub mod Maps
 pub mod Trees
-pub mod Fingerprints
+pub mod TreeWords

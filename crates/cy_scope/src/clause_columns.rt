@@ -4,7 +4,7 @@ ghost use Rattle.std.specs.Prelude.{◌≡◌, ◌++◌, [], map, IfOk, OnOk};
 ghost use Rattle.cy_trees.specs.Views.{expression_of, item_of, key_of, projection_of, set_item_of, remove_item_of, clause_of};
 ghost use Rattle.cy_scope.specs.ClauseScopes.{scope_after, columns_of};
 ghost use Rattle.cy_scope.specs.ProjectionFaults.{seen_by_keys};
-ghost use Rattle.cy_scope.specs.internal.Fingerprints.{ArePlaced};
+ghost use Rattle.cy_scope.specs.internal.TreeWords.{ArePlaced};
 ghost use Rattle.cy_scope.specs.internal.Trees.{unwind_of, match_of, with_of};
 ghost use Rattle.cy_scope.specs.Resolved as spec;
 
@@ -13,14 +13,13 @@ use crate::kinds::Kind;
 use crate::pattern_columns::{
     resolve, resolve_paths, resolved_expression, resolved_in, resolved_where,
 };
-use crate::projection_checks::hides_variables;
-use crate::repeats::{places_of, repeats};
+use crate::projection_checks::seen_by_keys;
+use crate::repeats::{Places, places_of, repeats};
 use crate::resolving::resolved;
 use crate::scopes::Scope;
 use cy_trees::{
     Clause, Expr, Item, Key, Match, Projection, RemoveItem, SetItem, Unwind, Variable, With,
 };
-use indexmap::IndexMap;
 use std::alloc::{AllocError, Global};
 use std::mem;
 
@@ -38,20 +37,21 @@ fn resolve_key(
     before: &Scope,
     columns: &Scope,
     others: &Scope,
-    places: &IndexMap<u64, usize>,
+    places: &Places,
     items: &[Item],
     key: &mut Key,
-)
+) -> Result<(), AllocError>
     requires { ArePlaced places.now.entries (map item_of items.now) }
-    ensures { key_of key.new ≡ spec.resolved_key before.now (columns.now ++ others.now) (map item_of items.now) (key_of key.old) }
+    ensures { OnOk result (key_of key.new ≡ spec.resolved_key before.now (columns.now ++ others.now) (map item_of items.now) (key_of key.old)) }
 {
-    let repeated = repeats(places, items, &key.expression);
+    let repeated = repeats(alloc, places, items, &key.expression)?;
     let expression = mem::replace(&mut key.expression, Expr::Null);
     key.expression = if repeated {
         resolved_expression(alloc, before, expression)
     } else {
         resolved(columns, others, expression)
     };
+    Ok(())
 }
 
 fn resolve_keys(
@@ -59,16 +59,17 @@ fn resolve_keys(
     before: &Scope,
     columns: &Scope,
     others: &Scope,
-    places: &IndexMap<u64, usize>,
+    places: &Places,
     items: &[Item],
     keys: &mut [Key],
-)
+) -> Result<(), AllocError>
     requires { ArePlaced places.now.entries (map item_of items.now) }
-    ensures { map key_of keys.new ≡ map (spec.resolved_key before.now (columns.now ++ others.now) (map item_of items.now)) (map key_of keys.old) }
+    ensures { OnOk result (map key_of keys.new ≡ map (spec.resolved_key before.now (columns.now ++ others.now) (map item_of items.now)) (map key_of keys.old)) }
 {
     for key in keys.iter_mut() {
-        resolve_key(alloc, before, columns, others, places, items, key);
+        resolve_key(alloc, before, columns, others, places, items, key)?;
     }
+    Ok(())
 }
 
 /// Sets the columns of the variables of keys.
@@ -84,12 +85,8 @@ fn resolve_order(
         return Ok(());
     }
     let places = places_of(alloc, &projection.items)?;
-    let none = Scope::new(alloc);
-    let others = if hides_variables(projection) {
-        &none
-    } else {
-        before
-    };
+    let nothing = Scope::new(alloc);
+    let others = seen_by_keys(projection, &nothing, before);
     resolve_keys(
         alloc,
         before,
@@ -98,8 +95,7 @@ fn resolve_order(
         &places,
         &projection.items,
         &mut projection.order,
-    );
-    Ok(())
+    )
 }
 
 fn resolve_projection(

@@ -6,31 +6,34 @@ ghost use Rattle.cy_scope.specs.Kinds as spec;
 /// What the value of an expression is for certain, if it isn't null (own).
 #[derive(Clone, Copy, Debug, PartialEq, Eq)]
 pub enum Kind {
+    /// A node.
     Node,
+    /// One relationship.
     Relationship,
     /// The relationships that a length stands for.
     Relationships,
     /// A boolean, an integer, a text or a list.
     Value,
-    /// A value that is a boolean.
+    /// A boolean.
     Flag,
 }
 
 impl Kind {
-    /// A value of whatever type.
+    /// Whether it is a boolean, an integer, a text or a list for certain: a value or a flag.
     pub fn is_value(self) -> bool
         ensures { result ≡ spec.is_value self }
     {
         matches!(self, Kind::Value | Kind::Flag)
     }
 
+    /// Whether it is a boolean for certain.
     pub fn is_flag(self) -> bool
         ensures { result ≡ spec.is_flag self }
     {
         matches!(self, Kind::Flag)
     }
 
-    /// A node or one relationship.
+    /// Whether it is a node or one relationship for certain.
     pub fn is_entity(self) -> bool
         ensures { result ≡ spec.is_entity self }
     {

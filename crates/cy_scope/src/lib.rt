@@ -9,7 +9,6 @@ mod clause_scopes;
 mod expression_checks;
 mod expression_kinds;
 mod faults;
-mod fingerprints;
 mod functions;
 mod kinds;
 mod laws;
@@ -23,6 +22,7 @@ mod scopes;
 mod statements;
 mod sure;
 mod sureness;
+mod tree_words;
 mod views;
 
 pub use checked::{Checked, ViewQuery};

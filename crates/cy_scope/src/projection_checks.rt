@@ -6,17 +6,16 @@ ghost use Rattle.cy_scope.specs.declared.faults.ScopeFault.TheVariants.{NoMemory
 ghost use Rattle.cy_scope.specs.Scopes.{added_name};
 ghost use Rattle.cy_scope.specs.ExpressionKinds.{kind_of};
 ghost use Rattle.cy_scope.specs.ClauseScopes.{columns_of};
-ghost use Rattle.cy_scope.specs.internal.Fingerprints.{ArePlaced};
-ghost use Rattle.cy_scope.specs.internal.Answers.{Fault, MayFault, GoesOn};
+ghost use Rattle.cy_scope.specs.internal.TreeWords.{ArePlaced};
+ghost use Rattle.cy_scope.specs.internal.Answers.{MayFault, GoesOn};
 ghost use Rattle.cy_scope.specs.ProjectionFaults as spec;
 
 use crate::aggregates::has_aggregates;
 use crate::expression_checks::{check_expression, check_item, demand};
 use crate::faults::ScopeFault;
-use crate::repeats::{places_of, repeats};
+use crate::repeats::{Places, places_of, repeats};
 use crate::scopes::Scope;
 use cy_trees::{Expr, Item, Key, Projection};
-use indexmap::IndexMap;
 use std::alloc::Global;
 
 /// Whether an item has AS, or needs none.
@@ -65,17 +64,18 @@ fn check_items(
 
 /// The first fault of keys, which see the columns first.
 fn check_keys(
+    alloc: Global,
     columns: &Scope,
     others: &Scope,
-    places: &IndexMap<u64, usize>,
+    places: &Places,
     items: &[Item],
     keys: &[Key],
 ) -> Result<(), ScopeFault>
     requires { ArePlaced places.now.entries (map item_of items.now) }
-    ensures { Fault (spec.keys_fault (columns.now ++ others.now) (map item_of items.now) (map key_of keys.now)) result }
+    ensures { MayFault (spec.keys_fault (columns.now ++ others.now) (map item_of items.now) (map key_of keys.now)) result }
 {
     for key in keys {
-        if !repeats(places, items, &key.expression) {
+        if !repeats(alloc, places, items, &key.expression)? {
             check_expression(columns, others, &key.expression)?;
         }
     }
@@ -83,10 +83,26 @@ fn check_keys(
 }
 
 /// Whether keys see the columns alone: with DISTINCT or an aggregate.
-pub(crate) fn hides_variables(projection: &Projection) -> bool
+fn hides_variables(projection: &Projection) -> bool
     ensures { result ≡ spec.hides_variables (projection_of projection.now) }
 {
     projection.distinct || has_aggregates(projection)
+}
+
+/// What keys see beside the columns: nothing, or the variables before.
+pub(crate) fn seen_by_keys<'a>(
+    projection: &Projection,
+    nothing: &'a Scope,
+    before: &'a Scope,
+) -> &'a Scope
+    requires { nothing.now ≡ [] }
+    ensures { result.now ≡ spec.seen_by_keys (projection_of projection.now) before.now }
+{
+    if hides_variables(projection) {
+        nothing
+    } else {
+        before
+    }
 }
 
 /// The first fault of the keys of a projection that has the columns.
@@ -102,15 +118,11 @@ fn check_order(
         return Ok(());
     }
     let places = places_of(alloc, &projection.items)?;
-    let none = Scope::new(alloc);
-    let others = if hides_variables(projection) {
-        &none
-    } else {
-        scope
-    };
+    let nothing = Scope::new(alloc);
     check_keys(
+        alloc,
         columns,
-        others,
+        seen_by_keys(projection, &nothing, scope),
         &places,
         &projection.items,
         &projection.order,

@@ -2,22 +2,26 @@
 
 ghost use Rattle.std.specs.Prelude.{◌≡◌, IfOk, map};
 ghost use Rattle.cy_trees.specs.Views.{expression_of, item_of};
-ghost use Rattle.cy_scope.specs.internal.Fingerprints.{ArePlaced};
+ghost use Rattle.cy_scope.specs.internal.TreeWords.{ArePlaced};
 ghost use Rattle.cy_scope.specs.ProjectionFaults as spec;
 
-use crate::fingerprints::fingerprint;
 use crate::same::same;
+use crate::tree_words::words_of;
 use cy_trees::{Expr, Item};
-use indexmap::IndexMap;
 use std::alloc::{AllocError, Global};
+use std::collections::BTreeMap;
 
-/// Of the items with one fingerprint, the place of one.
-pub(crate) fn places_of(alloc: Global, items: &[Item]) -> Result<IndexMap<u64, usize>, AllocError>
+/// The places of items by the words of their trees.
+pub(crate) type Places = BTreeMap<Vec<u64>, usize>;
+
+/// For each item's tree the place of an item that has it.
+pub(crate) fn places_of(alloc: Global, items: &[Item]) -> Result<Places, AllocError>
     ensures { IfOk result (λ places. ArePlaced places.entries (map item_of items.now)) }
 {
-    let mut places = IndexMap::new(alloc);
+    let mut places = BTreeMap::new(alloc);
     for (place, item) in items.iter().enumerate() {
-        places.insert(fingerprint(&item.expression), place)?;
+        let words = words_of(alloc, &item.expression)?;
+        places.insert(words, place)?;
     }
     Ok(places)
 }
@@ -34,16 +38,26 @@ fn is_among(items: &[Item], expression: &Expr) -> bool
     false
 }
 
-/// Whether an expression has the tree of an item. Only where trees of two kinds share a fingerprint it looks at each item.
-pub(crate) fn repeats(places: &IndexMap<u64, usize>, items: &[Item], expression: &Expr) -> bool
+/// Whether an expression has the tree of an item. That different trees have different words isn't proved; only where they
+/// hadn't, each item would be looked at.
+pub(crate) fn repeats(
+    alloc: Global,
+    places: &Places,
+    items: &[Item],
+    expression: &Expr,
+) -> Result<bool, AllocError>
     requires { ArePlaced places.now.entries (map item_of items.now) }
-    ensures { result ≡ spec.repeats (map item_of items.now) (expression_of expression.now) }
+    ensures { IfOk result (λ found. found ≡ spec.repeats (map item_of items.now) (expression_of expression.now)) }
 {
-    let Some(place) = places.get(&fingerprint(expression)) else {
-        return false;
+    let words = words_of(alloc, expression)?;
+    let Some(place) = places.get(words.as_slice()) else {
+        return Ok(false);
     };
     let Some(item) = items.get(*place) else {
-        return is_among(items, expression);
+        return Ok(is_among(items, expression));
     };
-    same(&item.expression, expression) || is_among(items, expression)
+    if same(&item.expression, expression) {
+        return Ok(true);
+    }
+    Ok(is_among(items, expression))
 }

@@ -1,8 +1,8 @@
-use Rattle.std.proofs.Common.{rules, ℕ, ◌+◌, ◌<◌, ◌≤◌, List, length, take, subst, sym, ap, ◌∙◌}
+use Rattle.std.proofs.Common.{rules, ◌+◌, ◌<◌, ◌≤◌, length, take, subst, sym, ap, ◌∙◌}
 use Rattle.std.specs.List.{All}
 use Rattle.cy_trees.specs.Views.{expression_of}
-use Rattle.cy_scope.specs.internal.Fingerprints.{fingerprint}
-use Rattle.cy_scope.proofs.FingerprintsLemmas.{IsPlaced, placed_more, placed_all}
+use Rattle.cy_scope.specs.internal.TreeWords.{words_of}
+use Rattle.cy_scope.proofs.TreeWordsLemmas.{IsPlaced, placed_more, placed_all}
 use Rattle.cy_scope.proofs.repeats.places_of.Goals as goal
 
 pub loop-place-preserved : goal.loop-place-preserved
@@ -11,8 +11,8 @@ loop-place-preserved c =
     let place = c.loop-place.place in
     let item = c.index-items-place.result in
     let inside : place < length items = search rules in
-    subst (λ (es : List (ℕ × ℕ)). All (IsPlaced es) (take (place + 1) items)) (sym c.in_ok-insert.ensures.entries)
-    (placed_more c.loop-place.places.entries items place item c.fingerprint.result inside (c.fingerprint.ensures ∙ ap (λ i. fingerprint (expression_of i.expression)) c.index-items-place.is) c.loop-place.invariant)
+    subst (λ es. All (IsPlaced es) (take (place + 1) items)) (sym c.in_ok-insert.ensures.entries)
+    (placed_more c.loop-place.places.entries items place item c.in_ok-words.words inside (c.in_ok-words.ensures ∙ ap (λ i. words_of (expression_of i.expression)) c.index-items-place.is) c.loop-place.invariant)
 
 pub returns : goal.returns
 returns c =

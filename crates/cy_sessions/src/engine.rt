@@ -33,38 +33,64 @@ fn expect_fault<T: Drop>(rt: &impl Abort, answer: Result<T, Fault>, code: u16, a
     }
 }
 
-// Answers lines, each of which is refused or not.
+// The answers to the lines of a text.
+fn answers_of(
+    alloc: Global,
+    engine: &mut Engine,
+    text: &str,
+) -> Result<Vec<Result<Reply, Fault>>, Fail> {
+    let mut lines = Vec::new(alloc);
+    for line in text.lines() {
+        lines.push(line)?;
+    }
+    Ok(
+        answer_all(alloc, engine, lines.as_slice())
+            .ok()
+            .ok_or("answers")?,
+    )
+}
+
+// Answers the lines of a text, so many, of which the one of this number is refused, or none.
 fn answer_lines(
     rt: &impl Abort,
     alloc: Global,
     engine: &mut Engine,
-    lines: &[&str],
-    refused: &[bool],
+    text: &str,
+    count: usize,
+    refused: Option<usize>,
 ) -> Result<(), Fail> {
-    let answers = answer_all(alloc, engine, lines).ok().ok_or("answers")?;
-    assert_eq!(rt; answers.len(), refused.len());
-    for (answer, is_refused) in answers.iter().zip(refused) {
-        assert_eq!(rt; answer.is_err(), *is_refused);
+    let answers = answers_of(alloc, engine, text)?;
+    assert_eq!(rt; answers.len(), count, "{text}");
+    for (number, answer) in answers.iter().enumerate() {
+        assert_eq!(rt; answer.is_err(), refused == Some(number), "{text}");
     }
     Ok(())
 }
 
+fn expect_tick(rt: &impl Abort, engine: &Engine, tick: u64) {
+    assert_eq!(rt; engine.tick(), tick);
+}
+
+fn expect_no_view(rt: &impl Abort, engine: &Engine, view: &str) {
+    expect_fault(rt, engine.rows(view), 61, None);
+}
+
+const LINES: &str = "CREATE (:A {k: 7})
+\t
+:view v MATCH (n:A) RETURN n.k
+CREATE (:A {k: 7}
+CREATE (:A {k: -1})
+CREATE (:A {k: 7})";
+
+const SHOWN: &[(i64, u64)] = &[(-1, 1), (7, 2)];
+
 #[test]
 fn answers_lines(rt: HostRuntime) -> Result<(), Fail> {
     let mut engine = Engine::new(rt.alloc(), 64);
-    let lines = [
-        "CREATE (:A {k: 7})",
-        "\t",
-        ":view v MATCH (n:A) RETURN n.k",
-        "CREATE (:A {k: 7}",
-        "CREATE (:A {k: -1})",
-        "CREATE (:A {k: 7})",
-    ];
-    let refused = [false, false, false, true, false, false];
-    answer_lines(&rt, rt.alloc(), &mut engine, &lines, &refused)?;
-    assert_eq!(rt; engine.tick(), 4);
-    expect_shown(&rt, &engine, "v", &[(-1, 1), (7, 2)]);
-    expect_fault(&rt, engine.rows("w"), 61, None);
+    answer_lines(&rt, rt.alloc(), &mut engine, LINES, 6, Some(3))?;
+    expect_tick(&rt, &engine, 4);
+    expect_shown(&rt, &engine, "v", SHOWN);
+    expect_no_view(&rt, &engine, "w");
     Ok(())
 }
 
@@ -94,15 +120,29 @@ fn expect_none(rt: &impl Abort, engine: &Engine, view: &str, count: usize) {
     assert_eq!(rt; engine.entries().len(), count, "{view}");
 }
 
-// A line that makes no entry leaves none of the line before.
+const MADE: &str = ":view v MATCH (n:A) RETURN n.k
+CREATE (:A {k: 7})";
+
+const ADDED: &[(i64, u64)] = &[(7, 1)];
+
 #[test]
 fn lends_the_last_entry(rt: HostRuntime) -> Result<(), Fail> {
     let mut engine = Engine::new(rt.alloc(), 64);
-    let lines = [":view v MATCH (n:A) RETURN n.k", "CREATE (:A {k: 7})"];
-    answer_lines(&rt, rt.alloc(), &mut engine, &lines, &[false, false])?;
-    expect_last(&rt, &engine, "v", 2, &[(7, 1)]);
+    answer_lines(&rt, rt.alloc(), &mut engine, MADE, 2, None)?;
+    expect_last(&rt, &engine, "v", 2, ADDED);
     expect_none(&rt, &engine, "w", 1);
-    answer_lines(&rt, rt.alloc(), &mut engine, &[":rows v"], &[false])?;
+    Ok(())
+}
+
+const MADE_AND_SHOWN: &str = ":view v MATCH (n:A) RETURN n.k
+CREATE (:A {k: 7})
+:rows v";
+
+// A line that makes no entry leaves none of the line before.
+#[test]
+fn drops_the_last_entry(rt: HostRuntime) -> Result<(), Fail> {
+    let mut engine = Engine::new(rt.alloc(), 64);
+    answer_lines(&rt, rt.alloc(), &mut engine, MADE_AND_SHOWN, 3, None)?;
     expect_none(&rt, &engine, "v", 0);
     Ok(())
 }

@@ -1,5 +1,5 @@
 -- Lemmas on keywords.
-use Rattle.std.proofs.Common.{◌≡◌, ℕ, ◌<◌, Bool, true, false, List, [], ◌∷◌, length, Some, None, refl, sym, ap, ◌∙◌, arith}
+use Rattle.std.proofs.Common.{◌≡◌, ℕ, ◌<◌, Bool, ◌&&◌, ◌==◌, true, false, List, [], ◌∷◌, length, Some, None, refl, sym, ap, ◌∙◌, arith}
 use Rattle.std.specs.Char.{to_ascii_lowercase, to_ascii_uppercase}
 use Rattle.std.specs.List.{find, filter, slice_get}
 use Rattle.std.proofs.lemmas.Bool.{eqb-true, eq-eqb, and_parts}
@@ -57,11 +57,14 @@ two_letters : (k : Keyword) → (c : ℕ) × (d : ℕ) × (cs : List ℕ) × (sp
 two_letters word.All = (_, _, _, refl)
 two_letters k = (_, _, _, refl)
 
+never_and : (b : Bool) → b && false ≡ true → ⊥
+never_and true e = cc
+never_and false e = cc
+
 longer_than_one : (letter : ℕ) (k : Keyword) → same_word (spelling k) (letter ∷ []) ≡ true → ⊥
 longer_than_one letter k same =
     let front = two_letters k in
-    let both = and_parts _ _ (rw front.3 at same) in
-    let end : false ≡ true = both.1 in cc
+    never_and (to_ascii_lowercase front.0 == to_ascii_lowercase letter) (rw front.3 at same)
 
 -- one letter is no keyword, and nothing is none
 pub keyword_of_short : (word : List ℕ) → length word < 2 → None ≡ keyword_of word

@@ -1,5 +1,5 @@
 -- A line with a chain of comparisons and with columns that have no AS, its tokens and the tree that they spell, computed.
-use Rattle.std.proofs.Common.{◌≡◌, ℕ, pos, ◌<◌, List, [], ◌∷◌, Some, None, false, true, refl, ap, subst, ◌∙◌, arith}
+use Rattle.std.proofs.Common.{◌≡◌, ℕ, pos, ◌<◌, List, [], ◌∷◌, Some, None, false, refl, ap, subst, ◌∙◌, arith}
 use Rattle.std.specs.Prelude.{codes, chars, encode_utf8_all}
 use Rattle.std.proofs.lemmas.Str.{chars-encodes}
 use lib.Utf8.{encode}
@@ -13,7 +13,7 @@ use Rattle.cy_trees.specs.declared.expressions.Comparator.TheVariants as compara
 use Rattle.cy_trees.specs.Trees.{Name, Statement, «match», «return», integer, variable as named, binary, comparison, link, no_links, Expression}
 use Rattle.cy_parser.specs.Words.{denotes, slice_in, number_limit}
 use Rattle.cy_parser.specs.Spells.{Spells, IsNumber, whole, predicate, signed, head, is_exclusion, is_conjunction, is_negation, is_comparison, is_predicate, is_sum, is_product, is_signed, is_postfix, is_owner, is_head, number, name, bracket, add, compare, last_link, next_link}
-use Rattle.cy_parser.specs.SpellsClauses.{SpellsStatement, SpellsExpression, SpellsItem, column_of, reading, ended, next_clause, no_more_clauses, nothing_more, match_, return_, projection, not_distinct, last, next, item, no_order, no_count, path, node, a_variable, variable, no_labels, no_map, no_steps, filter}
+use Rattle.cy_parser.specs.SpellsClauses.{SpellsStatement, SpellsExpression, column_of, reading, ended, next_clause, no_more_clauses, nothing_more, match_, return_, projection, not_distinct, last, next, item, no_order, no_count, path, node, a_variable, variable, no_labels, no_map, no_steps, filter}
 use Rattle.cy_parser.proofs.ShownTokens.{denotes_within}
 
 line : List ℕ

@@ -11,7 +11,7 @@ use Rattle.cy_lexer.specs.declared.symbols.Symbol.TheVariants as sign
 use Rattle.cy_trees.specs.declared.clauses.Direction.TheVariants as direction
 use Rattle.cy_trees.specs.Trees.{Name, Statement, «match», delete}
 use Rattle.cy_parser.specs.Words.{denotes}
-use Rattle.cy_parser.specs.SpellsClauses.{SpellsStatement, SpellsNode, reading, ended, next_clause, no_more_clauses, nothing_more, match_, delete_, last, path, node, a_variable, variable, no_variable, no_labels, no_map, no_steps, a_step, relationship, details, no_types, a_length, at_least, arrow, no_arrow, no_filter}
+use Rattle.cy_parser.specs.SpellsClauses.{SpellsStatement, reading, ended, next_clause, no_more_clauses, nothing_more, match_, delete_, last, path, node, a_variable, variable, no_variable, no_labels, no_map, no_steps, a_step, relationship, details, no_types, a_length, at_least, arrow, no_arrow, no_filter}
 use Rattle.cy_parser.proofs.ShownTokens.{denotes_within}
 
 line : List ℕ

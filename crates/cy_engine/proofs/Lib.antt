@@ -1,6 +1,7 @@
 pub mod Chains
 pub mod Contents
 pub mod Counting
+pub mod Differing
 pub mod Each
 pub mod Effects
 pub mod Following
@@ -13,6 +14,5 @@ pub mod Setting
 pub mod Steps
 pub mod Surpluses
 pub mod TouchedRows
-pub mod Touching
 pub mod Traces
 pub mod ViewEntries

@@ -10,9 +10,12 @@ pub mod Lines
 pub mod Names
 pub mod OneAnswer
 pub mod Registry
+pub mod Rows
 pub mod Setting
 pub mod Steps
 pub mod Surpluses
 pub mod TouchedRows
 pub mod Traces
 pub mod ViewEntries
+pub mod WorkedLines
+pub mod WorkedRun

@@ -9,7 +9,7 @@ use Rattle.cy_graph.specs.Graph.{Content}
 use Rattle.cy_engine.specs.declared.entries.Entry.{Entry}
 use Rattle.cy_engine.specs.declared.replies.Reply.TheVariants as reply
 use Rattle.cy_engine.specs.Meaning.{rows_of}
-use Rattle.cy_engine.specs.Runs.{Event, Run, with_entry, entries_of, followed, counts_in, IsKept}
+use Rattle.cy_engine.specs.Runs.{Event, Run, with_entry, entries_of, followed, counts_in, IsMaintained}
 use Rattle.cy_engine.specs.State.{EngineState, Entries, View, empty_engine, view_at, entry_at}
 use Rattle.cy_engine.specs.Step.{AreEntries, IsEntry}
 use Rattle.cy_engine.proofs.Effects.{Effects, effects, exact}
@@ -35,7 +35,7 @@ at_name name es = find (λ e. bytes_eq name e.0) es
 none_at : (name : List ℕ) (vs : List View) (before after : Content) (tick : ℕ) (es : Entries) → IsNew name vs → AreEntries vs before after tick es → at_name name es ≡ None
 none_at name [] before after tick es new are = ap (at_name name) are
 none_at name (v ∷ vs) before after tick es new (inl (same, rest)) = none_at name vs before after tick es new.1 rest
-none_at name (v ∷ vs) before after tick es new (inr (entry, others, is, told, rest)) =
+none_at name (v ∷ vs) before after tick es new (inr (entry, others, is, is_entry, rest)) =
     ap (at_name name) is ∙ ap (λ b. cond b (Some (v.name, entry)) (at_name name others)) (turned v.name name new.0) ∙ none_at name vs before after tick others new.1 rest
 
 -- what the entries of a step say of one view
@@ -50,12 +50,12 @@ leads_at view (v ∷ vs) before after tick es named (inl (same, rest)) (inl is) 
     subst (Leads view before after) (sym (ap (option_map (λ (e : List ℕ × Entry). e.1)) (none_at view.name vs before after tick es new rest)))
     (λ row. sym (ap (λ (w : View). count_of row (rows_of w.query before)) (sym is) ∙ same row ∙ ap (λ (w : View). count_of row (rows_of w.query after)) is))
 leads_at view (v ∷ vs) before after tick es named (inl (same, rest)) (inr here) = leads_at view vs before after tick es named.1 rest here
-leads_at view (v ∷ vs) before after tick es named (inr (entry, others, is_2, told, rest)) (inl is) =
+leads_at view (v ∷ vs) before after tick es named (inr (entry, others, is_2, is_entry, rest)) (inl is) =
     let first : at_name view.name es ≡ Some (v.name, entry) =
     ap (at_name view.name) is_2 ∙ ap (λ b. cond b (Some (v.name, entry)) (at_name view.name others)) (ap (λ (w : View). bytes_eq view.name w.name) is ∙ itself view.name) in
     subst (Leads view before after) (sym (ap (option_map (λ (e : List ℕ × Entry). e.1)) first))
-    (entry_leads view before after tick entry (subst (λ (w : View). IsEntry w.query before after tick entry) is told))
-leads_at view (v ∷ vs) before after tick es named (inr (entry, others, is_2, told, rest)) (inr here) =
+    (entry_leads view before after tick entry (subst (λ (w : View). IsEntry w.query before after tick entry) is is_entry))
+leads_at view (v ∷ vs) before after tick es named (inr (entry, others, is_2, is_entry, rest)) (inr here) =
     let later : at_name view.name es ≡ at_name view.name others =
     ap (at_name view.name) is_2 ∙ ap (λ b. cond b (Some (v.name, entry)) (at_name view.name others)) (other_name v.name view vs named.0 here) in
     subst (Leads view before after) (sym (ap (option_map (λ (e : List ℕ × Entry). e.1)) later)) (leads_at view vs before after tick others named.1 rest here)
@@ -77,15 +77,15 @@ run_followed view old new (e ∷ events) (mid, step, run) named here row =
     (leads_at view old.views old.graph.content mid.graph.content mid.tick e.entries named (exact old e.answer e.entries mid does) here) row
 
 -- a view that stands at the end stood at the beginning, or was made
-pub kept_or_there : (view : View) (old new : EngineState) (events : List Event) → Run old events new → AreNamed old.views → Among view new.views → Among view old.views ⊎ IsKept old new events view
-kept_or_there view old new [] run named here = inl (subst (λ (s : EngineState). Among view s.views) run here)
-kept_or_there view old new (e ∷ events) (mid, step, run) named here =
-    from (kept_or_there view mid new events run (effects_named old e.answer e.entries mid does named) here)
+pub maintained_or_there : (view : View) (old new : EngineState) (events : List Event) → Run old events new → AreNamed old.views → Among view new.views → Among view old.views ⊎ IsMaintained old new events view
+maintained_or_there view old new [] run named here = inl (subst (λ (s : EngineState). Among view s.views) run here)
+maintained_or_there view old new (e ∷ events) (mid, step, run) named here =
+    from (maintained_or_there view mid new events run (effects_named old e.answer e.entries mid does named) here)
   where
     does : Effects old e.answer e.entries mid
     does = effects old e.answer e.entries mid e.line step
 
-    now_made : (made : View) → made ≡ view → Among view mid.views → e.answer ≡ Ok (reply.Made (made.query.column ∷ []) made.made made.name) → IsKept old new (e ∷ events) view
+    now_made : (made : View) → made ≡ view → Among view mid.views → e.answer ≡ Ok (reply.Made (made.query.column ∷ []) made.made made.name) → IsMaintained old new (e ∷ events) view
     now_made made is there answered = record {
       before = [];
       making = e;
@@ -98,16 +98,16 @@ kept_or_there view old new (e ∷ events) (mid, step, run) named here =
       follows = run_followed view mid new events run (effects_named old e.answer e.entries mid does named) there;
     }
 
-    stood : Effects old e.answer e.entries mid → Among view mid.views → Among view old.views ⊎ IsKept old new (e ∷ events) view
+    stood : Effects old e.answer e.entries mid → Among view mid.views → Among view old.views ⊎ IsMaintained old new (e ∷ events) view
     stood (inl (left, none)) there = inl (subst (λ (s : EngineState). Among view s.views) left there)
     stood (inr (inl (carried, a))) there = inl (subst (λ (s : EngineState). Among view s.views) a.left there)
     stood (inr (inr (made, free, a))) there = either (among_either view made old.views (subst (λ (s : EngineState). Among view s.views) a.left there))
       where
-        either : Among view old.views ⊎ (made ≡ view) → Among view old.views ⊎ IsKept old new (e ∷ events) view
+        either : Among view old.views ⊎ (made ≡ view) → Among view old.views ⊎ IsMaintained old new (e ∷ events) view
         either (inl before) = inl before
         either (inr is) = inr (now_made made is there a.answered)
 
-    from : Among view mid.views ⊎ IsKept mid new events view → Among view old.views ⊎ IsKept old new (e ∷ events) view
+    from : Among view mid.views ⊎ IsMaintained mid new events view → Among view old.views ⊎ IsMaintained old new (e ∷ events) view
     from (inl there) = stood does there
     from (inr kept) = inr (record {
       before = e ∷ kept.before;
@@ -126,11 +126,11 @@ run_named old new [] run named = subst (λ (s : EngineState). AreNamed s.views) 
 run_named old new (e ∷ events) (mid, step, run) named = run_named mid new events run (effects_named old e.answer e.entries mid (effects old e.answer e.entries mid e.line step) named)
 
 pub views_kept : (history : ℕ) (events : List Event) (now : EngineState) (view : View) → Run (empty_engine history) events now → Contains now.views view
-    → (view_at view.name now ≡ Some view) × IsKept (empty_engine history) now events view
+    → (view_at view.name now ≡ Some view) × IsMaintained (empty_engine history) now events view
 views_kept history events now view run here =
     let there : Among view now.views = among_from now.views view here.0 here.1 here.2 in
-    (found now.views view (run_named (empty_engine history) now events run tt) there, made (kept_or_there view (empty_engine history) now events run tt there))
+    (found now.views view (run_named (empty_engine history) now events run tt) there, made (maintained_or_there view (empty_engine history) now events run tt there))
   where
-    made : Among view [] ⊎ IsKept (empty_engine history) now events view → IsKept (empty_engine history) now events view
+    made : Among view [] ⊎ IsMaintained (empty_engine history) now events view → IsMaintained (empty_engine history) now events view
     made (inl none) = absurd none
     made (inr kept) = kept

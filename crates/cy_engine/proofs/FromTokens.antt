@@ -27,7 +27,7 @@ use Rattle.cy_engine.specs.declared.forms.Form.{Form}
 use Rattle.cy_engine.specs.declared.forms.Query.{Query}
 use Rattle.cy_engine.specs.Faults.{of_lexer, of_parser, of_scope, of_view}
 use Rattle.cy_engine.specs.Forms.{with_entry, served_statement, served_query}
-use Rattle.cy_engine.specs.internal.Parts.{HasTree, Fails, Gives}
+use Rattle.cy_engine.specs.internal.Stages.{HasTree, Fails, Gives}
 use Rattle.cy_engine.specs.Requests.{is_semicolon, without_end, first_offset}
 use Rattle.cy_engine.specs.Step.{IsUnspelt}
 use Rattle.cy_engine.specs.Verdicts.{scope_verdict, form_verdict, query_verdict}

@@ -1,6 +1,7 @@
 pub mod Chains
 pub mod Contents
 pub mod Counting
+pub mod Differing
 pub mod Each
 pub mod Effects
 pub mod Following
@@ -9,10 +10,12 @@ pub mod Lines
 pub mod Names
 pub mod OneAnswer
 pub mod Registry
+pub mod Rows
 pub mod Setting
 pub mod Steps
 pub mod Surpluses
 pub mod TouchedRows
-pub mod Touching
 pub mod Traces
 pub mod ViewEntries
+pub mod WorkedLines
+pub mod WorkedRun

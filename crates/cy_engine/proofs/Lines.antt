@@ -12,7 +12,7 @@ use Rattle.cy_engine.specs.declared.faults.Fault.TheVariants as fault
 use Rattle.cy_engine.specs.declared.replies.Reply.{Reply}
 use Rattle.cy_engine.specs.declared.replies.Reply.TheVariants as reply
 use Rattle.cy_engine.specs.Faults.{of_lexer}
-use Rattle.cy_engine.specs.internal.Parts.{AnswersOrWants, ShowsRows}
+use Rattle.cy_engine.specs.internal.Stages.{AnswersOrWants, ShowsRows}
 use Rattle.cy_engine.specs.Requests.{Request, RowsOf, Refused, request}
 use Rattle.cy_engine.specs.State.{EngineState, Entries, View, view_at}
 use Rattle.cy_engine.specs.Step.{Answer, Answers, IsRefused, Lexed, Shows, Step}

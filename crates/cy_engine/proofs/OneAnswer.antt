@@ -19,7 +19,7 @@ use Rattle.cy_engine.specs.declared.faults.Fault.TheVariants as fault
 use Rattle.cy_engine.specs.declared.forms.Query.{Query}
 use Rattle.cy_engine.specs.declared.replies.Reply.{Reply}
 use Rattle.cy_engine.specs.declared.replies.Reply.TheVariants as reply
-use Rattle.cy_engine.specs.Difference.{IsAbove, IsDifference}
+use Rattle.cy_engine.specs.Difference.{IsSurplus, IsDifference}
 use Rattle.cy_engine.specs.Meaning.{rows_of}
 use Rattle.cy_engine.specs.Requests.{Request, Nothing, StatementOf, ViewOf, RowsOf, Refused, request, first_offset}
 use Rattle.cy_engine.specs.Runs.{is_parsers, Agree, HasRoom}
@@ -32,13 +32,13 @@ abbrev IsOne : Type 0
 IsOne = (line : List ℕ) (tokens : List Token) (statement other : Statement) → SpellsStatement line statement tokens → SpellsStatement line other tokens → statement ≡ other
 
 module _ (total : IsTotalOrder row_cmp) where
-  above_one : (more less : List (List Cell)) (ps qs : List (List Cell × ℕ)) → IsAbove more less ps → IsAbove more less qs → ps ≡ qs
-  above_one more less ps qs a b = same_pairs total same_rows ps qs a.canonical b.canonical (λ row. a.counts row ∙ sym (b.counts row))
+  surplus_one : (more less : List (List Cell)) (ps qs : List (List Cell × ℕ)) → IsSurplus more less ps → IsSurplus more less qs → ps ≡ qs
+  surplus_one more less ps qs a b = same_pairs total same_rows ps qs a.canonical b.canonical (λ row. a.counts row ∙ sym (b.counts row))
 
   change_one : (before after : List (List Cell)) (c d : Change) → IsDifference before after c → IsDifference before after d → c ≡ d
   change_one before after c d a b =
-      let removed : c.removed ≡ d.removed = above_one before after c.removed d.removed a.removed b.removed in
-      let added : c.added ≡ d.added = above_one after before c.added d.added a.added b.added in
+      let removed : c.removed ≡ d.removed = surplus_one before after c.removed d.removed a.removed b.removed in
+      let added : c.added ≡ d.added = surplus_one after before c.added d.added a.added b.added in
       λ i. record { removed = removed i; added = added i }
 
   entry_one : (query : Query) (before after : Content) (tick : ℕ) (e f : Entry) → IsEntry query before after tick e → IsEntry query before after tick f → e ≡ f
@@ -50,10 +50,10 @@ module _ (total : IsTotalOrder row_cmp) where
   entries_one : (views : List View) (before after : Content) (tick : ℕ) (es fs : Entries) → AreEntries views before after tick es → AreEntries views before after tick fs → es ≡ fs
   entries_one [] before after tick es fs a b = a ∙ sym b
   entries_one (view ∷ views) before after tick es fs (inl a) (inl b) = entries_one views before after tick es fs a.1 b.1
-  entries_one (view ∷ views) before after tick es fs (inl a) (inr (entry, others, is, told, rest)) = absurd (told.differs a.0)
-  entries_one (view ∷ views) before after tick es fs (inr (entry, others, is, told, rest)) (inl b) = absurd (told.differs b.0)
-  entries_one (view ∷ views) before after tick es fs (inr (entry, others, is, told, rest)) (inr (entry_2, others_2, is_2, told_2, rest_2)) =
-      let one : entry ≡ entry_2 = entry_one view.query before after tick entry entry_2 told told_2 in
+  entries_one (view ∷ views) before after tick es fs (inl a) (inr (entry, others, is, is_entry, rest)) = absurd (is_entry.differs a.0)
+  entries_one (view ∷ views) before after tick es fs (inr (entry, others, is, is_entry, rest)) (inl b) = absurd (is_entry.differs b.0)
+  entries_one (view ∷ views) before after tick es fs (inr (entry, others, is, is_entry, rest)) (inr (entry_2, others_2, is_2, is_entry_2, rest_2)) =
+      let one : entry ≡ entry_2 = entry_one view.query before after tick entry entry_2 is_entry is_entry_2 in
       let more : others ≡ others_2 = entries_one views before after tick others others_2 rest rest_2 in
       is ∙ (λ i. (view.name, one i) ∷ more i) ∙ sym is_2
 

@@ -14,7 +14,7 @@ use Rattle.cy_engine.specs.declared.replies.Reply.{Reply}
 use Rattle.cy_engine.specs.declared.replies.Reply.TheVariants as reply
 use Rattle.cy_values.specs.declared.rows.Cell.{Cell}
 use Rattle.cy_engine.specs.declared.views.Registered.{Registered}
-use Rattle.cy_engine.specs.internal.Parts.{HasTree, Fails, AnswersOrWants, Changes}
+use Rattle.cy_engine.specs.internal.Stages.{HasTree, Fails, AnswersOrWants, Changes}
 use Rattle.cy_engine.specs.internal.Representation.{named}
 use Rattle.cy_engine.specs.Model.{view_of, state_of}
 use Rattle.cy_engine.specs.Meaning.{Outcome, carried_out}

@@ -1,4 +1,4 @@
--- Rows in canonical order: what one of them counts, and what they have above others.
+-- Rows in canonical order: what one of them counts, and their surplus over others.
 use Rattle.std.proofs.Common.{◌≡◌, ℕ, zero, suc, ◌+◌, ◌-◌, ◌<◌, ◌≤◌, true, false, cond, nat_lt, List, [], ◌∷◌, length, get_or, Err, refl, sym, ap, subst, ◌∙◌, arith}
 use Rattle.std.specs.List.Sorted.{IsBinarySearchResult, IsNonDecreasingBy}
 use Rattle.std.specs.declared.cmp.Ordering.{Ordering}
@@ -11,7 +11,7 @@ use Rattle.std.proofs.lemmas.List.Sums.{sum_by-cons}
 use Rattle.cy_values.specs.declared.rows.Cell.{Cell}
 use Rattle.cy_values.specs.Order.{row_cmp}
 use Rattle.cy_values.specs.Bag.{weight_of, IsCanonical}
-use Rattle.cy_engine.specs.internal.Surplus.{IsSurplus, surplus_of}
+use Rattle.cy_engine.specs.internal.Surplus.{IsCountedSurplus, surplus_of}
 
 abbrev Pairs : Type 0
 Pairs = List (List Cell × ℕ)
@@ -127,7 +127,7 @@ module _ (total : IsTotalOrder row_cmp) (same : (x y : List Cell) → row_cmp x 
           all : weight_of row (p ∷ more) ≡ weight_of row more
           all = weight_cons row p more ∙ ap (λ b. cond b p.1 0 + weight_of row more) h ∙ omega arith
 
-  pub is_surplus : (more less : Pairs) → IsCanonical more → IsSurplus more less (surplus_of more less)
+  pub is_surplus : (more less : Pairs) → IsCanonical more → IsCountedSurplus more less (surplus_of more less)
   is_surplus more less can = record { counts = λ row. weight_surplus row more less can; canonical = canonical_surplus more less can }
 
   -- ---- a search among rows in canonical order

@@ -28,7 +28,7 @@ use Rattle.cy_engine.specs.declared.forms.Query.{Query}
 use Rattle.cy_engine.specs.Meaning.{has_label, row_of, rows_among, rows_of}
 use Rattle.cy_engine.specs.internal.Touched.{as_node, row_if, rows_before, rows_after}
 use Rattle.cy_engine.proofs.Each.{itself}
-use Rattle.cy_engine.proofs.Touching.{is_in, AreDistinct, same_number, number_order, tied, held, total, counted_at, balanced}
+use Rattle.cy_engine.proofs.Differing.{is_in, AreDistinct, same_number, number_order, tied, held, total, counted_at, balanced}
 
 -- the numbers of nodes among them
 abbrev ids_of : List Entry → List NodeId

@@ -8,13 +8,13 @@ use Rattle.cy_engine.specs.declared.entries.Change.{Change}
 abbrev pub IsSameBag : List (List Cell) → List (List Cell) → Type 0
 IsSameBag rows others = (row : List Cell) → count_of row rows ≡ count_of row others
 
--- What a bag has above another one: each row counts by how much more it counts in the first, and no row else is there.
+-- The surplus of a bag over another one: each row counts by how much more it counts in the first, and no row else is there.
 -- Subtraction ends at 0.
-pub record IsAbove (more less : List (List Cell)) (pairs : List (List Cell × ℕ)) : Type 0 where
+pub record IsSurplus (more less : List (List Cell)) (pairs : List (List Cell × ℕ)) : Type 0 where
   pub counts : (row : List Cell) → weight_of row pairs ≡ count_of row more - count_of row less
   pub canonical : IsCanonical pairs
 
 -- removed is the bag before without the bag after, and added is the bag after without the bag before; so no row is in both
 pub record IsDifference (before after : List (List Cell)) (change : Change) : Type 0 where
-  pub removed : IsAbove before after change.removed
-  pub added : IsAbove after before change.added
+  pub removed : IsSurplus before after change.removed
+  pub added : IsSurplus after before change.added

@@ -1,4 +1,4 @@
--- The state that an engine stands for.
+-- The state that an engine stands for (own).
 use Rattle.std.specs.Prelude.{ℕ, List, map, string_bytes}
 use Rattle.std.specs.declared.alloc.Global.{Global}
 use Rattle.std.specs.declared.string.String.{String}

@@ -93,7 +93,7 @@ abbrev pub counts_in : View → EngineState → List Cell → ℕ
 counts_in view state row = count_of row (rows_of view.query state.graph.content)
 
 -- one of the lines made the view; and what its query means on the graph is what it meant then, changed by every later entry of its own
-pub record IsKept (start now : EngineState) (events : List Event) (view : View) : Type 0 where
+pub record IsMaintained (start now : EngineState) (events : List Event) (view : View) : Type 0 where
   pub before : List Event
   pub making : Event
   pub after : List Event
@@ -105,11 +105,11 @@ pub record IsKept (start now : EngineState) (events : List Event) (view : View) 
   pub follows : (row : List Cell) → counts_in view now row ≡ followed (counts_in view made) (entries_of view.name after) row
 
 -- After any run from an empty engine each view is found by its name, and is kept.
-abbrev pub ViewsAreKept : Type 0
-ViewsAreKept =
+abbrev pub ViewsAreMaintained : Type 0
+ViewsAreMaintained =
     (history : ℕ) (events : List Event) (now : EngineState) (view : View)
     → Run (empty_engine history) events now → Contains now.views view
-    → (view_at view.name now ≡ Some view) × IsKept (empty_engine history) now events view
+    → (view_at view.name now ≡ Some view) × IsMaintained (empty_engine history) now events view
 
 -- Whatever a line is, its entries are the exact differences that it makes in the rows of views, one for each view whose rows are
 -- another bag, and none else.

@@ -1,4 +1,4 @@
--- The state of the engine.
+-- The state of the engine (own).
 use Rattle.std.specs.Prelude.{ℕ, ◌-◌, ◌^◌, List, [], find, Option}
 use Rattle.std.specs.Option.{option_map}
 use Rattle.std.specs.Str.{bytes_eq}

@@ -1,7 +1,7 @@
 pub mod Counting
 pub mod Each
 pub mod Literals
-pub mod Parts
 pub mod Representation
+pub mod Stages
 pub mod Surplus
 pub mod Touched

@@ -2,7 +2,7 @@
 
 ghost use Rattle.std.specs.Prelude.{◌≡◌, IfErr, IfOk};
 ghost use Rattle.cy_values.specs.Bag.{IsCanonical, weight_of};
-ghost use Rattle.cy_engine.specs.internal.Surplus.{IsSurplus, surplus_of};
+ghost use Rattle.cy_engine.specs.internal.Surplus.{IsCountedSurplus, surplus_of};
 
 use crate::entries::Change;
 use crate::faults::Fault;
@@ -17,8 +17,8 @@ pub(crate) fn difference(
 ) -> Result<Change, Fault>
     requires before { IsCanonical before.now }
     requires after { IsCanonical after.now }
-    ensures removed { IfOk result (λ change. IsSurplus before.now after.now change.removed) }
-    ensures added { IfOk result (λ change. IsSurplus after.now before.now change.added) }
+    ensures removed { IfOk result (λ change. IsCountedSurplus before.now after.now change.removed) }
+    ensures added { IfOk result (λ change. IsCountedSurplus after.now before.now change.added) }
     ensures memory { IfErr result (λ fault. fault ≡ Fault.NoMemory) }
 {
     Ok(Change {
@@ -27,7 +27,7 @@ pub(crate) fn difference(
     })
 }
 
-// What the first rows have above the second ones, both with their counts, in canonical order.
+// The surplus of the first rows over the second ones, both with their counts, in canonical order.
 fn surplus(
     alloc: Global,
     more: &[(Row, u64)],
@@ -35,7 +35,7 @@ fn surplus(
 ) -> Result<Vec<(Row, u64)>, Fault>
     requires more { IsCanonical more.now }
     requires less { IsCanonical less.now }
-    ensures surplus { IfOk result (λ surplus. IsSurplus more.now less.now surplus.items) }
+    ensures surplus { IfOk result (λ surplus. IsCountedSurplus more.now less.now surplus.items) }
     ensures memory { IfErr result (λ fault. fault ≡ Fault.NoMemory) }
 {
     row_order_laws();
@@ -49,17 +49,17 @@ fn surplus_rows(
     less: &[(Row, u64)],
 ) -> Result<Vec<(Row, u64)>, Fault>
     requires { IsCanonical less.now }
-    ensures above { IfOk result (λ above. above.items ≡ surplus_of more.now less.now) }
+    ensures surplus { IfOk result (λ surplus. surplus.items ≡ surplus_of more.now less.now) }
     ensures memory { IfErr result (λ fault. fault ≡ Fault.NoMemory) }
 {
-    let mut above = Vec::new(alloc);
+    let mut surplus = Vec::new(alloc);
     for (row, count) in more.iter() {
         let other = count_among(row, less);
         if other < *count {
-            above.push((row.copy(alloc)?, *count - other))?;
+            surplus.push((row.copy(alloc)?, *count - other))?;
         }
     }
-    Ok(above)
+    Ok(surplus)
 }
 
 // How often a row counts among rows that stand in canonical order.

@@ -7,7 +7,7 @@ ghost use Rattle.cy_engine.specs.Requests.{StatementOf, ViewOf, RowsOf};
 ghost use Rattle.cy_engine.specs.State.{View, entry_at, last_tick, new_machine, view_at};
 ghost use Rattle.cy_engine.specs.Step.{AreRows, Step};
 ghost use Rattle.cy_engine.specs.Verdicts.{carry_verdict, make_verdict, next_tick};
-ghost use Rattle.cy_engine.specs.internal.Parts.{AnswersOrWants, Changes, ShowsRows};
+ghost use Rattle.cy_engine.specs.internal.Stages.{AnswersOrWants, Changes, ShowsRows};
 ghost use Rattle.cy_engine.specs.Model.{view_of};
 
 use crate::entries::{Entry, entries_of};
@@ -95,7 +95,7 @@ impl Engine {
         let tokens = lex(self.alloc, line)?;
         match read_request(self.alloc, tokens.as_slice(), line)? {
             Request::Nothing => Ok(Reply::Nothing),
-            Request::Statement(tokens) => self.carry_out(line, tokens),
+            Request::Statement(tokens) => self.answer_statement(line, tokens),
             Request::View { name, query } => self.make_view(line, name.as_str(), query),
             Request::Rows { name } => self.show_rows(name.as_str()),
         }
@@ -137,14 +137,14 @@ impl Engine {
         Some(entry)
     }
 
-    // Carries a statement out.
-    fn carry_out(&mut self, line: &str, tokens: &[Token]) -> Result<Reply, Fault>
+    // Answers a statement.
+    fn answer_statement(&mut self, line: &str, tokens: &[Token]) -> Result<Reply, Fault>
         requires no_entries { self.old.entries ≡ [] }
         ensures { AnswersOrWants line.now (StatementOf tokens.now) self.old.state result self.new.entries self.new.state }
     {
         let form = read_form(self.alloc, line, tokens)?;
         self.graph.begin();
-        match change(self.alloc, &mut self.graph, &self.views, form, self.tick) {
+        match effect_of(self.alloc, &mut self.graph, &self.views, form, self.tick) {
             Ok(
                 Effect {
                     changed,
@@ -225,8 +225,8 @@ fn next_tick(tick: u64) -> Result<u64, Fault>
     Ok(tick + 1)
 }
 
-// Carries a statement out in the open change. After a fault the change is to be rolled back.
-fn change(
+// Carries a form out in the open change, and says what that does. After a fault the change is to be rolled back.
+fn effect_of(
     alloc: Global,
     graph: &mut Graph,
     views: &IndexMap<String, Registered>,

@@ -8,7 +8,7 @@ ghost use Rattle.cy_engine.specs.Difference.{IsDifference};
 ghost use Rattle.cy_engine.specs.Model.{view_of};
 ghost use Rattle.cy_engine.specs.Meaning.{rows_of};
 ghost use Rattle.cy_engine.specs.Step.{AreEntries};
-ghost use Rattle.cy_engine.specs.internal.Touched.{AreTold, IsChangeOf, row_if, rows_after, rows_before};
+ghost use Rattle.cy_engine.specs.internal.Touched.{HasTouched, IsChangeOf, row_if, rows_after, rows_before};
 
 use crate::differences::difference;
 use crate::faults::Fault;
@@ -19,8 +19,8 @@ use cy_values::{Entity, Row, Sequence, Text, row_order_laws};
 use indexmap::IndexMap;
 use std::alloc::Global;
 
-/// The difference of the rows of a view before and after a line: what the bag before has above the bag after, and what
-/// the bag after has above the bag before. Each row stands once with its count, in canonical order, and none in both.
+/// The difference of the rows of a view before and after a line: the surplus of the bag before over the bag after, and that
+/// of the bag after over the bag before. Each row stands once with its count, in canonical order, and none in both.
 #[derive(Debug, Drop)]
 pub struct Change {
     pub removed: Sequence<(Row, u64)>,
@@ -43,7 +43,7 @@ pub(crate) fn entries_of(
     touched: &[Touched<'_>],
     tick: u64,
 ) -> Result<Vec<(Text, Entry)>, Fault>
-    requires { AreTold graph.now (map entry_of touched.now) }
+    requires { HasTouched graph.now (map entry_of touched.now) }
     ensures entries { IfOk result (λ entries. IfSome graph.now.was (λ before. AreEntries (map view_of views.now.entries) before.content graph.now.now.content tick entries.items)) }
     ensures memory { IfErr result (λ fault. fault ≡ Fault.NoMemory) }
 {
@@ -64,7 +64,7 @@ fn change_of(
     graph: &Graph,
     touched: &[Touched<'_>],
 ) -> Result<Option<Change>, Fault>
-    requires { AreTold graph.now (map entry_of touched.now) }
+    requires { HasTouched graph.now (map entry_of touched.now) }
     ensures change { IfOk result (λ change. IfSome graph.now.was (λ before. IsChangeOf query.now before.content graph.now.now.content change)) }
     ensures memory { IfErr result (λ fault. fault ≡ Fault.NoMemory) }
 {
@@ -91,7 +91,7 @@ fn row_difference(
     graph: &Graph,
     touched: &[Touched<'_>],
 ) -> Result<Change, Fault>
-    requires { AreTold graph.now (map entry_of touched.now) }
+    requires { HasTouched graph.now (map entry_of touched.now) }
     ensures change { IfOk result (λ change. IfSome graph.now.was (λ before. IsDifference (rows_of query.now before.content) (rows_of query.now graph.now.now.content) change)) }
     ensures memory { IfErr result (λ fault. fault ≡ Fault.NoMemory) }
 {

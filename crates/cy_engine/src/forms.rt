@@ -61,8 +61,8 @@ pub(crate) fn served_statement(alloc: Global, statement: &Statement) -> Result<O
     ensures memory { IfErr result (λ fault. fault ≡ Fault.NoMemory) }
 {
     match statement.clauses.as_slice() {
-        [Clause::Create(paths)] => created(alloc, paths),
-        [Clause::Match(matching), clause] => changed(alloc, matching, clause),
+        [Clause::Create(paths)] => create_form(alloc, paths),
+        [Clause::Match(matching), clause] => changed_form(alloc, matching, clause),
         _ => Ok(None),
     }
 }
@@ -74,7 +74,7 @@ pub(crate) fn served_query(alloc: Global, statement: &Statement) -> Result<Optio
 {
     match statement.clauses.as_slice() {
         [Clause::Match(matching), Clause::Return(projection)] => {
-            returned(alloc, matching, projection)
+            query_form(alloc, matching, projection)
         }
         _ => Ok(None),
     }
@@ -159,7 +159,7 @@ fn unnamed_label(node: &NodePattern) -> Option<&Text>
 }
 
 // `CREATE (:label {key: literal, ..})`.
-fn created(alloc: Global, paths: &[Path]) -> Result<Option<Form>, Fault>
+fn create_form(alloc: Global, paths: &[Path]) -> Result<Option<Form>, Fault>
     ensures form { IfOk result (λ form. form ≡ option_map (λ f. Form.Create f) (spec.create_form (map path_of paths.now))) }
     ensures literals { IfOk result (λ form. IfSome form HasLiterals) }
     ensures memory { IfErr result (λ fault. fault ≡ Fault.NoMemory) }
@@ -194,7 +194,7 @@ fn matched_label(matching: &Match) -> Option<&Text>
 }
 
 // What is done with the nodes of a label.
-fn changed(alloc: Global, matching: &Match, clause: &Clause) -> Result<Option<Form>, Fault>
+fn changed_form(alloc: Global, matching: &Match, clause: &Clause) -> Result<Option<Form>, Fault>
     ensures form { IfOk result (λ form. form ≡ spec.changed_form (spec.matched_label matching.now.optional (paths_of matching.now.paths) (filter_of matching.now.filter)) (clause_of clause.now)) }
     ensures literals { IfOk result (λ form. IfSome form HasLiterals) }
     ensures memory { IfErr result (λ fault. fault ≡ Fault.NoMemory) }
@@ -203,14 +203,14 @@ fn changed(alloc: Global, matching: &Match, clause: &Clause) -> Result<Option<Fo
         return Ok(None);
     };
     match clause {
-        Clause::Set(items) => set_to(alloc, label, items),
-        Clause::Delete(delete) => deleted(alloc, label, delete),
+        Clause::Set(items) => set_form(alloc, label, items),
+        Clause::Delete(delete) => delete_form(alloc, label, delete),
         _ => Ok(None),
     }
 }
 
 // `SET n.key = literal`.
-fn set_to(alloc: Global, label: &Text, items: &[SetItem]) -> Result<Option<Form>, Fault>
+fn set_form(alloc: Global, label: &Text, items: &[SetItem]) -> Result<Option<Form>, Fault>
     ensures form { IfOk result (λ form. form ≡ option_map (λ f. Form.Set f) (spec.set_form label.now (map set_item_of items.now))) }
     ensures literals { IfOk result (λ form. IfSome form HasLiterals) }
     ensures memory { IfErr result (λ fault. fault ≡ Fault.NoMemory) }
@@ -229,7 +229,7 @@ fn set_to(alloc: Global, label: &Text, items: &[SetItem]) -> Result<Option<Form>
 }
 
 // `DETACH DELETE n`.
-fn deleted(alloc: Global, label: &Text, delete: &Delete) -> Result<Option<Form>, Fault>
+fn delete_form(alloc: Global, label: &Text, delete: &Delete) -> Result<Option<Form>, Fault>
     ensures form { IfOk result (λ form. form ≡ option_map (λ f. Form.Delete f) (spec.delete_form label.now delete.now.detach delete.now.variables.items)) }
     ensures literals { IfOk result (λ form. IfSome form HasLiterals) }
     ensures memory { IfErr result (λ fault. fault ≡ Fault.NoMemory) }
@@ -263,7 +263,7 @@ fn property_key(expression: &Expr) -> Option<&Text>
 }
 
 // `MATCH (n:label) RETURN n.key`.
-fn returned(
+fn query_form(
     alloc: Global,
     matching: &Match,
     projection: &Projection,

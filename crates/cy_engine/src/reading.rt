@@ -5,7 +5,7 @@ ghost use Rattle.cy_trees.specs.Views.{statement_of};
 ghost use Rattle.cy_engine.specs.internal.Literals.{HasLiterals};
 ghost use Rattle.cy_engine.specs.Requests.{first_offset};
 ghost use Rattle.cy_engine.specs.Verdicts.{form_verdict, query_verdict, scope_verdict};
-ghost use Rattle.cy_engine.specs.internal.Parts.{Gives};
+ghost use Rattle.cy_engine.specs.internal.Stages.{Gives};
 
 use crate::faults::Fault;
 use crate::forms::{Form, Query, served_query, served_statement};

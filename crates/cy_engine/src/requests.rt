@@ -4,7 +4,7 @@ ghost use Rattle.std.specs.Prelude.{◌≡◌, IfOk, IfErr, MatchResult, ◌⊎�
 ghost use Rattle.cy_lexer.specs.Keywords.{same_word};
 ghost use Rattle.cy_parser.specs.Words.{is_word, denotes, slice_in};
 ghost use Rattle.cy_engine.specs.Requests as spec;
-ghost use Rattle.cy_engine.specs.internal.Parts.{shown};
+ghost use Rattle.cy_engine.specs.internal.Stages.{shown};
 
 use crate::faults::Fault;
 use cy_lexer::{Kind, Symbol, Token};

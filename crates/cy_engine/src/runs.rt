@@ -1,7 +1,7 @@
 //! Runs over lists of lines.
 
 ghost use Rattle.std.specs.Prelude.{◌≡◌, IfErr, IfOk, OnErr, map};
-ghost use Rattle.cy_engine.specs.Runs.{EntriesAreExact, IsDetermined, RefusedLinesLeaveNoTrace, Runs, ViewsAreKept};
+ghost use Rattle.cy_engine.specs.Runs.{EntriesAreExact, IsDetermined, RefusedLinesLeaveNoTrace, Runs, ViewsAreMaintained};
 
 use crate::engine::Engine;
 use crate::faults::Fault;
@@ -47,6 +47,6 @@ pub fn no_trace()
 /// later entry of its own; each entry is the exact difference of the rows before and after its line. What the rows are is said by
 /// `Engine::rows` and `Engine::line`: what the view's query means on the current graph.
 pub fn headline()
-    ensures views { ViewsAreKept }
+    ensures views { ViewsAreMaintained }
     ensures entries { EntriesAreExact }
 {}

@@ -15,7 +15,7 @@ use cy_graph::{Graph, Labels, Props, TextMap};
 use cy_values::{Duplicate, Entity, NodeId, Text, Value};
 use std::alloc::Global;
 
-/// Carries a statement out in the open change, and says what changed. After a fault the change is to be rolled back.
+/// Carries a form out in the open change, and says what changed. After a fault the change is to be rolled back.
 pub(crate) fn carry_out(alloc: Global, graph: &mut Graph, form: Form) -> Result<Changed, Fault>
     requires open { IsSome graph.old.was }
     requires bare { graph.old.now.content.rels ≡ [] }
@@ -44,11 +44,11 @@ fn create(alloc: Global, graph: &mut Graph, tree: Create) -> Result<Changed, Fau
     labels.insert(label, ())?;
     let props = props_of(alloc, entries.into_vec())?;
     graph.add_node(labels, props)?;
-    Ok(changed(1, 0))
+    Ok(changed_nodes(1, 0))
 }
 
 // What a statement says that made and removed so many nodes.
-fn changed(nodes_made: u64, nodes_gone: u64) -> Changed
+fn changed_nodes(nodes_made: u64, nodes_gone: u64) -> Changed
     ensures { result ≡ record { nodes_made = nodes_made; nodes_gone = nodes_gone; rels_made = 0; rels_gone = 0 } }
 {
     Changed {
@@ -95,7 +95,7 @@ fn set_property(alloc: Global, graph: &mut Graph, tree: &SetProperty) -> Result<
 {
     let ids = labelled(alloc, graph, &tree.label)?;
     set_nodes(alloc, graph, ids, &tree.key, &tree.value)?;
-    Ok(changed(0, 0))
+    Ok(changed_nodes(0, 0))
 }
 
 // Removes the nodes that MATCH gives.
@@ -109,7 +109,7 @@ fn detach_delete(alloc: Global, graph: &mut Graph, tree: &DetachDelete) -> Resul
     let ids = labelled(alloc, graph, &tree.label)?;
     let gone = ids.len() as u64;
     remove_nodes(graph, ids)?;
-    Ok(changed(0, gone))
+    Ok(changed_nodes(0, gone))
 }
 
 // The numbers of the nodes with a label, which rise.

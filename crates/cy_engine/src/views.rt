@@ -23,7 +23,7 @@ pub(crate) struct Registered {
     pub(crate) made: u64,
 }
 
-/// What is told of a view that is made.
+/// The answer to `:view`, where the view is made.
 pub(crate) fn made_reply(
     alloc: Global,
     query: &Query,
@@ -42,7 +42,7 @@ pub(crate) fn made_reply(
     })
 }
 
-/// Puts a view behind the others, under a name that none of them has.
+/// Adds a view after the others, under a name that none of them has.
 pub(crate) fn register(
     alloc: Global,
     views: &mut IndexMap<String, Registered>,

@@ -8,7 +8,7 @@ surplus_of [] less = []
 surplus_of (p ∷ more) less =
     if nat_lt (weight_of p.0 less) p.1 then (p.0, p.1 - weight_of p.0 less) ∷ surplus_of more less else surplus_of more less
 
--- what the first rows have above the second ones, with their counts
-pub record IsSurplus (more less pairs : List (List Cell × ℕ)) : Type 0 where
+-- the surplus of the first rows over the second ones, with their counts
+pub record IsCountedSurplus (more less pairs : List (List Cell × ℕ)) : Type 0 where
   pub counts : (row : List Cell) → weight_of row pairs ≡ weight_of row more - weight_of row less
   pub canonical : IsCanonical pairs

@@ -14,8 +14,8 @@ use Rattle.cy_engine.specs.Difference.{IsSameBag, IsDifference}
 use Rattle.cy_engine.specs.Meaning.{row_of, rows_of}
 
 -- a change is open, and these entities are what it has touched
-abbrev pub AreTold : Versions → List Entry → Type 0
-AreTold graph touched = IsSome graph.was × IfSome graph.was (λ before. AreTouched before graph.now touched × IsGraph before × IsGraph graph.now)
+abbrev pub HasTouched : Versions → List Entry → Type 0
+HasTouched graph touched = IsSome graph.was × IfSome graph.was (λ before. AreTouched before graph.now touched × IsGraph before × IsGraph graph.now)
 
 -- a value that is a node's
 abbrev pub as_node : Option Old → Option Node

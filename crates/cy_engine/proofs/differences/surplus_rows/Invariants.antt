@@ -2,6 +2,6 @@ use Rattle.std.proofs.Common.{◌≡◌, ◌++◌, drop}
 use Rattle.cy_engine.specs.internal.Surplus.{surplus_of}
 use Rattle.cy_engine.proofs.differences.surplus_rows.Given as goal
 
--- what is found so far and what is above among those left are all
+-- what is found so far and what is surplus among those left are all
 abbrev pub invariant-loop-row : goal.invariant-loop-row
-invariant-loop-row l = l.above.items ++ surplus_of (drop l.row-index l.more) l.less ≡ surplus_of l.more l.less
+invariant-loop-row l = l.surplus.items ++ surplus_of (drop l.row-index l.more) l.less ≡ surplus_of l.more l.less

@@ -14,8 +14,8 @@ loop-name-preserved-in-Continue-branch-4 c =
     let now = c.args.graph.now.now.content in
     let entry : Entry = record { tick = c.args.tick; change = c.in-Some-2.change } in
     rw c.in_ok-push.ensures.items (both_some c.args.graph.now.was
-    (λ before told complete.
-    let is : IsChangeOf c.in-Some.view.now.query before.content now (Some c.in-Some-2.change) = subst (λ (o : Option Change). IsChangeOf c.in-Some.view.now.query before.content now o) c.in-Some-2.is told in
+    (λ before is_entry complete.
+    let is : IsChangeOf c.in-Some.view.now.query before.content now (Some c.in-Some-2.change) = subst (λ (o : Option Change). IsChangeOf c.in-Some.view.now.query before.content now o) c.in-Some-2.is is_entry in
     one_entry (map view_of c.args.views.now.entries) before.content now c.args.tick c.loop-name.entries.items c.in-Some.ensures.steps c.in_ok-name.name entry
     (c.in_ok-name.ensures ∙ c.as_str.ensures.value)
     (record { differs = is.0; tick_is = refl; difference = is.1 })

@@ -23,4 +23,4 @@ returns-clause-meaning c =
     c.in_ok-remove_nodes.ensures.removed ∙ ap (λ (ids : List NodeId). without_each ids c.args.graph.now.now) c.in_ok-ids.ensures.ids ∙ all.1 in
     let gone : c.len-gone.result ≡ length (filter (has_label c.args.tree.now.label) nodes) =
     c.len-gone.ensures ∙ c.in_ok-ids.ids.ok.0 ∙ ap length c.in_ok-ids.ensures.ids ∙ length-map (filter (has_label c.args.tree.now.label) nodes) (λ (e : NodeId × Node). e.0) in
-    rw (after, c.changed.ensures, gone) refl
+    rw (after, c.changed_nodes.ensures, gone) refl

@@ -20,4 +20,4 @@ returns-clause-meaning c =
     let all = sets_labelled c.args.graph.now.now tree nodes c.labelled.ensures.rising in
     let after : c.set_nodes.new.graph.now ≡ with_nodes (map (set_at_label tree) nodes) c.args.graph.now.now =
     c.in_ok-set_nodes.ensures.set ∙ ap (λ (ids : List NodeId). set_each tree.key (unless_null tree.value) ids c.args.graph.now.now) c.in_ok-ids.ensures.ids ∙ all.1 in
-    rw (after, c.changed.ensures) refl
+    rw (after, c.changed_nodes.ensures) refl

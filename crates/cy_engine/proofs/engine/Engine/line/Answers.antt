@@ -4,7 +4,7 @@ use Rattle.cy_lexer.specs.declared.faults.LexFault.{LexFault}
 use Rattle.cy_lexer.specs.declared.tokens.Token.{Token}
 use Rattle.cy_lexer.specs.Line.{longest_line}
 use Rattle.cy_lexer.specs.Tokens.{tokens_of}
-use Rattle.cy_engine.specs.internal.Parts.{AnswersOrWants, shown}
+use Rattle.cy_engine.specs.internal.Stages.{AnswersOrWants, shown}
 use Rattle.cy_engine.specs.Requests.{Request, Nothing, StatementOf, ViewOf, RowsOf, request}
 use Rattle.cy_engine.specs.State.{EngineState, Machine}
 use Rattle.cy_engine.specs.Step.{Step}
@@ -38,7 +38,7 @@ returns-in-Statement c =
     let made : tokens_of c.args.line.now ≡ Ok c.as_slice.result.now = c.in_ok-tokens.ensures.tokens ∙ ap Ok (sym c.as_slice.ensures.value) in
     let asks : request c.args.line.now c.as_slice.result.now ≡ StatementOf c.in-Statement.tokens.now = c.in_ok-read_request.ensures ∙ ap shown c.in-Statement.is in
     line_step c.args.line.now c.args.self.now.state _ _ _ c.as_slice.result.now (StatementOf c.in-Statement.tokens.now) made (λ long. no_error _ _ (c.in_ok-tokens.ensures.long long)) asks
-    (subst (λ (s : EngineState). AnswersOrWants c.args.line.now (StatementOf c.in-Statement.tokens.now) s c.carry_out.result c.carry_out.new.self.entries c.carry_out.new.self.state) (ap (λ (m : Machine). m.state) c.self.view_is) c.carry_out.ensures)
+    (subst (λ (s : EngineState). AnswersOrWants c.args.line.now (StatementOf c.in-Statement.tokens.now) s c.answer_statement.result c.answer_statement.new.self.entries c.answer_statement.new.self.state) (ap (λ (m : Machine). m.state) c.self.view_is) c.answer_statement.ensures)
 
 pub returns-in-View : goal.returns-in-View
 returns-in-View c =

@@ -11,7 +11,7 @@ use Rattle.cy_engine.proofs.Chains.{nothing_changed}
 use Rattle.cy_engine.proofs.Contents.{tick_stays, tick_moves}
 use Rattle.cy_engine.proofs.Steps.{carried, carry_late}
 use Rattle.cy_engine.proofs.TouchedRows.{nothing_touched, touched_differs}
-use Rattle.cy_engine.proofs.engine.change.Goals as goal
+use Rattle.cy_engine.proofs.engine.effect_of.Goals as goal
 
 -- nothing was touched, so the content is the same and no view gets an entry
 pub returns-then-is_empty-clause-changes : goal.returns-then-is_empty-clause-changes
@@ -30,8 +30,8 @@ returns-then-is_empty-clause-changes c =
 
 -- something was touched, so the content is another
 differs : (before now : State) (was : Option State) (list : Vec Touched Global) → was ≡ Some before → IfSome was (λ (b : State). AreTouched b now (map entry_of list.items)) → (vec_len list == 0) ≡ false → now.content ≢ before.content
-differs before now was list is told some =
-    touched_differs before now (map entry_of list.items) (subst (λ (o : Option State). IfSome o (λ (b : State). AreTouched b now (map entry_of list.items))) is told)
+differs before now was list is reported some =
+    touched_differs before now (map entry_of list.items) (subst (λ (o : Option State). IfSome o (λ (b : State). AreTouched b now (map entry_of list.items))) is reported)
     (λ none. no_items list.items (list.ok.0) none some)
   where
     no_items : (items : List Touched) → vec_len list ≡ length items → map entry_of items ≡ [] → (vec_len list == 0) ≡ false → ⊥

@@ -1,4 +1,4 @@
--- What the parts of the engine's work on a line promise one another.
+-- What the stages of the engine's work on a line promise one another.
 use Rattle.std.specs.Prelude.{◌≡◌, ℕ, ◌⊎◌, List, [], None, Some, Result, Ok, Err}
 use Rattle.cy_lexer.specs.declared.tokens.Token.{Token}
 use Rattle.cy_parser.specs.SpellsClauses.{SpellsStatement}

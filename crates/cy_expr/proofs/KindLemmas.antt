@@ -25,6 +25,7 @@ use Rattle.cy_scope.specs.declared.kinds.Kind.TheVariants as kind
 use Rattle.cy_scope.specs.Functions.{function_named}
 use Rattle.cy_scope.specs.Kinds.{is_flag, flag_if}
 use Rattle.cy_scope.specs.Scopes.{Scope, find_column, find_kind, kind_in}
+use Rattle.cy_scope.specs.Rows.{row_fits, is_cell_of}
 use Rattle.cy_scope.specs.ExpressionKinds.{are_flags, binary_kind, call_kind, gives_flags, is_flag_otherwise, kind_of, unary_kind}
 use Rattle.cy_scope.specs.Resolved.{resolved, resolved_arms, resolved_expressions, resolved_links, resolved_otherwise}
 use Rattle.cy_expr.specs.declared.faults.EvalFault.{EvalFault}
@@ -36,7 +37,6 @@ use Rattle.cy_expr.specs.Choice.{coalesce, choice}
 use Rattle.cy_expr.specs.Operators.{binary_value, unary_value, value_in_cell}
 use Rattle.cy_expr.specs.Lookups.{Lookups, property_value, existence, labels_test, on_entity, on_node}
 use Rattle.cy_expr.specs.Evaluation.{as_cell, call_value, cell_of, cells_of, chain, column_value, outcome_of_else, outcomes_of, outcomes_of_arms, property_exists, values_of}
-use Rattle.cy_expr.specs.Fits.{fits, has_kind, is_boolean_or_null}
 
 pub and-left : (a b : Bool) → (a && b) ≡ true → a ≡ true
 and-left true b is = refl
@@ -57,28 +57,28 @@ position-next test i (v ∷ vs) =
 
 -- a column of the row has the kind of the variable that is the first of its name
 found : (k : Kind) (c : Cell) (row : List Cell) (others : Option Kind) (column : Option ℕ) (b : Bool)
-    → has_kind k c ≡ true → has_kind (unwrap_or others kind.Value) (column_value column row) ≡ true
-    → has_kind (unwrap_or (cond b (Some k) others) kind.Value) (column_value (cond b (Some 0) (option_map (λ n. 1 + n) column)) (c ∷ row)) ≡ true
+    → is_cell_of k c ≡ true → is_cell_of (unwrap_or others kind.Value) (column_value column row) ≡ true
+    → is_cell_of (unwrap_or (cond b (Some k) others) kind.Value) (column_value (cond b (Some 0) (option_map (λ n. 1 + n) column)) (c ∷ row)) ≡ true
 found k c row others column true here there = here
 found k c row others None false here there = there
 found k c row others (Some n) false here there =
     let next : 1 + n ≡ suc n = omega arith in
-    subst (λ (m : ℕ). has_kind (unwrap_or others kind.Value) (get_or (c ∷ row) m (cell.Value value.Null)) ≡ true) (sym next) there
+    subst (λ (m : ℕ). is_cell_of (unwrap_or others kind.Value) (get_or (c ∷ row) m (cell.Value value.Null)) ≡ true) (sym next) there
 
-pub column-kind : (scope : Scope) (row : List Cell) (name : Name) → fits scope row ≡ true
-    → has_kind (kind_in scope name) (column_value (find_column scope name) row) ≡ true
+pub column-kind : (scope : Scope) (row : List Cell) (name : Name) → row_fits scope row ≡ true
+    → is_cell_of (kind_in scope name) (column_value (find_column scope name) row) ≡ true
 column-kind [] row name fit = refl
 column-kind (v ∷ scope) [] name fit = absurd (false≢true fit)
 column-kind (v ∷ scope) (c ∷ row) name fit =
-    subst (λ (o : Option ℕ). has_kind (unwrap_or (cond (bytes_eq name v.0) (Some v.1) (find_kind scope name)) kind.Value) (column_value (cond (bytes_eq name v.0) (Some 0) o) (c ∷ row)) ≡ true)
+    subst (λ (o : Option ℕ). is_cell_of (unwrap_or (cond (bytes_eq name v.0) (Some v.1) (find_kind scope name)) kind.Value) (column_value (cond (bytes_eq name v.0) (Some 0) o) (c ∷ row)) ≡ true)
     (sym (position-next (λ (w : Name × Kind). bytes_eq name w.0) 0 scope))
     (found v.1 c row (find_kind scope name) (find_column scope name) (bytes_eq name v.0)
-    (and-left (has_kind v.1 c) (fits scope row) fit) (column-kind scope row name (and-right (has_kind v.1 c) (fits scope row) fit)))
+    (and-left (is_cell_of v.1 c) (row_fits scope row) fit) (column-kind scope row name (and-right (is_cell_of v.1 c) (row_fits scope row) fit)))
 
 -- ---- values
 
 -- a value, of whatever type
-value-holds : (r : Result Value EvalFault) → IfOk (as_cell r) (λ c. has_kind kind.Value c ≡ true)
+value-holds : (r : Result Value EvalFault) → IfOk (as_cell r) (λ c. is_cell_of kind.Value c ≡ true)
 value-holds (Ok (value.Text t)) = refl
 value-holds (Ok (value.Bool b)) = refl
 value-holds (Ok (value.Int n)) = refl
@@ -86,11 +86,16 @@ value-holds (Ok (value.List es)) = refl
 value-holds (Ok value.Null) = refl
 value-holds (Err fault) = tt
 
+abbrev pub is_boolean_or_null : Value → Bool
+is_boolean_or_null (value.Bool b) = true
+is_boolean_or_null value.Null = true
+is_boolean_or_null v = false
+
 -- a boolean or null
 abbrev pub Flags : Result Value EvalFault → Type 0
 Flags r = IfOk r (λ v. is_boolean_or_null v ≡ true)
 
-flag-holds : (r : Result Value EvalFault) → Flags r → IfOk (as_cell r) (λ c. has_kind kind.Flag c ≡ true)
+flag-holds : (r : Result Value EvalFault) → Flags r → IfOk (as_cell r) (λ c. is_cell_of kind.Flag c ≡ true)
 flag-holds (Ok (value.Text t)) is = is
 flag-holds (Ok (value.Bool b)) is = refl
 flag-holds (Ok (value.Int n)) is = is
@@ -98,7 +103,7 @@ flag-holds (Ok (value.List es)) is = is
 flag-holds (Ok value.Null) is = refl
 flag-holds (Err fault) is = tt
 
-flag-chosen : (b : Bool) (r : Result Value EvalFault) → (b ≡ true → Flags r) → IfOk (as_cell r) (λ c. has_kind (flag_if b) c ≡ true)
+flag-chosen : (b : Bool) (r : Result Value EvalFault) → (b ≡ true → Flags r) → IfOk (as_cell r) (λ c. is_cell_of (flag_if b) c ≡ true)
 flag-chosen true r is = flag-holds r (is refl)
 flag-chosen false r is = value-holds r
 
@@ -130,7 +135,7 @@ node-flags f (cell.Rels rs) = tt
 node-flags f (cell.Value value.Null) = refl
 node-flags f (cell.Value v) = tt
 
-unary-holds : (operator : UnaryOperator) (r : Result Cell EvalFault) → IfOk (as_cell (on_one (unary_value operator) r)) (λ c. has_kind (unary_kind operator) c ≡ true)
+unary-holds : (operator : UnaryOperator) (r : Result Cell EvalFault) → IfOk (as_cell (on_one (unary_value operator) r)) (λ c. is_cell_of (unary_kind operator) c ≡ true)
 unary-holds Plus r = value-holds (on_one (unary_value Plus) r)
 unary-holds Minus r = value-holds (on_one (unary_value Minus) r)
 unary-holds Not r =
@@ -147,7 +152,7 @@ membership-flags x (value.Bool b) = tt
 membership-flags x (value.Int n) = tt
 
 binary-holds : (operator : BinaryOperator) (r s : Result Value EvalFault)
-    → IfOk (as_cell (on_two (binary_value operator) r s)) (λ c. has_kind (binary_kind operator) c ≡ true)
+    → IfOk (as_cell (on_two (binary_value operator) r s)) (λ c. is_cell_of (binary_kind operator) c ≡ true)
 binary-holds Or r s =
     flag-holds (on_two (binary_value Or) r s)
     (two-flags disjunction (λ x y. two-flags (λ a b. Ok (value_of (one_at_least a b))) (λ a b. truth-flags (one_at_least a b)) (truth_of x) (truth_of y)) r s)
@@ -168,7 +173,7 @@ binary-holds Divide r s = value-holds (on_two (binary_value Divide) r s)
 binary-holds Remainder r s = value-holds (on_two (binary_value Remainder) r s)
 
 -- the value in a cell that is a flag
-cell-flags : (k : Kind) (r : Result Cell EvalFault) → IfOk r (λ c. has_kind k c ≡ true) → is_flag k ≡ true → Flags (on_one value_in_cell r)
+cell-flags : (k : Kind) (r : Result Cell EvalFault) → IfOk r (λ c. is_cell_of k c ≡ true) → is_flag k ≡ true → Flags (on_one value_in_cell r)
 cell-flags kind.Flag (Ok (cell.Value (value.Bool b))) has is = refl
 cell-flags kind.Flag (Ok (cell.Value value.Null)) has is = refl
 cell-flags kind.Flag (Ok (cell.Value v)) has is = has
@@ -191,7 +196,7 @@ choice-flags (Ok Unknown) r c is are = are
 choice-flags (Err fault) r c is are = tt
 
 call-holds : (graph : Lookups) (f : Option Function) (flags : Bool) (cells : Result (List Cell) EvalFault) (outcomes : List (Result Value EvalFault)) (there : Result Value EvalFault)
-    → (flags ≡ true → Flags (coalesce outcomes)) → Flags there → IfOk (as_cell (call_value graph f cells outcomes there)) (λ c. has_kind (call_kind f flags) c ≡ true)
+    → (flags ≡ true → Flags (coalesce outcomes)) → Flags there → IfOk (as_cell (call_value graph f cells outcomes there)) (λ c. is_cell_of (call_kind f flags) c ≡ true)
 call-holds graph None flags cells outcomes there are asked = value-holds (call_value graph None cells outcomes there)
 call-holds graph (Some function.Coalesce) flags cells outcomes there are asked = flag-chosen flags (coalesce outcomes) are
 call-holds graph (Some function.Exists) flags cells outcomes there are asked = flag-holds there asked
@@ -199,13 +204,13 @@ call-holds graph (Some f) flags cells outcomes there are asked = value-holds (ca
 
 -- ---- expressions
 
-module _ (graph : Lookups) (scope : Scope) (row : List Cell) (fit : fits scope row ≡ true) where
+module _ (graph : Lookups) (scope : Scope) (row : List Cell) (fit : row_fits scope row ≡ true) where
   asked-flags : (es : Expressions) → Flags (property_exists graph row es)
   asked-flags (more (property e key) no_more) = one-flags (existence graph key) (entity-flags (λ x. is_some (graph.property_of x key))) (cell_of graph row e)
   asked-flags es = tt
 
   mutual
-    pub kind-holds : (e : Expression) → IfOk (cell_of graph row (resolved scope e)) (λ c. has_kind (kind_of scope e) c ≡ true)
+    pub kind-holds : (e : Expression) → IfOk (cell_of graph row (resolved scope e)) (λ c. is_cell_of (kind_of scope e) c ≡ true)
     kind-holds null = refl
     kind-holds (boolean b) = refl
     kind-holds (integer n) = refl

@@ -34,6 +34,7 @@ use Rattle.cy_scope.specs.Functions.{function_named, fit, is_aggregate, is_one, 
 use Rattle.cy_scope.specs.Faults.{first, unless}
 use Rattle.cy_scope.specs.Kinds.{is_entity, is_flag, is_node, is_relationship, is_relationships, is_value}
 use Rattle.cy_scope.specs.Scopes.{Scope, find_column, kind_in}
+use Rattle.cy_scope.specs.Rows.{row_fits, is_cell_of}
 use Rattle.cy_scope.specs.ExpressionKinds.{kind_of}
 use Rattle.cy_scope.specs.ExpressionFaults.{are_compared, are_taken, are_values, arms_fault, call_fault, compares, expression_fault, expressions_fault, have_values, is_value_otherwise, links_fault, otherwise_fault, takes_unary}
 use Rattle.cy_scope.specs.Resolved.{resolved, resolved_arms, resolved_expressions, resolved_links, resolved_otherwise}
@@ -47,8 +48,7 @@ use Rattle.cy_expr.specs.Comparison.{greater, greater_or_equal, less_or_equal}
 use Rattle.cy_expr.specs.Operators.{binary_value, compared, unary_value, value_in_cell}
 use Rattle.cy_expr.specs.Lookups.{Lookups, property_value, existence, number_of, labels_test, labels_value, on_entity, on_node, on_relationship}
 use Rattle.cy_expr.specs.Evaluation.{as_cell, call_value, called, cell_of, cells_of, chain, column_value, function_value, outcome_of_else, outcomes_of, outcomes_of_arms, property_exists, values_of}
-use Rattle.cy_expr.specs.Fits.{fits, has_kind, is_boolean_or_null}
-use Rattle.cy_expr.proofs.KindLemmas.{and-left, and-right, column-kind, kind-holds}
+use Rattle.cy_expr.proofs.KindLemmas.{and-left, and-right, column-kind, is_boolean_or_null, kind-holds}
 
 -- ---- what a checked expression has
 
@@ -103,7 +103,7 @@ gives-weaker P Q weaker (Err fault) gives = gives
 
 -- a cell of the kind
 abbrev OfKind : Kind → Cell → Type 0
-OfKind k c = has_kind k c ≡ true
+OfKind k c = is_cell_of k c ≡ true
 
 on_entity-ok : (f : Entity → Value) (k : Kind) → is_entity k ≡ true → (c : Cell) → OfKind k c → IsOk (on_entity f c)
 on_entity-ok f k is (cell.Node n) has = refl
@@ -348,7 +348,7 @@ function-parts f distinct taken fits_f checked =
 
 -- ---- expressions
 
-module _ (graph : Lookups) (scope : Scope) (row : List Cell) (fit_row : fits scope row ≡ true) where
+module _ (graph : Lookups) (scope : Scope) (row : List Cell) (fit_row : row_fits scope row ≡ true) where
   -- the cell of an expression
   abbrev of : Expression → Result Cell EvalFault
   of e = cell_of graph row (resolved scope e)

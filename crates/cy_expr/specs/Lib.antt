@@ -11,5 +11,4 @@ pub mod Operators
 pub mod Lookups
 pub mod Evaluation
 pub mod Reading
-pub mod Fits
 pub mod internal

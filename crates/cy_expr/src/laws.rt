@@ -7,8 +7,8 @@ ghost use Rattle.cy_scope.specs.Scopes.{Scope};
 ghost use Rattle.cy_scope.specs.ExpressionKinds.{kind_of};
 ghost use Rattle.cy_scope.specs.ExpressionFaults.{expression_fault};
 ghost use Rattle.cy_scope.specs.Resolved.{resolved};
+ghost use Rattle.cy_scope.specs.Rows.{row_fits, is_cell_of};
 ghost use Rattle.cy_scope.specs.Sure.{is_sure};
-ghost use Rattle.cy_expr.specs.Fits.{fits, has_kind};
 ghost use Rattle.cy_expr.specs.Lookups.{Lookups};
 ghost use Rattle.cy_expr.specs.Evaluation.{cell_of};
 ghost use Rattle.cy_expr.specs.Reading.{AgreeAt, reads_columns};
@@ -25,13 +25,13 @@ pub fn reading()
 /// On a row that fits a scope the cell of an expression, whose variables have their columns there, has the expression's kind: a
 /// flag gives a boolean or null (own).
 pub fn kinds()
-    ensures { (graph : Lookups) (scope : Scope) (row : List Cell) (expression : Expression) → IsTrue (fits scope row)
-        → IfOk (cell_of graph row (resolved scope expression)) (λ c. IsTrue (has_kind (kind_of scope expression) c)) }
+    ensures { (graph : Lookups) (scope : Scope) (row : List Cell) (expression : Expression) → IsTrue (row_fits scope row)
+        → IfOk (cell_of graph row (resolved scope expression)) (λ c. IsTrue (is_cell_of (kind_of scope expression) c)) }
 {}
 
 /// A sure expression without a fault of scope has a cell, and no fault, on each row that fits its scope and on every graph (own).
 pub fn sureness()
-    ensures { (graph : Lookups) (scope : Scope) (row : List Cell) (expression : Expression) → IsTrue (fits scope row)
+    ensures { (graph : Lookups) (scope : Scope) (row : List Cell) (expression : Expression) → IsTrue (row_fits scope row)
         → expression_fault scope expression ≡ None → IsTrue (is_sure scope expression)
         → IsOk (cell_of graph row (resolved scope expression)) }
 {}

@@ -7,8 +7,6 @@ mod cells;
 mod comparison;
 mod conversions;
 mod evaluation;
-#[cfg(test)]
-mod evaluation_tests;
 mod faults;
 mod functions;
 mod held;
@@ -17,6 +15,8 @@ mod lists;
 mod logic;
 mod lookups;
 mod operators;
+#[cfg(test)]
+mod postfix;
 mod predicates;
 #[cfg(test)]
 mod tests;

@@ -9,6 +9,12 @@ mod maps;
 mod nodes;
 mod series;
 #[cfg(test)]
+mod test_cases;
+#[cfg(test)]
+mod test_content;
+#[cfg(test)]
+mod test_steps;
+#[cfg(test)]
 mod tests;
 mod touched;
 mod walks;

@@ -2,7 +2,8 @@
 use Rattle.std.proofs.Common.{◌≡◌, ℕ, ◌+◌, List, [], ◌++◌, take, drop, Option, Some, None, refl, sym, ◌∙◌, ap, append_assoc}
 use Rattle.std.proofs.lemmas.List.{append-nil, take-append-drop}
 use Rattle.std.proofs.Math.Seq.{take-add}
-use Rattle.cy_shell.specs.Streams.{appended, AppendsFront}
+use Rattle.cy_shell.specs.Streams.{appended}
+use Rattle.cy_shell.specs.internal.Writing.{AppendsFront}
 
 pub appended-nil : (known : Option (List ℕ)) → known ≡ appended known []
 appended-nil None = refl

@@ -11,7 +11,8 @@ use Rattle.cy_shell.specs.Printed.{no_memory_text, IsAnswerText, IsFeedText, IsL
 use Rattle.cy_engine.specs.declared.faults.Fault.{Fault}
 use Rattle.cy_engine.specs.declared.replies.Reply.{Reply}
 use Rattle.cy_shell.specs.Runs.{Serving, Answered, TooLong, NotUtf8, Carried, PrintedRun, WritesRun, WritesBeginning}
-use Rattle.cy_shell.specs.Streams.{appended, AppendsFront}
+use Rattle.cy_shell.specs.Streams.{appended}
+use Rattle.cy_shell.specs.internal.Writing.{AppendsFront}
 use Rattle.cy_shell.proofs.Appends.{appended-nil, appended-appended}
 
 run_append : (old mid new : Serving) (xs ys : List (List ℕ)) (a b : List ℕ) → PrintedRun old xs a mid → PrintedRun mid ys b new → PrintedRun old (xs ++ ys) (a ++ b) new

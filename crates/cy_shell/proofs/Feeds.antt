@@ -6,8 +6,10 @@ use Rattle.cy_engine.specs.declared.entries.Entry.{Entry}
 use Rattle.cy_shell.specs.internal.Feeding.{IsAnswer, WritesFeed, BeginsFeed}
 use Rattle.cy_shell.specs.Printed.{text_of, IsObjectText, IsFeedText, fed}
 use Rattle.cy_shell.specs.Replies.{entry_json}
-use Rattle.cy_shell.specs.Runs.{Answered, Carried, WritesRun, WritesBeginning, serving}
-use Rattle.cy_shell.specs.Streams.{appended, AppendsFront}
+use Rattle.cy_shell.specs.Runs.{Answered, Carried, WritesRun, WritesBeginning}
+use Rattle.cy_shell.specs.internal.Serving.{serving}
+use Rattle.cy_shell.specs.Streams.{appended}
+use Rattle.cy_shell.specs.internal.Writing.{AppendsFront}
 use Rattle.cy_shell.proofs.Appends.{appended-nil, appended-appended}
 use Rattle.cy_shell.proofs.Chains.{one_line, one_line_begun}
 

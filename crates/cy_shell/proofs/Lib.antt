@@ -3,7 +3,7 @@ pub mod Chains
 pub mod Cuts
 pub mod Feeds
 pub mod HistoryOption
-pub mod Kept
+pub mod LineTexts
 pub mod Objects
 pub mod Outcomes
 pub mod Progress

@@ -2,7 +2,8 @@
 use Rattle.std.proofs.Common.{◌≡◌, ℕ, suc, List, [], ◌∷◌, ◌++◌, take, drop, Option, Some, None, refl, sym, ◌∙◌, ap, subst, append_assoc}
 use Rattle.std.proofs.lemmas.List.{append-nil}
 use Rattle.std.specs.List.{position}
-use Rattle.cy_shell.specs.Lines.{kept, ended_lines, begun_line}
+use Rattle.cy_shell.specs.Lines.{ended_lines, begun_line}
+use Rattle.cy_shell.specs.internal.Lines.{kept}
 use Rattle.cy_shell.specs.Runs.{Serving, WritesRun, WritesBeginning}
 use Rattle.cy_shell.proofs.Chains.{no_lines, more_lines, breaks_later, breaks_before}
 use Rattle.cy_shell.proofs.Cuts.{is_end, EndsAt, ends_at, ends_nowhere}

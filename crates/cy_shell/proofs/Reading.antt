@@ -2,7 +2,8 @@
 use Rattle.std.proofs.Common.{◌≡◌, ℕ, ◌+◌, ◌≤◌, ◌<◌, List, [], ◌∷◌, ◌++◌, length, take, drop, Bool, true, Option, Some, None, IfSome, Result, Ok, Err, IfOk, refl, sym, ◌∙◌, ap, subst, append_assoc, ◌⊎◌, inl, inr, arith, length-drop}
 use Rattle.std.proofs.lemmas.List.{append-nil, take-append-drop, take_all, take-append-le, drop-append-le, drop-drop, length-take-le}
 use Rattle.std.proofs.Math.Seq.{take-add}
-use Rattle.cy_shell.specs.Lines.{kept, ended_lines, begun_line, whole_lines, last_line, unless_empty, lines_of, lines_read}
+use Rattle.cy_shell.specs.Lines.{ended_lines, begun_line, whole_lines, last_line, unless_empty, lines_of, lines_read}
+use Rattle.cy_shell.specs.internal.Lines.{kept}
 use Rattle.cy_shell.specs.Runs.{Serving, WritesRun, WritesBeginning, WritesAll, input_limit, StopsReading, StopsWriting}
 use Rattle.cy_shell.specs.Streams.{TakesFront}
 use Rattle.cy_shell.proofs.Chains.{no_lines, more_lines, breaks_later, breaks_before}

@@ -1,4 +1,4 @@
--- How the program ends.
+-- How the program ends (own).
 use Rattle.std.specs.Prelude.{ℕ}
 use Rattle.cy_shell.specs.declared.options.ArgFault.{ArgFault}
 use Rattle.cy_shell.specs.declared.options.ArgFault.TheVariants.{Bad}

@@ -1,4 +1,4 @@
--- The JSON of what a reply has in it.
+-- The JSON of what a reply has in it (own).
 use Rattle.std.specs.Prelude.{ℕ, List, map, codes}
 use Rattle.serde_json.specs.Data.{Data, null, boolean, number, unsigned, string, array, object, item, no_items, member, no_members}
 use Rattle.serde_json.specs.Find.{of_integer}

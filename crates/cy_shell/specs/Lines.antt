@@ -1,5 +1,5 @@
--- The lines of an input. A line ends at LF, and a last line without LF counts if it isn't empty.
-use Rattle.std.specs.Prelude.{ℕ, ◌==◌, nat_le, List, [], ◌∷◌, ◌++◌, length, Option, Some, None, if◌then◌else◌}
+-- The lines of an input (own). A line ends at LF, and a last line without LF counts if it isn't empty.
+use Rattle.std.specs.Prelude.{ℕ, ◌==◌, List, [], ◌∷◌, ◌++◌, if◌then◌else◌}
 use Rattle.cy_lexer.specs.Line.{longest_line}
 
 -- the most bytes that a line may have, without its LF: those of the longest line that the lexer takes
@@ -38,7 +38,3 @@ lines_of bytes = whole_lines bytes ++ unless_empty (last_line bytes)
 abbrev pub lines_read : List ℕ → List ℕ → List (List ℕ)
 lines_read front [] = lines_of front
 lines_read front (c ∷ rest) = whole_lines front
-
--- a line is kept up to the limit
-abbrev pub kept : List ℕ → Option (List ℕ)
-kept line = if nat_le (length line) line_limit then Some line else None

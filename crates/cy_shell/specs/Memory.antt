@@ -1,4 +1,4 @@
--- What a sink over memory is.
+-- What a sink over memory is (own).
 use Rattle.std.specs.Prelude.{ℕ, List, Bool}
 
 -- what was written, how many bytes there is room for in all, and whether a write has failed

@@ -1,4 +1,4 @@
--- The JSON of replies, entries and faults, with keys in the order of their letters.
+-- The JSON of replies, entries and faults, with keys in the order of their letters (own).
 use Rattle.std.specs.Prelude.{ℕ, List, codes, Option, Some, None}
 use Rattle.serde_json.specs.Data.{Data, null, number, unsigned, string, array, object, item, no_items, member, no_members}
 use Rattle.cy_values.specs.declared.rows.Cell.{Cell}

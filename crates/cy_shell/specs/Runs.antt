@@ -1,8 +1,8 @@
--- What may be written for an input.
+-- What may be written for an input (own).
 use Rattle.std.specs.Prelude.{◌≡◌, ℕ, ◌^◌, ◌<◌, ◌≤◌, ◌⊎◌, Bool, true, List, [], ◌∷◌, ◌++◌, length, Option, Some, Result}
 use Rattle.std.specs.Str.{IsUtf8}
 use Rattle.std.specs.Str.Lossy.{utf8_valid_len}
-use Rattle.cy_engine.specs.State.{EngineState, Machine, empty_engine}
+use Rattle.cy_engine.specs.State.{EngineState, empty_engine}
 use Rattle.cy_engine.specs.Step.{Step}
 use Rattle.cy_engine.specs.declared.entries.Entry.{Entry}
 use Rattle.cy_engine.specs.declared.faults.Fault.{Fault}
@@ -15,9 +15,6 @@ use Rattle.cy_shell.specs.Streams.{appended}
 pub record Serving : Type 0 where
   pub engine : EngineState
   pub feed : Bool
-
-abbrev pub serving : Machine → Bool → Serving
-serving machine feed = record { engine = machine.state; feed = feed }
 
 -- what a run begins with
 abbrev pub beginning : ℕ → Bool → Serving

@@ -1,4 +1,4 @@
--- The bytes of sources and sinks, where they are known.
+-- The bytes of sources and sinks, where they are known (own).
 use Rattle.std.specs.Prelude.{◌≡◌, ℕ, ◌≤◌, ◌<◌, List, [], ◌++◌, length, take, drop, Option, Some, None, option_map}
 
 -- the known bytes, and then the text
@@ -15,10 +15,3 @@ pub record MovesFront (left old_piece new_piece : List ℕ) (count : ℕ) : Type
 abbrev pub TakesFront : Option (List ℕ) → Option (List ℕ) → List ℕ → List ℕ → ℕ → Type 0
 TakesFront None after old_piece new_piece count = after ≡ None
 TakesFront (Some left) after old_piece new_piece count = MovesFront left old_piece new_piece count × (after ≡ Some (drop count left))
-
--- a front of the text was written, where what is written is known
-pub record AppendsFront (before after : Option (List ℕ)) (text : List ℕ) : Type 0 where
-  pub front : List ℕ
-  pub rest : List ℕ
-  pub whole : text ≡ front ++ rest
-  pub is : after ≡ appended before front

@@ -1,4 +1,4 @@
--- The words of faults.
+-- The words of faults (own).
 use Rattle.std.specs.Prelude.{ℕ, ◌==◌, List, [], codes, if◌then◌else◌}
 
 -- the word of a fault's number; no fault has any other number

@@ -1,5 +1,8 @@
 -- What proofs alone need.
 pub mod Feeding
+pub mod Lines
 pub mod Options
 pub mod Printing
+pub mod Serving
 pub mod Tokens
+pub mod Writing

@@ -1,7 +1,7 @@
 //! The line that is being read.
 
 ghost use Rattle.std.specs.Prelude.{◌≡◌, ◌++◌, ℕ, ◌↔◌, List, [], IfOk, IsTrue, option_map};
-ghost use Rattle.cy_shell.specs.Lines.{kept};
+ghost use Rattle.cy_shell.specs.internal.Lines.{kept};
 
 use cy_lexer::LONGEST_LINE;
 use std::alloc::{AllocError, Global};

@@ -1,8 +1,9 @@
 //! The whole of a run: an input is read to its end, and its lines are answered.
 
 ghost use Rattle.std.specs.Prelude.{◌≡◌, ◌≢◌, ◌+◌, ◌≤◌, ◌<◌, [], length, ℕ, List, Option, Some, true, false, Err, OnOk, OnErr, IfOk, IfSome};
-ghost use Rattle.cy_shell.specs.Lines.{kept};
-ghost use Rattle.cy_shell.specs.Runs.{input_limit, WritesAll, StopsReading, StopsWriting, beginning, serving};
+ghost use Rattle.cy_shell.specs.internal.Lines.{kept};
+ghost use Rattle.cy_shell.specs.Runs.{input_limit, WritesAll, StopsReading, StopsWriting, beginning};
+ghost use Rattle.cy_shell.specs.internal.Serving.{serving};
 ghost use Rattle.cy_shell.specs.Streams.{TakesFront};
 ghost use Rattle.cy_shell.specs.declared.serving.RunFault.TheVariants.{Memory};
 

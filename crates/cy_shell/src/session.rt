@@ -1,9 +1,11 @@
 //! An engine with the line that is being read for it.
 
 ghost use Rattle.std.specs.Prelude.{◌≡◌, ◌&&◌, ◌==◌, [], ◌∷◌, ℕ, List, true, false, OnOk, OnErr, position, length, ◌<◌, ◌≤◌, IfOk, IfSome};
-ghost use Rattle.cy_shell.specs.Lines.{kept, ended_lines, begun_line, unless_empty};
+ghost use Rattle.cy_shell.specs.Lines.{ended_lines, begun_line, unless_empty};
+ghost use Rattle.cy_shell.specs.internal.Lines.{kept};
 ghost use Rattle.cy_shell.specs.Printed.{fed};
-ghost use Rattle.cy_shell.specs.Runs.{WritesRun, WritesBeginning, beginning, serving};
+ghost use Rattle.cy_shell.specs.Runs.{WritesRun, WritesBeginning, beginning};
+ghost use Rattle.cy_shell.specs.internal.Serving.{serving};
 
 use crate::answers::answer;
 use crate::buffer::LineBuffer;

@@ -1,7 +1,8 @@
 //! Writing whole texts.
 
 ghost use Rattle.std.specs.Prelude.{◌≡◌, true, false, OnOk, OnErr};
-ghost use Rattle.cy_shell.specs.Streams.{appended, AppendsFront};
+ghost use Rattle.cy_shell.specs.Streams.{appended};
+ghost use Rattle.cy_shell.specs.internal.Writing.{AppendsFront};
 
 use crate::streams::{Failed, Sink};
 

@@ -8,7 +8,8 @@ use Rattle.cy_engine.specs.declared.faults.Fault.{Fault}
 use Rattle.cy_engine.specs.declared.replies.Reply.{Reply}
 use Rattle.cy_shell.specs.Lines.{line_limit}
 use Rattle.cy_shell.specs.Printed.{IsAnswerText, IsFeedText}
-use Rattle.cy_shell.specs.Runs.{Answered, serving}
+use Rattle.cy_shell.specs.Runs.{Answered}
+use Rattle.cy_shell.specs.internal.Serving.{serving}
 use Rattle.cy_shell.specs.Streams.{appended}
 
 -- the engine answered a text so, and has the entries that it made

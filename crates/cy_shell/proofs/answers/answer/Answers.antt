@@ -1,4 +1,4 @@
-use Rattle.cy_shell.proofs.Kept.{carried, not_carried}
+use Rattle.cy_shell.proofs.LineTexts.{carried, not_carried}
 use Rattle.cy_shell.proofs.answers.answer.Goals as goal
 
 pub returns-in-Ok : goal.returns-in-Ok

@@ -1,5 +1,5 @@
 use Rattle.std.proofs.Common.{sym, ◌∙◌}
-use Rattle.cy_shell.proofs.Kept.{kept_past, text_kept}
+use Rattle.cy_shell.proofs.LineTexts.{kept_past, text_kept}
 use Rattle.cy_shell.proofs.answers.line_text.Goals as goal
 
 pub returns-in-None : goal.returns-in-None

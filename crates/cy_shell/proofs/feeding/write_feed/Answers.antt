@@ -2,7 +2,8 @@ use Rattle.std.proofs.Common.{◌≡◌, ◌<◌, ◌+◌, ◌∷◌, ℕ, List,
 use Rattle.std.proofs.Math.Seq.{drop-cons}
 use Rattle.std.proofs.lemmas.List.{drop_all}
 use Rattle.cy_engine.specs.declared.entries.Entry.{Entry}
-use Rattle.cy_shell.specs.Streams.{appended, AppendsFront}
+use Rattle.cy_shell.specs.Streams.{appended}
+use Rattle.cy_shell.specs.internal.Writing.{AppendsFront}
 use Rattle.cy_shell.specs.internal.Printing.{printed_text}
 use Rattle.cy_shell.proofs.Outcomes.{on_err}
 use Rattle.cy_shell.proofs.Feeds.{fed_more, fed_all, fed_begun}

@@ -1,5 +1,5 @@
 use Rattle.std.proofs.Common.{◌-◌, ◌≡◌, ◌≤◌, ℕ, List, Some, false}
-use Rattle.cy_shell.specs.Runs.{serving}
+use Rattle.cy_shell.specs.internal.Serving.{serving}
 use Rattle.cy_shell.specs.Runs.{input_limit}
 use Rattle.cy_shell.proofs.Reading.{Reads}
 use Rattle.cy_shell.proofs.serving.serve.Given as goal

@@ -1,6 +1,7 @@
 use Rattle.std.proofs.Common.{◌∙◌, ap, subst}
 use Rattle.std.proofs.lemmas.Result.{on_ok_weaker, on_err_weaker}
-use Rattle.cy_shell.specs.Streams.{appended, AppendsFront}
+use Rattle.cy_shell.specs.Streams.{appended}
+use Rattle.cy_shell.specs.internal.Writing.{AppendsFront}
 use Rattle.cy_shell.specs.internal.Printing.{printed_text}
 use Rattle.cy_shell.proofs.Outcomes.{on_err}
 use Rattle.cy_shell.proofs.Feeds.{line_served, line_begun, line_feeding}

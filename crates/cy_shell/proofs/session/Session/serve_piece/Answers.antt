@@ -1,6 +1,6 @@
 use Rattle.std.proofs.Common.{◌≡◌, ℕ, suc, ◌-◌, List, ◌++◌, length, take, drop, sym, ◌∙◌, ap, add-one}
 use Rattle.std.proofs.lemmas.List.{take_rest, drop-drop}
-use Rattle.cy_shell.specs.Lines.{kept}
+use Rattle.cy_shell.specs.internal.Lines.{kept}
 use Rattle.cy_shell.proofs.Outcomes.{on_err}
 use Rattle.cy_shell.proofs.Progress.{served_more, served_broken, served_last_line, served_all}
 use Rattle.cy_shell.proofs.session.Session.serve_piece.Goals as goal

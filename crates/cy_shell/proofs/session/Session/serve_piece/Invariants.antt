@@ -1,6 +1,6 @@
 use Rattle.std.proofs.Common.{◌≡◌, ℕ, List, false, length}
-use Rattle.cy_shell.specs.Lines.{kept}
-use Rattle.cy_shell.specs.Runs.{serving}
+use Rattle.cy_shell.specs.internal.Lines.{kept}
+use Rattle.cy_shell.specs.internal.Serving.{serving}
 use Rattle.cy_shell.proofs.Progress.{Served}
 use Rattle.cy_shell.proofs.session.Session.serve_piece.Given as goal
 

@@ -8,7 +8,8 @@ use Rattle.cy_lexer.specs.declared.faults.LexFault.{LexFault}
 use Rattle.cy_lexer.specs.declared.faults.LexFault.TheVariants as fault
 use Rattle.cy_engine.specs.State.{EngineState, Machine}
 use Rattle.cy_shell.specs.internal.Feeding.{Answers, IsAnswer}
-use Rattle.cy_shell.specs.Lines.{line_limit, kept}
+use Rattle.cy_shell.specs.Lines.{line_limit}
+use Rattle.cy_shell.specs.internal.Lines.{kept}
 use Rattle.cy_shell.specs.Printed.{IsFaultText}
 use Rattle.cy_shell.specs.Runs.{Serving, Answered, TooLong, NotUtf8}
 

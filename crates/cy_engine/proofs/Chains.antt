@@ -1,8 +1,8 @@
 -- Runs, step by step.
-use Rattle.std.proofs.Common.{◌≡◌, ℕ, List, [], ◌∷◌, ◌++◌, map, refl, ap, subst, ◌∙◌, inl}
+use Rattle.std.proofs.Common.{◌≡◌, ℕ, List, [], ◌∷◌, ◌++◌, map, refl, sym, ap, subst, ◌∙◌, inl}
 use Rattle.cy_graph.specs.Graph.{Content}
-use Rattle.cy_engine.specs.Runs.{Event, Run, Runs}
-use Rattle.cy_engine.specs.State.{EngineState, Machine, View}
+use Rattle.cy_engine.specs.Runs.{Event, Run, Runs, last_entries}
+use Rattle.cy_engine.specs.State.{EngineState, Entries, Machine, View}
 use Rattle.cy_engine.specs.Step.{Answer, AreEntries, Step}
 
 -- where the content stays, no view gets an entry
@@ -18,6 +18,10 @@ mapped : {A : Type 0} (f : Event → A) (events : List Event) (e : Event) → ma
 mapped f [] e = refl
 mapped f (d ∷ events) e = ap (λ xs. f d ∷ xs) (mapped f events e)
 
+last_of : (entries : Entries) (events : List Event) (e : Event) → last_entries entries (events ++ e ∷ []) ≡ e.entries
+last_of entries [] e = refl
+last_of entries (d ∷ events) e = last_of d.entries events e
+
 -- a run goes on by one line
 pub runs_more : (old mid new : Machine) (lines : List (List ℕ)) (answers : List Answer) (line : List ℕ) (answer : Answer)
     → Runs old mid lines answers → Step mid.state line answer new.entries new.state → Runs old new (lines ++ line ∷ []) (answers ++ answer ∷ [])
@@ -27,7 +31,8 @@ runs_more old mid new lines answers line answer runs step =
       lines_are = mapped (λ (x : Event). x.line) runs.events e ∙ ap (λ (xs : List (List ℕ)). xs ++ line ∷ []) runs.lines_are;
       answers_are = mapped (λ (x : Event). x.answer) runs.events e ∙ ap (λ (xs : List Answer). xs ++ answer ∷ []) runs.answers_are;
       run = run_append old.state mid.state new.state runs.events e runs.run step;
+      entries_are = sym (last_of old.entries runs.events e);
     }
 
 pub runs_none : (old : Machine) → Runs old old [] []
-runs_none old = record { events = []; lines_are = refl; answers_are = refl; run = refl }
+runs_none old = record { events = []; lines_are = refl; answers_are = refl; run = refl; entries_are = refl }

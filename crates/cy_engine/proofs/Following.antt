@@ -85,6 +85,9 @@ maintained_or_there view old new (e ∷ events) (mid, step, run) named here =
     does : Effects old e.answer e.entries mid
     does = effects old e.answer e.entries mid e.line step
 
+    now_follows : Among view mid.views → (row : List Cell) → counts_in view new row ≡ followed (counts_in view mid) (entries_of view.name events) row
+    now_follows there = run_followed view mid new events run (effects_named old e.answer e.entries mid does named) there
+
     now_made : (made : View) → made ≡ view → Among view mid.views → e.answer ≡ Ok (reply.Made (made.query.column ∷ []) made.made made.name) → IsMaintained old new (e ∷ events) view
     now_made made is there answered = record {
       before = [];
@@ -95,7 +98,8 @@ maintained_or_there view old new (e ∷ events) (mid, step, run) named here =
       answered = answered ∙ ap (λ (v : View). Ok (reply.Made (v.query.column ∷ []) v.made v.name)) is;
       run_to = (mid, step, refl);
       run_from = run;
-      follows = run_followed view mid new events run (effects_named old e.answer e.entries mid does named) there;
+      follows = now_follows there;
+      shown = λ rows are row. are.bag row ∙ now_follows there row;
     }
 
     stood : Effects old e.answer e.entries mid → Among view mid.views → Among view old.views ⊎ IsMaintained old new (e ∷ events) view
@@ -119,6 +123,7 @@ maintained_or_there view old new (e ∷ events) (mid, step, run) named here =
       run_to = (mid, step, kept.run_to);
       run_from = kept.run_from;
       follows = kept.follows;
+      shown = kept.shown;
     })
 
 run_named : (old new : EngineState) (events : List Event) → Run old events new → AreNamed old.views → AreNamed new.views

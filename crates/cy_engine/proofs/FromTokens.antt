@@ -136,12 +136,13 @@ viewed view.NoMemory = inl refl
 
 module _ {A : Type 0} (verdict : Statement → Result A Fault) (line : List ℕ) (tokens : List Token) where
   -- the parser refuses the tokens
-  pub parse_fails : (why : ParseFault) → PointsAtPlace tokens (length line) why → ((tree : Statement) → SpellsStatement line tree tokens → why ≡ parse.NoMemory) → Fails verdict line tokens (of_parser why)
-  parse_fails why place none = from (parsed why)
+  pub parse_fails : (why : ParseFault) → PointsAtPlace tokens (length line) why → (tokens ≡ [] → why ≡ parse.Unexpected (length line))
+      → ((tree : Statement) → SpellsStatement line tree tokens → why ≡ parse.NoMemory) → Fails verdict line tokens (of_parser why)
+  parse_fails why place none unspelt = from (parsed why)
     where
       from : ((of_parser why ≡ fault.NoMemory) ⊎ ((why ≢ parse.NoMemory) × (of_parser why ≡ fault.Parse why))) → Fails verdict line tokens (of_parser why)
       from (inl is) = inl is
-      from (inr (is_other, is)) = inr (inl (why, record { unspelt = λ tree spelt. is_other (none tree spelt); place = place }, is))
+      from (inr (is_other, is)) = inr (inl (why, record { unspelt = λ tree spelt. is_other (unspelt tree spelt); place = place; none = none; reason = is_other }, is))
 
 -- scope refuses the tree
 pub scope_fails : (line : List ℕ) (tokens : List Token) (tree : Statement) (why : ScopeFault) → SpellsStatement line tree tokens

@@ -8,7 +8,7 @@ use Rattle.cy_engine.specs.declared.faults.Fault.TheVariants as fault
 use Rattle.cy_engine.specs.declared.replies.Reply.TheVariants as reply
 use Rattle.cy_engine.specs.Meaning.{rows_of}
 use Rattle.cy_engine.specs.State.{EngineState, Entries, Machine, View, empty_engine, view_at, entry_at}
-use Rattle.cy_engine.specs.Step.{Answer, AreEntries, Step}
+use Rattle.cy_engine.specs.Step.{Answer, AreEntries, AreRows, Step}
 
 -- a line, its answer and the entries that it made
 pub record Event : Type 0 where
@@ -21,12 +21,18 @@ abbrev pub Run : EngineState → List Event → EngineState → Type 0
 Run old [] new = new ≡ old
 Run old (e ∷ events) new = (mid : EngineState) × Step old e.line e.answer e.entries mid × Run mid events new
 
--- these lines may be answered so
+-- the entries of the last line, or those from before where there is none
+abbrev pub last_entries : Entries → List Event → Entries
+last_entries entries [] = entries
+last_entries entries (e ∷ events) = last_entries e.entries events
+
+-- these lines may be answered so, and the machine then has the entries of the last one
 pub record Runs (old new : Machine) (lines : List (List ℕ)) (answers : List Answer) : Type 0 where
   pub events : List Event
   pub lines_are : map (λ e. e.line) events ≡ lines
   pub answers_are : map (λ e. e.answer) events ≡ answers
   pub run : Run old.state events new.state
+  pub entries_are : new.entries ≡ last_entries old.entries events
 
 -- ---- what is determined
 
@@ -92,7 +98,8 @@ followed counts (e ∷ entries) = followed (λ row. (counts row - weight_of row 
 abbrev pub counts_in : View → EngineState → List Cell → ℕ
 counts_in view state row = count_of row (rows_of view.query state.graph.content)
 
--- one of the lines made the view; and what its query means on the graph is what it meant then, changed by every later entry of its own
+-- one of the lines made the view; and what its query means on the graph, and so the rows that are shown of it, is what it meant then,
+-- changed by every later entry of its own
 pub record IsMaintained (start now : EngineState) (events : List Event) (view : View) : Type 0 where
   pub before : List Event
   pub making : Event
@@ -103,6 +110,7 @@ pub record IsMaintained (start now : EngineState) (events : List Event) (view : 
   pub run_to : Run start (before ++ making ∷ []) made
   pub run_from : Run made after now
   pub follows : (row : List Cell) → counts_in view now row ≡ followed (counts_in view made) (entries_of view.name after) row
+  pub shown : (rows : List (List Cell × ℕ)) → AreRows now view rows → (row : List Cell) → weight_of row rows ≡ followed (counts_in view made) (entries_of view.name after) row
 
 -- After any run from an empty engine each view is found by its name, and is kept.
 abbrev pub ViewsAreMaintained : Type 0

@@ -1,10 +1,11 @@
 -- The engine as a machine: the steps that a line allows (own).
-use Rattle.std.specs.Prelude.{◌≡◌, ℕ, ◌≤◌, ◌⊎◌, List, [], ◌∷◌, ◌++◌, length, Result, Ok, Err}
+use Rattle.std.specs.Prelude.{◌≡◌, ◌≢◌, ℕ, ◌≤◌, ◌⊎◌, List, [], ◌∷◌, ◌++◌, length, Result, Ok, Err}
 use Rattle.cy_lexer.specs.declared.faults.LexFault.{LexFault}
 use Rattle.cy_lexer.specs.declared.tokens.Token.{Token}
 use Rattle.cy_lexer.specs.Line.{longest_line}
 use Rattle.cy_lexer.specs.Tokens.{tokens_of}
 use Rattle.cy_parser.specs.declared.faults.ParseFault.{ParseFault}
+use Rattle.cy_parser.specs.declared.faults.ParseFault.TheVariants as parse
 use Rattle.cy_parser.specs.Faults.{PointsAtPlace}
 use Rattle.cy_parser.specs.SpellsClauses.{SpellsStatement}
 use Rattle.cy_trees.specs.Trees.{Statement}
@@ -87,10 +88,13 @@ Shows name (Ok view) old answer entries new =
     (rows : List (List Cell × ℕ)) × AreRows old view rows × IsReplied (reply.Rows rows old.tick name) old answer entries new
 Shows name (Err why) old answer entries new = IsRefused why old answer entries new
 
--- the parser may refuse tokens with this fault: they spell no statement, and it points at one of them or at the line's end
+-- the parser may refuse tokens with this fault: they spell no statement, and it points at one of them or at the line's end. No
+-- tokens at all are unexpected there; and want of memory is none of its faults
 pub record IsUnspelt (line : List ℕ) (tokens : List Token) (why : ParseFault) : Type 0 where
   pub unspelt : (tree : Statement) → SpellsStatement line tree tokens → ⊥
   pub place : PointsAtPlace tokens (length line) why
+  pub none : tokens ≡ [] → why ≡ parse.Unexpected (length line)
+  pub reason : why ≢ parse.NoMemory
 
 -- the tokens spell a tree, with which it goes on, or the parser refuses them
 abbrev pub Reads : List ℕ → List Token → (Statement → EngineState → Answer → Entries → EngineState → Type 0) → EngineState → Answer → Entries → EngineState → Type 0

@@ -11,7 +11,7 @@ use Rattle.cy_engine.proofs.reading.read_checked.Goals as goal
 pub returns-in_err-tree : goal.returns-in_err-tree
 returns-in_err-tree c =
     let p = err_from_is_err_and c.from_residual.result c.from_residual.ensures.1 in
-    rw (p.1, p.2) (parse_fails scope_verdict c.args.line.now c.args.tokens.now c.in_err-tree.field-0.0 c.in_err-tree.ensures.places c.in_err-tree.ensures.complete)
+    rw (p.1, p.2) (parse_fails scope_verdict c.args.line.now c.args.tokens.now c.in_err-tree.field-0.0 c.in_err-tree.ensures.places (λ is. let same = c.in_err-tree.ensures.none is in cc) c.in_err-tree.ensures.complete)
 
 pub returns-in_err-check : goal.returns-in_err-check
 returns-in_err-check c =

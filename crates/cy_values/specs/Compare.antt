@@ -1,5 +1,5 @@
 -- Whether two values are equal, and whether one is less than the other. Texts go by their bytes, which is by code points.
--- (one type: openCypher 9; lists and different types: own)
+-- (one type: openCypher 9, Comparison operators; lists and different types: own)
 use Rattle.std.specs.Prelude.{◌==◌, Bool, true, false, List, [], ◌∷◌, length, nat_eq, if◌then◌else◌}
 use Rattle.std.specs.Ordering.{is_lt, nat_cmp, int_cmp, bool_cmp, eq_by_cmp}
 use Rattle.std.specs.Str.{bytes_eq}

@@ -1,4 +1,5 @@
 -- The canonical order of cells and rows: nodes, relationships, lists of relationships, lists, texts, booleans, integers, null.
+-- (own)
 use Rattle.std.specs.Prelude.{ℕ, List}
 use Rattle.std.specs.declared.cmp.Ordering.{Ordering}
 use Rattle.std.specs.declared.cmp.Ordering.TheVariants.{Equal}

@@ -1,4 +1,4 @@
--- Truth: three values in the order No, Unknown, Yes, after Kleene. (openCypher 9)
+-- Truth: three values in the order No, Unknown, Yes, after Kleene. (openCypher 9, Boolean operators)
 use Rattle.std.specs.Prelude.{ℕ, zero, suc, ◌-◌, Bool, true, false, min, max}
 use Rattle.cy_values.specs.declared.truth.Truth.{Truth}
 use Rattle.cy_values.specs.declared.truth.Truth.TheVariants.{No, Unknown, Yes}

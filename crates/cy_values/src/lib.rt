@@ -7,8 +7,6 @@ mod order;
 mod rows;
 mod scalars;
 mod sequences;
-#[cfg(test)]
-mod tests;
 mod texts;
 mod truth;
 mod views;

@@ -8,7 +8,7 @@ use crate::texts::Text;
 use std::alloc::Global;
 
 /// An element of a list. The variants stand in the order of values.
-#[derive(Debug, Drop, PartialEq, Eq, PartialOrd, Ord)]
+#[derive(Debug, Drop, PartialEq, Eq, PartialOrd, Ord, Hash)]
 pub enum Scalar {
     Text(Text),
     Bool(bool),
@@ -17,7 +17,7 @@ pub enum Scalar {
 }
 
 /// A value: a list of scalars, or one scalar. The variants stand in the order of values.
-#[derive(Debug, Drop, PartialEq, Eq, PartialOrd, Ord)]
+#[derive(Debug, Drop, PartialEq, Eq, PartialOrd, Ord, Hash)]
 pub enum Value {
     List(Sequence<Scalar>),
     Text(Text),

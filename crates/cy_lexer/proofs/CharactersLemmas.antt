@@ -10,7 +10,8 @@ use borrow.Author.Tests.{ltb-true}
 use Rattle.unicode_ident.proofs.IdentLemmas.{is_xid_start-ascii, is_xid_continue-ascii}
 use Rattle.cy_lexer.specs.declared.characters.Run.{Run}
 use Rattle.cy_lexer.specs.declared.characters.Run.TheVariants.{Name}
-use Rattle.cy_lexer.specs.Characters.{offset, starts_name, goes_on}
+use Rattle.cy_lexer.specs.Characters.{offset_in, starts_name, goes_on}
+use Rattle.cy_lexer.specs.internal.Reading.{offset}
 
 -- how many bytes characters take, part by part
 pub size_of : (part rest : List ℕ) → length (encode_utf8_all (part ++ rest)) ≡ length (encode_utf8_all part) + length (encode_utf8_all rest)
@@ -43,6 +44,15 @@ take_front bs xs ds e = rw e (take_at xs ds _ (omega (arith, length-append xs ds
 
 drop_front : (bs xs ds : List ℕ) → bs ≡ xs ++ ds → drop (length bs - length ds) bs ≡ ds
 drop_front bs xs ds e = rw e (drop_at xs ds _ (omega (arith, length-append xs ds)))
+
+-- where the last characters of a line begin, by what stands before them and by the line's end
+pub offset_in-offset : (line : List ℕ) (n : ℕ) → IsUtf8 line → offset_in (chars line) (drop n (chars line)) ≡ offset (length line) (drop n (chars line))
+offset_in-offset line n u =
+    let cs = chars line in
+    let parts : cs ≡ take n cs ++ drop n cs = sym (take-append-drop n cs) in
+    let sizes : length (encode_utf8_all cs) ≡ length (encode_utf8_all (take n cs)) + length (encode_utf8_all (drop n cs)) = ap (λ (x : List ℕ). length (encode_utf8_all x)) parts ∙ size_of (take n cs) (drop n cs) in
+    let whole : length (encode_utf8_all cs) ≡ length line = ap length (encodes-chars line u) in
+    ap (λ (x : List ℕ). length (encode_utf8_all x)) (take_front cs (take n cs) (drop n cs) parts) ∙ omega (arith, sizes, whole)
 
 -- the bytes before the last characters, and where these begin
 pub take-suffix : (bs ds : List ℕ) (n : ℕ) → IsUtf8 bs → IsUtf8 ds → chars ds ≡ drop n (chars bs) → take (length bs - length ds) bs ≡ encode_utf8_all (take n (chars bs))

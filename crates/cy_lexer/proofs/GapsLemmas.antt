@@ -17,7 +17,8 @@ use Rattle.cy_lexer.specs.declared.symbols.Symbol.{Symbol}
 use Rattle.cy_lexer.specs.declared.tokens.Kind.{Kind}
 use Rattle.cy_lexer.specs.declared.tokens.Kind.TheVariants as kind
 use Rattle.cy_lexer.specs.declared.tokens.Token.{Token}
-use Rattle.cy_lexer.specs.Characters.{offset, begins_with, starts_name, goes_on}
+use Rattle.cy_lexer.specs.Characters.{begins_with, starts_name, goes_on}
+use Rattle.cy_lexer.specs.internal.Reading.{offset}
 use Rattle.cy_lexer.specs.Gaps.{has_line_end, has_comment_end, IsGap, nothing, blank, line_comment, block_comment, LeavesGaps}
 use Rattle.cy_lexer.specs.Line.{longest_line}
 use Rattle.cy_lexer.specs.Numbers.{number_of, greatest_number, is_bad_number}
@@ -160,19 +161,19 @@ symbol_shape : (at c : ℕ) (cs : List ℕ) (found : Option (Symbol × ℕ)) →
 symbol_shape at c cs (Some p) = inl (kind.Symbol p.0, refl)
 symbol_shape at c cs None = tt
 
-token_shape : (total at c : ℕ) (cs : List ℕ) → IsShaped c cs (token_piece total at c cs)
+token_shape : (total at c : ℕ) (cs : List ℕ) → IsShaped c cs (token_piece (offset total) at c cs)
 token_shape total at c cs =
     if_shaped c cs (starts_name c) _ _ (λ _. inl (word_kind (c ∷ take_while (goes_on run.Name) cs), refl)) (λ _.
     if_shaped c cs (is_ascii_digit c) _ _
     (λ _. if_shaped c cs (is_bad_number c cs (drop (prefix_len (goes_on run.Digits) cs) cs)) _ _ (λ _. tt) (λ _.
     if_shaped c cs (nat_lt greatest_number (number_of 0 (c ∷ take_while (goes_on run.Digits) cs))) _ _ (λ _. tt) (λ _. inl (kind.Number (number_of 0 (c ∷ take_while (goes_on run.Digits) cs)), refl))))
     (λ _. if_shaped c cs (c == 96) _ _
-    (λ _. if_shaped c cs (closes_at_once 96 cs) _ _ (λ _. tt) (λ _. quoted_shape c cs kind.QuotedName (quoted_len total (UnclosedName at) 96 0 cs)))
+    (λ _. if_shaped c cs (closes_at_once 96 cs) _ _ (λ _. tt) (λ _. quoted_shape c cs kind.QuotedName (quoted_len (offset total) (UnclosedName at) 96 0 cs)))
     (λ _. if_shaped c cs ((c == 39) || (c == 34)) _ _
-    (λ _. quoted_shape c cs kind.Text (quoted_len total (UnclosedText at) c 0 cs))
+    (λ _. quoted_shape c cs kind.Text (quoted_len (offset total) (UnclosedText at) c 0 cs))
     (λ _. symbol_shape at c cs (symbol c cs)))))
 
-piece_shape : (total c : ℕ) (cs : List ℕ) → IsShaped c cs (piece total c cs)
+piece_shape : (total c : ℕ) (cs : List ℕ) → IsShaped c cs (piece (offset total) c cs)
 unfolding piece
 piece_shape total c cs =
     if_shaped c cs (is_whitespace c) _ _ (blank_shape c cs) (λ _.
@@ -210,40 +211,40 @@ with_word total k word rest cs ts split fits known = (
 -- the tokens of a text begin with those of its first piece
 abbrev Step : ℕ → ℕ → List ℕ → List Token → Type 0
 Step total c cs ts =
-    (p : Piece) × (more : List Token) × IsShaped c cs (Ok p) × (tokens_from total p.1 cs ≡ Ok more) × (ts ≡ with_token total (c ∷ cs) p more)
+    (p : Piece) × (more : List Token) × IsShaped c cs (Ok p) × (tokens_from (offset total) p.1 cs ≡ Ok more) × (ts ≡ with_token (offset total) (c ∷ cs) p more)
 
-by_more : (total c : ℕ) (cs : List ℕ) (ts : List Token) (p : Piece) (read : Result (List Token) LexFault) → IsShaped c cs (Ok p) → tokens_from total p.1 cs ≡ read → (read >>= λ more. Ok (with_token total (c ∷ cs) p more)) ≡ Ok ts → Step total c cs ts
-by_more total c cs ts p (Ok more) shaped is e = (p, more, shaped, is, sym (ok_is (with_token total (c ∷ cs) p more) ts e))
+by_more : (total c : ℕ) (cs : List ℕ) (ts : List Token) (p : Piece) (read : Result (List Token) LexFault) → IsShaped c cs (Ok p) → tokens_from (offset total) p.1 cs ≡ read → (read >>= λ more. Ok (with_token (offset total) (c ∷ cs) p more)) ≡ Ok ts → Step total c cs ts
+by_more total c cs ts p (Ok more) shaped is e = (p, more, shaped, is, sym (ok_is (with_token (offset total) (c ∷ cs) p more) ts e))
 by_more total c cs ts p (Err fault) shaped is e = absurd cc
 
-by_front : (total c : ℕ) (cs : List ℕ) (ts : List Token) (read : Result Piece LexFault) → IsShaped c cs read → (read >>= λ p. (tokens_from total p.1 cs >>= λ more. Ok (with_token total (c ∷ cs) p more))) ≡ Ok ts → Step total c cs ts
-by_front total c cs ts (Ok p) shaped e = by_more total c cs ts p (tokens_from total p.1 cs) shaped refl e
+by_front : (total c : ℕ) (cs : List ℕ) (ts : List Token) (read : Result Piece LexFault) → IsShaped c cs read → (read >>= λ p. (tokens_from (offset total) p.1 cs >>= λ more. Ok (with_token (offset total) (c ∷ cs) p more))) ≡ Ok ts → Step total c cs ts
+by_front total c cs ts (Ok p) shaped e = by_more total c cs ts p (tokens_from (offset total) p.1 cs) shaped refl e
 by_front total c cs ts (Err fault) shaped e = absurd cc
 
-step : (total c : ℕ) (cs : List ℕ) (ts : List Token) → tokens_from total 0 (c ∷ cs) ≡ Ok ts → Step total c cs ts
+step : (total c : ℕ) (cs : List ℕ) (ts : List Token) → tokens_from (offset total) 0 (c ∷ cs) ≡ Ok ts → Step total c cs ts
 unfolding tokens_from
-step total c cs ts e = by_front total c cs ts (piece total c cs) (piece_shape total c cs) e
+step total c cs ts e = by_front total c cs ts (piece (offset total) c cs) (piece_shape total c cs) e
 
 -- a LF is white space
 past_line_end : (r : Result (List Token) LexFault) → (r >>= λ ts. Ok ts) ≡ r
 past_line_end (Ok ts) = refl
 past_line_end (Err fault) = refl
 
-tokens_from-line_end : (total : ℕ) (cs : List ℕ) → tokens_from total 0 (10 ∷ cs) ≡ tokens_from total 0 cs
+tokens_from-line_end : (total : ℕ) (cs : List ℕ) → tokens_from (offset total) 0 (10 ∷ cs) ≡ tokens_from (offset total) 0 cs
 unfolding tokens_from piece
-tokens_from-line_end total cs = past_line_end (tokens_from total 0 cs)
+tokens_from-line_end total cs = past_line_end (tokens_from (offset total) 0 cs)
 
-nothing_left : (total : ℕ) (ts : List Token) → tokens_from total 0 [] ≡ Ok ts → [] ≡ ts
+nothing_left : (total : ℕ) (ts : List Token) → tokens_from (offset total) 0 [] ≡ Ok ts → [] ≡ ts
 unfolding tokens_from
 nothing_left total ts e = ok_is [] ts e
 
 -- the tokens of fewer characters leave gaps
 abbrev LeavesGapsBelow : ℕ → ℕ → Type 0
 LeavesGapsBelow fuel total =
-    (cs : List ℕ) (ts : List Token) → length cs ≤ fuel → length (encode_utf8_all cs) ≤ total → tokens_from total 0 cs ≡ Ok ts → LeavesGaps (offset total cs) cs ts
+    (cs : List ℕ) (ts : List Token) → length cs ≤ fuel → length (encode_utf8_all cs) ≤ total → tokens_from (offset total) 0 cs ≡ Ok ts → LeavesGaps (offset total cs) cs ts
 
 -- a part of a gap is passed
-past_part : (fuel total c : ℕ) (cs part rest : List ℕ) (ts : List Token) → LeavesGapsBelow fuel total → length cs ≤ fuel → length (encode_utf8_all (c ∷ cs)) ≤ total → cs ≡ part ++ rest → ((gap : List ℕ) → IsGap gap → IsGap (c ∷ (part ++ gap))) → tokens_from total 0 rest ≡ Ok ts → LeavesGaps (offset total (c ∷ cs)) (c ∷ cs) ts
+past_part : (fuel total c : ℕ) (cs part rest : List ℕ) (ts : List Token) → LeavesGapsBelow fuel total → length cs ≤ fuel → length (encode_utf8_all (c ∷ cs)) ≤ total → cs ≡ part ++ rest → ((gap : List ℕ) → IsGap gap → IsGap (c ∷ (part ++ gap))) → tokens_from (offset total) 0 rest ≡ Ok ts → LeavesGaps (offset total (c ∷ cs)) (c ∷ cs) ts
 past_part fuel total c cs part rest ts below less fits split lift e =
     let P : List ℕ → Type 0 = λ x. LeavesGaps (offset total x) x ts in
     let whole : c ∷ cs ≡ (c ∷ part) ++ rest = ap (λ (x : List ℕ). c ∷ x) split in
@@ -259,21 +260,21 @@ last_comment total c cs inside ts split lift none =
     let Q : List ℕ → Type 0 = λ x. IsGap (c ∷ (x ++ 10 ∷ [])) in
     subst P none (subst Q (sym split) (lift [] nothing))
 
-by_gap : (fuel total c : ℕ) (cs : List ℕ) (n : ℕ) (ts : List Token) → LeavesGapsBelow fuel total → length cs ≤ fuel → length (encode_utf8_all (c ∷ cs)) ≤ total → GapShape c cs n → tokens_from total 0 (drop n cs) ≡ Ok ts → LeavesGaps (offset total (c ∷ cs)) (c ∷ cs) ts
+by_gap : (fuel total c : ℕ) (cs : List ℕ) (n : ℕ) (ts : List Token) → LeavesGapsBelow fuel total → length cs ≤ fuel → length (encode_utf8_all (c ∷ cs)) ≤ total → GapShape c cs n → tokens_from (offset total) 0 (drop n cs) ≡ Ok ts → LeavesGaps (offset total (c ∷ cs)) (c ∷ cs) ts
 by_gap fuel total c cs n ts below less fits (inside, rest, split, taken, lifts) e =
     let left : drop n cs ≡ rest = ap (λ (x : List ℕ). drop n x) split ∙ drop_at inside rest n (sym taken) in
-    let read : tokens_from total 0 rest ≡ Ok ts = ap (λ (x : List ℕ). tokens_from total 0 x) (sym left) ∙ e in
+    let read : tokens_from (offset total) 0 rest ≡ Ok ts = ap (λ (x : List ℕ). tokens_from (offset total) 0 x) (sym left) ∙ e in
     elim lifts [
       | inl lift ↦ past_part fuel total c cs inside rest ts below less fits split lift read
-      | inr (lift, inl none) ↦ last_comment total c cs inside ts (split ∙ ap (λ (x : List ℕ). inside ++ x) none ∙ append-nil inside) lift (nothing_left total ts (ap (λ (x : List ℕ). tokens_from total 0 x) (sym none) ∙ read))
+      | inr (lift, inl none) ↦ last_comment total c cs inside ts (split ∙ ap (λ (x : List ℕ). inside ++ x) none ∙ append-nil inside) lift (nothing_left total ts (ap (λ (x : List ℕ). tokens_from (offset total) 0 x) (sym none) ∙ read))
       | inr (lift, inr (more, ends)) ↦ past_part fuel total c cs (inside ++ 10 ∷ []) more ts below less fits
           (split ∙ ap (λ (x : List ℕ). inside ++ x) ends ∙ sym (append_assoc inside (10 ∷ []) more))
           (λ gap g. rw (append_assoc inside (10 ∷ []) gap) (lift gap g))
-          (sym (tokens_from-line_end total more) ∙ ap (λ (x : List ℕ). tokens_from total 0 x) (sym ends) ∙ read)
+          (sym (tokens_from-line_end total more) ∙ ap (λ (x : List ℕ). tokens_from (offset total) 0 x) (sym ends) ∙ read)
     ]
 
 -- behind the token's first character the others are passed
-by_word : (fuel total c : ℕ) (cs : List ℕ) (k : Kind) (n : ℕ) (ts : List Token) → LeavesGapsBelow fuel total → length cs ≤ fuel → length (encode_utf8_all (c ∷ cs)) ≤ total → tokens_from total 0 (drop n cs) ≡ Ok ts → LeavesGaps (offset total (c ∷ cs)) (c ∷ cs) (with_token total (c ∷ cs) (Some k, n) ts)
+by_word : (fuel total c : ℕ) (cs : List ℕ) (k : Kind) (n : ℕ) (ts : List Token) → LeavesGapsBelow fuel total → length cs ≤ fuel → length (encode_utf8_all (c ∷ cs)) ≤ total → tokens_from (offset total) 0 (drop n cs) ≡ Ok ts → LeavesGaps (offset total (c ∷ cs)) (c ∷ cs) (with_token (offset total) (c ∷ cs) (Some k, n) ts)
 by_word fuel total c cs k n ts below less fits e =
     let split : c ∷ cs ≡ (c ∷ take n cs) ++ drop n cs = ap (λ (x : List ℕ). c ∷ x) (sym (take-append-drop n cs)) in
     let fits_both : length (encode_utf8_all ((c ∷ take n cs) ++ drop n cs)) ≤ total = subst (λ (x : List ℕ). length (encode_utf8_all x) ≤ total) split fits in
@@ -282,9 +283,9 @@ by_word fuel total c cs k n ts below less fits e =
 
 by_step : (fuel total c : ℕ) (cs : List ℕ) (ts : List Token) → LeavesGapsBelow fuel total → length cs ≤ fuel → length (encode_utf8_all (c ∷ cs)) ≤ total → Step total c cs ts → LeavesGaps (offset total (c ∷ cs)) (c ∷ cs) ts
 by_step fuel total c cs ts below less fits (p, more, shaped, read, is) =
-    let rest : tokens_from total 0 (drop p.1 cs) ≡ Ok more = sym (tokens_from-skip total p.1 cs) ∙ read in
+    let rest : tokens_from (offset total) 0 (drop p.1 cs) ≡ Ok more = sym (tokens_from-skip total p.1 cs) ∙ read in
     let P : List Token → Type 0 = λ x. LeavesGaps (offset total (c ∷ cs)) (c ∷ cs) x in
-    let Q : Option Kind → Type 0 = λ x. LeavesGaps (offset total (c ∷ cs)) (c ∷ cs) (with_token total (c ∷ cs) (x, p.1) more) in
+    let Q : Option Kind → Type 0 = λ x. LeavesGaps (offset total (c ∷ cs)) (c ∷ cs) (with_token (offset total) (c ∷ cs) (x, p.1) more) in
     subst P (sym is) (elim shaped [
       | inl (k, some) ↦ subst Q (sym some) (by_word fuel total c cs k p.1 more below less fits rest)
       | inr (none, shape) ↦ subst Q (sym none) (by_gap fuel total c cs p.1 more below less fits shape rest)
@@ -303,4 +304,4 @@ pub tokens_of-leaves_gaps : (line : List ℕ) (ts : List Token) → IsUtf8 line 
 tokens_of-leaves_gaps line ts u short e =
     let size : length (encode_utf8_all (chars line)) ≡ length line = ap length (encodes-chars line u) in
     let begin : offset (length line) (chars line) ≡ 0 = omega (arith, size) in
-    rw begin at (leaves_gaps (length (chars line)) (length line) (chars line) ts (omega arith) (omega (arith, size)) (sym (tokens_of-short line short) ∙ e))
+    rw begin at (leaves_gaps (length (chars line)) (length line) (chars line) ts (omega arith) (omega (arith, size)) (sym (tokens_of-short line u short) ∙ e))

@@ -10,6 +10,7 @@ use Rattle.std.proofs.lemmas.Bool.{eqb-true, and_parts, and_from}
 use Rattle.std.proofs.lemmas.List.{take-append-drop, take_at, drop_at}
 use Rattle.std.proofs.lemmas.Str.{chars-encodes, encodes-chars, scalars-chars, encodes-append, length-le-encodes, IsCharBoundary-at_seam, IsUtf8-between}
 use Rattle.cy_lexer.proofs.CharactersLemmas.{size_of}
+use Rattle.cy_lexer.proofs.PlacesLemmas.{tokens_from-end}
 use Rattle.cy_lexer.proofs.LexedQuotedLemmas.{all_scalars-between_quotes, unquoted-some}
 use Rattle.cy_lexer.proofs.QuotedLemmas.{some_is}
 use Rattle.cy_lexer.proofs.TokensLemmas.{ok_is}
@@ -21,7 +22,8 @@ use Rattle.cy_lexer.specs.declared.symbols.Symbol.{Symbol}
 use Rattle.cy_lexer.specs.declared.tokens.Kind.{Kind}
 use Rattle.cy_lexer.specs.declared.tokens.Kind.TheVariants as kind
 use Rattle.cy_lexer.specs.declared.tokens.Token.{Token}
-use Rattle.cy_lexer.specs.Characters.{offset, starts_name, goes_on}
+use Rattle.cy_lexer.specs.Characters.{offset_in, starts_name, goes_on}
+use Rattle.cy_lexer.specs.internal.Reading.{offset}
 use Rattle.cy_lexer.specs.Keywords.{keyword_of}
 use Rattle.cy_lexer.specs.Line.{longest_line}
 use Rattle.cy_lexer.specs.Numbers.{number_of, greatest_number, is_bad_number}
@@ -138,16 +140,16 @@ text_meant : (c : ℕ) (cs : List ℕ) (read : Result ℕ LexFault) → ((n : �
 text_meant c cs (Ok n) are = all_scalars-between_quotes (c ∷ take n cs) (are n)
 text_meant c cs (Err fault) are = tt
 
-name_meant : (total : ℕ) (unclosed : LexFault) (cs : List ℕ) (read : Result ℕ LexFault) → closes_at_once 96 cs ≡ false → quoted_len total unclosed 96 0 cs ≡ read → ((n : ℕ) → all_scalars (96 ∷ take n cs) ≡ true) → IsPieceOf 96 cs (read >>= λ n. Ok (Some kind.QuotedName, n))
+name_meant : (total : ℕ) (unclosed : LexFault) (cs : List ℕ) (read : Result ℕ LexFault) → closes_at_once 96 cs ≡ false → quoted_len (offset total) unclosed 96 0 cs ≡ read → ((n : ℕ) → all_scalars (96 ∷ take n cs) ≡ true) → IsPieceOf 96 cs (read >>= λ n. Ok (Some kind.QuotedName, n))
 name_meant total unclosed cs (Ok n) open_yet e are =
     let some = unquoted-some total n unclosed cs open_yet e in
     (some.0, some.1, some.2, subst (λ (x : List ℕ). all_scalars x ≡ true) some.2 (all_scalars-between_quotes (96 ∷ take n cs) (are n)))
 name_meant total unclosed cs (Err fault) open_yet e are = tt
 
-quoted_meant : (total at c : ℕ) (cs : List ℕ) → c ≡ 96 → ((n : ℕ) → all_scalars (c ∷ take n cs) ≡ true) → IsPieceOf c cs (quoted_name total at cs)
+quoted_meant : (total at c : ℕ) (cs : List ℕ) → c ≡ 96 → ((n : ℕ) → all_scalars (c ∷ take n cs) ≡ true) → IsPieceOf c cs (quoted_name (offset total) at cs)
 quoted_meant total at c cs e are =
-    let P : ℕ → Type 0 = λ x. ((n : ℕ) → all_scalars (x ∷ take n cs) ≡ true) → IsPieceOf x cs (quoted_name total at cs) in
-    subst P (sym e) (λ known. if_piece 96 cs (closes_at_once 96 cs) _ _ (λ _. tt) (λ open_yet. name_meant total (UnclosedName at) cs (quoted_len total (UnclosedName at) 96 0 cs) open_yet refl known)) are
+    let P : ℕ → Type 0 = λ x. ((n : ℕ) → all_scalars (x ∷ take n cs) ≡ true) → IsPieceOf x cs (quoted_name (offset total) at cs) in
+    subst P (sym e) (λ known. if_piece 96 cs (closes_at_once 96 cs) _ _ (λ _. tt) (λ open_yet. name_meant total (UnclosedName at) cs (quoted_len (offset total) (UnclosedName at) 96 0 cs) open_yet refl known)) are
 
 number_meant : (at c : ℕ) (cs : List ℕ) → ((n : ℕ) → all_scalars (c ∷ take n cs) ≡ true) → IsPieceOf c cs (number_piece at c cs)
 number_meant at c cs are =
@@ -155,16 +157,16 @@ number_meant at c cs are =
     if_piece c cs (is_bad_number c cs (drop more cs)) _ _ (λ _. tt) (λ _.
     if_piece c cs (nat_lt greatest_number (number_of 0 (c ∷ take_while (goes_on run.Digits) cs))) _ _ (λ _. tt) (λ _. (c, take more cs, refl, are more)))
 
-token_meant : (total at c : ℕ) (cs : List ℕ) → ((n : ℕ) → all_scalars (c ∷ take n cs) ≡ true) → IsPieceOf c cs (token_piece total at c cs)
+token_meant : (total at c : ℕ) (cs : List ℕ) → ((n : ℕ) → all_scalars (c ∷ take n cs) ≡ true) → IsPieceOf c cs (token_piece (offset total) at c cs)
 token_meant total at c cs are =
     let word = c ∷ take_while (goes_on run.Name) cs in
     if_piece c cs (starts_name c) _ _ (λ _. word_meant word c (take (prefix_len (goes_on run.Name) cs) cs) (keyword_of (encode_utf8_all word)) (are (prefix_len (goes_on run.Name) cs))) (λ _.
     if_piece c cs (is_ascii_digit c) _ _ (λ _. number_meant at c cs are) (λ _.
     if_piece c cs (c == 96) _ _ (λ e. quoted_meant total at c cs (eqb-true c 96 e) are) (λ _.
-    if_piece c cs ((c == 39) || (c == 34)) _ _ (λ _. text_meant c cs (quoted_len total (UnclosedText at) c 0 cs) are) (λ _.
+    if_piece c cs ((c == 39) || (c == 34)) _ _ (λ _. text_meant c cs (quoted_len (offset total) (UnclosedText at) c 0 cs) are) (λ _.
     symbol_meant at c cs (symbol c cs) are))))
 
-piece_meant : (total c : ℕ) (cs : List ℕ) → all_scalars (c ∷ cs) ≡ true → IsPieceOf c cs (piece total c cs)
+piece_meant : (total c : ℕ) (cs : List ℕ) → all_scalars (c ∷ cs) ≡ true → IsPieceOf c cs (piece (offset total) c cs)
 unfolding piece
 piece_meant total c cs scalars =
     let both = and_parts (scalar c) (all_scalars cs) scalars in
@@ -195,26 +197,26 @@ placed_earlier whole from to (t ∷ ts) le known = (omega (arith, le, known.0), 
 -- the first piece, and the tokens of what it leaves
 abbrev Step : ℕ → ℕ → List ℕ → List Token → Type 0
 Step total c cs ts =
-    (p : Piece) × (more : List Token) × IsPieceOf c cs (Ok p) × (tokens_from total p.1 cs ≡ Ok more) × (ts ≡ with_token total (c ∷ cs) p more)
+    (p : Piece) × (more : List Token) × IsPieceOf c cs (Ok p) × (tokens_from (offset total) p.1 cs ≡ Ok more) × (ts ≡ with_token (offset total) (c ∷ cs) p more)
 
-by_more : (total c : ℕ) (cs : List ℕ) (ts : List Token) (p : Piece) (read : Result (List Token) LexFault) → IsPieceOf c cs (Ok p) → tokens_from total p.1 cs ≡ read → (read >>= λ more. Ok (with_token total (c ∷ cs) p more)) ≡ Ok ts → Step total c cs ts
-by_more total c cs ts p (Ok more) meant is e = (p, more, meant, is, sym (ok_is (with_token total (c ∷ cs) p more) ts e))
+by_more : (total c : ℕ) (cs : List ℕ) (ts : List Token) (p : Piece) (read : Result (List Token) LexFault) → IsPieceOf c cs (Ok p) → tokens_from (offset total) p.1 cs ≡ read → (read >>= λ more. Ok (with_token (offset total) (c ∷ cs) p more)) ≡ Ok ts → Step total c cs ts
+by_more total c cs ts p (Ok more) meant is e = (p, more, meant, is, sym (ok_is (with_token (offset total) (c ∷ cs) p more) ts e))
 by_more total c cs ts p (Err fault) meant is e = absurd cc
 
-by_front : (total c : ℕ) (cs : List ℕ) (ts : List Token) (read : Result Piece LexFault) → IsPieceOf c cs read → (read >>= λ p. (tokens_from total p.1 cs >>= λ more. Ok (with_token total (c ∷ cs) p more))) ≡ Ok ts → Step total c cs ts
-by_front total c cs ts (Ok p) meant e = by_more total c cs ts p (tokens_from total p.1 cs) meant refl e
+by_front : (total c : ℕ) (cs : List ℕ) (ts : List Token) (read : Result Piece LexFault) → IsPieceOf c cs read → (read >>= λ p. (tokens_from (offset total) p.1 cs >>= λ more. Ok (with_token (offset total) (c ∷ cs) p more))) ≡ Ok ts → Step total c cs ts
+by_front total c cs ts (Ok p) meant e = by_more total c cs ts p (tokens_from (offset total) p.1 cs) meant refl e
 by_front total c cs ts (Err fault) meant e = absurd cc
 
-step : (total c : ℕ) (cs : List ℕ) (ts : List Token) → all_scalars (c ∷ cs) ≡ true → tokens_from total 0 (c ∷ cs) ≡ Ok ts → Step total c cs ts
+step : (total c : ℕ) (cs : List ℕ) (ts : List Token) → all_scalars (c ∷ cs) ≡ true → tokens_from (offset total) 0 (c ∷ cs) ≡ Ok ts → Step total c cs ts
 unfolding tokens_from
-step total c cs ts are e = by_front total c cs ts (piece total c cs) (piece_meant total c cs are) e
+step total c cs ts are e = by_front total c cs ts (piece (offset total) c cs) (piece_meant total c cs are) e
 
 -- where the last characters begin
 offset_behind : (whole front cs : List ℕ) → whole ≡ front ++ cs → offset (length (encode_utf8_all whole)) cs ≡ length (encode_utf8_all front)
 offset_behind whole front cs e =
     omega (arith, ap (λ (x : List ℕ). length (encode_utf8_all x)) e, size_of front cs)
 
-with_placed : (whole front : List ℕ) (c : ℕ) (cs : List ℕ) (k : Option Kind) (n : ℕ) (more : List Token) → whole ≡ front ++ (c ∷ cs) → IsMeantIf k (c ∷ take n cs) → ArePlaced whole (offset (length (encode_utf8_all whole)) (drop n cs)) more → ArePlaced whole (offset (length (encode_utf8_all whole)) (c ∷ cs)) (with_token (length (encode_utf8_all whole)) (c ∷ cs) (k, n) more)
+with_placed : (whole front : List ℕ) (c : ℕ) (cs : List ℕ) (k : Option Kind) (n : ℕ) (more : List Token) → whole ≡ front ++ (c ∷ cs) → IsMeantIf k (c ∷ take n cs) → ArePlaced whole (offset (length (encode_utf8_all whole)) (drop n cs)) more → ArePlaced whole (offset (length (encode_utf8_all whole)) (c ∷ cs)) (with_token (offset (length (encode_utf8_all whole))) (c ∷ cs) (k, n) more)
 with_placed whole front c cs k n more split meant known =
     let total = length (encode_utf8_all whole) in
     let parts : whole ≡ front ++ ((c ∷ take n cs) ++ drop n cs) = split ∙ ap (λ (x : List ℕ). front ++ (c ∷ x)) (sym (take-append-drop n cs)) in
@@ -224,12 +226,12 @@ with_placed whole front c cs k n more split meant known =
     let size = size_of front (c ∷ take n cs) in
     by_kind whole front c cs k n more parts from (to ∙ size) meant known
   where
-    by_kind : (whole front : List ℕ) (c : ℕ) (cs : List ℕ) (k : Option Kind) (n : ℕ) (more : List Token) → whole ≡ front ++ ((c ∷ take n cs) ++ drop n cs) → offset (length (encode_utf8_all whole)) (c ∷ cs) ≡ length (encode_utf8_all front) → offset (length (encode_utf8_all whole)) (drop n cs) ≡ length (encode_utf8_all front) + length (encode_utf8_all (c ∷ take n cs)) → IsMeantIf k (c ∷ take n cs) → ArePlaced whole (offset (length (encode_utf8_all whole)) (drop n cs)) more → ArePlaced whole (offset (length (encode_utf8_all whole)) (c ∷ cs)) (with_token (length (encode_utf8_all whole)) (c ∷ cs) (k, n) more)
+    by_kind : (whole front : List ℕ) (c : ℕ) (cs : List ℕ) (k : Option Kind) (n : ℕ) (more : List Token) → whole ≡ front ++ ((c ∷ take n cs) ++ drop n cs) → offset (length (encode_utf8_all whole)) (c ∷ cs) ≡ length (encode_utf8_all front) → offset (length (encode_utf8_all whole)) (drop n cs) ≡ length (encode_utf8_all front) + length (encode_utf8_all (c ∷ take n cs)) → IsMeantIf k (c ∷ take n cs) → ArePlaced whole (offset (length (encode_utf8_all whole)) (drop n cs)) more → ArePlaced whole (offset (length (encode_utf8_all whole)) (c ∷ cs)) (with_token (offset (length (encode_utf8_all whole))) (c ∷ cs) (k, n) more)
     by_kind whole front c cs None n more parts from to meant known = placed_earlier whole _ _ more (omega (arith, from, to)) known
     by_kind whole front c cs (Some k) n more parts from to meant known =
         (omega arith, (front, c, take n cs, drop n cs, parts, from, omega (arith, from, to), meant), known)
 
-placed : (whole front : List ℕ) (skip : ℕ) (cs : List ℕ) (ts : List Token) → whole ≡ front ++ cs → all_scalars cs ≡ true → tokens_from (length (encode_utf8_all whole)) skip cs ≡ Ok ts → ArePlaced whole (offset (length (encode_utf8_all whole)) (drop skip cs)) ts
+placed : (whole front : List ℕ) (skip : ℕ) (cs : List ℕ) (ts : List Token) → whole ≡ front ++ cs → all_scalars cs ≡ true → tokens_from (offset (length (encode_utf8_all whole))) skip cs ≡ Ok ts → ArePlaced whole (offset (length (encode_utf8_all whole)) (drop skip cs)) ts
 unfolding tokens_from
 placed whole front skip [] ts split are e =
     subst (λ (x : List Token). ArePlaced whole (offset (length (encode_utf8_all whole)) (drop skip [])) x) (ok_is [] ts e) tt
@@ -313,19 +315,20 @@ placed_spans line whole from (t ∷ ts) bytes are within known =
 -- ---- the tokens of a line
 
 -- a line that has tokens isn't too long
-by_length : (line : List ℕ) (ts : List Token) (long : Bool) → (if long then Err LineTooLong else tokens_from (length line) 0 (chars line)) ≡ Ok ts → tokens_from (length line) 0 (chars line) ≡ Ok ts
-by_length line ts true e = absurd cc
-by_length line ts false e = e
+by_length : (read : Result (List Token) LexFault) (ts : List Token) (long : Bool) → (if long then Err LineTooLong else read) ≡ Ok ts → read ≡ Ok ts
+by_length read ts true e = absurd cc
+by_length read ts false e = e
 
-tokens_of-from : (line : List ℕ) (ts : List Token) → tokens_of line ≡ Ok ts → tokens_from (length line) 0 (chars line) ≡ Ok ts
+tokens_of-from : (line : List ℕ) (ts : List Token) → IsUtf8 line → tokens_of line ≡ Ok ts → tokens_from (offset (length line)) 0 (chars line) ≡ Ok ts
 unfolding tokens_of
-tokens_of-from line ts e = by_length line ts (nat_lt longest_line (length line)) e
+tokens_of-from line ts u e =
+    sym (tokens_from-end line u) ∙ by_length (tokens_from (offset_in (chars line)) 0 (chars line)) ts (nat_lt longest_line (length line)) e
 
 tokens_of-placed : (line : List ℕ) (ts : List Token) → IsUtf8 line → tokens_of line ≡ Ok ts → ArePlaced (chars line) 0 ts
 tokens_of-placed line ts u e =
     let whole = chars line in
     let total : length line ≡ length (encode_utf8_all whole) = ap length (sym (encodes-chars line u)) in
-    let read : tokens_from (length (encode_utf8_all whole)) 0 whole ≡ Ok ts = ap (λ (n : ℕ). tokens_from n 0 whole) (sym total) ∙ tokens_of-from line ts e in
+    let read : tokens_from (offset (length (encode_utf8_all whole))) 0 whole ≡ Ok ts = ap (λ (n : ℕ). tokens_from (offset n) 0 whole) (sym total) ∙ tokens_of-from line ts u e in
     placed_earlier whole 0 (offset (length (encode_utf8_all whole)) whole) ts (omega arith) (placed whole [] 0 whole ts refl (scalars-chars line u) read)
 
 -- each token of a line has a place in it, and stands for characters of Unicode

@@ -8,6 +8,7 @@ use Rattle.cy_lexer.specs.declared.faults.LexFault.{LexFault}
 use Rattle.cy_lexer.specs.Characters.{begins_with}
 use Rattle.cy_lexer.specs.Quoted.{hexadecimal, is_character, plain_escape, coded_escape, and_one, escape, closes, character, one_more, quoted_len, unquoted, between_quotes}
 use Rattle.cy_lexer.specs.Tokens.{closes_at_once}
+use Rattle.cy_lexer.specs.internal.Reading.{offset}
 
 -- ---- characters of Unicode
 
@@ -110,23 +111,23 @@ some-other : (n m c : ℕ) (cs : List ℕ) → (c == 96) ≡ false → n ≡ suc
 some-other n m c cs other size = (c, unquoted 96 0 (take m cs), rw size (rw other refl))
 
 -- a doubled backtick
-by_second : (total n : ℕ) (unclosed : LexFault) (cs : List ℕ) → begins_with 96 cs ≡ true → one_more (quoted_len total unclosed 96 1 cs) ≡ Ok n → IsSome n (96 ∷ cs)
+by_second : (total n : ℕ) (unclosed : LexFault) (cs : List ℕ) → begins_with 96 cs ≡ true → one_more (quoted_len (offset total) unclosed 96 1 cs) ≡ Ok n → IsSome n (96 ∷ cs)
 by_second total n unclosed [] second e = absurd cc
 by_second total n unclosed (c ∷ cs) second e =
-    let m = one_more_is (one_more (quoted_len total unclosed 96 0 cs)) n e in
-    let l = one_more_is (quoted_len total unclosed 96 0 cs) m.0 m.1 in
+    let m = one_more_is (one_more (quoted_len (offset total) unclosed 96 0 cs)) n e in
+    let l = one_more_is (quoted_len (offset total) unclosed 96 0 cs) m.0 m.1 in
     some-doubled n l.0 c cs (eqb-true c 96 second) (m.2 ∙ ap (λ (x : ℕ). suc x) l.2)
 
-by_first : (total n : ℕ) (unclosed : LexFault) (c : ℕ) (cs : List ℕ) (backtick : Bool) → (c == 96) ≡ backtick → closes 96 c cs ≡ false → quoted_len total unclosed 96 0 (c ∷ cs) ≡ Ok n → IsSome n (c ∷ cs)
+by_first : (total n : ℕ) (unclosed : LexFault) (c : ℕ) (cs : List ℕ) (backtick : Bool) → (c == 96) ≡ backtick → closes 96 c cs ≡ false → quoted_len (offset total) unclosed 96 0 (c ∷ cs) ≡ Ok n → IsSome n (c ∷ cs)
 by_first total n unclosed c cs true first open_yet e =
     let second = not_closed (begins_with 96 cs) (rw first at open_yet) in
-    let read : one_more (quoted_len total unclosed 96 1 cs) ≡ Ok n = rw (open_yet, first) at e in
+    let read : one_more (quoted_len (offset total) unclosed 96 1 cs) ≡ Ok n = rw (open_yet, first) at e in
     rw (eqb-true c 96 first) (by_second total n unclosed cs second read)
 by_first total n unclosed c cs false first open_yet e =
-    let read : one_more (quoted_len total unclosed 96 0 cs) ≡ Ok n = rw (open_yet, first) at e in
-    let m = one_more_is (quoted_len total unclosed 96 0 cs) n read in
+    let read : one_more (quoted_len (offset total) unclosed 96 0 cs) ≡ Ok n = rw (open_yet, first) at e in
+    let m = one_more_is (quoted_len (offset total) unclosed 96 0 cs) n read in
     some-other n m.0 c cs first m.2
 
-pub unquoted-some : (total n : ℕ) (unclosed : LexFault) (cs : List ℕ) → closes_at_once 96 cs ≡ false → quoted_len total unclosed 96 0 cs ≡ Ok n → (d : ℕ) × (ds : List ℕ) × (unquoted 96 0 (take n cs) ≡ d ∷ ds)
+pub unquoted-some : (total n : ℕ) (unclosed : LexFault) (cs : List ℕ) → closes_at_once 96 cs ≡ false → quoted_len (offset total) unclosed 96 0 cs ≡ Ok n → (d : ℕ) × (ds : List ℕ) × (unquoted 96 0 (take n cs) ≡ d ∷ ds)
 unquoted-some total n unclosed [] open_yet e = absurd cc
 unquoted-some total n unclosed (c ∷ cs) open_yet e = by_first total n unclosed c cs (c == 96) refl open_yet e

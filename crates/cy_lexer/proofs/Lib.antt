@@ -5,8 +5,10 @@ pub mod KeywordsLemmas
 pub mod CharactersLemmas
 pub mod QuotedLemmas
 pub mod PiecesLemmas
+pub mod PlacesLemmas
 pub mod TokensLemmas
 pub mod SpansLemmas
 pub mod GapsLemmas
 pub mod LexedQuotedLemmas
 pub mod LexedLemmas
+pub mod WorkedRows

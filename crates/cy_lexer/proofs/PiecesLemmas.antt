@@ -10,8 +10,8 @@ use Rattle.cy_lexer.specs.declared.faults.LexFault.TheVariants.{NumberTooLarge}
 use Rattle.cy_lexer.specs.declared.keywords.Keyword.{Keyword}
 use Rattle.cy_lexer.specs.declared.tokens.Kind.{Kind}
 use Rattle.cy_lexer.specs.declared.tokens.Kind.TheVariants as kind
-use Rattle.cy_lexer.specs.Characters.{offset, goes_on}
-use Rattle.cy_lexer.specs.internal.Reading.{taken, map_ok}
+use Rattle.cy_lexer.specs.Characters.{goes_on}
+use Rattle.cy_lexer.specs.internal.Reading.{taken, map_ok, offset}
 use Rattle.cy_lexer.specs.Keywords.{keyword_of}
 use Rattle.cy_lexer.specs.Numbers.{number_of, is_bad_number}
 use Rattle.cy_lexer.specs.Tokens.{word_kind, number_piece, token_piece, opens_comment, piece, denoted}
@@ -42,7 +42,7 @@ pub word_kind-name : (word : List ℕ) → keyword_of (encode_utf8_all word) ≡
 word_kind-name word e = rw (word_kind, e) refl
 
 -- a piece that is neither white space nor a comment
-pub piece-token : (total c : ℕ) (cs : List ℕ) → is_whitespace c ≡ false → false ≡ opens_comment 47 c cs → false ≡ opens_comment 42 c cs → piece total c cs ≡ token_piece total (offset total (c ∷ cs)) c cs
+pub piece-token : (total c : ℕ) (cs : List ℕ) → is_whitespace c ≡ false → false ≡ opens_comment 47 c cs → false ≡ opens_comment 42 c cs → piece (offset total) c cs ≡ token_piece (offset total) (offset total (c ∷ cs)) c cs
 unfolding piece
 piece-token total c cs w l b = rw (w, ← l, ← b) refl
 

@@ -8,9 +8,9 @@ use Rattle.std.proofs.lemmas.Bool.{lt-ltb, eqb-true, and_parts}
 use Rattle.cy_lexer.specs.declared.characters.Run.TheVariants as run
 use Rattle.cy_lexer.specs.declared.faults.LexFault.{LexFault}
 use Rattle.cy_lexer.specs.declared.faults.LexFault.TheVariants.{BadEscape}
-use Rattle.cy_lexer.specs.Characters.{offset, goes_on}
+use Rattle.cy_lexer.specs.Characters.{goes_on}
 use Rattle.cy_lexer.proofs.CharactersLemmas.{run_step}
-use Rattle.cy_lexer.specs.internal.Reading.{taken, map_ok}
+use Rattle.cy_lexer.specs.internal.Reading.{taken, map_ok, offset}
 use Rattle.cy_lexer.specs.Quoted.{hexadecimal, closes, character, one_more, quoted_len, unquoted, between_quotes}
 
 -- one more hexadecimal digit
@@ -25,12 +25,12 @@ left_one_more c cs (Ok n) = refl
 left_one_more c cs (Err e) = refl
 
 -- characters that belong to the one before them are passed
-quoted_len-skip : (total : ℕ) (unclosed : LexFault) (quote skip : ℕ) (cs : List ℕ) → map_ok (λ n. drop n cs) (quoted_len total unclosed quote skip cs) ≡ map_ok (λ n. drop n (drop skip cs)) (quoted_len total unclosed quote 0 (drop skip cs))
+quoted_len-skip : (total : ℕ) (unclosed : LexFault) (quote skip : ℕ) (cs : List ℕ) → map_ok (λ n. drop n cs) (quoted_len (offset total) unclosed quote skip cs) ≡ map_ok (λ n. drop n (drop skip cs)) (quoted_len (offset total) unclosed quote 0 (drop skip cs))
 quoted_len-skip total unclosed quote zero [] = refl
 quoted_len-skip total unclosed quote zero (c ∷ cs) = refl
 quoted_len-skip total unclosed quote (suc skip) [] = refl
 quoted_len-skip total unclosed quote (suc skip) (c ∷ cs) =
-    left_one_more c cs (quoted_len total unclosed quote skip cs) ∙ quoted_len-skip total unclosed quote skip cs
+    left_one_more c cs (quoted_len (offset total) unclosed quote skip cs) ∙ quoted_len-skip total unclosed quote skip cs
 
 unquoted-skip : (quote skip : ℕ) (cs : List ℕ) → unquoted quote skip cs ≡ unquoted quote 0 (drop skip cs)
 unquoted-skip quote zero [] = refl
@@ -42,13 +42,13 @@ pub some_is : {A : Type 0} (x y : A) → Some x ≡ Some y → x ≡ y
 some_is x y e = cc
 
 -- a character inside of the quotes, and what it leaves
-by_character : (total : ℕ) (unclosed : LexFault) (quote c d : ℕ) (cs left : List ℕ) (r : Option (ℕ × ℕ)) → Some (d, left) ≡ option_map (taken cs) r → map_ok (λ n. drop n (c ∷ cs)) (elim r [ Some p ↦ one_more (quoted_len total unclosed quote p.1 cs) | None ↦ Err (BadEscape (offset total (c ∷ cs))) ]) ≡ map_ok (λ n. drop n left) (quoted_len total unclosed quote 0 left)
+by_character : (total : ℕ) (unclosed : LexFault) (quote c d : ℕ) (cs left : List ℕ) (r : Option (ℕ × ℕ)) → Some (d, left) ≡ option_map (taken cs) r → map_ok (λ n. drop n (c ∷ cs)) (elim r [ Some p ↦ one_more (quoted_len (offset total) unclosed quote p.1 cs) | None ↦ Err (BadEscape (offset total (c ∷ cs))) ]) ≡ map_ok (λ n. drop n left) (quoted_len (offset total) unclosed quote 0 left)
 by_character total unclosed quote c d cs left (Some p) e =
     let left-is : left ≡ drop p.1 cs = ap (λ (x : ℕ × List ℕ). x.1) (some_is (d, left) (taken cs p) e) in
-    left_one_more c cs (quoted_len total unclosed quote p.1 cs) ∙ quoted_len-skip total unclosed quote p.1 cs ∙ rw left-is refl
+    left_one_more c cs (quoted_len (offset total) unclosed quote p.1 cs) ∙ quoted_len-skip total unclosed quote p.1 cs ∙ rw left-is refl
 by_character total unclosed quote c d cs left None e = absurd cc
 
-pub quoted_len-step : (total : ℕ) (unclosed : LexFault) (quote c d : ℕ) (whole cs left : List ℕ) → whole ≡ c ∷ cs → false ≡ closes quote c cs → Some (d, left) ≡ option_map (taken cs) (character quote c cs) → map_ok (λ n. drop n whole) (quoted_len total unclosed quote 0 whole) ≡ map_ok (λ n. drop n left) (quoted_len total unclosed quote 0 left)
+pub quoted_len-step : (total : ℕ) (unclosed : LexFault) (quote c d : ℕ) (whole cs left : List ℕ) → whole ≡ c ∷ cs → false ≡ closes quote c cs → Some (d, left) ≡ option_map (taken cs) (character quote c cs) → map_ok (λ n. drop n whole) (quoted_len (offset total) unclosed quote 0 whole) ≡ map_ok (λ n. drop n left) (quoted_len (offset total) unclosed quote 0 left)
 quoted_len-step total unclosed quote c d whole cs left e inside took = rw (e, ← inside) (by_character total unclosed quote c d cs left (character quote c cs) took)
 
 pub not_is : (b : Bool) → not b ≡ true → b ≡ false
@@ -63,7 +63,7 @@ plain_character quote c cs true e other no_escape =
 plain_character quote c cs false e other no_escape = rw (e, no_escape) refl
 
 -- a run of such characters is passed
-by_plain : (total : ℕ) (unclosed : LexFault) (quote c : ℕ) (cs : List ℕ) (goes : Bool) → goes_on (run.Quoted quote) c ≡ goes → map_ok (λ n. drop n (drop (prefix_len (goes_on (run.Quoted quote)) cs) cs)) (quoted_len total unclosed quote 0 (drop (prefix_len (goes_on (run.Quoted quote)) cs) cs)) ≡ map_ok (λ n. drop n cs) (quoted_len total unclosed quote 0 cs) → map_ok (λ n. drop n (drop (prefix_len (goes_on (run.Quoted quote)) (c ∷ cs)) (c ∷ cs))) (quoted_len total unclosed quote 0 (drop (prefix_len (goes_on (run.Quoted quote)) (c ∷ cs)) (c ∷ cs))) ≡ map_ok (λ n. drop n (c ∷ cs)) (quoted_len total unclosed quote 0 (c ∷ cs))
+by_plain : (total : ℕ) (unclosed : LexFault) (quote c : ℕ) (cs : List ℕ) (goes : Bool) → goes_on (run.Quoted quote) c ≡ goes → map_ok (λ n. drop n (drop (prefix_len (goes_on (run.Quoted quote)) cs) cs)) (quoted_len (offset total) unclosed quote 0 (drop (prefix_len (goes_on (run.Quoted quote)) cs) cs)) ≡ map_ok (λ n. drop n cs) (quoted_len (offset total) unclosed quote 0 cs) → map_ok (λ n. drop n (drop (prefix_len (goes_on (run.Quoted quote)) (c ∷ cs)) (c ∷ cs))) (quoted_len (offset total) unclosed quote 0 (drop (prefix_len (goes_on (run.Quoted quote)) (c ∷ cs)) (c ∷ cs))) ≡ map_ok (λ n. drop n (c ∷ cs)) (quoted_len (offset total) unclosed quote 0 (c ∷ cs))
 by_plain total unclosed quote c cs true goes known =
     let both = and_parts (not (c == quote)) (not (c == 92)) goes in
     let other = not_is (c == quote) both.0 in
@@ -72,19 +72,19 @@ by_plain total unclosed quote c cs true goes known =
     (known ∙ sym (quoted_len-step total unclosed quote c c (c ∷ cs) cs cs refl inside (plain_character quote c cs (quote == 96) refl other (not_is (c == 92) both.1))))
 by_plain total unclosed quote c cs false goes known = rw goes refl
 
-quoted_len-run : (total : ℕ) (unclosed : LexFault) (quote : ℕ) (cs : List ℕ) → map_ok (λ n. drop n (drop (prefix_len (goes_on (run.Quoted quote)) cs) cs)) (quoted_len total unclosed quote 0 (drop (prefix_len (goes_on (run.Quoted quote)) cs) cs)) ≡ map_ok (λ n. drop n cs) (quoted_len total unclosed quote 0 cs)
+quoted_len-run : (total : ℕ) (unclosed : LexFault) (quote : ℕ) (cs : List ℕ) → map_ok (λ n. drop n (drop (prefix_len (goes_on (run.Quoted quote)) cs) cs)) (quoted_len (offset total) unclosed quote 0 (drop (prefix_len (goes_on (run.Quoted quote)) cs) cs)) ≡ map_ok (λ n. drop n cs) (quoted_len (offset total) unclosed quote 0 cs)
 quoted_len-run total unclosed quote [] = refl
 quoted_len-run total unclosed quote (c ∷ cs) = by_plain total unclosed quote c cs (goes_on (run.Quoted quote) c) refl (quoted_len-run total unclosed quote cs)
 
-pub quoted_len-plain : (total : ℕ) (unclosed : LexFault) (quote : ℕ) (whole left : List ℕ) → left ≡ drop (prefix_len (goes_on (run.Quoted quote)) whole) whole → map_ok (λ n. drop n left) (quoted_len total unclosed quote 0 left) ≡ map_ok (λ n. drop n whole) (quoted_len total unclosed quote 0 whole)
+pub quoted_len-plain : (total : ℕ) (unclosed : LexFault) (quote : ℕ) (whole left : List ℕ) → left ≡ drop (prefix_len (goes_on (run.Quoted quote)) whole) whole → map_ok (λ n. drop n left) (quoted_len (offset total) unclosed quote 0 left) ≡ map_ok (λ n. drop n whole) (quoted_len (offset total) unclosed quote 0 whole)
 quoted_len-plain total unclosed quote whole left e = rw e (quoted_len-run total unclosed quote whole)
 
 -- a bad escape
-by_bad_escape : (total : ℕ) (unclosed : LexFault) (quote c : ℕ) (cs : List ℕ) (r : Option (ℕ × ℕ)) → option_map (taken cs) r ≡ None → map_ok (λ n. drop n (c ∷ cs)) (elim r [ Some p ↦ one_more (quoted_len total unclosed quote p.1 cs) | None ↦ Err (BadEscape (offset total (c ∷ cs))) ]) ≡ Err (BadEscape (offset total (c ∷ cs)))
+by_bad_escape : (total : ℕ) (unclosed : LexFault) (quote c : ℕ) (cs : List ℕ) (r : Option (ℕ × ℕ)) → option_map (taken cs) r ≡ None → map_ok (λ n. drop n (c ∷ cs)) (elim r [ Some p ↦ one_more (quoted_len (offset total) unclosed quote p.1 cs) | None ↦ Err (BadEscape (offset total (c ∷ cs))) ]) ≡ Err (BadEscape (offset total (c ∷ cs)))
 by_bad_escape total unclosed quote c cs (Some p) e = absurd cc
 by_bad_escape total unclosed quote c cs None e = refl
 
-pub quoted_len-bad_escape : (total : ℕ) (unclosed : LexFault) (quote c : ℕ) (whole cs : List ℕ) → whole ≡ c ∷ cs → false ≡ closes quote c cs → option_map (taken cs) (character quote c cs) ≡ None → map_ok (λ n. drop n whole) (quoted_len total unclosed quote 0 whole) ≡ Err (BadEscape (offset total whole))
+pub quoted_len-bad_escape : (total : ℕ) (unclosed : LexFault) (quote c : ℕ) (whole cs : List ℕ) → whole ≡ c ∷ cs → false ≡ closes quote c cs → option_map (taken cs) (character quote c cs) ≡ None → map_ok (λ n. drop n whole) (quoted_len (offset total) unclosed quote 0 whole) ≡ Err (BadEscape (offset total whole))
 quoted_len-bad_escape total unclosed quote c whole cs e inside bad = rw (e, ← inside) (by_bad_escape total unclosed quote c cs (character quote c cs) bad)
 
 -- what a character stands for, and then what its rest does

@@ -10,15 +10,15 @@ use Rattle.cy_lexer.specs.declared.faults.LexFault.{LexFault}
 use Rattle.cy_lexer.specs.declared.faults.LexFault.TheVariants.{LineTooLong}
 use Rattle.cy_lexer.specs.declared.tokens.Kind.{Kind}
 use Rattle.cy_lexer.specs.declared.tokens.Token.{Token}
-use Rattle.cy_lexer.specs.Characters.{offset}
 use Rattle.cy_lexer.specs.Line.{longest_line}
-use Rattle.cy_lexer.specs.internal.Reading.{taken, map_ok}
+use Rattle.cy_lexer.specs.internal.Reading.{taken, map_ok, offset}
 use Rattle.cy_lexer.specs.Tokens.{Piece, ◌>>=◌, piece, with_token, tokens_from, tokens_of}
 use Rattle.cy_lexer.specs.Spans.{IsSpanOf, AreSpansOf}
 use Rattle.cy_lexer.proofs.CharactersLemmas.{offset-chars, suffix-drop}
+use Rattle.cy_lexer.proofs.PlacesLemmas.{tokens_from-end}
 
 -- characters that belong to the piece before them are passed
-pub tokens_from-skip : (total skip : ℕ) (cs : List ℕ) → tokens_from total skip cs ≡ tokens_from total 0 (drop skip cs)
+pub tokens_from-skip : (total skip : ℕ) (cs : List ℕ) → tokens_from (offset total) skip cs ≡ tokens_from (offset total) 0 (drop skip cs)
 unfolding tokens_from
 tokens_from-skip total zero [] = refl
 tokens_from-skip total zero (c ∷ cs) = refl
@@ -31,7 +31,7 @@ token_of total (Some k) whole left = record { kind = k; start = offset total who
 token_of total None whole left = []
 
 -- the tokens in front, that of a piece, and then the others
-joined : (total n : ℕ) (k : Option Kind) (cs left : List ℕ) (c : ℕ) (front : List Token) (read : Result (List Token) LexFault) → left ≡ drop n cs → map_ok (λ ts. front ++ ts) (read >>= λ ts. Ok (with_token total (c ∷ cs) (k, n) ts)) ≡ map_ok (λ ts. (front ++ token_of total k (c ∷ cs) left) ++ ts) read
+joined : (total n : ℕ) (k : Option Kind) (cs left : List ℕ) (c : ℕ) (front : List Token) (read : Result (List Token) LexFault) → left ≡ drop n cs → map_ok (λ ts. front ++ ts) (read >>= λ ts. Ok (with_token (offset total) (c ∷ cs) (k, n) ts)) ≡ map_ok (λ ts. (front ++ token_of total k (c ∷ cs) left) ++ ts) read
 joined total n (Some k) cs left c front (Ok ts) e = rw e (ap (λ (x : List Token). Ok x) (sym (append_assoc front _ ts)))
 joined total n None cs left c front (Ok ts) e = ap (λ (x : List Token). Ok (x ++ ts)) (sym (append-nil front))
 joined total n (Some k) cs left c front (Err f) e = refl
@@ -43,33 +43,33 @@ done x = Ok x
 pub ok_is : {A : Type 0} (x y : A) → done x ≡ done y → x ≡ y
 ok_is x y e = cc
 
-by_piece : (total c : ℕ) (k : Option Kind) (cs left : List ℕ) (front : List Token) (read : Result Piece LexFault) → Ok (k, left) ≡ map_ok (taken cs) read → map_ok (λ ts. front ++ ts) (read >>= λ p. (tokens_from total p.1 cs >>= λ ts. Ok (with_token total (c ∷ cs) p ts))) ≡ map_ok (λ ts. (front ++ token_of total k (c ∷ cs) left) ++ ts) (tokens_from total 0 left)
+by_piece : (total c : ℕ) (k : Option Kind) (cs left : List ℕ) (front : List Token) (read : Result Piece LexFault) → Ok (k, left) ≡ map_ok (taken cs) read → map_ok (λ ts. front ++ ts) (read >>= λ p. (tokens_from (offset total) p.1 cs >>= λ ts. Ok (with_token (offset total) (c ∷ cs) p ts))) ≡ map_ok (λ ts. (front ++ token_of total k (c ∷ cs) left) ++ ts) (tokens_from (offset total) 0 left)
 by_piece total c k cs left front (Ok p) e =
     let both = ok_is (k, left) (taken cs p) e in
     let left-is : left ≡ drop p.1 cs = ap (λ (x : Option Kind × List ℕ). x.1) both in
     let k-is : k ≡ p.0 = ap (λ (x : Option Kind × List ℕ). x.0) both in
-    let tail : tokens_from total p.1 cs ≡ tokens_from total 0 left = tokens_from-skip total p.1 cs ∙ ap (λ (x : List ℕ). tokens_from total 0 x) (sym left-is) in
-    ap (λ (r : Result (List Token) LexFault). map_ok (λ ts. front ++ ts) (r >>= λ ts. Ok (with_token total (c ∷ cs) p ts))) tail
-    ∙ joined total p.1 p.0 cs left c front (tokens_from total 0 left) left-is
-    ∙ ap (λ (x : Option Kind). map_ok (λ ts. (front ++ token_of total x (c ∷ cs) left) ++ ts) (tokens_from total 0 left)) (sym k-is)
+    let tail : tokens_from (offset total) p.1 cs ≡ tokens_from (offset total) 0 left = tokens_from-skip total p.1 cs ∙ ap (λ (x : List ℕ). tokens_from (offset total) 0 x) (sym left-is) in
+    ap (λ (r : Result (List Token) LexFault). map_ok (λ ts. front ++ ts) (r >>= λ ts. Ok (with_token (offset total) (c ∷ cs) p ts))) tail
+    ∙ joined total p.1 p.0 cs left c front (tokens_from (offset total) 0 left) left-is
+    ∙ ap (λ (x : Option Kind). map_ok (λ ts. (front ++ token_of total x (c ∷ cs) left) ++ ts) (tokens_from (offset total) 0 left)) (sym k-is)
 by_piece total c k cs left front (Err f) e = absurd cc
 
 -- a piece is read
-tokens_from-piece : (total c : ℕ) (k : Option Kind) (whole cs left : List ℕ) (front : List Token) → whole ≡ c ∷ cs → Ok (k, left) ≡ map_ok (taken cs) (piece total c cs) → map_ok (λ ts. front ++ ts) (tokens_from total 0 whole) ≡ map_ok (λ ts. (front ++ token_of total k whole left) ++ ts) (tokens_from total 0 left)
+tokens_from-piece : (total c : ℕ) (k : Option Kind) (whole cs left : List ℕ) (front : List Token) → whole ≡ c ∷ cs → Ok (k, left) ≡ map_ok (taken cs) (piece (offset total) c cs) → map_ok (λ ts. front ++ ts) (tokens_from (offset total) 0 whole) ≡ map_ok (λ ts. (front ++ token_of total k whole left) ++ ts) (tokens_from (offset total) 0 left)
 unfolding tokens_from
-tokens_from-piece total c k whole cs left front e read = rw e (by_piece total c k cs left front (piece total c cs) read)
+tokens_from-piece total c k whole cs left front e read = rw e (by_piece total c k cs left front (piece (offset total) c cs) read)
 
-by_fault : (total c : ℕ) (fault : LexFault) (cs : List ℕ) (front : List Token) (read : Result Piece LexFault) → map_ok (taken cs) read ≡ Err fault → map_ok (λ ts. front ++ ts) (read >>= λ p. (tokens_from total p.1 cs >>= λ ts. Ok (with_token total (c ∷ cs) p ts))) ≡ Err fault
+by_fault : (total c : ℕ) (fault : LexFault) (cs : List ℕ) (front : List Token) (read : Result Piece LexFault) → map_ok (taken cs) read ≡ Err fault → map_ok (λ ts. front ++ ts) (read >>= λ p. (tokens_from (offset total) p.1 cs >>= λ ts. Ok (with_token (offset total) (c ∷ cs) p ts))) ≡ Err fault
 by_fault total c fault cs front (Ok p) e = absurd cc
 by_fault total c fault cs front (Err f) e = let same : f ≡ fault = cc in rw same refl
 
 -- a piece has a fault
-tokens_from-fault : (total c : ℕ) (fault : LexFault) (whole cs : List ℕ) (front : List Token) → whole ≡ c ∷ cs → map_ok (taken cs) (piece total c cs) ≡ Err fault → map_ok (λ ts. front ++ ts) (tokens_from total 0 whole) ≡ Err fault
+tokens_from-fault : (total c : ℕ) (fault : LexFault) (whole cs : List ℕ) (front : List Token) → whole ≡ c ∷ cs → map_ok (taken cs) (piece (offset total) c cs) ≡ Err fault → map_ok (λ ts. front ++ ts) (tokens_from (offset total) 0 whole) ≡ Err fault
 unfolding tokens_from
-tokens_from-fault total c fault whole cs front e read = rw e (by_fault total c fault cs front (piece total c cs) read)
+tokens_from-fault total c fault whole cs front e read = rw e (by_fault total c fault cs front (piece (offset total) c cs) read)
 
 -- nothing is left
-tokens_from-nil : (total : ℕ) (whole : List ℕ) (front : List Token) → whole ≡ [] → map_ok (λ ts. front ++ ts) (tokens_from total 0 whole) ≡ Ok front
+tokens_from-nil : (total : ℕ) (whole : List ℕ) (front : List Token) → whole ≡ [] → map_ok (λ ts. front ++ ts) (tokens_from (offset total) 0 whole) ≡ Ok front
 unfolding tokens_from
 tokens_from-nil total whole front e = rw e (ap (λ (x : List Token). Ok x) (append-nil front))
 
@@ -78,9 +78,9 @@ taken_some : (cs left : List ℕ) (k : Option Kind) (read : Result Piece LexFaul
 taken_some cs left k (Ok p) e = (p.1, ap (λ (x : Option Kind × List ℕ). x.1) (ok_is (k, left) (taken cs p) e))
 taken_some cs left k (Err f) e = absurd cc
 
-left-drop : (total c : ℕ) (k : Option Kind) (rest left : List ℕ) (cs : List ℕ) → IsUtf8 rest → IsUtf8 left → chars rest ≡ c ∷ cs → Ok (k, chars left) ≡ map_ok (taken cs) (piece total c cs) → left ≡ drop (length rest - length left) rest
+left-drop : (total c : ℕ) (k : Option Kind) (rest left : List ℕ) (cs : List ℕ) → IsUtf8 rest → IsUtf8 left → chars rest ≡ c ∷ cs → Ok (k, chars left) ≡ map_ok (taken cs) (piece (offset total) c cs) → left ≡ drop (length rest - length left) rest
 left-drop total c k rest left cs u v e read =
-    let behind = taken_some cs (chars left) k (piece total c cs) read in
+    let behind = taken_some cs (chars left) k (piece (offset total) c cs) read in
     suffix-drop rest left (suc behind.0) u v (behind.1 ∙ ap (λ (x : List ℕ). drop (suc behind.0) x) (sym e))
 
 drop-further : (line rest left : List ℕ) → length left ≤ length rest → length rest ≤ length line → rest ≡ drop (length line - length rest) line → left ≡ drop (length rest - length left) rest → left ≡ drop (length line - length left) line
@@ -106,10 +106,10 @@ AreSpansOf-widen line from to more (x ∷ ts) s wide = (s.0, s.1, AreSpansOf-wid
 -- spans rise
 abbrev pub IsRead : List ℕ → List ℕ → List Token → Type 0
 IsRead line rest ts =
-    (map_ok (λ more. ts ++ more) (tokens_from (length line) 0 (chars rest)) ≡ tokens_from (length line) 0 (chars line)) × (length rest ≤ length line) × (rest ≡ drop (length line - length rest) line) × AreSpansOf line 0 ts (length line - length rest)
+    (map_ok (λ more. ts ++ more) (tokens_from (offset (length line)) 0 (chars rest)) ≡ tokens_from (offset (length line)) 0 (chars line)) × (length rest ≤ length line) × (rest ≡ drop (length line - length rest) line) × AreSpansOf line 0 ts (length line - length rest)
 
 -- a token is read, and put behind those before it
-pub IsRead-token : (line rest left : List ℕ) (c : ℕ) (cs : List ℕ) (read : Option Kind) (k : Kind) (old new : List Token) → IsUtf8 rest → IsUtf8 left → chars rest ≡ c ∷ cs → Ok (read, chars left) ≡ map_ok (taken cs) (piece (length line) c cs) → read ≡ Some k → length left < length rest → new ≡ old ++ record { kind = k; start = length line - length rest; end = length line - length left } ∷ [] → IsRead line rest old → IsRead line left new
+pub IsRead-token : (line rest left : List ℕ) (c : ℕ) (cs : List ℕ) (read : Option Kind) (k : Kind) (old new : List Token) → IsUtf8 rest → IsUtf8 left → chars rest ≡ c ∷ cs → Ok (read, chars left) ≡ map_ok (taken cs) (piece (offset (length line)) c cs) → read ≡ Some k → length left < length rest → new ≡ old ++ record { kind = k; start = length line - length rest; end = length line - length left } ∷ [] → IsRead line rest old → IsRead line left new
 IsRead-token line rest left c cs read k old new u v split value some shorter pushed known =
     let total = length line in
     let t : Token = record { kind = k; start = total - length rest; end = total - length left } in
@@ -117,19 +117,19 @@ IsRead-token line rest left c cs read k old new u v split value some shorter pus
     let token-is : t ∷ [] ≡ token_of total read (chars rest) (chars left) =
     ap (λ (s : ℕ). record { kind = k; start = s; end = total - length left } ∷ []) (sym (offset-chars total rest u)) ∙ ap (λ (e : ℕ). record { kind = k; start = offset total (chars rest); end = e } ∷ []) (sym (offset-chars total left v)) ∙ ap (λ (x : Option Kind). token_of total x (chars rest) (chars left)) (sym some) in
     let span : IsSpanOf line t = (omega (arith, known.1), boundary-of_rest line rest u known.2, boundary-of_rest line left v at) in (
-      ap (λ (x : List Token). map_ok (λ more. x ++ more) (tokens_from total 0 (chars left))) (pushed ∙ ap (λ (x : List Token). old ++ x) token-is) ∙ sym (tokens_from-piece total c read (chars rest) cs (chars left) old split value) ∙ known.0,
+      ap (λ (x : List Token). map_ok (λ more. x ++ more) (tokens_from (offset total) 0 (chars left))) (pushed ∙ ap (λ (x : List Token). old ++ x) token-is) ∙ sym (tokens_from-piece total c read (chars rest) cs (chars left) old split value) ∙ known.0,
       omega (arith, known.1),
       at,
       rw pushed (AreSpansOf-push line 0 (total - length rest) old t known.3 (omega arith) span),
     )
 
 -- a gap is passed
-pub IsRead-gap : (line rest left : List ℕ) (c : ℕ) (cs : List ℕ) (read : Option Kind) (old : List Token) → IsUtf8 rest → IsUtf8 left → chars rest ≡ c ∷ cs → Ok (read, chars left) ≡ map_ok (taken cs) (piece (length line) c cs) → read ≡ None → length left < length rest → IsRead line rest old → IsRead line left old
+pub IsRead-gap : (line rest left : List ℕ) (c : ℕ) (cs : List ℕ) (read : Option Kind) (old : List Token) → IsUtf8 rest → IsUtf8 left → chars rest ≡ c ∷ cs → Ok (read, chars left) ≡ map_ok (taken cs) (piece (offset (length line)) c cs) → read ≡ None → length left < length rest → IsRead line rest old → IsRead line left old
 IsRead-gap line rest left c cs read old u v split value none shorter known =
     let total = length line in
     let at = drop-further line rest left (omega arith) known.1 known.2 (left-drop total c read rest left cs u v split value) in
     let same : old ≡ old ++ token_of total read (chars rest) (chars left) = sym (append-nil old) ∙ ap (λ (x : Option Kind). old ++ token_of total x (chars rest) (chars left)) (sym none) in (
-      ap (λ (x : List Token). map_ok (λ more. x ++ more) (tokens_from total 0 (chars left))) same ∙ sym (tokens_from-piece total c read (chars rest) cs (chars left) old split value) ∙ known.0,
+      ap (λ (x : List Token). map_ok (λ more. x ++ more) (tokens_from (offset total) 0 (chars left))) same ∙ sym (tokens_from-piece total c read (chars rest) cs (chars left) old split value) ∙ known.0,
       omega (arith, known.1),
       at,
       AreSpansOf-widen line 0 (total - length rest) (total - length left) old known.3 (omega arith),
@@ -140,20 +140,20 @@ pub tokens_of-long : (line : List ℕ) → longest_line < length line → tokens
 unfolding tokens_of
 tokens_of-long line long = rw (lt-ltb longest_line (length line) long) refl
 
-pub tokens_of-short : (line : List ℕ) → length line ≤ longest_line → tokens_of line ≡ tokens_from (length line) 0 (chars line)
+pub tokens_of-short : (line : List ℕ) → IsUtf8 line → length line ≤ longest_line → tokens_of line ≡ tokens_from (offset (length line)) 0 (chars line)
 unfolding tokens_of
-tokens_of-short line short = rw (le-ltb longest_line (length line) short) refl
+tokens_of-short line u short = rw (le-ltb longest_line (length line) short) (tokens_from-end line u)
 
 -- nothing is left
-pub IsRead-all : (line rest : List ℕ) (ts : List Token) → length line ≤ longest_line → IsRead line rest ts → chars rest ≡ [] → tokens_of line ≡ Ok ts
-IsRead-all line rest ts short known e = tokens_of-short line short ∙ sym known.0 ∙ tokens_from-nil (length line) (chars rest) ts e
+pub IsRead-all : (line rest : List ℕ) (ts : List Token) → IsUtf8 line → length line ≤ longest_line → IsRead line rest ts → chars rest ≡ [] → tokens_of line ≡ Ok ts
+IsRead-all line rest ts u short known e = tokens_of-short line u short ∙ sym known.0 ∙ tokens_from-nil (length line) (chars rest) ts e
 
 pub IsRead-spans : (line rest : List ℕ) (ts : List Token) → IsRead line rest ts → AreSpansOf line 0 ts (length line)
 IsRead-spans line rest ts known = AreSpansOf-widen line 0 (length line - length rest) (length line) ts known.3 (omega arith)
 
 -- the piece at the front of the rest has a fault
-pub IsRead-fault : (line rest : List ℕ) (ts : List Token) (c : ℕ) (cs : List ℕ) (fault : LexFault) → length line ≤ longest_line → IsRead line rest ts → chars rest ≡ c ∷ cs → map_ok (taken cs) (piece (length line) c cs) ≡ Err fault → tokens_of line ≡ Err fault
-IsRead-fault line rest ts c cs fault short known split bad = tokens_of-short line short ∙ sym known.0 ∙ tokens_from-fault (length line) c fault (chars rest) cs ts split bad
+pub IsRead-fault : (line rest : List ℕ) (ts : List Token) (c : ℕ) (cs : List ℕ) (fault : LexFault) → IsUtf8 line → length line ≤ longest_line → IsRead line rest ts → chars rest ≡ c ∷ cs → map_ok (taken cs) (piece (offset (length line)) c cs) ≡ Err fault → tokens_of line ≡ Err fault
+IsRead-fault line rest ts c cs fault u short known split bad = tokens_of-short line u short ∙ sym known.0 ∙ tokens_from-fault (length line) c fault (chars rest) cs ts split bad
 
 -- spans that rise in a line are slices of it
 AreSpansOf-all : (line : List ℕ) (from to : ℕ) (ts : List Token) → AreSpansOf line from ts to → All (IsSpanOf line) ts

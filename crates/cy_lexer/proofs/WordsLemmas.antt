@@ -4,7 +4,7 @@ use lib.Utf8.{scalar}
 use Rattle.std.specs.Char.{is_ascii_digit, is_ascii_alphabetic, is_ascii_alphanumeric, encode_utf8}
 use Rattle.std.specs.Fmt.{decimal}
 use Rattle.std.specs.List.{list_all}
-use Rattle.std.specs.Str.{all_scalars, encode_utf8_all, chars}
+use Rattle.std.specs.Str.{all_scalars, encode_utf8_all, chars, IsUtf8}
 use Rattle.std.proofs.lemmas.Bool.{and_parts, and_from, or_from}
 use Rattle.std.proofs.lemmas.Bool.Decides.{nat_tests}
 use Rattle.std.proofs.lemmas.List.{take_at, drop_at}
@@ -16,15 +16,16 @@ use Rattle.cy_lexer.specs.declared.symbols.Symbol.{Symbol}
 use Rattle.cy_lexer.specs.declared.symbols.Symbol.TheVariants as sign
 use Rattle.cy_lexer.specs.declared.tokens.Kind.{Kind}
 use Rattle.cy_lexer.specs.declared.tokens.Token.{Token}
-use Rattle.cy_lexer.specs.Characters.{offset, begins_with}
+use Rattle.cy_lexer.specs.Characters.{begins_with}
+use Rattle.cy_lexer.specs.internal.Reading.{offset}
 use Rattle.cy_lexer.specs.Keywords.{spelling}
 use Rattle.cy_lexer.specs.Line.{longest_line}
 use Rattle.cy_lexer.specs.Numbers.{spoils_number}
 use Rattle.cy_lexer.specs.Spans.{slice_of}
 use Rattle.cy_lexer.specs.declared.faults.LexFault.{LexFault}
 use Rattle.cy_lexer.specs.Tokens.{◌>>=◌, piece, tokens_from, tokens_of, denoted}
-use Rattle.cy_lexer.specs.Words.{Word, kind_of, doubled, escaped, signs, characters, meant}
-use Rattle.cy_lexer.specs.internal.SpacedWords.{is_word, join, may_touch, space, written, may_touch_next, are_words, may_follow_last, may_follow, bytes_of, tokens_at, IsTokenOf, AreTokensOf}
+use Rattle.cy_lexer.specs.Words.{Word, doubled, escaped, signs}
+use Rattle.cy_lexer.specs.internal.SpacedWords.{is_word, join, may_touch, space, written, may_touch_next, are_words, may_follow_last, may_follow, bytes_of, tokens_at, IsTokenOf, AreTokensOf, kind_of, characters, meant}
 use Rattle.cy_lexer.specs.Words as word
 use Rattle.cy_lexer.proofs.CharactersLemmas.{size_of}
 use Rattle.cy_lexer.proofs.QuotedLemmas.{not_is}
@@ -183,26 +184,26 @@ past_space : (r : Result (List Token) LexFault) → (r >>= λ ts. Ok ts) ≡ r
 past_space (Ok ts) = refl
 past_space (Err fault) = refl
 
-tokens_from-space : (total : ℕ) (spaced : Bool) (cs : List ℕ) → tokens_from total 0 (space spaced ++ cs) ≡ tokens_from total 0 cs
+tokens_from-space : (total : ℕ) (spaced : Bool) (cs : List ℕ) → tokens_from (offset total) 0 (space spaced ++ cs) ≡ tokens_from (offset total) 0 cs
 unfolding tokens_from piece
-tokens_from-space total true cs = past_space (tokens_from total 0 cs)
+tokens_from-space total true cs = past_space (tokens_from (offset total) 0 cs)
 tokens_from-space total false cs = refl
 
 -- a token at the front
-tokens_from-front : (total c : ℕ) (more rest : List ℕ) (k : Kind) (ts : List Token) → piece total c (more ++ rest) ≡ Ok (Some k, length more) → tokens_from total 0 rest ≡ Ok ts → tokens_from total 0 (c ∷ (more ++ rest)) ≡ Ok (record { kind = k; start = offset total (c ∷ (more ++ rest)); end = offset total rest } ∷ ts)
+tokens_from-front : (total c : ℕ) (more rest : List ℕ) (k : Kind) (ts : List Token) → piece (offset total) c (more ++ rest) ≡ Ok (Some k, length more) → tokens_from (offset total) 0 rest ≡ Ok ts → tokens_from (offset total) 0 (c ∷ (more ++ rest)) ≡ Ok (record { kind = k; start = offset total (c ∷ (more ++ rest)); end = offset total rest } ∷ ts)
 unfolding tokens_from
 tokens_from-front total c more rest k ts read known =
     let left : drop (length more) (more ++ rest) ≡ rest = drop_at more rest (length more) refl in
-    let others : tokens_from total (length more) (more ++ rest) ≡ Ok ts = tokens_from-skip total (length more) (more ++ rest) ∙ ap (λ (x : List ℕ). tokens_from total 0 x) left ∙ known in
+    let others : tokens_from (offset total) (length more) (more ++ rest) ≡ Ok ts = tokens_from-skip total (length more) (more ++ rest) ∙ ap (λ (x : List ℕ). tokens_from (offset total) 0 x) left ∙ known in
     rw read (rw others (ap (λ (x : List ℕ). Ok (record { kind = k; start = offset total (c ∷ (more ++ rest)); end = offset total x } ∷ ts)) left))
 
 -- the word at the front
-tokens_from-word : (total at end : ℕ) (w : Word) (rest : List ℕ) (ts : List Token) → IsPiece w rest → at + length (encode_utf8_all (characters w ++ rest)) ≡ total → end ≡ at + length (bytes_of w) → tokens_from total 0 rest ≡ Ok ts → tokens_from total 0 (characters w ++ rest) ≡ Ok (record { kind = kind_of w; start = at; end = end } ∷ ts)
+tokens_from-word : (total at end : ℕ) (w : Word) (rest : List ℕ) (ts : List Token) → IsPiece w rest → at + length (encode_utf8_all (characters w ++ rest)) ≡ total → end ≡ at + length (bytes_of w) → tokens_from (offset total) 0 rest ≡ Ok ts → tokens_from (offset total) 0 (characters w ++ rest) ≡ Ok (record { kind = kind_of w; start = at; end = end } ∷ ts)
 tokens_from-word total at end w rest ts p all ends known =
     let whole : characters w ++ rest ≡ p.0 ∷ (p.1 ++ rest) = ap (λ (x : List ℕ). x ++ rest) p.2 in
     let start_is : offset total (p.0 ∷ (p.1 ++ rest)) ≡ at = ap (λ (x : List ℕ). offset total x) (sym whole) ∙ omega arith in
     let end_is : offset total rest ≡ end = omega (arith, size_of (characters w) rest) in
-    ap (λ (x : List ℕ). tokens_from total 0 x) whole
+    ap (λ (x : List ℕ). tokens_from (offset total) 0 x) whole
     ∙ tokens_from-front total p.0 p.1 rest (kind_of w) ts (p.3 total) known
     ∙ ap (λ (n : ℕ). Ok (record { kind = kind_of w; start = n; end = offset total rest } ∷ ts)) start_is
     ∙ ap (λ (n : ℕ). Ok (record { kind = kind_of w; start = at; end = n } ∷ ts)) end_is
@@ -213,7 +214,7 @@ unfolding encode_utf8
 size_of_space true = refl
 size_of_space false = refl
 
-tokens_from-words : (total at : ℕ) (ws : List (Word × Bool)) → are_words ws ≡ true → at + length (encode_utf8_all (written ws)) ≡ total → tokens_from total 0 (written ws) ≡ Ok (tokens_at at ws)
+tokens_from-words : (total at : ℕ) (ws : List (Word × Bool)) → are_words ws ≡ true → at + length (encode_utf8_all (written ws)) ≡ total → tokens_from (offset total) 0 (written ws) ≡ Ok (tokens_at at ws)
 unfolding tokens_from
 tokens_from-words total at [] are all = refl
 tokens_from-words total at (w ∷ ws) are all =
@@ -298,8 +299,9 @@ all_scalars-written (w ∷ ws) are =
 pub tokens_of-words : (ws : List (Word × Bool)) → are_words ws ≡ true → length (encode_utf8_all (written ws)) ≤ longest_line → tokens_of (encode_utf8_all (written ws)) ≡ Ok (tokens_at 0 ws)
 tokens_of-words ws are short =
     let line = encode_utf8_all (written ws) in
-    tokens_of-short line short
-    ∙ ap (λ (x : List ℕ). tokens_from (length line) 0 x) (chars-encodes (written ws) (all_scalars-written ws are))
+    let u : IsUtf8 line = (written ws, (all_scalars-written ws are, refl)) in
+    tokens_of-short line u short
+    ∙ ap (λ (x : List ℕ). tokens_from (offset (length line)) 0 x) (chars-encodes (written ws) (all_scalars-written ws are))
     ∙ tokens_from-words (length line) 0 ws are (omega arith)
 
 -- they are the words' tokens: their kinds are those of the words, and their slices the words as they are written

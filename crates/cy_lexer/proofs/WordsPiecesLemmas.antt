@@ -18,13 +18,14 @@ use Rattle.cy_lexer.specs.declared.keywords.Keyword.TheVariants as keyword
 use Rattle.cy_lexer.specs.declared.symbols.Symbol.{Symbol}
 use Rattle.cy_lexer.specs.declared.symbols.Symbol.TheVariants as sign
 use Rattle.cy_lexer.specs.declared.tokens.Kind.TheVariants as kind
-use Rattle.cy_lexer.specs.Characters.{offset, begins_with, starts_name, goes_on}
+use Rattle.cy_lexer.specs.Characters.{begins_with, starts_name, goes_on}
+use Rattle.cy_lexer.specs.internal.Reading.{offset}
 use Rattle.cy_lexer.specs.Keywords.{spelling, keyword_of}
 use Rattle.cy_lexer.specs.Numbers.{number_of, greatest_number, begins_with_digit, spoils_number}
 use Rattle.cy_lexer.specs.Symbols.{symbol}
 use Rattle.cy_lexer.specs.Tokens.{word_kind, word_piece, opens_comment, number_piece, symbol_piece, token_piece, piece}
-use Rattle.cy_lexer.specs.Words.{Word, kind_of, doubled, escaped, signs, characters}
-use Rattle.cy_lexer.specs.internal.SpacedWords.{is_word}
+use Rattle.cy_lexer.specs.Words.{Word, doubled, escaped, signs}
+use Rattle.cy_lexer.specs.internal.SpacedWords.{is_word, kind_of, characters}
 use Rattle.cy_lexer.specs.Words as word
 use Rattle.cy_lexer.proofs.CharactersLemmas.{starts_name-ascii, goes_on-ascii}
 use Rattle.cy_lexer.proofs.PiecesLemmas.{piece-token, word_kind-keyword}
@@ -33,7 +34,7 @@ use Rattle.cy_lexer.proofs.WordsQuotedLemmas.{quoted_len-doubled, quoted_len-esc
 -- the word is the piece at the front of its characters and a rest
 abbrev pub IsPiece : Word → List ℕ → Type 0
 IsPiece w rest =
-    (c : ℕ) × (more : List ℕ) × (characters w ≡ c ∷ more) × ((total : ℕ) → piece total c (more ++ rest) ≡ Ok (Some (kind_of w), length more))
+    (c : ℕ) × (more : List ℕ) × (characters w ≡ c ∷ more) × ((total : ℕ) → piece (offset total) c (more ++ rest) ≡ Ok (Some (kind_of w), length more))
 
 -- ---- runs of characters
 
@@ -86,7 +87,7 @@ spelling-front keyword.All = (_, _, refl, (refl, refl, refl, refl), refl)
 spelling-front k = (_, _, refl, (refl, refl, refl, refl), refl)
 
 -- a piece that begins with a letter
-piece-letter : (total c : ℕ) (cs : List ℕ) → IsLetter c → piece total c cs ≡ Ok (word_piece c cs)
+piece-letter : (total c : ℕ) (cs : List ℕ) → IsLetter c → piece (offset total) c cs ≡ Ok (word_piece c cs)
 piece-letter total c cs letter =
     let no_slash : (d : ℕ) → false ≡ opens_comment d c cs = λ d. rw letter.3 refl in
     let starts : starts_name c ≡ true = sym (starts_name-ascii c true letter.0 (sym letter.1)) in
@@ -128,7 +129,7 @@ piece-name (c ∷ cs) rest some stops = (
       let inside = closes_at_once-doubled c cs (96 ∷ rest) in
       let size = sym (length-append (doubled (c ∷ cs)) (96 ∷ [])) in
       piece-token total 96 ((doubled (c ∷ cs) ++ 96 ∷ []) ++ rest) refl refl refl
-      ∙ ap (λ (x : List ℕ). token_piece total at 96 x) split
+      ∙ ap (λ (x : List ℕ). token_piece (offset total) at 96 x) split
       ∙ rw (no_name 96 (refl, refl, refl, refl)) (rw inside (rw (quoted_len-doubled total (UnclosedName at) (c ∷ cs) rest stops) (ap (λ (n : ℕ). Ok (Some kind.QuotedName, n)) size))),
 )
 
@@ -142,7 +143,7 @@ piece-text cs rest = (
       let split : (escaped cs ++ 39 ∷ []) ++ rest ≡ escaped cs ++ 39 ∷ rest = append_assoc (escaped cs) (39 ∷ []) rest in
       let size = sym (length-append (escaped cs) (39 ∷ [])) in
       piece-token total 39 ((escaped cs ++ 39 ∷ []) ++ rest) refl refl refl
-      ∙ ap (λ (x : List ℕ). token_piece total at 39 x) split
+      ∙ ap (λ (x : List ℕ). token_piece (offset total) at 39 x) split
       ∙ rw (no_name 39 (refl, refl, refl, refl)) (rw (quoted_len-escaped total (UnclosedText at) cs rest) (ap (λ (n : ℕ). Ok (Some kind.Text, n)) size)),
 )
 

@@ -1,5 +1,6 @@
--- What stands between the tokens of a line: white space and comments, and nothing else. This is said of a whole line at
--- once, and takes nothing from how a line is read. 10 is LF, 42 is `*` and 47 is `/`.
+-- What stands between the tokens of a line: white space and comments, and nothing else (openCypher 9, lexical rules, narrowed to
+-- this profile). This is said of a whole line at once, and takes nothing from how a line is read. 10 is LF, 42 is `*` and 47
+-- is `/`.
 use Rattle.std.specs.Prelude.{◌≡◌, ℕ, ◌+◌, Bool, false, ◌&&◌, ◌||◌, ◌==◌, IsTrue, IsFalse, List, [], ◌∷◌, ◌++◌, length, encode_utf8_all}
 use Rattle.std.specs.Char.{is_whitespace}
 use Rattle.std.specs.List.{list_any}

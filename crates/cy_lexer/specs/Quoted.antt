@@ -1,10 +1,10 @@
--- Texts, in single or double quotes, and quoted names, in backticks.
+-- Texts, in single or double quotes, and quoted names, in backticks (openCypher 9, lexical rules, narrowed to this profile).
 -- 39 is `'`, 34 is `"`, 92 is the backslash and 96 is the backtick.
 use Rattle.std.specs.Prelude.{ℕ, zero, suc, ◌+◌, ◌*◌, Bool, not, ◌&&◌, ◌||◌, ◌==◌, if◌then◌else◌, nat_lt, nat_le, List, [], ◌∷◌, Option, Some, None, option_map, option_and_then, Result, Ok, Err}
 use Rattle.std.specs.Char.{digit_value}
 use Rattle.cy_lexer.specs.declared.faults.LexFault.{LexFault}
 use Rattle.cy_lexer.specs.declared.faults.LexFault.TheVariants.{BadEscape}
-use Rattle.cy_lexer.specs.Characters.{offset, begins_with}
+use Rattle.cy_lexer.specs.Characters.{begins_with}
 
 -- the number that so many hexadecimal digits at the front write, behind digits that write `high`; none where one is missing
 abbrev pub hexadecimal : ℕ → ℕ → List ℕ → Option ℕ
@@ -60,16 +60,16 @@ one_more (Ok n) = Ok (suc n)
 one_more (Err e) = Err e
 
 -- How many characters stand behind an opening quote, the closing one counted, or the fault that reading from the left
--- meets: a bad escape at its backslash, in a line of total bytes, or unclosed at the end. The first skip characters
--- belong to the character before them.
-abbrev pub quoted_len : ℕ → LexFault → ℕ → ℕ → List ℕ → Result ℕ LexFault
-quoted_len total unclosed quote skip [] = Err unclosed
-quoted_len total unclosed quote (suc skip) (c ∷ cs) = one_more (quoted_len total unclosed quote skip cs)
-quoted_len total unclosed quote zero (c ∷ cs) =
+-- meets: a bad escape at its backslash, or unclosed at the end. The first skip characters belong to the character before
+-- them, and place has the offset at which the characters that are left begin.
+abbrev pub quoted_len : (List ℕ → ℕ) → LexFault → ℕ → ℕ → List ℕ → Result ℕ LexFault
+quoted_len place unclosed quote skip [] = Err unclosed
+quoted_len place unclosed quote (suc skip) (c ∷ cs) = one_more (quoted_len place unclosed quote skip cs)
+quoted_len place unclosed quote zero (c ∷ cs) =
     if closes quote c cs then Ok 1 else
     elim (character quote c cs) [
-      | Some p ↦ one_more (quoted_len total unclosed quote p.1 cs)
-      | None ↦ Err (BadEscape (offset total (c ∷ cs)))
+      | Some p ↦ one_more (quoted_len place unclosed quote p.1 cs)
+      | None ↦ Err (BadEscape (place (c ∷ cs)))
     ]
 
 -- the characters that stand behind an opening quote, up to the closing one, each escape and each doubled backtick as

@@ -13,7 +13,7 @@ use Rattle.cy_lexer.specs.declared.tokens.Token.{Token}
 use Rattle.cy_lexer.specs.Keywords.{keyword_of}
 use Rattle.cy_lexer.specs.Line.{longest_line}
 use Rattle.cy_lexer.specs.Symbols.{symbol}
-use Rattle.cy_lexer.specs.Characters.{offset, begins_with, starts_name, goes_on}
+use Rattle.cy_lexer.specs.Characters.{offset_in, begins_with, starts_name, goes_on}
 use Rattle.cy_lexer.specs.Numbers.{number_of, greatest_number, is_bad_number}
 use Rattle.cy_lexer.specs.Quoted.{closes, quoted_len, between_quotes}
 
@@ -35,7 +35,7 @@ word_kind cs = elim (keyword_of (encode_utf8_all cs)) [ Some k ↦ kind.Keyword 
 abbrev pub word_piece : ℕ → List ℕ → Piece
 word_piece c cs = (Some (word_kind (c ∷ take_while (goes_on run.Name) cs)), prefix_len (goes_on run.Name) cs)
 
--- A number, at its first digit c: all its digits are read before a fault is told, a bad one before one that is too large.
+-- A number, at its first digit c: all its digits are read before a fault is reported, a bad one before one that is too large.
 abbrev pub number_piece : ℕ → ℕ → List ℕ → Result Piece LexFault
 number_piece at c cs =
     let more = prefix_len (goes_on run.Digits) cs in
@@ -62,27 +62,27 @@ closes_at_once quote [] = false
 closes_at_once quote (c ∷ cs) = closes quote c cs
 
 -- a name in backticks; one with nothing in it is a bad character
-abbrev pub quoted_name : ℕ → ℕ → List ℕ → Result Piece LexFault
-quoted_name total at cs =
+abbrev pub quoted_name : (List ℕ → ℕ) → ℕ → List ℕ → Result Piece LexFault
+quoted_name place at cs =
     if closes_at_once 96 cs then Err (BadCharacter at) else
-    (quoted_len total (UnclosedName at) 96 0 cs >>= λ n. Ok (Some kind.QuotedName, n))
+    (quoted_len place (UnclosedName at) 96 0 cs >>= λ n. Ok (Some kind.QuotedName, n))
 
 -- a text, in quotes
-abbrev pub text_piece : ℕ → ℕ → ℕ → List ℕ → Result Piece LexFault
-text_piece total at quote cs = quoted_len total (UnclosedText at) quote 0 cs >>= λ n. Ok (Some kind.Text, n)
+abbrev pub text_piece : (List ℕ → ℕ) → ℕ → ℕ → List ℕ → Result Piece LexFault
+text_piece place at quote cs = quoted_len place (UnclosedText at) quote 0 cs >>= λ n. Ok (Some kind.Text, n)
 
 -- a symbol, or no beginning of a token
 abbrev pub symbol_piece : ℕ → ℕ → List ℕ → Result Piece LexFault
 symbol_piece at c cs = elim (symbol c cs) [ Some p ↦ Ok (Some (kind.Symbol p.0), p.1) | None ↦ Err (BadCharacter at) ]
 
 -- The token at the front of a text that begins with the character c and goes on with cs, the longest there is, or its
--- fault, in a line of total bytes, where the text begins at the offset at. 96 is the backtick, 39 and 34 are the quotes.
-abbrev pub token_piece : ℕ → ℕ → ℕ → List ℕ → Result Piece LexFault
-token_piece total at c cs =
+-- fault, where the text begins at the offset at. 96 is the backtick, 39 and 34 are the quotes.
+abbrev pub token_piece : (List ℕ → ℕ) → ℕ → ℕ → List ℕ → Result Piece LexFault
+token_piece place at c cs =
     if starts_name c then Ok (word_piece c cs) else
     if is_ascii_digit c then number_piece at c cs else
-    if c == 96 then quoted_name total at cs else
-    if (c == 39) || (c == 34) then text_piece total at c cs else
+    if c == 96 then quoted_name place at cs else
+    if (c == 39) || (c == 34) then text_piece place at c cs else
     symbol_piece at c cs
 
 -- a `/` and a second character open a comment
@@ -90,30 +90,30 @@ abbrev pub opens_comment : ℕ → ℕ → List ℕ → Bool
 opens_comment second c cs = (c == 47) && begins_with second cs
 
 -- The piece at the front: white space, a comment or a token. 47 is `/` and 42 is `*`.
-unfoldable pub piece : ℕ → ℕ → List ℕ → Result Piece LexFault
-piece total c cs =
+unfoldable pub piece : (List ℕ → ℕ) → ℕ → List ℕ → Result Piece LexFault
+piece place c cs =
     if is_whitespace c then Ok (None, 0) else
     if opens_comment 47 c cs then Ok (line_comment cs) else
-    if opens_comment 42 c cs then block_comment (offset total (c ∷ cs)) cs else
-    token_piece total (offset total (c ∷ cs)) c cs
+    if opens_comment 42 c cs then block_comment (place (c ∷ cs)) cs else
+    token_piece place (place (c ∷ cs)) c cs
 
 -- the token of this kind, if any, and then the others: its span goes from its first character to behind its last one
-abbrev pub with_token : ℕ → List ℕ → Piece → List Token → List Token
-with_token total cs p ts = elim p.0 [
-  | Some k ↦ record { kind = k; start = offset total cs; end = offset total (drop (suc p.1) cs) } ∷ ts
+abbrev pub with_token : (List ℕ → ℕ) → List ℕ → Piece → List Token → List Token
+with_token place cs p ts = elim p.0 [
+  | Some k ↦ record { kind = k; start = place cs; end = place (drop (suc p.1) cs) } ∷ ts
   | None ↦ ts
 ]
 
--- The tokens of the characters that are left, of a line of total bytes, or the first fault from the left. The first skip
--- characters belong to the piece before them.
-unfoldable pub tokens_from : ℕ → ℕ → List ℕ → Result (List Token) LexFault
-tokens_from total skip [] = Ok []
-tokens_from total (suc skip) (c ∷ cs) = tokens_from total skip cs
-tokens_from total zero (c ∷ cs) = piece total c cs >>= λ p. (tokens_from total p.1 cs >>= λ ts. Ok (with_token total (c ∷ cs) p ts))
+-- The tokens of the characters that are left, or the first fault from the left. The first skip characters belong to the piece
+-- before them, and place has the offset at which the characters that are left begin.
+unfoldable pub tokens_from : (List ℕ → ℕ) → ℕ → List ℕ → Result (List Token) LexFault
+tokens_from place skip [] = Ok []
+tokens_from place (suc skip) (c ∷ cs) = tokens_from place skip cs
+tokens_from place zero (c ∷ cs) = piece place c cs >>= λ p. (tokens_from place p.1 cs >>= λ ts. Ok (with_token place (c ∷ cs) p ts))
 
 -- the tokens of a line, which is given by its bytes, or its fault
 unfoldable pub tokens_of : List ℕ → Result (List Token) LexFault
-tokens_of line = if nat_lt longest_line (length line) then Err LineTooLong else tokens_from (length line) 0 (chars line)
+tokens_of line = if nat_lt longest_line (length line) then Err LineTooLong else tokens_from (offset_in (chars line)) 0 (chars line)
 
 -- the number that a token of this kind denotes
 abbrev pub number_in : Kind → Option ℕ

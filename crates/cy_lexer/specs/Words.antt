@@ -1,13 +1,9 @@
 -- Words: tokens that are written in one way each (own: this profile's choice, which stands in no standard). 39 is the
 -- single quote, 92 the backslash and 96 the backtick.
-use Rattle.std.specs.Prelude.{ℕ, ◌||◌, ◌==◌, if◌then◌else◌, List, [], ◌∷◌, ◌++◌, codes}
-use Rattle.std.specs.Fmt.{decimal}
+use Rattle.std.specs.Prelude.{ℕ, ◌||◌, ◌==◌, if◌then◌else◌, List, [], ◌∷◌, codes}
 use Rattle.cy_lexer.specs.declared.keywords.Keyword.{Keyword}
 use Rattle.cy_lexer.specs.declared.symbols.Symbol.{Symbol}
 use Rattle.cy_lexer.specs.declared.symbols.Symbol.TheVariants as sign
-use Rattle.cy_lexer.specs.declared.tokens.Kind.{Kind}
-use Rattle.cy_lexer.specs.declared.tokens.Kind.TheVariants as kind
-use Rattle.cy_lexer.specs.Keywords.{spelling}
 
 -- a keyword, a name by its characters, a text by its characters, a number, or a symbol
 pub data Word : Type 0 where
@@ -16,14 +12,6 @@ pub data Word : Type 0 where
   text : List ℕ → Word
   number : ℕ → Word
   symbol : Symbol → Word
-
--- the kind of the word's token: a name stands in backticks
-abbrev pub kind_of : Word → Kind
-kind_of (keyword k) = kind.Keyword k
-kind_of (name cs) = kind.QuotedName
-kind_of (text cs) = kind.Text
-kind_of (number n) = kind.Number n
-kind_of (symbol s) = kind.Symbol s
 
 -- characters as they stand in backticks: each backtick doubled
 abbrev pub doubled : List ℕ → List ℕ
@@ -60,20 +48,3 @@ signs sign.Percent = codes "%"
 signs sign.Equal = codes "="
 signs sign.Less = codes "<"
 signs sign.Greater = codes ">"
-
--- The characters of a word: a keyword in capitals, a name in backticks, a text in single quotes, a number in decimal
--- digits.
-abbrev pub characters : Word → List ℕ
-characters (keyword k) = spelling k
-characters (name cs) = 96 ∷ (doubled cs ++ 96 ∷ [])
-characters (text cs) = 39 ∷ (escaped cs ++ 39 ∷ [])
-characters (number n) = decimal n
-characters (symbol s) = signs s
-
--- the characters that a word stands for: a name and a text without their quotes, each other word as it is written
-abbrev pub meant : Word → List ℕ
-meant (keyword k) = spelling k
-meant (name cs) = cs
-meant (text cs) = cs
-meant (number n) = decimal n
-meant (symbol s) = signs s

@@ -142,8 +142,16 @@ impl Keyword {
     fn is_spelled(self, word: &str) -> bool
         ensures { result ≡ same_word (spelling self) word.now }
     {
-        self.spelling().eq_ignore_ascii_case(word)
+        is_same_word(self.spelling(), word)
     }
+}
+
+/// Whether two words are the same but for the case of their ASCII letters, as a keyword is in whatever case it is written
+/// (openCypher 9, reserved words).
+pub fn is_same_word(one: &str, other: &str) -> bool
+    ensures { result ≡ same_word one.now other.now }
+{
+    one.eq_ignore_ascii_case(other)
 }
 
 /// The keywords that begin with the letter, whatever its case, in the order of the alphabet.

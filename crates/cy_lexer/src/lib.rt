@@ -13,11 +13,8 @@ mod symbols;
 mod tokens;
 
 pub use faults::LexFault;
-pub use keywords::Keyword;
+pub use keywords::{Keyword, is_same_word};
 pub use line::{LONGEST_LINE, text_of};
 pub use reading::lex;
 pub use symbols::Symbol;
 pub use tokens::{Kind, Token};
-
-#[cfg(test)]
-mod tests;

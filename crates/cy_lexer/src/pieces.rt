@@ -1,8 +1,7 @@
 //! The pieces of a line: its tokens, and the gaps between them.
 
 ghost use Rattle.std.specs.Prelude.{◌≡◌, ◌<◌, ◌≤◌, ◌∷◌, ◌++◌, ℕ, List, length, drop, option_map, IfOk, IfSome, chars};
-ghost use Rattle.cy_lexer.specs.Characters.{offset};
-ghost use Rattle.cy_lexer.specs.internal.Reading.{seen, taken, map_ok, seen_gap, seen_token};
+ghost use Rattle.cy_lexer.specs.internal.Reading.{seen, taken, map_ok, seen_gap, seen_token, offset};
 ghost use Rattle.cy_lexer.specs.Symbols.{symbol};
 ghost use Rattle.cy_lexer.specs.Tokens.{word_piece, number_piece, opens_comment, block_len, block_comment, quoted_name, text_piece, symbol_piece, token_piece, piece};
 
@@ -85,7 +84,7 @@ fn symbol(first: char, after: &str) -> Option<(Symbol, &str)>
 fn after_quoted_name(total: usize, at: usize, text: &str) -> Result<&str, LexFault>
     requires { length text.now ≤ total }
     ensures value { map_ok (seen_token Kind.QuotedName) result
-        ≡ map_ok (taken (chars text.now)) (quoted_name total at (chars text.now)) }
+        ≡ map_ok (taken (chars text.now)) (quoted_name (offset total) at (chars text.now)) }
     ensures shorter { IfOk result (λ s. length s.now ≤ length text.now) }
 {
     if let Some((second, behind)) = split_first(text)
@@ -100,7 +99,7 @@ fn after_quoted_name(total: usize, at: usize, text: &str) -> Result<&str, LexFau
 fn after_text(total: usize, at: usize, quote: char, text: &str) -> Result<&str, LexFault>
     requires { length text.now ≤ total }
     ensures value { map_ok (seen_token Kind.Text) result
-        ≡ map_ok (taken (chars text.now)) (text_piece total at quote (chars text.now)) }
+        ≡ map_ok (taken (chars text.now)) (text_piece (offset total) at quote (chars text.now)) }
     ensures shorter { IfOk result (λ s. length s.now ≤ length text.now) }
 {
     after_quoted(total, quote, LexFault::UnclosedText(at), text)
@@ -118,7 +117,7 @@ pub(crate) fn piece<'a>(
     requires within { length text.now ≤ total }
     requires shorter { length after.now ≤ length text.now }
     requires split { chars text.now ≡ first ∷ chars after.now }
-    ensures value { map_ok seen result ≡ map_ok (taken (chars after.now)) (piece total first (chars after.now)) }
+    ensures value { map_ok seen result ≡ map_ok (taken (chars after.now)) (piece (offset total) first (chars after.now)) }
     ensures shorter { IfOk result (λ p. length p.1.now ≤ length after.now) }
 {
     let at = total - text.len();
@@ -146,7 +145,7 @@ fn token<'a>(
     requires shorter { length after.now ≤ length text.now }
     requires split { chars text.now ≡ first ∷ chars after.now }
     ensures value { map_ok (λ p. seen_token p.0 p.1) result
-        ≡ map_ok (taken (chars after.now)) (token_piece total at first (chars after.now)) }
+        ≡ map_ok (taken (chars after.now)) (token_piece (offset total) at first (chars after.now)) }
     ensures shorter { IfOk result (λ p. length p.1.now ≤ length after.now) }
 {
     if starts_name(first) {

@@ -1,7 +1,7 @@
 //! Texts and quoted names.
 
 ghost use Rattle.std.specs.Prelude.{◌≡◌, ◌+◌, string_bytes, encode_utf8_all, ◌<◌, ◌≤◌, ◌^◌, length, drop, option_map, IfSome, IfOk, IfErr, chars};
-ghost use Rattle.cy_lexer.specs.internal.Reading.{seen, taken, map_ok};
+ghost use Rattle.cy_lexer.specs.internal.Reading.{seen, taken, map_ok, offset};
 ghost use Rattle.cy_lexer.specs.Quoted.{plain_escape, coded_escape, escape, closes, character, quoted_len, between_quotes};
 
 use crate::characters::{Run, after_run, begins_with, split_first};
@@ -86,7 +86,7 @@ pub(crate) fn after_quoted(
 ) -> Result<&str, LexFault>
     requires { length text.now ≤ total }
     ensures value { map_ok (λ s. chars s.now) result
-        ≡ map_ok (λ n. drop n (chars text.now)) (quoted_len total unclosed quote 0 (chars text.now)) }
+        ≡ map_ok (λ n. drop n (chars text.now)) (quoted_len (offset total) unclosed quote 0 (chars text.now)) }
     ensures shorter { IfOk result (λ s. length s.now ≤ length text.now) }
 {
     let mut rest = after_run(Run::Quoted(quote), text);

@@ -1,12 +1,16 @@
 -- How far the code has read. Only contracts of the lexer's private functions cite these words; no definition of the
 -- language does.
-use Rattle.std.specs.Prelude.{◌≡◌, ℕ, ◌≤◌, ◌^◌, Bool, List, drop, chars, Option, Some, None, Result, Ok, Err}
+use Rattle.std.specs.Prelude.{◌≡◌, ℕ, ◌-◌, ◌≤◌, ◌^◌, Bool, List, drop, length, chars, encode_utf8_all, Option, Some, None, Result, Ok, Err}
 use Rattle.std.specs.Borrow.{Bor}
 use Rattle.std.specs.Char.{to_ascii_uppercase}
 use Rattle.cy_lexer.specs.declared.keywords.Keyword.{Keyword}
 use Rattle.cy_lexer.specs.declared.tokens.Kind.{Kind}
 use Rattle.cy_lexer.specs.Characters.{begins_with}
 use Rattle.cy_lexer.specs.Keywords.{spelling}
+
+-- where the characters that are left begin, in a line of so many bytes: the code counts from the line's end
+abbrev pub offset : ℕ → List ℕ → ℕ
+offset total left = total - length (encode_utf8_all left)
 
 -- what was read at the front of a text, and the characters that are left behind it: as the code has it, and by how many
 -- of the text's characters were taken

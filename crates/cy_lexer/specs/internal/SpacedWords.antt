@@ -1,12 +1,41 @@
--- Texts that are made of words. 32 is the space.
+-- The token of a word, and texts that are made of words. 32 is the space, 39 the single quote and 96 the backtick.
 use Rattle.std.specs.Prelude.{◌≡◌, ⊤, ℕ, Bool, true, false, not, ◌&&◌, ◌||◌, if◌then◌else◌, nat_le, List, [], ◌∷◌, ◌++◌, ◌+◌, length, encode_utf8_all}
 use Rattle.std.specs.Str.{all_scalars}
+use Rattle.std.specs.Fmt.{decimal}
 use Rattle.cy_lexer.specs.declared.symbols.Symbol.{Symbol}
 use Rattle.cy_lexer.specs.declared.symbols.Symbol.TheVariants as sign
+use Rattle.cy_lexer.specs.declared.tokens.Kind.{Kind}
+use Rattle.cy_lexer.specs.declared.tokens.Kind.TheVariants as kind
 use Rattle.cy_lexer.specs.declared.tokens.Token.{Token}
 use Rattle.cy_lexer.specs.Numbers.{greatest_number}
 use Rattle.cy_lexer.specs.Spans.{slice_of}
-use Rattle.cy_lexer.specs.Words.{Word, keyword, name, text, number, symbol, kind_of, characters}
+use Rattle.cy_lexer.specs.Keywords.{spelling}
+use Rattle.cy_lexer.specs.Words.{Word, keyword, name, text, number, symbol, doubled, escaped, signs}
+
+-- the kind of the word's token: a name stands in backticks
+abbrev pub kind_of : Word → Kind
+kind_of (keyword k) = kind.Keyword k
+kind_of (name cs) = kind.QuotedName
+kind_of (text cs) = kind.Text
+kind_of (number n) = kind.Number n
+kind_of (symbol s) = kind.Symbol s
+
+-- The characters of a word: a keyword in capitals, a name in backticks, a text in single quotes, a number in decimal
+-- digits.
+abbrev pub characters : Word → List ℕ
+characters (keyword k) = spelling k
+characters (name cs) = 96 ∷ (doubled cs ++ 96 ∷ [])
+characters (text cs) = 39 ∷ (escaped cs ++ 39 ∷ [])
+characters (number n) = decimal n
+characters (symbol s) = signs s
+
+-- the characters that a word stands for: a name and a text without their quotes, each other word as it is written
+abbrev pub meant : Word → List ℕ
+meant (keyword k) = spelling k
+meant (name cs) = cs
+meant (text cs) = cs
+meant (number n) = decimal n
+meant (symbol s) = signs s
 
 -- what can be written: a name isn't empty, names and texts have characters of Unicode, a number isn't too large
 abbrev pub is_word : Word → Bool

@@ -24,17 +24,17 @@ returns-then-line-gt-LONGEST_LINE-clause-fault c _ = tokens_of-long c.args.line.
 
 pub returns-in_err-kind-clause-fault : goal.returns-in_err-kind-clause-fault
 returns-in_err-kind-clause-fault c =
-    let bad = IsRead-fault c.args.line.now c.loop-first.rest.now c.loop-first.tokens.items c.in-Some.first _ c.in_err-kind.field-0.0 c.if-line-gt-LONGEST_LINE.false c.loop-first.invariant.1 c.in-Some.ensures.cases (sym c.in_err-kind.ensures.value) in
+    let bad = IsRead-fault c.args.line.now c.loop-first.rest.now c.loop-first.tokens.items c.in-Some.first _ c.in_err-kind.field-0.0 c.utf8.line c.if-line-gt-LONGEST_LINE.false c.loop-first.invariant.1 c.in-Some.ensures.cases (sym c.in_err-kind.ensures.value) in
     let returned = err_from_is_err_and c.from_residual-in_err-kind.result c.from_residual-in_err-kind.ensures.1 in
     rw (returned.1, returned.2) (λ _. bad)
 
 pub returns-clause-tokens : goal.returns-clause-tokens
 returns-clause-tokens c =
-    IsRead-all c.args.line.now c.loop-first.rest.now c.loop-first.tokens.items c.if-line-gt-LONGEST_LINE.false c.loop-first.invariant.1 c.in_default.ensures.cases
+    IsRead-all c.args.line.now c.loop-first.rest.now c.loop-first.tokens.items c.utf8.line c.if-line-gt-LONGEST_LINE.false c.loop-first.invariant.1 c.in_default.ensures.cases
 
 pub returns-clause-gaps : goal.returns-clause-gaps
 returns-clause-gaps c =
-    tokens_of-leaves_gaps c.args.line.now c.loop-first.tokens.items c.utf8.line c.if-line-gt-LONGEST_LINE.false (IsRead-all c.args.line.now c.loop-first.rest.now c.loop-first.tokens.items c.if-line-gt-LONGEST_LINE.false c.loop-first.invariant.1 c.in_default.ensures.cases)
+    tokens_of-leaves_gaps c.args.line.now c.loop-first.tokens.items c.utf8.line c.if-line-gt-LONGEST_LINE.false (IsRead-all c.args.line.now c.loop-first.rest.now c.loop-first.tokens.items c.utf8.line c.if-line-gt-LONGEST_LINE.false c.loop-first.invariant.1 c.in_default.ensures.cases)
 
 pub returns-clause-spans : goal.returns-clause-spans
 returns-clause-spans c = IsRead-spans c.args.line.now c.loop-first.rest.now c.loop-first.tokens.items c.loop-first.invariant.1

@@ -1,7 +1,7 @@
 -- Parts of the code's values as parts of trees.
 use Rattle.cy_lexer.specs.declared.keywords.Keyword.TheVariants as keyword
 use Rattle.std.proofs.Common.{◌≡◌, length, List, [], ◌∷◌, map, refl, ap}
-use Rattle.cy_trees.specs.declared.clauses.Entry as coded_entry
+use Rattle.cy_trees.specs.declared.clauses.MapEntry as coded_entry
 use Rattle.cy_trees.specs.declared.clauses.Step as coded_step
 use Rattle.cy_trees.specs.declared.clauses.Path as coded_path
 use Rattle.cy_trees.specs.declared.clauses.Item as coded_item
@@ -16,7 +16,7 @@ fused : {A B C : Type 0} (f : B → C) (g : A → B) (xs : List A) → map (λ x
 fused f g [] = refl
 fused f g (x ∷ xs) = ap (λ ys. f (g x) ∷ ys) (fused f g xs)
 
-pub entries_fused : (xs : List coded_entry.Entry) → map (λ x. entry_pieces (entry_of x)) xs ≡ map entry_pieces (map entry_of xs)
+pub entries_fused : (xs : List coded_entry.MapEntry) → map (λ x. entry_pieces (entry_of x)) xs ≡ map entry_pieces (map entry_of xs)
 entries_fused xs = fused entry_pieces entry_of xs
 
 pub steps_fused : (xs : List coded_step.Step) → map (λ x. step_pieces (step_of x)) xs ≡ map step_pieces (map step_of xs)

@@ -20,7 +20,7 @@ use Rattle.cy_trees.specs.declared.expressions.Variable.{Variable}
 use Rattle.cy_trees.specs.declared.clauses.Direction.{Direction}
 use Rattle.cy_trees.specs.declared.clauses.Direction.TheVariants as direction
 use Rattle.cy_trees.specs.declared.clauses.Length.{Length}
-use Rattle.cy_trees.specs.Trees.{Name, Expression, null, boolean, integer, text, variable, property, has_labels, unary, binary, comparison, list, case, call, call_star, Expressions, no_more, more, Links, no_links, link, Arms, no_arms, arm, Otherwise, nothing, otherwise, Entry, NodePattern, RelationshipPattern, Step, Path, Item, Key, Projection, SetItem, set_property, set_labels, RemoveItem, remove_property, remove_labels, Clause, «match», unwind, «with», «return», create, set, remove, delete, Statement}
+use Rattle.cy_trees.specs.Trees.{Name, Expression, null, boolean, integer, text, variable, property, has_labels, unary, binary, comparison, list, case, call, call_star, Expressions, no_more, more, Links, no_links, link, Arms, no_arms, arm, Otherwise, nothing, otherwise, MapEntry, NodePattern, RelationshipPattern, Step, Path, Item, Key, Projection, SetItem, set_property, set_labels, RemoveItem, remove_property, remove_labels, Clause, «match», unwind, «with», «return», create, set, remove, delete, Statement}
 
 -- a word, or a space between words
 pub data Piece : Type 0 where
@@ -42,12 +42,6 @@ piece_text space = codes " "
 -- the text of pieces, as bytes
 abbrev pub text_of : List Piece → List ℕ
 text_of = flat_map piece_text
-
--- the words of pieces
-abbrev pub words_of : List Piece → List Word
-words_of [] = []
-words_of (word w ∷ ps) = w ∷ words_of ps
-words_of (space ∷ ps) = words_of ps
 
 abbrev pub says : Keyword → Piece
 says k = word (words.keyword k)
@@ -184,10 +178,10 @@ abbrev mutual
   otherwise_pieces (otherwise e) = space ∷ says keyword.Else ∷ space ∷ expression_pieces e
 
 -- patterns
-abbrev pub entry_pieces : Entry → List Piece
+abbrev pub entry_pieces : MapEntry → List Piece
 entry_pieces e = named e.key ∷ mark symbol.Colon ∷ expression_pieces e.value
 
-abbrev pub map_pieces : Option (List Entry) → List Piece
+abbrev pub map_pieces : Option (List MapEntry) → List Piece
 map_pieces None = []
 map_pieces (Some es) =
     mark symbol.LeftBrace ∷ (list_pieces (map entry_pieces es) ++ mark symbol.RightBrace ∷ [])

@@ -51,21 +51,21 @@ mutual
     otherwise : Expression → Otherwise
 
 -- an entry of a property map
-pub record Entry : Type 0 where
+pub record MapEntry : Type 0 where
   pub key : Name
   pub value : Expression
 
 pub record NodePattern : Type 0 where
   pub variable : Option Variable
   pub labels : List Name
-  pub properties : Option (List Entry)
+  pub properties : Option (List MapEntry)
 
 pub record RelationshipPattern : Type 0 where
   pub variable : Option Variable
   pub direction : Direction
   pub types : List Name
   pub length : Option Length
-  pub properties : Option (List Entry)
+  pub properties : Option (List MapEntry)
 
 pub record Step : Type 0 where
   pub relationship : RelationshipPattern

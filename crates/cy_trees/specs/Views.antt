@@ -1,4 +1,4 @@
--- The tree that a value of the code stands for.
+-- The tree that a value of the code stands for (own).
 use Rattle.std.specs.Prelude.{List, [], ◌∷◌, map, Option, Some, None, option_map}
 use Rattle.std.specs.declared.vec.Vec.{Vec}
 use Rattle.std.specs.declared.alloc.Global.{Global}
@@ -9,7 +9,7 @@ use Rattle.cy_trees.specs.declared.expressions.Expr.TheFolds.{fold-Arm, fold-Lin
 use Rattle.cy_trees.specs.declared.expressions.Expr.TheOpen.{Expr-F, Link-F, Arm-F}
 use Rattle.cy_trees.specs.declared.expressions.Arm as coded_arm
 use Rattle.cy_trees.specs.declared.expressions.Link as coded_link
-use Rattle.cy_trees.specs.declared.clauses.Entry as coded_entry
+use Rattle.cy_trees.specs.declared.clauses.MapEntry as coded_entry
 use Rattle.cy_trees.specs.declared.clauses.NodePattern as coded_node
 use Rattle.cy_trees.specs.declared.clauses.RelationshipPattern as coded_relationship
 use Rattle.cy_trees.specs.declared.clauses.Step as coded_step
@@ -24,7 +24,7 @@ use Rattle.cy_trees.specs.declared.clauses.RemoveItem.TheVariants as remove_item
 use Rattle.cy_trees.specs.declared.clauses.Clause as coded_clause
 use Rattle.cy_trees.specs.declared.clauses.Clause.TheVariants as clause
 use Rattle.cy_trees.specs.declared.clauses.Statement as coded_statement
-use Rattle.cy_trees.specs.Trees.{Expression, null, boolean, integer, text, variable, property, has_labels, unary, binary, comparison, list, case, call, call_star, Expressions, no_more, more, Links, no_links, link, Arms, no_arms, arm, Otherwise, nothing, otherwise, Entry, NodePattern, RelationshipPattern, Step, Path, Item, Key, Projection, SetItem, set_property, set_labels, RemoveItem, remove_property, remove_labels, Clause, «match», unwind, «with», «return», create, set, remove, delete, Statement}
+use Rattle.cy_trees.specs.Trees.{Expression, null, boolean, integer, text, variable, property, has_labels, unary, binary, comparison, list, case, call, call_star, Expressions, no_more, more, Links, no_links, link, Arms, no_arms, arm, Otherwise, nothing, otherwise, MapEntry, NodePattern, RelationshipPattern, Step, Path, Item, Key, Projection, SetItem, set_property, set_labels, RemoveItem, remove_property, remove_labels, Clause, «match», unwind, «with», «return», create, set, remove, delete, Statement}
 
 abbrev pub expressions_from : List Expression → Expressions
 expressions_from [] = no_more
@@ -86,10 +86,10 @@ arms_of arms = arms_from (map arm_of arms.items)
 abbrev pub filter_of : Option Expr → Option Expression
 filter_of = option_map expression_of
 
-abbrev pub entry_of : coded_entry.Entry → Entry
+abbrev pub entry_of : coded_entry.MapEntry → MapEntry
 entry_of e = record { key = e.key; value = expression_of e.value }
 
-abbrev pub properties_of : Option (Vec coded_entry.Entry Global) → Option (List Entry)
+abbrev pub properties_of : Option (Vec coded_entry.MapEntry Global) → Option (List MapEntry)
 properties_of = option_map (λ es. map entry_of es.items)
 
 abbrev pub node_of : coded_node.NodePattern → NodePattern

@@ -1,2 +1,3 @@
+pub mod PieceWords
 pub mod Showing
 pub mod Separators

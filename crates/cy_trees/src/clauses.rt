@@ -89,7 +89,7 @@ pub struct NodePattern {
     pub variable: Option<Variable>,
     pub labels: Vec<Text>,
     /// The entries of the map, if one is written.
-    pub properties: Option<Vec<Entry>>,
+    pub properties: Option<Vec<MapEntry>>,
 }
 
 #[derive(Drop)]
@@ -99,7 +99,7 @@ pub struct RelationshipPattern {
     /// The types of which it may be one; none: any.
     pub types: Vec<Text>,
     pub length: Option<Length>,
-    pub properties: Option<Vec<Entry>>,
+    pub properties: Option<Vec<MapEntry>>,
 }
 
 /// Which way a relationship points, as the path is written.
@@ -122,7 +122,7 @@ pub struct Length {
 
 /// An entry of a property map.
 #[derive(Drop)]
-pub struct Entry {
+pub struct MapEntry {
     pub key: Text,
     pub value: Expr,
 }

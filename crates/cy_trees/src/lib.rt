@@ -12,7 +12,7 @@ mod statement_text;
 mod writing;
 
 pub use clauses::{
-    Clause, Delete, Direction, Entry, Item, Key, Length, Match, NodePattern, Path, Projection,
+    Clause, Delete, Direction, Item, Key, Length, MapEntry, Match, NodePattern, Path, Projection,
     RelationshipPattern, RemoveItem, SetItem, Statement, Step, Unwind, With,
 };
 pub use expressions::{Arm, BinaryOperator, Comparator, Expr, Link, UnaryOperator, Variable};

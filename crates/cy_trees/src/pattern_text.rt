@@ -5,7 +5,7 @@ ghost use Rattle.cy_trees.specs.Show as shown;
 ghost use Rattle.cy_trees.specs.Show.{text_of};
 ghost use Rattle.cy_trees.specs.Views as tree;
 
-use crate::clauses::{Direction, Entry, Length, NodePattern, Path, RelationshipPattern, Step};
+use crate::clauses::{Direction, Length, MapEntry, NodePattern, Path, RelationshipPattern, Step};
 use crate::expressions::Variable;
 use crate::quoting::write_name;
 use crate::showing::{write_expression, write_labels};
@@ -29,7 +29,7 @@ impl Show for Variable {
     }
 }
 
-impl Show for Entry {
+impl Show for MapEntry {
     ghost pieces = { λ e. shown.entry_pieces (tree.entry_of e) };
 
     fn write(&self, text: &mut String) -> Result<(), AllocError> {
@@ -144,13 +144,13 @@ fn write_steps(text: &mut String, steps: &[Step]) -> Result<(), AllocError>
 }
 
 #[tactic(auto, using(crate::proofs::ShowLemmas::entries_fused))]
-fn write_entries(text: &mut String, entries: &[Entry]) -> Result<(), AllocError>
+fn write_entries(text: &mut String, entries: &[MapEntry]) -> Result<(), AllocError>
     ensures { OnOk result (string_bytes text.new ≡ string_bytes text.old ++ text_of (shown.list_pieces (map shown.entry_pieces (map tree.entry_of entries.now)))) }
 {
     write_separated(text, Separator::Comma, entries)
 }
 
-fn write_map(text: &mut String, properties: &Option<Vec<Entry>>) -> Result<(), AllocError>
+fn write_map(text: &mut String, properties: &Option<Vec<MapEntry>>) -> Result<(), AllocError>
     ensures { OnOk result (string_bytes text.new ≡ string_bytes text.old ++ text_of (shown.map_pieces (tree.properties_of properties.now))) }
 {
     let Some(entries) = properties else {

@@ -16,7 +16,8 @@ use Rattle.cy_parser.specs.declared.places.Nested.TheVariants as nested
 use Rattle.cy_trees.specs.Trees.{Name, Expression, Expressions, list, no_more, more, call, call_star, variable, property, has_labels, unary, binary, boolean, integer, null, text, Links, no_links, link, comparison, Arms, arm, no_arms, Otherwise, nothing, otherwise, case}
 use Rattle.cy_trees.specs.Depth.{depth, deepest, links_depth, arms_depth, otherwise_depth, greatest_depth}
 use Rattle.cy_trees.specs.Views.{expressions_from, arms_from, links_from}
-use Rattle.cy_parser.specs.Words.{is_word, is_name, denotes, lowered, number_limit, negated, product_operator, sum_operator, comparator_of, conjunction_operator, exclusion_operator, disjunction_operator}
+use Rattle.cy_parser.specs.Words.{is_word, is_name, denotes, lowered, number_limit, negated, product_operator, sum_operator, comparator_of}
+use Rattle.cy_parser.specs.internal.Chains.{conjunction_operator, exclusion_operator, disjunction_operator}
 use Rattle.cy_parser.specs.internal.Reader.{Reader, and_then, checked, at_kind, is_symbol, is_keyword, ◌>>◌, expect_symbol, expect_keyword, refuse, ◌>>=◌, kind_ahead}
 use Rattle.cy_parser.specs.internal.Expressions as read
 use Rattle.cy_parser.specs.internal.Expressions.{chain, chain_from, begins_predicate, nesting}

@@ -8,7 +8,8 @@ use Rattle.cy_lexer.specs.declared.symbols.Symbol.TheVariants as sign
 use Rattle.cy_trees.specs.declared.expressions.Comparator.{Comparator}
 use Rattle.cy_trees.specs.Trees.{Expression}
 use Rattle.cy_parser.specs.declared.places.Nested.{Nested}
-use Rattle.cy_parser.specs.Words.{disjunction_operator, exclusion_operator, conjunction_operator, comparator_of, sum_operator, product_operator}
+use Rattle.cy_parser.specs.Words.{comparator_of, sum_operator, product_operator}
+use Rattle.cy_parser.specs.internal.Chains.{disjunction_operator, exclusion_operator, conjunction_operator}
 use Rattle.cy_parser.specs.internal.Reader.{Reader, and_then, kind_ahead, at_kind, is_symbol}
 use Rattle.cy_parser.specs.internal.Expressions.{begins_predicate, continues_predicate, continues_comparison, continues_whole, continues_owner, properties_from, properties, labelled, attributes, predicates_from, links_read, signed, product, sum, predicate, predicate_from, links, comparisons, negation, conjunction, exclusion, disjunction}
 use Rattle.cy_parser.proofs.Chains.{chain_end}

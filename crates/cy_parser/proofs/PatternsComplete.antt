@@ -10,7 +10,7 @@ use Rattle.cy_trees.specs.declared.expressions.Variable.{Variable}
 use Rattle.cy_trees.specs.declared.clauses.Direction.{Direction}
 use Rattle.cy_trees.specs.declared.clauses.Direction.TheVariants as direction
 use Rattle.cy_trees.specs.declared.clauses.Length.{Length}
-use Rattle.cy_trees.specs.Trees.{Name, Expression, Entry, NodePattern, RelationshipPattern, Step, Path}
+use Rattle.cy_trees.specs.Trees.{Name, Expression, MapEntry, NodePattern, RelationshipPattern, Step, Path}
 use Rattle.cy_parser.specs.Words.{is_word, is_name, denotes, number_limit}
 use Rattle.cy_parser.specs.internal.Reader.{Reader, and_then, kind_ahead, is_symbol, eat_symbol, skip, refuse, ◌>>◌, ◌>>=◌, ◌<$>◌, pure}
 use Rattle.cy_parser.specs.internal.Expressions.{expression}
@@ -259,32 +259,32 @@ module _ (line : List ℕ) where
       expression line ts ≡ Some (e, rest)
   expression_reads e ts rest s stop = (whole_reads e ts rest s).reads s.shallow stop
 
-  entry_shortens : (e : Entry) (ts rest : List Token) → SpellsEntry line e ts rest → suc (length rest) ≤ length ts
+  entry_shortens : (e : MapEntry) (ts rest : List Token) → SpellsEntry line e ts rest → suc (length rest) ≤ length ts
   entry_shortens _ _ rest (entry e key colon ts _ is is_colon s) = let x = (whole_reads e ts rest s).shortens in omega (arith, x)
 
-  entry_reads : (e : Entry) (ts rest : List Token) → SpellsEntry line e ts rest → ends_whole (kind_ahead rest) ≡ true → read.entry line ts ≡ Some (e, rest)
+  entry_reads : (e : MapEntry) (ts rest : List Token) → SpellsEntry line e ts rest → ends_whole (kind_ahead rest) ≡ true → read.entry line ts ≡ Some (e, rest)
   unfolding read.entry
   entry_reads _ _ rest (entry e key colon ts _ is is_colon s) stop =
       after _ (takes is_word line key (colon ∷ ts) is) (after _ (expects_symbol sign.Colon colon ts is_colon) (after _ (expression_reads e ts rest s stop) refl))
 
-  entry_begins : (e : Entry) (ts rest : List Token) → SpellsEntry line e ts rest → is_symbol sign.RightBrace (kind_ahead ts) ≡ false
+  entry_begins : (e : MapEntry) (ts rest : List Token) → SpellsEntry line e ts rest → is_symbol sign.RightBrace (kind_ahead ts) ≡ false
   entry_begins _ _ rest (entry e key colon ts _ is is_colon s) = no_word sign.RightBrace key.kind is
 
-  entries_shorten : (es : List Entry) (ts rest : List Token) → SpellsEach (SpellsEntry line) es ts rest → suc (length rest) ≤ length ts
+  entries_shorten : (es : List MapEntry) (ts rest : List Token) → SpellsEach (SpellsEntry line) es ts rest → suc (length rest) ≤ length ts
   entries_shorten es ts rest s = each_shortens (read.entry line) (SpellsEntry line) ends_whole refl entry_shortens entry_reads es ts rest s
 
-  entries_read : (es : List Entry) (ts rest : List Token) → SpellsEach (SpellsEntry line) es ts rest → ends_whole (kind_ahead rest) ≡ true →
+  entries_read : (es : List MapEntry) (ts rest : List Token) → SpellsEach (SpellsEntry line) es ts rest → ends_whole (kind_ahead rest) ≡ true →
       is_symbol sign.Comma (kind_ahead rest) ≡ false → read.entries line ts ≡ Some (es, rest)
   unfolding read.entries
   entries_read es ts rest s stop no_comma = separated_read (read.entry line) (SpellsEntry line) ends_whole refl entry_shortens entry_reads es ts rest s stop no_comma
 
   map_begins : (test : Option Kind → Bool) (b : Bool) → test (Some (kind.Symbol sign.LeftBrace)) ≡ b →
-      (m : Option (List Entry)) (ts rest : List Token) → SpellsMapIfAny line m ts rest → test (kind_ahead rest) ≡ b → test (kind_ahead ts) ≡ b
+      (m : Option (List MapEntry)) (ts rest : List Token) → SpellsMapIfAny line m ts rest → test (kind_ahead rest) ≡ b → test (kind_ahead ts) ≡ b
   map_begins test b at _ _ rest (no_map _) stop = stop
   map_begins test b at _ _ rest (empty_map opening closing _ is is_closing) stop = at_symbol test sign.LeftBrace b opening is at
   map_begins test b at _ _ rest (map_of es opening closing ts _ is s is_closing) stop = at_symbol test sign.LeftBrace b opening is at
 
-  map_if_any_shortens : (m : Option (List Entry)) (ts rest : List Token) → SpellsMapIfAny line m ts rest → length rest ≤ length ts
+  map_if_any_shortens : (m : Option (List MapEntry)) (ts rest : List Token) → SpellsMapIfAny line m ts rest → length rest ≤ length ts
   map_if_any_shortens _ _ rest (no_map _) = omega arith
   map_if_any_shortens _ _ rest (empty_map opening closing _ is is_closing) = omega arith
   map_if_any_shortens _ _ rest (map_of es opening closing ts _ is s is_closing) = let x = entries_shorten es ts (closing ∷ rest) s in omega (arith, x)
@@ -293,7 +293,7 @@ module _ (line : List ℕ) where
   unfolding read.map_read
   map_of_none closing rest is = after _ (eats_symbol sign.RightBrace closing rest is) refl
 
-  map_of_some : (es : List Entry) (closing : Token) (ts rest : List Token) → SpellsEach (SpellsEntry line) es ts (closing ∷ rest) →
+  map_of_some : (es : List MapEntry) (closing : Token) (ts rest : List Token) → SpellsEach (SpellsEntry line) es ts (closing ∷ rest) →
       IsSymbol sign.RightBrace closing → read.map_read line ts ≡ Some (es, rest)
   unfolding read.map_read
   map_of_some es closing ts rest s is =
@@ -301,7 +301,7 @@ module _ (line : List ℕ) where
       (after _ (entries_read es ts (closing ∷ rest) s (at_symbol ends_whole sign.RightBrace true closing is refl) (at_symbol (is_symbol sign.Comma) sign.RightBrace false closing is refl))
       (after _ (expects_symbol sign.RightBrace closing rest is) refl))
 
-  map_if_any_reads : (m : Option (List Entry)) (ts rest : List Token) → SpellsMapIfAny line m ts rest →
+  map_if_any_reads : (m : Option (List MapEntry)) (ts rest : List Token) → SpellsMapIfAny line m ts rest →
       is_symbol sign.LeftBrace (kind_ahead rest) ≡ false → read.map_if_any line ts ≡ Some (m, rest)
   unfolding read.map_if_any
   map_if_any_reads _ _ rest (no_map _) stop = after _ (leaves_symbol sign.LeftBrace rest stop) refl
@@ -351,11 +351,11 @@ module _ (line : List ℕ) where
   abbrev IsOutside : (Option Kind → Bool) → Type 0
   IsOutside test = (test (Some (kind.Symbol sign.LeftBrace)) ≡ false) × (test (Some (kind.Symbol sign.RightBracket)) ≡ false)
 
-  before_map : (test : Option Kind → Bool) → IsOutside test → (m : Option (List Entry)) (closing : Token) (ts rest : List Token) →
+  before_map : (test : Option Kind → Bool) → IsOutside test → (m : Option (List MapEntry)) (closing : Token) (ts rest : List Token) →
       SpellsMapIfAny line m ts (closing ∷ rest) → IsSymbol sign.RightBracket closing → test (kind_ahead ts) ≡ false
   before_map test out m closing ts rest of_map is = map_begins test false out.0 m ts (closing ∷ rest) of_map (at_symbol test sign.RightBracket false closing is out.1)
 
-  body_reads : (v : Option Variable) (towards : Direction) (ns : List Name) (l : Option Length) (m : Option (List Entry))
+  body_reads : (v : Option Variable) (towards : Direction) (ns : List Name) (l : Option Length) (m : Option (List MapEntry))
       (closing : Token) (ts from mid beyond rest : List Token) →
       SpellsVariableIfAny line v ts from → SpellsTypesIfAny line ns from mid → SpellsLengthIfAny l mid beyond →
       SpellsMapIfAny line m beyond (closing ∷ rest) → IsSymbol sign.RightBracket closing →

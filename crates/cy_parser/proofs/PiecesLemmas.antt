@@ -14,11 +14,12 @@ use Rattle.cy_lexer.specs.declared.symbols.Symbol.{Symbol}
 use Rattle.cy_lexer.specs.declared.symbols.Symbol.TheVariants as sign
 use Rattle.cy_lexer.specs.declared.tokens.Token.{Token}
 use Rattle.cy_lexer.specs.Keywords.{spelling}
-use Rattle.cy_lexer.specs.Words.{Word, signs, characters}
+use Rattle.cy_lexer.specs.Words.{Word, signs}
 use Rattle.cy_lexer.specs.Words as words
-use Rattle.cy_lexer.specs.internal.SpacedWords.{is_word, may_touch, space, written, may_touch_next, are_words, IsTokenOf, AreTokensOf}
+use Rattle.cy_lexer.specs.internal.SpacedWords.{is_word, may_touch, space, written, may_touch_next, are_words, IsTokenOf, AreTokensOf, characters}
 use Rattle.cy_lexer.proofs.WordsPiecesLemmas.{decimal-front}
-use Rattle.cy_trees.specs.Show.{Piece, word_text, piece_text, text_of, words_of}
+use Rattle.cy_trees.specs.Show.{Piece, word_text, piece_text, text_of}
+use Rattle.cy_trees.specs.internal.PieceWords.{words_of}
 use Rattle.cy_trees.specs.Show as piece
 
 -- ---- what pieces may stand after

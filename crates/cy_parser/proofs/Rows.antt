@@ -4,7 +4,8 @@ use Rattle.std.specs.Prelude.{codes, chars, encode_utf8_all}
 use Rattle.std.proofs.lemmas.Str.{chars-encodes}
 use lib.Utf8.{encode}
 use Rattle.cy_lexer.specs.Words as words
-use Rattle.cy_trees.specs.Show.{statement_pieces, words_of}
+use Rattle.cy_trees.specs.Show.{statement_pieces}
+use Rattle.cy_trees.specs.internal.PieceWords.{words_of}
 use Rattle.cy_parser.proofs.ShownTokens.{denotes_within}
 use Rattle.cy_lexer.specs.declared.tokens.Token.{Token}
 use Rattle.cy_lexer.specs.declared.tokens.Kind.TheVariants as kind

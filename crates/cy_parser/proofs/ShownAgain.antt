@@ -5,10 +5,11 @@ use Rattle.cy_lexer.specs.declared.tokens.Token.{Token}
 use Rattle.cy_lexer.specs.Line.{longest_line}
 use Rattle.cy_lexer.specs.Spans.{slice_of}
 use Rattle.cy_lexer.specs.Tokens.{tokens_of}
-use Rattle.cy_lexer.specs.Words.{Word, kind_of}
-use Rattle.cy_lexer.specs.internal.SpacedWords.{bytes_of}
+use Rattle.cy_lexer.specs.Words.{Word}
+use Rattle.cy_lexer.specs.internal.SpacedWords.{bytes_of, kind_of}
 use Rattle.cy_trees.specs.Trees.{Statement}
-use Rattle.cy_trees.specs.Show.{show, statement_pieces, words_of}
+use Rattle.cy_trees.specs.Show.{show, statement_pieces}
+use Rattle.cy_trees.specs.internal.PieceWords.{words_of}
 use Rattle.cy_parser.specs.Shown.{AreAlike, AreNeighbours, with_columns}
 use Rattle.cy_parser.specs.SpellsClauses.{SpellsStatement}
 use Rattle.cy_parser.proofs.PiecesLemmas.{AreTokens}

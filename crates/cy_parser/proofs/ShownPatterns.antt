@@ -6,7 +6,7 @@ use Rattle.cy_trees.specs.declared.expressions.Variable.{Variable}
 use Rattle.cy_trees.specs.declared.clauses.Direction.{Direction}
 use Rattle.cy_trees.specs.declared.clauses.Direction.TheVariants as direction
 use Rattle.cy_trees.specs.declared.clauses.Length.{Length}
-use Rattle.cy_trees.specs.Trees.{Name, Expression, Entry, NodePattern, RelationshipPattern, Step, Path}
+use Rattle.cy_trees.specs.Trees.{Name, Expression, MapEntry, NodePattern, RelationshipPattern, Step, Path}
 use Rattle.cy_trees.specs.Depth.{depth}
 use Rattle.cy_lexer.specs.Words as words
 use Rattle.cy_trees.specs.Show.{Piece, word, space, mark, named, each_after, comma, list_pieces, label_pieces, expression_pieces, entry_pieces, map_pieces, variable_pieces, node_pieces, type_pieces, bound_pieces, length_pieces, relationship_pieces, step_pieces, path_pieces}
@@ -59,14 +59,14 @@ module _ (line : List ℕ) where
       at_symbol line (λ us. SpellsLabelsIfAny line (l ∷ ls) us rest) sign.Colon (named l ∷ label_pieces ls) ts rest s (λ colon mid is after.
       labels (l ∷ ls) colon mid rest is (shown_labels line l ls mid rest w.0 w.1 after))
 
-  shown_entry : (e : Entry) (ts rest : List Token) → EntryIsWellFormed e → Shown line (entry_pieces e) ts rest → SpellsEntry line e ts rest
+  shown_entry : (e : MapEntry) (ts rest : List Token) → EntryIsWellFormed e → Shown line (entry_pieces e) ts rest → SpellsEntry line e ts rest
   shown_entry e ts rest w s =
       at_name line (λ us. SpellsEntry line e us rest) e.key (mark sign.Colon ∷ expression_pieces e.value) ts rest w.0 s (λ t mid names any said after.
       at_symbol line (λ us. SpellsEntry line e (t ∷ us) rest) sign.Colon (expression_pieces e.value) mid rest after (λ colon from is further.
       subst (λ z. SpellsEntry line (record { key = z; value = e.value }) (t ∷ colon ∷ from) rest) said
       (entry e.value t colon from rest any is (shown_expression e.value from rest w.1 further))))
 
-  shown_map : (m : Option (List Entry)) (ts rest : List Token) → IfAny (Every EntryIsWellFormed) m → Shown line (map_pieces m) ts rest → SpellsMapIfAny line m ts rest
+  shown_map : (m : Option (List MapEntry)) (ts rest : List Token) → IfAny (Every EntryIsWellFormed) m → Shown line (map_pieces m) ts rest → SpellsMapIfAny line m ts rest
   shown_map None ts rest w s = at_end line (λ us. SpellsMapIfAny line None us rest) ts rest s (no_map rest)
   shown_map (Some []) ts rest w s =
       at_symbol line (λ us. SpellsMapIfAny line (Some []) us rest) sign.LeftBrace (mark sign.RightBrace ∷ []) ts rest s (λ opening mid opens after.

@@ -6,16 +6,17 @@ use Rattle.cy_lexer.specs.declared.tokens.Kind.TheVariants as kind
 use Rattle.cy_lexer.specs.declared.symbols.Symbol.{Symbol}
 use Rattle.cy_lexer.specs.declared.symbols.Symbol.TheVariants as sign
 use Rattle.cy_lexer.specs.declared.keywords.Keyword.{Keyword}
-use Rattle.cy_lexer.specs.Words.{Word, meant}
+use Rattle.cy_lexer.specs.Words.{Word}
 use Rattle.cy_lexer.specs.Words as words
 use Rattle.cy_lexer.specs.Spans.{slice_of}
 use Rattle.cy_lexer.specs.Tokens.{denoted}
-use Rattle.cy_lexer.specs.internal.SpacedWords.{IsTokenOf}
+use Rattle.cy_lexer.specs.internal.SpacedWords.{IsTokenOf, meant}
 use Rattle.cy_lexer.specs.internal.SpacedWords as spaced
 use Rattle.std.proofs.lemmas.Str.{chars-encodes}
 use Rattle.cy_lexer.proofs.WordsLemmas.{denoted-token}
 use Rattle.cy_trees.specs.Trees.{Name}
-use Rattle.cy_trees.specs.Show.{Piece, word, space, words_of, says, mark, named, spelt, bracketed}
+use Rattle.cy_trees.specs.Show.{Piece, word, space, says, mark, named, spelt, bracketed}
+use Rattle.cy_trees.specs.internal.PieceWords.{words_of}
 use Rattle.cy_parser.specs.Words.{denotes, is_within, is_word, is_name}
 use Rattle.cy_parser.specs.Spells.{IsKeyword, IsSymbol, IsNumber}
 use Rattle.cy_parser.specs.internal.WellFormed.{IsText, IsNamed}

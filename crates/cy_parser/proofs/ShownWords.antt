@@ -25,8 +25,9 @@ use Rattle.cy_trees.specs.declared.expressions.Variable.{Variable}
 use Rattle.cy_trees.specs.declared.clauses.Direction.{Direction}
 use Rattle.cy_trees.specs.declared.clauses.Direction.TheVariants as direction
 use Rattle.cy_trees.specs.declared.clauses.Length.{Length}
-use Rattle.cy_trees.specs.Trees.{Name, Expression, null, boolean, integer, text, variable, property, has_labels, unary, binary, comparison, list, case, call, call_star, Expressions, no_more, more, Links, no_links, link, Arms, no_arms, arm, Otherwise, nothing, otherwise, Entry, NodePattern, RelationshipPattern, Step, Path, Item, Key, Projection, SetItem, set_property, set_labels, RemoveItem, remove_property, remove_labels, Clause, «match», unwind, «with», «return», create, set, remove, delete, Statement}
-use Rattle.cy_trees.specs.Show.{Piece, says, mark, named, spelt, bracketed, each_after, separated, comma, list_pieces, binary_pieces, comparator_symbol, unary_pieces, label_pieces, is_literal, owner_pieces, distinct_pieces, expression_pieces, elements_pieces, further_pieces, links_pieces, arms_pieces, otherwise_pieces, entry_pieces, map_pieces, variable_pieces, node_pieces, type_pieces, bound_pieces, length_pieces, tail_pieces, head_pieces, relationship_pieces, step_pieces, path_pieces, paths_pieces, filter_pieces, item_pieces, descending_pieces, key_pieces, order_pieces, count_pieces, projection_pieces, set_item_pieces, remove_item_pieces, optional_pieces, detach_pieces, clause_pieces, statement_pieces, words_of, text_of, show}
+use Rattle.cy_trees.specs.Trees.{Name, Expression, null, boolean, integer, text, variable, property, has_labels, unary, binary, comparison, list, case, call, call_star, Expressions, no_more, more, Links, no_links, link, Arms, no_arms, arm, Otherwise, nothing, otherwise, MapEntry, NodePattern, RelationshipPattern, Step, Path, Item, Key, Projection, SetItem, set_property, set_labels, RemoveItem, remove_property, remove_labels, Clause, «match», unwind, «with», «return», create, set, remove, delete, Statement}
+use Rattle.cy_trees.specs.Show.{Piece, says, mark, named, spelt, bracketed, each_after, separated, comma, list_pieces, binary_pieces, comparator_symbol, unary_pieces, label_pieces, is_literal, owner_pieces, distinct_pieces, expression_pieces, elements_pieces, further_pieces, links_pieces, arms_pieces, otherwise_pieces, entry_pieces, map_pieces, variable_pieces, node_pieces, type_pieces, bound_pieces, length_pieces, tail_pieces, head_pieces, relationship_pieces, step_pieces, path_pieces, paths_pieces, filter_pieces, item_pieces, descending_pieces, key_pieces, order_pieces, count_pieces, projection_pieces, set_item_pieces, remove_item_pieces, optional_pieces, detach_pieces, clause_pieces, statement_pieces, text_of, show}
+use Rattle.cy_trees.specs.internal.PieceWords.{words_of}
 use Rattle.cy_trees.specs.Show as piece
 use Rattle.cy_parser.specs.SpellsClauses.{greatest_bound, Standing, standing_after, reading}
 use Rattle.cy_parser.specs.internal.WellFormed.{IsText, IsNamed, Every, Several, IfAny, IsVariable, IsWellFormed, AreWellFormed, LinksAreWellFormed, ArmsAreWellFormed, OtherwiseIsWellFormed, IsWhole, EntryIsWellFormed, NodeIsWellFormed, LengthIsWellFormed, RelationshipIsWellFormed, StepIsWellFormed, PathIsWellFormed, ItemIsWellFormed, KeyIsWellFormed, CountIsWellFormed, ProjectionIsWellFormed, SetItemIsWellFormed, RemoveItemIsWellFormed, ClauseIsWellFormed, ClausesAreWellFormed, StatementIsWellFormed}
@@ -223,12 +224,12 @@ list-runs-after P f each s quiet (x ∷ xs) are = opened s quiet (list-runs P f 
 
 -- ---- patterns
 
-entry-runs : (e : Entry) → EntryIsWellFormed e → Runs free (entry_pieces e) ended
+entry-runs : (e : MapEntry) → EntryIsWellFormed e → Runs free (entry_pieces e) ended
 entry-runs e is =
     a_word (words.name (chars e.key)) refl (name-is_word e.key is.0)
     (a_word (words.symbol sign.Colon) refl refl (opened sign.Colon refl (operand-runs e.value is.1.0)))
 
-map-runs : (es : Option (List Entry)) → IfAny (Every EntryIsWellFormed) es → Runs ended (map_pieces es) ended
+map-runs : (es : Option (List MapEntry)) → IfAny (Every EntryIsWellFormed) es → Runs ended (map_pieces es) ended
 map-runs None are = no_pieces
 map-runs (Some es) are =
     a_word (words.symbol sign.LeftBrace) refl refl

@@ -15,7 +15,8 @@ use Rattle.cy_parser.specs.declared.places.Nested.TheVariants as nested
 use Rattle.cy_trees.specs.Trees.{Name, Expression, list, no_more, call, call_star, variable, property, has_labels, unary, binary, boolean, integer, null, text, comparison, nothing, otherwise, case}
 use Rattle.cy_trees.specs.Depth.{depth, greatest_depth}
 use Rattle.cy_trees.specs.Views.{expressions_from, arms_from, links_from}
-use Rattle.cy_parser.specs.Words.{is_word, is_name, denotes, lowered, number_limit, negated, product_operator, sum_operator, comparator_of, conjunction_operator, exclusion_operator, disjunction_operator}
+use Rattle.cy_parser.specs.Words.{is_word, is_name, denotes, lowered, number_limit, negated, product_operator, sum_operator, comparator_of}
+use Rattle.cy_parser.specs.internal.Chains.{conjunction_operator, exclusion_operator, disjunction_operator}
 use Rattle.cy_parser.specs.internal.Reader.{Reader, and_then, checked, skip, at_kind, ◌>>◌, pure, refuse, ◌>>=◌, ◌<$>◌, kind_ahead, past}
 use Rattle.cy_parser.specs.internal.Expressions.{bracketed, listed, elements, elements_from, labels, labels_from, arguments, called, named, arms, arms_read, else_read, cases, properties, properties_from, labelled as labelled_read, attributes, literal, literal_by, counted, quoted, postfix as postfix_read, postfix_by, minus as minus_read, minus_by, plus as plus_read, chain, chain_from, signed as signed_read, product as product_read, sum as sum_read, null_test, tested, predicate_by, begins_predicate, predicate_step, predicates_from, predicate as predicate_read, links_read, links, compared, comparisons as comparisons_read, negation as negation_read, conjunction as conjunction_read, exclusion as exclusion_read, disjunction, level, nesting, expression, opened}
 use Rattle.cy_parser.specs.SpellsClauses.{most_levels}

@@ -6,7 +6,8 @@ use Rattle.cy_lexer.specs.declared.tokens.Kind.{Kind}
 use Rattle.cy_lexer.specs.declared.tokens.Kind.TheVariants as kind
 use Rattle.cy_trees.specs.declared.expressions.BinaryOperator.{BinaryOperator}
 use Rattle.cy_trees.specs.declared.expressions.Comparator.{Comparator}
-use Rattle.cy_parser.specs.Words.{disjunction_operator, exclusion_operator, conjunction_operator, comparator_of, sum_operator, product_operator, is_name}
+use Rattle.cy_parser.specs.Words.{comparator_of, sum_operator, product_operator, is_name}
+use Rattle.cy_parser.specs.internal.Chains.{disjunction_operator, exclusion_operator, conjunction_operator}
 use Rattle.cy_parser.specs.internal.Reader.{at_kind, is_symbol, is_keyword}
 use Rattle.cy_parser.specs.internal.Expressions.{begins_predicate}
 use Rattle.cy_parser.specs.Spells.{Level, whole, exclusion, conjunction, negation, comparisons, predicate, sum, product, signed, postfix, owner, head}

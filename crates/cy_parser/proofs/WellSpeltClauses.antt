@@ -12,7 +12,7 @@ use Rattle.cy_lexer.specs.Tokens.{tokens_of}
 use Rattle.cy_lexer.proofs.LexedLemmas.{tokens_of-own, IsStretch}
 use Rattle.cy_trees.specs.declared.expressions.Variable.{Variable}
 use Rattle.cy_trees.specs.declared.clauses.Length.{Length}
-use Rattle.cy_trees.specs.Trees.{Name, Expression, variable, Entry, NodePattern, RelationshipPattern, Step, Path, Item, Key, Projection, SetItem, RemoveItem, Clause, Statement}
+use Rattle.cy_trees.specs.Trees.{Name, Expression, variable, MapEntry, NodePattern, RelationshipPattern, Step, Path, Item, Key, Projection, SetItem, RemoveItem, Clause, Statement}
 use Rattle.cy_parser.specs.Words.{slice_in, spanning, written}
 use Rattle.cy_parser.specs.SpellsClauses as spell
 use Rattle.cy_parser.specs.internal.WellFormed.{IsNamed, IsVariable, Every, Several, IfAny, IsWhole, EntryIsWellFormed, NodeIsWellFormed, LengthIsWellFormed, RelationshipIsWellFormed, StepIsWellFormed, PathIsWellFormed, ItemIsWellFormed, KeyIsWellFormed, CountIsWellFormed, ProjectionIsWellFormed, SetItemIsWellFormed, RemoveItemIsWellFormed, ClauseIsWellFormed, ClausesAreWellFormed, StatementIsWellFormed}
@@ -60,12 +60,12 @@ module _ (line : List ℕ) (utf8 : IsUtf8 line) where
   labels_if_any_well (spell.no_labels ts) p = (tt, p)
   labels_if_any_well (spell.labels ls colon ts rest is s) p = let x = labels_well line utf8 s (next colon ts p) in (some_every ls x.0, x.1)
 
-  entry_well : (x : Entry) (ts rest : List Token) → spell.SpellsEntry line x ts rest → Part ts → EntryIsWellFormed x × Part rest
+  entry_well : (x : MapEntry) (ts rest : List Token) → spell.SpellsEntry line x ts rest → Part ts → EntryIsWellFormed x × Part rest
   entry_well _ _ rest (spell.entry e key colon ts _ names is s) p =
       let x = whole_well e ts rest s (next colon ts (next key (colon ∷ ts) p)) in
       ((named_token line utf8 key (colon ∷ ts) p names, x.0), x.1)
 
-  map_if_any_well : {m : Option (List Entry)} {ts rest : List Token} → spell.SpellsMapIfAny line m ts rest → Part ts → IfAny (Every EntryIsWellFormed) m × Part rest
+  map_if_any_well : {m : Option (List MapEntry)} {ts rest : List Token} → spell.SpellsMapIfAny line m ts rest → Part ts → IfAny (Every EntryIsWellFormed) m × Part rest
   map_if_any_well (spell.no_map ts) p = (tt, p)
   map_if_any_well (spell.empty_map opening closing rest is closes) p = (tt, next closing rest (next opening (closing ∷ rest) p))
   map_if_any_well (spell.map_of es opening closing ts rest is s closes) p =

@@ -10,9 +10,9 @@ use Rattle.cy_lexer.specs.declared.symbols.Symbol.{Symbol}
 use Rattle.cy_lexer.specs.declared.symbols.Symbol.TheVariants as sign
 use Rattle.cy_lexer.specs.declared.tokens.Token.{Token}
 use Rattle.cy_lexer.specs.Spans.{AreSpansOf}
-use Rattle.cy_lexer.specs.Words.{Word, doubled, escaped, characters}
+use Rattle.cy_lexer.specs.Words.{Word, doubled, escaped}
 use Rattle.cy_lexer.specs.Words as words
-use Rattle.cy_lexer.specs.internal.SpacedWords.{is_word, space, written, may_touch_next, are_words, bytes_of, tokens_at}
+use Rattle.cy_lexer.specs.internal.SpacedWords.{is_word, space, written, may_touch_next, are_words, bytes_of, tokens_at, characters}
 use Rattle.cy_lexer.proofs.WordsPiecesLemmas.{spelling-front, decimal-front}
 use Rattle.cy_trees.specs.Show.{word_text}
 use Rattle.cy_parser.proofs.WithinLemmas.{within-span}

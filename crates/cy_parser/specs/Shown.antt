@@ -1,4 +1,4 @@
--- The tokens of the text that show writes.
+-- The tokens of the text that show writes (own).
 use Rattle.std.specs.Prelude.{◌≡◌, ℕ, true, List, ◌++◌, map, Ok}
 use Rattle.cy_lexer.specs.declared.tokens.Token.{Token}
 use Rattle.cy_lexer.specs.Spans.{slice_of}

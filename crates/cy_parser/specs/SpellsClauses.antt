@@ -10,7 +10,7 @@ use Rattle.cy_trees.specs.declared.expressions.Variable.{Variable}
 use Rattle.cy_trees.specs.declared.clauses.Direction.{Direction}
 use Rattle.cy_trees.specs.declared.clauses.Direction.TheVariants as direction
 use Rattle.cy_trees.specs.declared.clauses.Length.{Length}
-use Rattle.cy_trees.specs.Trees.{Name, Expression, variable as variable_tree, Entry, NodePattern, RelationshipPattern, Step, Path, Item, Key, Projection, SetItem, set_property, set_labels, RemoveItem, remove_property, remove_labels, Clause, «match», unwind, «with», «return», create, set, remove, delete, Statement}
+use Rattle.cy_trees.specs.Trees.{Name, Expression, variable as variable_tree, MapEntry, NodePattern, RelationshipPattern, Step, Path, Item, Key, Projection, SetItem, set_property, set_labels, RemoveItem, remove_property, remove_labels, Clause, «match», unwind, «with», «return», create, set, remove, delete, Statement}
 use Rattle.cy_trees.specs.Depth.{depth, greatest_depth}
 use Rattle.cy_parser.specs.Words.{is_name, is_word, denotes, number_limit, written}
 use Rattle.cy_parser.specs.Spells.{Spells, whole, SpellsLabels, IsKeyword, IsSymbol, IsNumber}
@@ -45,21 +45,21 @@ module _ (line : List ℕ) where
     labels : (ls : List Name) (colon : Token) (ts rest : List Token) → IsSymbol sign.Colon colon → SpellsLabels line ls ts rest
         → SpellsLabelsIfAny ls (colon ∷ ts) rest
 
-  pub data SpellsEntry : Entry → List Token → List Token → Type 0 where
+  pub data SpellsEntry : MapEntry → List Token → List Token → Type 0 where
     entry : (e : Expression) (key colon : Token) (ts rest : List Token) → IsTrue (is_word key.kind) → IsSymbol sign.Colon colon
         → SpellsExpression e ts rest → SpellsEntry (record { key = denotes line key; value = e }) (key ∷ colon ∷ ts) rest
 
   -- map = "{" [ word ":" expr { "," word ":" expr } ] "}"
-  pub data SpellsMapIfAny : Option (List Entry) → List Token → List Token → Type 0 where
+  pub data SpellsMapIfAny : Option (List MapEntry) → List Token → List Token → Type 0 where
     no_map : (ts : List Token) → SpellsMapIfAny None ts ts
     empty_map : (opening closing : Token) (rest : List Token) → IsSymbol sign.LeftBrace opening → IsSymbol sign.RightBrace closing
         → SpellsMapIfAny (Some []) (opening ∷ closing ∷ rest) rest
-    map_of : (es : List Entry) (opening closing : Token) (ts rest : List Token) → IsSymbol sign.LeftBrace opening
+    map_of : (es : List MapEntry) (opening closing : Token) (ts rest : List Token) → IsSymbol sign.LeftBrace opening
         → SpellsEach SpellsEntry es ts (closing ∷ rest) → IsSymbol sign.RightBrace closing → SpellsMapIfAny (Some es) (opening ∷ ts) rest
 
   -- node = "(" [ name ] [ labels ] [ map ] ")"
   pub data SpellsNode : NodePattern → List Token → List Token → Type 0 where
-    node : (v : Option Variable) (ls : List Name) (m : Option (List Entry)) (opening closing : Token) (ts from mid rest : List Token)
+    node : (v : Option Variable) (ls : List Name) (m : Option (List MapEntry)) (opening closing : Token) (ts from mid rest : List Token)
         → IsSymbol sign.LeftParenthesis opening → SpellsVariableIfAny v ts from → SpellsLabelsIfAny ls from mid
         → SpellsMapIfAny m mid (closing ∷ rest) → IsSymbol sign.RightParenthesis closing
         → SpellsNode (record { variable = v; labels = ls; properties = m }) (opening ∷ ts) rest
@@ -118,7 +118,7 @@ module _ (line : List ℕ) where
   pub data SpellsDetails : RelationshipPattern → List Token → List Token → Type 0 where
     no_details : (towards : Direction) (ts : List Token)
         → SpellsDetails (record { variable = None; direction = towards; types = []; length = None; properties = None }) ts ts
-    details : (v : Option Variable) (towards : Direction) (ns : List Name) (l : Option Length) (m : Option (List Entry))
+    details : (v : Option Variable) (towards : Direction) (ns : List Name) (l : Option Length) (m : Option (List MapEntry))
         (opening closing : Token) (ts from mid next rest : List Token) → IsSymbol sign.LeftBracket opening
         → SpellsVariableIfAny line v ts from → SpellsTypesIfAny line ns from mid → SpellsLengthIfAny l mid next
         → SpellsMapIfAny line m next (closing ∷ rest) → IsSymbol sign.RightBracket closing

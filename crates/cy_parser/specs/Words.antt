@@ -1,10 +1,9 @@
--- What single tokens of a line stand for. The line is its bytes.
+-- What single tokens of a line stand for (openCypher 9, grammar, narrowed to this profile). The line is its bytes.
 use Rattle.std.specs.Prelude.{ℕ, zero, suc, ℤ, pos, negsuc, Bool, true, false, not, ◌&&◌, ◌||◌, if◌then◌else◌, nat_lt, nat_le, ◌-◌, List, [], length, map, slice_index, slice_get, Option, Some, None, chars, encode_utf8_all}
 use Rattle.std.specs.Char.{to_ascii_lowercase}
 use Rattle.cy_lexer.specs.declared.tokens.Kind.{Kind}
 use Rattle.cy_lexer.specs.declared.tokens.Kind.TheVariants as kind
 use Rattle.cy_lexer.specs.declared.tokens.Token.{Token}
-use Rattle.cy_lexer.specs.declared.keywords.Keyword.TheVariants as word
 use Rattle.cy_lexer.specs.declared.symbols.Symbol.TheVariants as sign
 use Rattle.cy_lexer.specs.Spans.{slice_of}
 use Rattle.cy_lexer.specs.Tokens.{denoted}
@@ -51,18 +50,6 @@ negated (suc n) = negsuc n
 -- the first number that no literal without a `-` stands for (own: integers have 64 bits)
 abbrev pub number_limit : ℕ
 number_limit = 9223372036854775808
-
-abbrev pub disjunction_operator : Kind → Option BinaryOperator
-disjunction_operator (kind.Keyword word.Or) = Some operator.Or
-disjunction_operator _ = None
-
-abbrev pub exclusion_operator : Kind → Option BinaryOperator
-exclusion_operator (kind.Keyword word.Xor) = Some operator.Xor
-exclusion_operator _ = None
-
-abbrev pub conjunction_operator : Kind → Option BinaryOperator
-conjunction_operator (kind.Keyword word.And) = Some operator.And
-conjunction_operator _ = None
 
 abbrev pub comparator_of : Kind → Option Comparator
 comparator_of (kind.Symbol sign.Equal) = Some comparator.Equal

@@ -1,4 +1,5 @@
 pub mod Reader
+pub mod Chains
 pub mod Expressions
 pub mod Nests
 pub mod Operands

@@ -8,7 +8,7 @@ ghost use Rattle.cy_parser.specs.internal.Reader as reader;
 ghost use Rattle.cy_parser.specs.internal.Reader.{Reads};
 
 use crate::refusals::Refusal;
-use crate::words::{is_name, is_word, text_of};
+use crate::words::{denoted_text, is_name, is_word};
 use cy_lexer::{Keyword, Kind, Symbol, Token};
 use cy_values::Text;
 use std::alloc::Global;
@@ -137,7 +137,7 @@ impl<'a> Cursor<'a> {
         if !is_name(token.kind) {
             return Err(self.unexpected());
         }
-        let name = text_of(alloc, line, token)?;
+        let name = denoted_text(alloc, line, token)?;
         self.left = left;
         Ok(name)
     }
@@ -153,7 +153,7 @@ impl<'a> Cursor<'a> {
         if !is_word(token.kind) {
             return Err(self.unexpected());
         }
-        let name = text_of(alloc, line, token)?;
+        let name = denoted_text(alloc, line, token)?;
         self.left = left;
         Ok(name)
     }
@@ -188,7 +188,7 @@ impl<'a> Cursor<'a> {
         let Some((token, left)) = self.left.split_first() else {
             return Err(self.unexpected());
         };
-        let text = text_of(alloc, line, token)?;
+        let text = denoted_text(alloc, line, token)?;
         self.left = left;
         Ok(text)
     }

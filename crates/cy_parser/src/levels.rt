@@ -2,6 +2,7 @@
 
 ghost use Rattle.std.specs.Prelude.{◌≡◌, ◌∷◌, [], IfOk};
 ghost use Rattle.cy_parser.specs.Words as words;
+ghost use Rattle.cy_parser.specs.internal.Chains as chains;
 ghost use Rattle.cy_parser.specs.internal.Expressions as spec;
 ghost use Rattle.cy_parser.specs.internal.Nests.{Nests};
 ghost use Rattle.cy_parser.specs.internal.Operands.{operand_of, links_in, LinksAreMeasured};
@@ -307,7 +308,7 @@ impl<'l, F: Fn(Global, &str, &mut Cursor<'_>, usize, Nested) -> Result<Operand, 
     /// What AND makes of a first operand and those after it.
     fn conjunction_after(&self, tokens: &mut Cursor<'_>, first: Operand) -> Result<Operand, Refusal>
         requires { Nests self.now.levels (F.pre self.now.inner) (F.post self.now.inner) }
-        ensures { Reads operand_of (spec.chain_after words.conjunction_operator (spec.negation self.now.line.now self.now.levels (spec.nesting self.now.line.now self.now.levels)) (operand_of first) tokens.old) result tokens.new }
+        ensures { Reads operand_of (spec.chain_after chains.conjunction_operator (spec.negation self.now.line.now self.now.levels (spec.nesting self.now.line.now self.now.levels)) (operand_of first) tokens.old) result tokens.new }
     {
         let mut left = first;
         for _turn in 0..tokens.count() {
@@ -334,7 +335,7 @@ impl<'l, F: Fn(Global, &str, &mut Cursor<'_>, usize, Nested) -> Result<Operand, 
     /// What XOR makes of a first operand and those after it.
     fn exclusion_after(&self, tokens: &mut Cursor<'_>, first: Operand) -> Result<Operand, Refusal>
         requires { Nests self.now.levels (F.pre self.now.inner) (F.post self.now.inner) }
-        ensures { Reads operand_of (spec.chain_after words.exclusion_operator (spec.conjunction self.now.line.now self.now.levels (spec.nesting self.now.line.now self.now.levels)) (operand_of first) tokens.old) result tokens.new }
+        ensures { Reads operand_of (spec.chain_after chains.exclusion_operator (spec.conjunction self.now.line.now self.now.levels (spec.nesting self.now.line.now self.now.levels)) (operand_of first) tokens.old) result tokens.new }
     {
         let mut left = first;
         for _turn in 0..tokens.count() {
@@ -361,7 +362,7 @@ impl<'l, F: Fn(Global, &str, &mut Cursor<'_>, usize, Nested) -> Result<Operand, 
     /// What OR makes of a first operand and those after it.
     fn disjunction_after(&self, tokens: &mut Cursor<'_>, first: Operand) -> Result<Operand, Refusal>
         requires { Nests self.now.levels (F.pre self.now.inner) (F.post self.now.inner) }
-        ensures { Reads operand_of (spec.chain_after words.disjunction_operator (spec.exclusion self.now.line.now self.now.levels (spec.nesting self.now.line.now self.now.levels)) (operand_of first) tokens.old) result tokens.new }
+        ensures { Reads operand_of (spec.chain_after chains.disjunction_operator (spec.exclusion self.now.line.now self.now.levels (spec.nesting self.now.line.now self.now.levels)) (operand_of first) tokens.old) result tokens.new }
     {
         let mut left = first;
         for _turn in 0..tokens.count() {

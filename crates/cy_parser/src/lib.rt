@@ -24,10 +24,11 @@ mod updates;
 mod words;
 
 pub use cy_trees::{
-    Arm, BinaryOperator, Clause, Comparator, Delete, Direction, Entry, Expr, Item, Key, Length,
-    Link, Match, NodePattern, Path, Projection, RelationshipPattern, RemoveItem, SetItem,
+    Arm, BinaryOperator, Clause, Comparator, Delete, Direction, Expr, Item, Key, Length, Link,
+    MapEntry, Match, NodePattern, Path, Projection, RelationshipPattern, RemoveItem, SetItem,
     Statement, Step, UnaryOperator, Unwind, Variable, With, show,
 };
 pub use faults::ParseFault;
 pub use laws::trees_and_texts;
 pub use parsing::parse;
+pub use words::{denoted_text, is_word, slice_in};

@@ -11,7 +11,9 @@ use crate::primary::labels;
 use crate::refusals::Refusal;
 use crate::source::Source;
 use cy_lexer::{Kind, Symbol};
-use cy_trees::{Direction, Entry, Length, NodePattern, Path, RelationshipPattern, Step, Variable};
+use cy_trees::{
+    Direction, Length, MapEntry, NodePattern, Path, RelationshipPattern, Step, Variable,
+};
 use cy_values::Text;
 
 /// The direction of a relationship, from the arrows that are written.
@@ -51,17 +53,17 @@ impl<'l> Source<'l> {
 
     /// An entry of a map.
     #[tactic(auto, unfolding(crate::specs::internal::Reader::and_then, crate::specs::internal::Clauses::entry))]
-    fn entry(&self, tokens: &mut Cursor<'_>) -> Result<Entry, Refusal>
+    fn entry(&self, tokens: &mut Cursor<'_>) -> Result<MapEntry, Refusal>
         ensures { Reads entry_of (spec.entry self.now.line.now tokens.old) result tokens.new }
     {
         let key = tokens.word(self.alloc, self.line)?;
         tokens.expect_symbol(Symbol::Colon)?;
         let value = self.expression(tokens)?;
-        Ok(Entry { key, value })
+        Ok(MapEntry { key, value })
     }
 
     /// The entries of a map, one or more.
-    fn entries(&self, tokens: &mut Cursor<'_>) -> Result<Vec<Entry>, Refusal>
+    fn entries(&self, tokens: &mut Cursor<'_>) -> Result<Vec<MapEntry>, Refusal>
         ensures { Reads (λ es. map entry_of es.items) (spec.entries self.now.line.now tokens.old) result tokens.new }
     {
         let mut found = Vec::new(self.alloc);
@@ -77,7 +79,7 @@ impl<'l> Source<'l> {
     /// A map, after its `{`.
     #[tactic(auto, unfolding(crate::specs::internal::Reader::and_then, crate::specs::internal::Clauses::map_read))]
     #[inline(never)]
-    fn map_read(&self, tokens: &mut Cursor<'_>) -> Result<Vec<Entry>, Refusal>
+    fn map_read(&self, tokens: &mut Cursor<'_>) -> Result<Vec<MapEntry>, Refusal>
         ensures { Reads (λ es. map entry_of es.items) (spec.map_read self.now.line.now tokens.old) result tokens.new }
     {
         if tokens.eat_symbol(Symbol::RightBrace) {
@@ -90,7 +92,7 @@ impl<'l> Source<'l> {
 
     /// A map, if a `{` comes next.
     #[tactic(auto, unfolding(crate::specs::internal::Reader::and_then, crate::specs::internal::Clauses::map_if_any))]
-    fn map_if_any(&self, tokens: &mut Cursor<'_>) -> Result<Option<Vec<Entry>>, Refusal>
+    fn map_if_any(&self, tokens: &mut Cursor<'_>) -> Result<Option<Vec<MapEntry>>, Refusal>
         ensures { Reads properties_of (spec.map_if_any self.now.line.now tokens.old) result tokens.new }
     {
         if tokens.eat_symbol(Symbol::LeftBrace) {

@@ -1,13 +1,12 @@
 //! What single tokens stand for.
 
-ghost use Rattle.std.specs.Prelude.{◌≡◌, ◌<◌, IfOk, OnErr};
-ghost use Rattle.cy_parser.specs.declared.refusals.Refusal.TheVariants.{NoMemory};
+ghost use Rattle.std.specs.Prelude.{◌≡◌, ◌<◌, IfOk};
 ghost use Rattle.cy_parser.specs.Words as spec;
+ghost use Rattle.cy_parser.specs.internal.Chains as chains;
 
-use crate::refusals::Refusal;
 use cy_lexer::{Keyword, Kind, Symbol, Token};
 use cy_trees::{BinaryOperator, Comparator};
-use cy_values::Text;
+use cy_values::{Fault, Text};
 use std::alloc::Global;
 
 /// A name that is no keyword.
@@ -17,27 +16,28 @@ pub(crate) fn is_name(kind: Kind) -> bool
     matches!(kind, Kind::Name | Kind::QuotedName)
 }
 
-/// A name, which may be a keyword.
-pub(crate) fn is_word(kind: Kind) -> bool
+/// Whether a token of this kind is a name, quoted or not, or a keyword, which may stand for a name where the grammar has a label,
+/// a type or a key (openCypher 9, grammar of names).
+pub fn is_word(kind: Kind) -> bool
     ensures { result ≡ spec.is_word kind }
 {
     matches!(kind, Kind::Name | Kind::QuotedName | Kind::Keyword(_))
 }
 
-/// What the token of the line denotes. Fails only for want of memory.
+/// The text that the token of the line denotes: that of a quoted name and of a text without their quotes, and any other token as
+/// it is written; nothing, where it has no place in the line. Fails only for want of memory.
 #[tactic(auto, unfolding(crate::specs::Words::denotes))]
-pub(crate) fn text_of(alloc: Global, line: &str, token: &Token) -> Result<Text, Refusal>
-    ensures value { IfOk result (λ t. t ≡ spec.denotes line.now token.now) }
-    ensures memory { OnErr result (result ≡ Err NoMemory) }
+pub fn denoted_text(alloc: Global, line: &str, token: &Token) -> Result<Text, Fault>
+    ensures { IfOk result (λ text. text ≡ spec.denotes line.now token.now) }
 {
     match token.denoted(alloc, line) {
         Ok(string) => Ok(Text::new(string)),
-        Err(_) => Err(Refusal::NoMemory),
+        Err(_) => Err(Fault::NoMemory),
     }
 }
 
 pub(crate) fn disjunction_operator(kind: Kind) -> Option<BinaryOperator>
-    ensures { result ≡ spec.disjunction_operator kind }
+    ensures { result ≡ chains.disjunction_operator kind }
 {
     match kind {
         Kind::Keyword(Keyword::Or) => Some(BinaryOperator::Or),
@@ -46,7 +46,7 @@ pub(crate) fn disjunction_operator(kind: Kind) -> Option<BinaryOperator>
 }
 
 pub(crate) fn exclusion_operator(kind: Kind) -> Option<BinaryOperator>
-    ensures { result ≡ spec.exclusion_operator kind }
+    ensures { result ≡ chains.exclusion_operator kind }
 {
     match kind {
         Kind::Keyword(Keyword::Xor) => Some(BinaryOperator::Xor),
@@ -55,7 +55,7 @@ pub(crate) fn exclusion_operator(kind: Kind) -> Option<BinaryOperator>
 }
 
 pub(crate) fn conjunction_operator(kind: Kind) -> Option<BinaryOperator>
-    ensures { result ≡ spec.conjunction_operator kind }
+    ensures { result ≡ chains.conjunction_operator kind }
 {
     match kind {
         Kind::Keyword(Keyword::And) => Some(BinaryOperator::And),
@@ -108,7 +108,7 @@ pub(crate) fn lowered(text: Text) -> Text
 }
 
 /// The text of the token as it stands in the line; nothing, where it has no place in it.
-pub(crate) fn slice_in<'a>(line: &'a str, token: &Token) -> &'a str
+pub fn slice_in<'a>(line: &'a str, token: &Token) -> &'a str
     ensures { result.now ≡ spec.slice_in line.now token.now }
 {
     token.slice(line)

@@ -14,7 +14,7 @@ use Rattle.cy_parser.specs.declared.stages.Opening.{Opening}
 use Rattle.cy_parser.specs.declared.stages.Opening.TheVariants as opening
 use Rattle.cy_parser.specs.declared.stages.Stage.{Stage}
 use Rattle.cy_parser.specs.declared.stages.Stage.TheVariants as stage
-use Rattle.cy_trees.specs.Trees.{Name, Expression, Entry, NodePattern, RelationshipPattern, Step, Path, Item, Key, Projection, SetItem, set_property, set_labels, RemoveItem, remove_property, remove_labels, Clause, «match», unwind, «with», «return», create, set, remove, delete, Statement}
+use Rattle.cy_trees.specs.Trees.{Name, Expression, MapEntry, NodePattern, RelationshipPattern, Step, Path, Item, Key, Projection, SetItem, set_property, set_labels, RemoveItem, remove_property, remove_labels, Clause, «match», unwind, «with», «return», create, set, remove, delete, Statement}
 use Rattle.cy_parser.specs.Words.{number_limit}
 use Rattle.cy_parser.specs.SpellsClauses.{greatest_bound, direction_of, column_of}
 use Rattle.cy_parser.specs.internal.Reader.{Reader, ◌>>=◌, ◌>>◌, ◌<$>◌, pure, refuse, peek, skip, at_kind, eat_keyword, eat_symbol, expect_keyword, expect_symbol, name, word as any_word}
@@ -177,17 +177,17 @@ module _ (line : List ℕ) where
     is_there ← eat_symbol sign.Colon
     if is_there then labels line else pure []
 
-  unfoldable pub entry : Reader Entry
+  unfoldable pub entry : Reader MapEntry
   entry = do
     key ← any_word line
     expect_symbol sign.Colon
     (λ e. record { key = key; value = e }) <$> whole
 
-  unfoldable pub entries : Reader (List Entry)
+  unfoldable pub entries : Reader (List MapEntry)
   entries = separated entry
 
   -- after `{`
-  unfoldable pub map_read : Reader (List Entry)
+  unfoldable pub map_read : Reader (List MapEntry)
   map_read = do
     is_empty ← eat_symbol sign.RightBrace
     if is_empty then pure [] else (do
@@ -195,7 +195,7 @@ module _ (line : List ℕ) where
       expect_symbol sign.RightBrace
       pure found)
 
-  unfoldable pub map_if_any : Reader (Option (List Entry))
+  unfoldable pub map_if_any : Reader (Option (List MapEntry))
   map_if_any = do
     is_there ← eat_symbol sign.LeftBrace
     if is_there then Some <$> map_read else pure None

@@ -12,7 +12,8 @@ use Rattle.cy_parser.specs.declared.places.Nested.{Nested}
 use Rattle.cy_parser.specs.declared.places.Nested.TheVariants as nested
 use Rattle.cy_trees.specs.Trees.{Name, Expression, null, boolean, integer, text, variable, property, has_labels, unary, binary, comparison, list, case, call, call_star, no_more, Otherwise, nothing, otherwise}
 use Rattle.cy_trees.specs.Views.{expressions_from, links_from, arms_from}
-use Rattle.cy_parser.specs.Words.{lowered, denotes, negated, number_limit, disjunction_operator, exclusion_operator, conjunction_operator, comparator_of, sum_operator, product_operator}
+use Rattle.cy_parser.specs.Words.{lowered, denotes, negated, number_limit, comparator_of, sum_operator, product_operator}
+use Rattle.cy_parser.specs.internal.Chains.{disjunction_operator, exclusion_operator, conjunction_operator}
 use Rattle.cy_parser.specs.SpellsClauses.{most_levels}
 use Rattle.cy_parser.specs.internal.Reader.{Reader, ◌>>=◌, ◌>>◌, ◌<$>◌, pure, refuse, peek, skip, at_kind, eat_keyword, eat_symbol, expect_keyword, expect_symbol, name, word as any_word, checked}
 

@@ -4,7 +4,7 @@ use Rattle.std.specs.Prelude.{◌≡◌, ⊤, ℕ, pos, negsuc, ◌<◌, ◌≤�
 use Rattle.std.specs.Str.{all_scalars}
 use Rattle.cy_trees.specs.declared.expressions.Variable.{Variable}
 use Rattle.cy_trees.specs.declared.clauses.Length.{Length}
-use Rattle.cy_trees.specs.Trees.{Name, Expression, null, boolean, integer, text, variable, property, has_labels, unary, binary, comparison, list, case, call, call_star, Expressions, no_more, more, Links, no_links, link, Arms, no_arms, arm, Otherwise, nothing, otherwise, Entry, NodePattern, RelationshipPattern, Step, Path, Item, Key, Projection, SetItem, set_property, set_labels, RemoveItem, remove_property, remove_labels, Clause, «match», unwind, «with», «return», create, set, remove, delete, Statement}
+use Rattle.cy_trees.specs.Trees.{Name, Expression, null, boolean, integer, text, variable, property, has_labels, unary, binary, comparison, list, case, call, call_star, Expressions, no_more, more, Links, no_links, link, Arms, no_arms, arm, Otherwise, nothing, otherwise, MapEntry, NodePattern, RelationshipPattern, Step, Path, Item, Key, Projection, SetItem, set_property, set_labels, RemoveItem, remove_property, remove_labels, Clause, «match», unwind, «with», «return», create, set, remove, delete, Statement}
 use Rattle.cy_trees.specs.Depth.{depth, greatest_depth}
 use Rattle.cy_parser.specs.Words.{lowered, number_limit}
 use Rattle.cy_parser.specs.SpellsClauses.{greatest_bound, Standing, may_follow, may_end, standing_after, reading}
@@ -80,7 +80,7 @@ abbrev pub IsWhole : Expression → Type 0
 IsWhole e = IsWellFormed e × (depth e ≤ greatest_depth)
 
 -- patterns
-abbrev pub EntryIsWellFormed : Entry → Type 0
+abbrev pub EntryIsWellFormed : MapEntry → Type 0
 EntryIsWellFormed e = IsNamed e.key × IsWhole e.value
 
 abbrev pub NodeIsWellFormed : NodePattern → Type 0

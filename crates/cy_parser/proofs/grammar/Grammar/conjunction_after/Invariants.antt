@@ -1,5 +1,5 @@
 use Rattle.std.proofs.Common.{◌≡◌, ◌-◌}
-use Rattle.cy_parser.specs.Words.{conjunction_operator}
+use Rattle.cy_parser.specs.internal.Chains.{conjunction_operator}
 use Rattle.cy_parser.specs.internal.Expressions.{nesting, negation, chain_from, chain_after}
 use Rattle.cy_parser.specs.internal.Operands.{operand_of}
 use Rattle.cy_parser.proofs.grammar.Grammar.conjunction_after.Given as goal

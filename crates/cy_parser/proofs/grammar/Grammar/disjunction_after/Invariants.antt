@@ -1,5 +1,5 @@
 use Rattle.std.proofs.Common.{◌≡◌, ◌-◌}
-use Rattle.cy_parser.specs.Words.{disjunction_operator}
+use Rattle.cy_parser.specs.internal.Chains.{disjunction_operator}
 use Rattle.cy_parser.specs.internal.Expressions.{nesting, exclusion, chain_from, chain_after}
 use Rattle.cy_parser.specs.internal.Operands.{operand_of}
 use Rattle.cy_parser.proofs.grammar.Grammar.disjunction_after.Given as goal

@@ -1,6 +1,6 @@
 use Rattle.std.proofs.Common.{rules, arith}
 use Rattle.std.proofs.lemmas.Grind.{common_steps}
-use Rattle.cy_parser.specs.Words.{exclusion_operator}
+use Rattle.cy_parser.specs.internal.Chains.{exclusion_operator}
 use Rattle.cy_parser.specs.internal.Expressions.{nesting, conjunction, chain_from}
 use Rattle.cy_parser.specs.internal.Operands.{operand_of}
 use Rattle.cy_parser.specs.internal.Reader.{and_then}

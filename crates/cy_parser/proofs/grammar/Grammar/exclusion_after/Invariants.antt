@@ -1,5 +1,5 @@
 use Rattle.std.proofs.Common.{◌≡◌, ◌-◌}
-use Rattle.cy_parser.specs.Words.{exclusion_operator}
+use Rattle.cy_parser.specs.internal.Chains.{exclusion_operator}
 use Rattle.cy_parser.specs.internal.Expressions.{nesting, conjunction, chain_from, chain_after}
 use Rattle.cy_parser.specs.internal.Operands.{operand_of}
 use Rattle.cy_parser.proofs.grammar.Grammar.exclusion_after.Given as goal

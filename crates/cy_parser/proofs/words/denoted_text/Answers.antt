@@ -1,10 +1,10 @@
 use Rattle.std.proofs.Common.{refl, ◌∙◌}
 use Rattle.cy_parser.specs.Words.{is_within}
 use Rattle.cy_parser.proofs.WithinLemmas.{denoted-denotes}
-use Rattle.cy_parser.proofs.words.text_of.Goals as goal
+use Rattle.cy_parser.proofs.words.denoted_text.Goals as goal
 
-pub returns-in-Ok-clause-value : goal.returns-in-Ok-clause-value
-returns-in-Ok-clause-value c =
+pub returns-in-Ok : goal.returns-in-Ok
+returns-in-Ok c =
     let line = c.args.line.now in
     let token = c.args.token.now in
     c.new.ensures ∙ denoted-denotes line token _ (is_within line token) refl c.in-Ok.ensures.value c.in-Ok.ensures.elsewhere

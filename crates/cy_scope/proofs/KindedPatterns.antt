@@ -5,7 +5,7 @@ use Rattle.std.specs.List.{All}
 use Rattle.std.proofs.lemmas.List.Elements.{All-nil, All-cons}
 use Rattle.std.proofs.lemmas.Option.{none-some}
 use Rattle.cy_trees.specs.declared.expressions.Variable.{Variable}
-use Rattle.cy_trees.specs.Trees.{Name, Entry, NodePattern, RelationshipPattern, Step, Path}
+use Rattle.cy_trees.specs.Trees.{Name, MapEntry, NodePattern, RelationshipPattern, Step, Path}
 use Rattle.cy_scope.specs.declared.kinds.Kind.{Kind}
 use Rattle.cy_scope.specs.declared.kinds.Kind.TheVariants.{Node, Relationship, Relationships, Value, Flag}
 use Rattle.cy_scope.specs.declared.faults.ScopeFault.TheVariants.{AlreadyBound, WrongKind, RepeatedRelationship, BadCreate}
@@ -50,14 +50,14 @@ node_added now name (inl none) = added_here now Node name none
 node_added now name (inr is) = keeps-variable now Node (Some (record { name = name; column = None })) name Node is
 
 module _ (before after : Scope) (reads : Reads before after) where
-  entries_kinded : (entries : List Entry) → entries_fault before entries ≡ None → All (λ e. GivesValue before e.value) (map (resolved_entry after) entries)
-  entries_kinded [] good = All-nil (λ (e : Entry). GivesValue before e.value)
+  entries_kinded : (entries : List MapEntry) → entries_fault before entries ≡ None → All (λ e. GivesValue before e.value) (map (resolved_entry after) entries)
+  entries_kinded [] good = All-nil (λ (e : MapEntry). GivesValue before e.value)
   entries_kinded (e ∷ entries) good =
       let (here, others) = first_none (value_fault before e.value) (entries_fault before entries) good in
-      All-cons (λ (f : Entry). GivesValue before f.value) (resolved_entry after e) (map (resolved_entry after) entries)
+      All-cons (λ (f : MapEntry). GivesValue before f.value) (resolved_entry after e) (map (resolved_entry after) entries)
       (gives_value before after reads e.value here) (entries_kinded entries others)
 
-  map_kinded : (entries : Option (List Entry)) → map_fault before entries ≡ None → MapGivesValues before (resolved_map after entries)
+  map_kinded : (entries : Option (List MapEntry)) → map_fault before entries ≡ None → MapGivesValues before (resolved_map after entries)
   map_kinded None good = tt
   map_kinded (Some entries) good = entries_kinded entries good
 

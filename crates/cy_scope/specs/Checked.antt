@@ -2,7 +2,7 @@
 use Rattle.std.specs.Prelude.{◌≡◌, ⊤, ◌⊎◌, IsTrue, List, [], ◌∷◌, ◌++◌, map, Option, Some, None}
 use Rattle.std.specs.List.{All, Contains}
 use Rattle.cy_trees.specs.declared.expressions.Variable.{Variable}
-use Rattle.cy_trees.specs.Trees.{Name, Expression, Entry, NodePattern, RelationshipPattern, Step, Path, Item, Key, Projection, SetItem, set_property, set_labels, RemoveItem, remove_property, remove_labels, Clause, «match», unwind, «with», «return», create, set, remove, delete, Statement}
+use Rattle.cy_trees.specs.Trees.{Name, Expression, MapEntry, NodePattern, RelationshipPattern, Step, Path, Item, Key, Projection, SetItem, set_property, set_labels, RemoveItem, remove_property, remove_labels, Clause, «match», unwind, «with», «return», create, set, remove, delete, Statement}
 use Rattle.cy_scope.specs.declared.kinds.Kind.{Kind}
 use Rattle.cy_scope.specs.declared.kinds.Kind.TheVariants.{Node, Value}
 use Rattle.cy_scope.specs.Kinds.{is_value, is_entity}
@@ -37,7 +37,7 @@ NameIsColumn scope k (Some v) = IsColumn scope v k
 abbrev pub IsEntityColumn : Scope → Variable → Type 0
 IsEntityColumn scope v = (k : Kind) × IsColumn scope v k × IsTrue (is_entity k)
 
-abbrev pub MapGivesValues : Scope → Option (List Entry) → Type 0
+abbrev pub MapGivesValues : Scope → Option (List MapEntry) → Type 0
 MapGivesValues scope None = ⊤
 MapGivesValues scope (Some entries) = All (λ e. GivesValue scope e.value) entries
 

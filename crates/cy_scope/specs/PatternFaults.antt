@@ -4,7 +4,7 @@ use Rattle.std.specs.Prelude.{Bool, true, false, ◌&&◌, ◌||◌, not, List, 
 use Rattle.cy_trees.specs.declared.expressions.Variable.{Variable}
 use Rattle.cy_trees.specs.declared.clauses.Direction.{Direction}
 use Rattle.cy_trees.specs.declared.clauses.Direction.TheVariants as direction
-use Rattle.cy_trees.specs.Trees.{Name, Entry, NodePattern, RelationshipPattern, Step, Path}
+use Rattle.cy_trees.specs.Trees.{Name, MapEntry, NodePattern, RelationshipPattern, Step, Path}
 use Rattle.cy_scope.specs.declared.kinds.Kind.{Kind}
 use Rattle.cy_scope.specs.declared.kinds.Kind.TheVariants.{Node}
 use Rattle.cy_scope.specs.declared.faults.ScopeFault.{ScopeFault}
@@ -15,10 +15,10 @@ use Rattle.cy_scope.specs.Faults.{first, first_fault, unless}
 use Rattle.cy_scope.specs.ExpressionFaults.{value_fault}
 
 -- the values of a map are values
-abbrev pub entries_fault : Scope → List Entry → Option ScopeFault
+abbrev pub entries_fault : Scope → List MapEntry → Option ScopeFault
 entries_fault before entries = first_fault (λ e. value_fault before e.value) entries
 
-abbrev pub map_fault : Scope → Option (List Entry) → Option ScopeFault
+abbrev pub map_fault : Scope → Option (List MapEntry) → Option ScopeFault
 map_fault before None = None
 map_fault before (Some entries) = entries_fault before entries
 

@@ -1,7 +1,7 @@
 -- A statement whose variables have their columns; nothing else is changed (own).
 use Rattle.std.specs.Prelude.{List, [], ◌∷◌, ◌++◌, map, Option, option_map, if◌then◌else◌}
 use Rattle.cy_trees.specs.declared.expressions.Variable.{Variable}
-use Rattle.cy_trees.specs.Trees.{Expression, null, boolean, integer, text, variable, property, has_labels, unary, binary, comparison, list, case, call, call_star, Expressions, no_more, more, Links, no_links, link, Arms, no_arms, arm, Otherwise, nothing, otherwise, Entry, NodePattern, RelationshipPattern, Step, Path, Item, Key, Projection, SetItem, set_property, set_labels, RemoveItem, remove_property, remove_labels, Clause, «match», unwind, «with», «return», create, set, remove, delete, Statement}
+use Rattle.cy_trees.specs.Trees.{Expression, null, boolean, integer, text, variable, property, has_labels, unary, binary, comparison, list, case, call, call_star, Expressions, no_more, more, Links, no_links, link, Arms, no_arms, arm, Otherwise, nothing, otherwise, MapEntry, NodePattern, RelationshipPattern, Step, Path, Item, Key, Projection, SetItem, set_property, set_labels, RemoveItem, remove_property, remove_labels, Clause, «match», unwind, «with», «return», create, set, remove, delete, Statement}
 use Rattle.cy_scope.specs.Scopes.{Scope, find_column}
 use Rattle.cy_scope.specs.ClauseScopes.{scope_after}
 use Rattle.cy_scope.specs.ProjectionFaults.{repeats, seen_by_keys}
@@ -46,10 +46,10 @@ abbrev mutual
 abbrev pub resolved_name : Scope → Option Variable → Option Variable
 resolved_name scope v = option_map (resolved_variable scope) v
 
-abbrev pub resolved_entry : Scope → Entry → Entry
+abbrev pub resolved_entry : Scope → MapEntry → MapEntry
 resolved_entry scope e = record { key = e.key; value = resolved scope e.value }
 
-abbrev pub resolved_map : Scope → Option (List Entry) → Option (List Entry)
+abbrev pub resolved_map : Scope → Option (List MapEntry) → Option (List MapEntry)
 resolved_map scope entries = option_map (λ es. map (resolved_entry scope) es) entries
 
 abbrev pub resolved_node : Scope → NodePattern → NodePattern

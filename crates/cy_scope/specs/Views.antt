@@ -3,7 +3,7 @@ use Rattle.std.specs.Prelude.{ℕ, Bool, true, false, not, ◌&&◌, ◌||◌, L
 use Rattle.std.specs.List.{list_any, list_all}
 use Rattle.std.specs.Option.{option_map_or}
 use Rattle.cy_trees.specs.declared.clauses.Length.{Length}
-use Rattle.cy_trees.specs.Trees.{Expression, Entry, Step, Path, Item, Key, Projection, Clause, «match», «with», «return», create, set, remove, delete, Statement}
+use Rattle.cy_trees.specs.Trees.{Expression, MapEntry, Step, Path, Item, Key, Projection, Clause, «match», «with», «return», create, set, remove, delete, Statement}
 use Rattle.cy_scope.specs.declared.faults.ViewFault.{ViewFault}
 use Rattle.cy_scope.specs.declared.faults.ViewFault.TheVariants.{NotAReading, MayFail, Unbounded, AggregateInView, OrderInView}
 use Rattle.cy_scope.specs.Aggregates.{has_aggregates}
@@ -68,7 +68,7 @@ is_unbounded («match» optional paths filter) = list_any has_unbounded paths
 is_unbounded _ = false
 
 -- the values of a property map are sure
-abbrev pub is_sure_map : Scope → Option (List Entry) → Bool
+abbrev pub is_sure_map : Scope → Option (List MapEntry) → Bool
 is_sure_map scope None = true
 is_sure_map scope (Some entries) = list_all (λ e. is_sure scope e.value) entries
 

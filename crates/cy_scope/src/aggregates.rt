@@ -18,7 +18,7 @@ fn names_aggregate(name: &str) -> bool
 }
 
 /// Whether the expression is an aggregate.
-fn is_aggregate_call(expression: &Expr) -> bool
+pub fn is_aggregate_call(expression: &Expr) -> bool
     ensures { result ≡ spec.is_aggregate_call (expression_of expression.now) }
 {
     match expression {
@@ -28,7 +28,7 @@ fn is_aggregate_call(expression: &Expr) -> bool
 }
 
 /// Whether an item is an aggregate.
-pub(crate) fn has_aggregates(projection: &Projection) -> bool
+pub fn has_aggregates(projection: &Projection) -> bool
     ensures { result ≡ spec.has_aggregates (projection_of projection.now) }
 {
     for item in &projection.items {

@@ -20,10 +20,10 @@ use cy_trees::{Arm, Comparator, Expr, Link, UnaryOperator};
 use std::alloc::Global;
 
 /// The fault where a rule is broken.
-pub(crate) fn demand(kept: bool, fault: ScopeFault) -> Result<(), ScopeFault>
-    ensures { MatchResult result (λ _. unless kept fault ≡ None) (λ f. unless kept fault ≡ Some f) }
+pub(crate) fn demand(holds: bool, fault: ScopeFault) -> Result<(), ScopeFault>
+    ensures { MatchResult result (λ _. unless holds fault ≡ None) (λ f. unless holds fault ≡ Some f) }
 {
-    if kept { Ok(()) } else { Err(fault) }
+    if holds { Ok(()) } else { Err(fault) }
 }
 
 /// The kind of the variable of the name, which is looked for in one scope and then in another.
@@ -135,9 +135,9 @@ fn check_star(whole: bool, name: &str) -> Result<Kind, ScopeFault>
     }
 }
 
-/// What is known of the parts of an expression.
+/// What is known of the kinds of operands.
 #[derive(Clone, Copy)]
-pub(crate) struct Parts {
+pub(crate) struct OperandKinds {
     /// Whether each is of a kind that its place takes.
     taken: bool,
     /// Whether each is a flag.
@@ -174,7 +174,7 @@ fn check_elements(front: &Scope, back: &Scope, elements: &[Expr]) -> Result<bool
 
 /// The first fault of the parts of CASE before ELSE; whether they are values, and the results flags.
 #[cycle(checking)]
-fn check_arms(front: &Scope, back: &Scope, arms: &[Arm]) -> Result<Parts, ScopeFault>
+fn check_arms(front: &Scope, back: &Scope, arms: &[Arm]) -> Result<OperandKinds, ScopeFault>
     ensures { let all = arms_from (map arm_of arms.now) in MatchResult result (λ p. (spec.arms_fault (front.now ++ back.now) all ≡ None) × (p.taken ≡ spec.have_values (front.now ++ back.now) all) × (p.flags ≡ gives_flags (front.now ++ back.now) all)) (λ f. spec.arms_fault (front.now ++ back.now) all ≡ Some f) }
 {
     let mut taken = true;
@@ -185,7 +185,7 @@ fn check_arms(front: &Scope, back: &Scope, arms: &[Arm]) -> Result<Parts, ScopeF
         taken = taken && condition.is_value() && outcome.is_value();
         flags = flags && outcome.is_flag();
     }
-    Ok(Parts { taken, flags })
+    Ok(OperandKinds { taken, flags })
 }
 
 /// The same of what stands after ELSE, if anything.
@@ -194,17 +194,17 @@ fn check_otherwise(
     front: &Scope,
     back: &Scope,
     otherwise: &Option<Box<Expr>>,
-) -> Result<Parts, ScopeFault>
+) -> Result<OperandKinds, ScopeFault>
     ensures { let e = otherwise_of otherwise.now in MatchResult result (λ p. (spec.otherwise_fault (front.now ++ back.now) e ≡ None) × (p.taken ≡ spec.is_value_otherwise (front.now ++ back.now) e) × (p.flags ≡ is_flag_otherwise (front.now ++ back.now) e)) (λ f. spec.otherwise_fault (front.now ++ back.now) e ≡ Some f) }
 {
     let Some(otherwise) = otherwise else {
-        return Ok(Parts {
+        return Ok(OperandKinds {
             taken: true,
             flags: true,
         });
     };
     let kind = check_expression(front, back, otherwise)?;
-    Ok(Parts {
+    Ok(OperandKinds {
         taken: kind.is_value(),
         flags: kind.is_flag(),
     })
@@ -217,7 +217,7 @@ fn check_arguments(
     back: &Scope,
     function: Function,
     arguments: &[Expr],
-) -> Result<Parts, ScopeFault>
+) -> Result<OperandKinds, ScopeFault>
     ensures { let all = expressions_from (map expression_of arguments.now) in MatchResult result (λ p. (spec.expressions_fault (front.now ++ back.now) all ≡ None) × (p.taken ≡ spec.are_taken function (front.now ++ back.now) all) × (p.flags ≡ are_flags (front.now ++ back.now) all)) (λ f. spec.expressions_fault (front.now ++ back.now) all ≡ Some f) }
 {
     let mut taken = true;
@@ -227,7 +227,7 @@ fn check_arguments(
         taken = taken && function.takes(kind);
         flags = flags && kind.is_flag();
     }
-    Ok(Parts { taken, flags })
+    Ok(OperandKinds { taken, flags })
 }
 
 /// The kind of a call, which may be a whole item, or its first fault.

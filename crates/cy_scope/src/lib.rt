@@ -25,10 +25,12 @@ mod sureness;
 mod tree_words;
 mod views;
 
+pub use aggregates::{has_aggregates, is_aggregate_call};
 pub use checked::{Checked, ViewQuery};
 pub use faults::{ScopeFault, ViewFault};
 pub use functions::Function;
 pub use kinds::Kind;
 pub use laws::checked_statements;
+pub use repeats::place_of_item;
 pub use statements::check;
-pub use views::check_view;
+pub use views::{check_view, has_update, is_reading};

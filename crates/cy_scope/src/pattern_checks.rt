@@ -11,7 +11,7 @@ use crate::expression_checks::{check_value, demand, find_kind};
 use crate::faults::ScopeFault;
 use crate::kinds::Kind;
 use crate::scopes::{Scope, relationship_kind};
-use cy_trees::{Direction, Entry, NodePattern, Path, RelationshipPattern, Step, Variable};
+use cy_trees::{Direction, MapEntry, NodePattern, Path, RelationshipPattern, Step, Variable};
 use cy_values::Text;
 use std::alloc::{AllocError, Global};
 
@@ -45,7 +45,7 @@ fn see(
 fn check_map(
     alloc: Global,
     before: &Scope,
-    properties: &Option<Vec<Entry>>,
+    properties: &Option<Vec<MapEntry>>,
 ) -> Result<(), ScopeFault>
     ensures { Fault (spec.map_fault before.now (properties_of properties.now)) result }
 {

@@ -6,7 +6,7 @@ ghost use Rattle.cy_scope.specs.Resolved as spec;
 
 use crate::resolving::{resolved, resolved_variable};
 use crate::scopes::Scope;
-use cy_trees::{Entry, Expr, NodePattern, Path, RelationshipPattern, Step, Variable};
+use cy_trees::{Expr, MapEntry, NodePattern, Path, RelationshipPattern, Step, Variable};
 use std::alloc::Global;
 use std::mem;
 
@@ -51,7 +51,7 @@ fn resolved_name(alloc: Global, scope: &Scope, variable: Option<Variable>) -> Op
     }
 }
 
-fn resolved_entries(alloc: Global, scope: &Scope, entries: Vec<Entry>) -> Vec<Entry>
+fn resolved_entries(alloc: Global, scope: &Scope, entries: Vec<MapEntry>) -> Vec<MapEntry>
     ensures { map entry_of result.items ≡ map (spec.resolved_entry scope.now) (map entry_of entries.items) }
 {
     let mut entries = entries;
@@ -61,7 +61,11 @@ fn resolved_entries(alloc: Global, scope: &Scope, entries: Vec<Entry>) -> Vec<En
     entries
 }
 
-fn resolved_map(alloc: Global, scope: &Scope, properties: Option<Vec<Entry>>) -> Option<Vec<Entry>>
+fn resolved_map(
+    alloc: Global,
+    scope: &Scope,
+    properties: Option<Vec<MapEntry>>,
+) -> Option<Vec<MapEntry>>
     ensures { properties_of result ≡ spec.resolved_map scope.now (properties_of properties) }
 {
     match properties {

@@ -1,9 +1,11 @@
 //! Which keys repeat an item.
 
 ghost use Rattle.std.specs.Prelude.{◌≡◌, IfOk, map};
+ghost use Rattle.std.specs.List.{position_from};
 ghost use Rattle.cy_trees.specs.Views.{expression_of, item_of};
 ghost use Rattle.cy_scope.specs.internal.TreeWords.{ArePlaced};
 ghost use Rattle.cy_scope.specs.ProjectionFaults as spec;
+ghost use Rattle.cy_scope.specs.Same as trees;
 
 use crate::same::same;
 use crate::tree_words::words_of;
@@ -38,8 +40,20 @@ fn is_among(items: &[Item], expression: &Expr) -> bool
     false
 }
 
-/// Whether an expression has the tree of an item. That different trees have different words isn't proved; only where they
-/// hadn't, each item would be looked at.
+/// The place of the first item whose tree is that of an expression; the columns of variables don't count.
+pub fn place_of_item(items: &[Item], expression: &Expr) -> Option<usize>
+    ensures { result ≡ position_from (λ i. trees.same i.expression (expression_of expression.now)) 0 (map item_of items.now) }
+{
+    for (place, item) in items.iter().enumerate() {
+        if same(&item.expression, expression) {
+            return Some(place);
+        }
+    }
+    None
+}
+
+/// Whether an expression has the tree of an item. It isn't proved that different trees have different words, so the two
+/// trees are compared, and if they differ, each item is looked at.
 pub(crate) fn repeats(
     alloc: Global,
     places: &Places,

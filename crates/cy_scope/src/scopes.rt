@@ -3,25 +3,29 @@
 ghost use Rattle.std.specs.Prelude.{◌≡◌, List, ℕ, [], ◌∷◌, ◌++◌, map, OnOk, IfSome, string_bytes, length, ◌<◌, ◌^◌};
 ghost use Rattle.cy_scope.specs.declared.kinds.Kind.{Kind};
 ghost use Rattle.cy_scope.specs.Scopes as spec;
-ghost use Rattle.cy_scope.specs.internal.Maps.{variables_of};
+ghost use Rattle.cy_scope.specs.internal.Maps.{variables_of, AreColumns};
 ghost use Rattle.cy_trees.specs.Views.{path_of, step_of};
 
 use crate::kinds::Kind;
 use cy_trees::{Length, Path, Step, Variable};
-use indexmap::IndexMap;
 use std::alloc::{AllocError, Global};
+use std::collections::BTreeMap;
 use std::marker::Model;
 
 /// The variables that are bound at a place, each with its kind, in the order of their columns.
 #[derive(Drop)]
 pub(crate) struct Scope {
-    variables: IndexMap<String, Kind>,
+    variables: Vec<(String, Kind)>,
+    /// The column of each name. The map is ordered, since names can be chosen whose hashes collide.
+    columns: BTreeMap<String, usize>,
 }
 
 impl Model for Scope {
     ghost Value = { List (List ℕ × Kind) };
 
-    ghost view = { λ s. variables_of s.variables.entries };
+    ghost view = { λ s. variables_of s.variables.items };
+
+    ghost invariant = { λ s. AreColumns s.columns (variables_of s.variables.items) };
 }
 
 impl Scope {
@@ -30,7 +34,8 @@ impl Scope {
         ensures { result ≡ [] }
     {
         Scope {
-            variables: IndexMap::new(alloc),
+            variables: Vec::new(alloc),
+            columns: BTreeMap::new(alloc),
         }
     }
 
@@ -38,7 +43,9 @@ impl Scope {
     pub(crate) fn find_kind(&self, name: &str) -> Option<Kind>
         ensures { result ≡ spec.find_kind self.now name.now }
     {
-        self.variables.get(name).copied()
+        let column = self.find_column(name)?;
+        let (_, kind) = self.variables.get(column)?;
+        Some(*kind)
     }
 
     /// The column of the variable of the name, if it is bound.
@@ -46,7 +53,7 @@ impl Scope {
         ensures value { result ≡ spec.find_column self.now name.now }
         ensures small { IfSome result (λ column. column < 2 ^ 63) }
     {
-        let column = self.variables.get_index_of(name)?;
+        let column = *self.columns.get(name)?;
         prove!(column < self.variables.len());
         Some(column)
     }
@@ -63,11 +70,16 @@ impl Scope {
     pub(crate) fn add_name(&mut self, kind: Kind, name: &str) -> Result<(), AllocError>
         ensures { OnOk result (self.new ≡ spec.added_name self.old kind name.now) }
     {
-        if self.variables.contains_key(name) {
+        if self.find_kind(name).is_some() {
             return Ok(());
         }
-        let name = String::from_str(*self.variables.allocator(), name)?;
-        self.variables.insert(name, kind)?;
+        let alloc = *self.variables.allocator();
+        let key = String::from_str(alloc, name)?;
+        let name = String::from_str(alloc, name)?;
+        let column = self.variables.len();
+        self.variables.reserve(1)?;
+        self.columns.insert(key, column)?;
+        self.variables.push_reserved((name, kind));
         Ok(())
     }
 

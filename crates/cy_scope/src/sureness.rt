@@ -7,11 +7,11 @@ ghost use Rattle.cy_scope.specs.Views as spec;
 use crate::clause_scopes::go_on;
 use crate::scopes::Scope;
 use crate::sure::{is_sure, is_sure_flag};
-use cy_trees::{Clause, Entry, Expr, Item, Path, Step};
+use cy_trees::{Clause, Expr, Item, MapEntry, Path, Step};
 use std::alloc::{AllocError, Global};
 
 /// Whether the values of a property map are sure.
-fn is_sure_map(scope: &Scope, properties: &Option<Vec<Entry>>) -> bool
+fn is_sure_map(scope: &Scope, properties: &Option<Vec<MapEntry>>) -> bool
     ensures { result ≡ spec.is_sure_map scope.now (properties_of properties.now) }
 {
     let Some(entries) = properties else {

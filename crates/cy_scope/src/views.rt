@@ -25,7 +25,8 @@ fn is_update(clause: &Clause) -> bool
     )
 }
 
-fn has_update(clauses: &[Clause]) -> bool
+/// Whether one of the clauses updates.
+pub fn has_update(clauses: &[Clause]) -> bool
     ensures { result ≡ list_any spec.is_update (map clause_of clauses.now) }
 {
     for clause in clauses {
@@ -46,7 +47,7 @@ fn ends_with_return(clauses: &[Clause]) -> bool
 }
 
 /// Whether the clauses end with RETURN, and none of them updates.
-fn is_reading(clauses: &[Clause]) -> bool
+pub fn is_reading(clauses: &[Clause]) -> bool
     ensures { result ≡ spec.is_reading (map clause_of clauses.now) }
 {
     ends_with_return(clauses) && !has_update(clauses)

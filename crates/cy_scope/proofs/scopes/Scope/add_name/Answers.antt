@@ -1,37 +1,36 @@
-use Rattle.std.proofs.Common.{◌≡◌, List, ℕ, [], ◌∷◌, ◌++◌, Bool, true, false, Option, Some, None, is_some, ap, sym, subst, ◌∙◌, string_bytes, if◌then◌else◌, refl}
-use Rattle.std.specs.Str.{bytes_eq}
-use Rattle.std.specs.String.{string_eq}
-use Rattle.indexmap.specs.IndexMap.{get, get_by}
-use Rattle.indexmap.proofs.CallerLemmas.{insert_entry-new}
-use Rattle.cy_scope.specs.declared.kinds.Kind.{Kind}
-use Rattle.cy_scope.specs.Scopes.{find_kind, is_bound, added_name}
-use Rattle.cy_scope.specs.internal.Maps.{variables_of}
-use Rattle.cy_scope.proofs.ScopesLemmas.{lookup_variables, pushed}
+use Rattle.std.proofs.Common.{◌≡◌, [], ◌∷◌, ◌++◌, true, false, Some, is_some, ap, sym, subst, ◌∙◌}
+use Rattle.std.specs.BTreeMap.{UpdatesBy}
+use Rattle.std.specs.String.{string_cmp}
+use Rattle.cy_scope.specs.Scopes.{is_bound}
+use Rattle.cy_scope.specs.internal.Maps.{variables_of, AreColumns}
+use Rattle.cy_scope.proofs.ScopesLemmas.{added_when, columns_added, variables_count, pushed}
 use Rattle.cy_scope.proofs.scopes.Scope.add_name.Goals as goal
 
-added_when : (scope : List (List ℕ × Kind)) (kind : Kind) (name : List ℕ) (b : Bool) → is_bound scope name ≡ b →
-    added_name scope kind name ≡ (if b then scope else scope ++ (name, kind) ∷ [])
-added_when scope kind name b is = ap (λ t. if t then scope else scope ++ (name, kind) ∷ []) is
+pub returns-then-is_some : goal.returns-then-is_some
+returns-then-is_some c =
+    sym (added_when c.args.self.now c.args.kind c.args.name.now true (ap is_some (sym c.find_kind.ensures) ∙ sym c.is_some.ensures ∙ c.if-is_some.true))
 
-no_value : (o : Option Kind) → is_some o ≡ false → o ≡ None
-no_value None h = refl
-no_value (Some x) h = cc
+unbound : (c : goal.After-push_reserved) → is_bound c.args.self.now c.args.name.now ≡ false
+unbound c = ap is_some (sym c.find_kind.ensures) ∙ sym c.is_some.ensures ∙ c.if-is_some.false
 
-pub returns-then-contains_key : goal.returns-then-contains_key
-returns-then-contains_key c =
-    let same : find_kind c.args.self.now c.args.name.now ≡ get_by (λ k. bytes_eq c.args.name.now (string_bytes k)) c.self.inside.variables =
-    ap (λ s. find_kind s c.args.name.now) (sym c.self.view_is) ∙ lookup_variables (bytes_eq c.args.name.now) c.self.inside.variables.entries in
-    sym (added_when c.args.self.now c.args.kind c.args.name.now true (ap is_some same ∙ sym c.contains_key.ensures ∙ c.if-contains_key.true))
+grown : (c : goal.After-push_reserved) → variables_of c.push_reserved.new.self.items ≡ variables_of c.self.inside.variables.items ++ (c.args.name.now, c.args.kind) ∷ []
+grown c =
+    ap variables_of (c.push_reserved.ensures.items ∙ ap (λ vs. vs ++ (c.in_ok-name.name, c.args.kind) ∷ []) c.in_ok-reserve.ensures.items)
+    ∙ pushed c.self.inside.variables.items c.in_ok-name.name c.args.kind c.args.name.now c.in_ok-name.ensures.ok
+
+pub invariant_of-self-2 : goal.invariant_of-self-2
+invariant_of-self-2 c =
+    let scope = variables_of c.self.inside.variables.items in
+    let name = c.args.name.now in
+    let before = c.self.inside.columns in
+    let after = c.insert.new.self in
+    let key = c.in_ok-key.key in
+    let updates = subst (λ n. UpdatesBy string_cmp (string_cmp key) before after (Some n)) (c.len-column.ensures ∙ variables_count c.self.inside.variables) c.in_ok-insert.ensures.updates in
+    let new = ap (λ s. is_bound s name) c.self.view_is ∙ unbound c in
+    subst (AreColumns after) (sym (grown c)) (columns_added before after scope c.args.kind name key c.in_ok-key.ensures.ok c.self.invariant new updates)
 
 pub returns : goal.returns
 returns c =
-    let same : find_kind c.args.self.now c.args.name.now ≡ get_by (λ k. bytes_eq c.args.name.now (string_bytes k)) c.self.inside.variables =
-    ap (λ s. find_kind s c.args.name.now) (sym c.self.view_is) ∙ lookup_variables (bytes_eq c.args.name.now) c.self.inside.variables.entries in
-    let unbound : is_bound c.args.self.now c.args.name.now ≡ false = ap is_some same ∙ sym c.contains_key.ensures ∙ c.if-contains_key.false in
-    let none : get_by (λ k. bytes_eq c.args.name.now (string_bytes k)) c.self.inside.variables ≡ None = sym same ∙ no_value (find_kind c.args.self.now c.args.name.now) unbound in
-    let absent : get string_eq c.self.inside.variables c.in_ok-name.name ≡ None =
-    subst (λ (n : List ℕ). get_by (λ k. bytes_eq n (string_bytes k)) c.self.inside.variables ≡ None) (sym c.in_ok-name.ensures.ok) none in
-    ap variables_of (c.in_ok-insert.ensures.entries ∙ insert_entry-new string_eq c.self.inside.variables c.in_ok-name.name c.args.kind absent)
-    ∙ pushed c.self.inside.variables.entries c.in_ok-name.name c.args.kind c.args.name.now c.in_ok-name.ensures.ok
+    grown c
     ∙ ap (λ s. s ++ (c.args.name.now, c.args.kind) ∷ []) c.self.view_is
-    ∙ sym (added_when c.args.self.now c.args.kind c.args.name.now false unbound)
+    ∙ sym (added_when c.args.self.now c.args.kind c.args.name.now false (unbound c))

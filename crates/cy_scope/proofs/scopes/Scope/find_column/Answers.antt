@@ -1,17 +1,13 @@
-use Rattle.std.proofs.Common.{ap, sym, ◌∙◌}
+use Rattle.std.proofs.Common.{arith, ◌+◌, ◌<◌, ◌∙◌, length, sym}
 use Rattle.std.specs.Str.{bytes_eq}
-use Rattle.cy_scope.specs.Scopes.{find_column}
-use Rattle.cy_scope.proofs.ScopesLemmas.{position_variables}
+use Rattle.cy_scope.specs.internal.Maps.{variables_of}
+use Rattle.cy_scope.proofs.ScopesLemmas.{position_inside, variables_count}
 use Rattle.cy_scope.proofs.scopes.Scope.find_column.Goals as goal
 
-pub returns-clause-value : goal.returns-clause-value
-returns-clause-value c =
-    sym c.in_ok-column.was ∙ c.get_index_of.ensures.index
-    ∙ sym (position_variables (bytes_eq c.args.name.now) c.self.inside.variables.entries)
-    ∙ ap (λ s. find_column s c.args.name.now) c.self.view_is
-
-pub returns-in_err-column-clause-value : goal.returns-in_err-column-clause-value
-returns-in_err-column-clause-value c =
-    c.from_residual.ensures ∙ sym c.in_err-column.was ∙ c.get_index_of.ensures.index
-    ∙ sym (position_variables (bytes_eq c.args.name.now) c.self.inside.variables.entries)
-    ∙ ap (λ s. find_column s c.args.name.now) c.self.view_is
+pub prove-unreachable-requires : goal.prove-unreachable-requires
+prove-unreachable-requires c =
+    let scope = variables_of c.self.inside.variables.items in
+    let column = c.in_ok-column.field-0.now in
+    let inside : column < 0 + length scope =
+    position_inside (λ v. bytes_eq c.args.name.now v.0) 0 scope column (sym (c.in_ok-column.ensures.value ∙ c.self.invariant c.args.name.now)) in
+    omega (arith, c.if-prove.true, c.len.ensures, variables_count c.self.inside.variables)

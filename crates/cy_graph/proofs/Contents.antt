@@ -13,7 +13,8 @@ use Rattle.cy_graph.specs.declared.nodes.Rel.{Rel}
 use Rattle.cy_graph.specs.Graph.{node_order, replaced, set_at, rel_set_at, with_label, without_label}
 use Rattle.cy_graph.specs.Maps.{text_order, with_value}
 use Rattle.cy_graph.specs.Stored.{is_storable, IsStorable}
-use Rattle.cy_graph.specs.internal.Contents.{nodes_of, IsNode, IsRel}
+use Rattle.cy_graph.specs.internal.Contents.{IsNode, IsRel}
+use Rattle.cy_graph.specs.Model.{nodes_of}
 use Rattle.cy_graph.specs.internal.Slots.{RiseFrom, value_under}
 use Rattle.cy_graph.specs.internal.Versions.{put_under}
 use Rattle.cy_graph.proofs.Places.{rises-with_value, rises-without}

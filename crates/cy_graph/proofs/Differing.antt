@@ -7,12 +7,12 @@ use Rattle.std.specs.Option.{option_flatten, option_map, option_map_or}
 use Rattle.std.specs.Ordering.{nat_cmp, is_eq, eq_by_cmp}
 use Rattle.std.proofs.lemmas.Bool.Decides.{nat_tests}
 use Rattle.cy_graph.specs.declared.series.Start.{Start}
-use Rattle.cy_graph.specs.internal.Differences.{IsIn, IsDifference, AreNumbersApart, AreDifferences, stands_as, was_value, changed_of, was_none, added_of}
+use Rattle.cy_graph.specs.internal.Differences.{IsIn, IsDifference, AreNumbersApart, AreDifferences, has_value, was_value, changed_of, was_none, added_of}
 use Rattle.cy_graph.specs.internal.Series.{numbered_of, numbered_before, IsKeptBefore}
-use Rattle.cy_graph.specs.internal.Slots.{RiseFrom, standing, value_under, slot_at, as_it_was, restored}
-use Rattle.cy_graph.specs.internal.Versions.{Numbered}
+use Rattle.cy_graph.specs.internal.Slots.{RiseFrom, live, value_under, slot_at, as_it_was, restored}
+use Rattle.cy_graph.specs.Model.{Numbered}
 use Rattle.cy_graph.proofs.Elements.{in_parts, in_left, in_right, all_in, all_of, source, in_filtered, origin, in_mapped}
-use Rattle.cy_graph.proofs.Slots.{same_number, tied, above, weaker, find_smaller, find_standing, standing_rises, restored_rises}
+use Rattle.cy_graph.proofs.Slots.{same_number, tied, above, weaker, find_smaller, find_live, live_rises, restored_rises}
 
 module _ {V : Type 0} where
   -- an element of a list by rising number is found
@@ -152,7 +152,7 @@ module _ {V : Type 0} where
     -- what stood under a number
     stood : (id : ℕ) → value_under id before.entries ≡ option_flatten (option_map (as_it_was (value_under id start.before.entries)) (slot_at id first))
     stood id =
-        find_standing 1 start.next id (restored start.before.entries first) (restored_rises start.before.entries 1 start.next first all.rising)
+        find_live 1 start.next id (restored start.before.entries first) (restored_rises start.before.entries 1 start.next first all.rising)
         ∙ ap option_flatten (find_restored id start.before.entries first)
 
     stood_kept : (id : ℕ) (old : V) → value_under id start.before.entries ≡ Some old → value_under id before.entries ≡ Some old
@@ -168,36 +168,36 @@ module _ {V : Type 0} where
         stood id
         ∙ ap (λ kept. option_flatten (option_map (as_it_was kept) (slot_at id first))) none
         ∙ ap (λ o. option_flatten (option_map (as_it_was None) o)) is
-        ∙ sym (find_standing 1 next id slots up ∙ ap option_flatten (find_first start.slots id slots s is))
+        ∙ sym (find_live 1 next id slots up ∙ ap option_flatten (find_first start.slots id slots s is))
 
     stood_nowhere : (id : ℕ) → slot_at id first ≡ None → value_under id before.entries ≡ None
     stood_nowhere id none = stood id ∙ ap (λ o. option_flatten (option_map (as_it_was (value_under id start.before.entries)) o)) none
 
-    stands_added : (id : ℕ) → slot_at id first ≡ None → value_under id now.entries ≡ value_under id (standing added)
+    stands_added : (id : ℕ) → slot_at id first ≡ None → value_under id now.entries ≡ value_under id (live added)
     stands_added id none =
-        find_standing 1 next id slots up ∙ ap option_flatten (find_rest start.slots id slots none)
-        ∙ sym (find_standing 1 next id added (drop_rises 1 next start.slots slots up))
+        find_live 1 next id slots up ∙ ap option_flatten (find_rest start.slots id slots none)
+        ∙ sym (find_live 1 next id added (drop_rises 1 next start.slots slots up))
 
     -- a value that stands in an added slot was not there
-    is_added : (e : ℕ × V) → IsIn e (standing added) → (slot_at e.0 first ≡ None) × (value_under e.0 now.entries ≡ Some e.1)
+    is_added : (e : ℕ × V) → IsIn e (live added) → (slot_at e.0 first ≡ None) × (value_under e.0 now.entries ≡ Some e.1)
     is_added e i =
         let rising = drop_rises 1 next start.slots slots up in
-        let found = found_rising 1 next (standing added) e (standing_rises 1 next added rising) i in
-        let some = flat_some (slot_at e.0 added) e.1 (sym (find_standing 1 next e.0 added rising) ∙ found) in
+        let found = found_rising 1 next (live added) e (live_rises 1 next added rising) i in
+        let some = flat_some (slot_at e.0 added) e.1 (sym (find_live 1 next e.0 added rising) ∙ found) in
         let none = not_in_both 1 next start.slots e.0 slots up some in
         (none, stands_added e.0 none ∙ found)
 
-    differ_kept : (e : ℕ × V) → IsIn e start.before.entries → not (stands_as eq now e) ≡ true → IsDifference before now (was_value e)
+    differ_kept : (e : ℕ × V) → IsIn e start.before.entries → not (has_value eq now e) ≡ true → IsDifference before now (was_value e)
     differ_kept e i test =
         let old = stood_kept e.0 e.1 (found_distinct start.before.entries e distinct i) in (
           sym old,
           λ same.
-              let stands : stands_as eq now e ≡ true = ap (λ o. option_map_or (λ n. eq n e.1) o false) (sym same ∙ old) ∙ itself e.1 in
+              let stands : has_value eq now e ≡ true = ap (λ o. option_map_or (λ n. eq n e.1) o false) (sym same ∙ old) ∙ itself e.1 in
               let no : false ≡ true = sym (ap not stands) ∙ test in
               cc,
         )
 
-    differ_added : (e : ℕ × V) → IsIn e (standing added) → IsDifference before now (was_none e)
+    differ_added : (e : ℕ × V) → IsIn e (live added) → IsDifference before now (was_none e)
     differ_added e i =
         let fresh = is_added e i in
         let old = stood_nowhere e.0 fresh.0 in
@@ -206,12 +206,12 @@ module _ {V : Type 0} where
     differ : (e : ℕ × Option V) → IsIn e (changed_of eq now start.before.entries ++ added_of added) → IsDifference before now e
     differ e i =
         elim (in_parts e (changed_of eq now start.before.entries) (added_of added) i) as (λ _. IsDifference before now e) [
-          | inl a ↦ let s = source was_value (λ x. not (stands_as eq now x)) start.before.entries e a in subst (IsDifference before now) s.gives (differ_kept s.from s.there s.passes)
-          | inr b ↦ let s = origin was_none (λ _. true) (standing added) e b in subst (IsDifference before now) s.gives (differ_added s.from s.there)
+          | inl a ↦ let s = source was_value (λ x. not (has_value eq now x)) start.before.entries e a in subst (IsDifference before now) s.gives (differ_kept s.from s.there s.passes)
+          | inr b ↦ let s = origin was_none (λ _. true) (live added) e b in subst (IsDifference before now) s.gives (differ_added s.from s.there)
         ]
 
     -- a value that differs from what was kept is found so
-    passes : (id : ℕ) (old : V) → value_under id before.entries ≡ Some old → value_under id before.entries ≢ value_under id now.entries → not (stands_as eq now (id, old)) ≡ true
+    passes : (id : ℕ) (old : V) → value_under id before.entries ≡ Some old → value_under id before.entries ≢ value_under id now.entries → not (has_value eq now (id, old)) ≡ true
     passes id old was other =
         elim (value_under id now.entries) as (λ o. value_under id now.entries ≡ o → not (option_map_or (λ n. eq n old) o false) ≡ true) [
           | None ↦ λ is. refl
@@ -227,16 +227,16 @@ module _ {V : Type 0} where
           | Some old ↦ λ is.
               let was = stood_kept id old is in
               let there = in_found id start.before.entries old is in
-              let entry = in_filtered was_value (λ x. not (stands_as eq now x)) start.before.entries (id, old) there (passes id old was other) in
+              let entry = in_filtered was_value (λ x. not (has_value eq now x)) start.before.entries (id, old) there (passes id old was other) in
               in_left (id, value_under id before.entries) (changed_of eq now start.before.entries) (added_of added) (subst (λ o. IsIn (id, o) (changed_of eq now start.before.entries)) (sym was) entry)
           | None ↦ λ none. elim (slot_at id first) as (λ o. slot_at id first ≡ o → IsIn (id, value_under id before.entries) (changed_of eq now start.before.entries ++ added_of added)) [
             | Some s ↦ λ is. absurd (other (stood_alike id s none is))
             | None ↦ λ is.
                 let was = stood_nowhere id is in
-                elim (value_under id (standing added)) as (λ o. value_under id (standing added) ≡ o → IsIn (id, value_under id before.entries) (changed_of eq now start.before.entries ++ added_of added)) [
+                elim (value_under id (live added)) as (λ o. value_under id (live added) ≡ o → IsIn (id, value_under id before.entries) (changed_of eq now start.before.entries ++ added_of added)) [
                   | None ↦ λ gone. absurd (other (was ∙ sym (stands_added id is ∙ gone)))
                   | Some n ↦ λ found.
-                      let entry = in_mapped was_none (λ _. true) (standing added) (id, n) (in_found id (standing added) n found) in
+                      let entry = in_mapped was_none (λ _. true) (live added) (id, n) (in_found id (live added) n found) in
                       in_right (id, value_under id before.entries) (changed_of eq now start.before.entries) (added_of added) (subst (λ o. IsIn (id, o) (added_of added)) (sym was) entry)
                 ] refl
           ] refl
@@ -245,11 +245,11 @@ module _ {V : Type 0} where
     once : AreNumbersApart (changed_of eq now start.before.entries ++ added_of added)
     once =
         apart_append (changed_of eq now start.before.entries) (added_of added)
-        (apart_kept (λ x. not (stands_as eq now x)) start.before.entries distinct)
-        (apart_added 1 next (standing added) (standing_rises 1 next added (drop_rises 1 next start.slots slots up)))
+        (apart_kept (λ x. not (has_value eq now x)) start.before.entries distinct)
+        (apart_added 1 next (live added) (live_rises 1 next added (drop_rises 1 next start.slots slots up)))
         (λ x y i j same.
-        let s = source was_value (λ z. not (stands_as eq now z)) start.before.entries x i in
-        let t = origin was_none (λ _. true) (standing added) y j in
+        let s = source was_value (λ z. not (has_value eq now z)) start.before.entries x i in
+        let t = origin was_none (λ _. true) (live added) y j in
         let number = ap (λ (z : ℕ × Option V). z.0) s.gives ∙ same ∙ sym (ap (λ (z : ℕ × Option V). z.0) t.gives) in
         let there = all.held s.from.0 (ap is_some (found_distinct start.before.entries s.from distinct s.there)) in
         let none = ap (λ k. slot_at k first) number ∙ (is_added t.from t.there).0 in

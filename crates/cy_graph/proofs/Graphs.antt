@@ -14,9 +14,10 @@ use Rattle.cy_graph.specs.declared.nodes.Rel.{Rel}
 use Rattle.cy_graph.specs.Graph.{Versions, node_at, rel_at, with_node, with_rel, with_node_changed, with_rel_changed, without_node, without_rel, IsGraph}
 use Rattle.cy_graph.specs.Maps.{rises}
 use Rattle.cy_graph.specs.Stored.{IsStorable}
-use Rattle.cy_graph.specs.internal.Contents.{nodes_of, rels_of, state_of, versions_of, IsNode, IsRel, AreValues, AreVersions, IsJoined}
+use Rattle.cy_graph.specs.internal.Contents.{IsNode, IsRel, AreValues, AreVersions, IsJoined}
 use Rattle.cy_graph.specs.internal.Slots.{value_under}
-use Rattle.cy_graph.specs.internal.Versions.{Numbered, Line, IsNumbered, with_last, with_edited, without_number, put_under}
+use Rattle.cy_graph.specs.internal.Versions.{IsNumbered, with_last, with_edited, without_number, put_under}
+use Rattle.cy_graph.specs.Model.{Numbered, SeriesVersions, nodes_of, rels_of, state_of, versions_of}
 use Rattle.cy_graph.proofs.Contents.{find_named, named_push, named_edited, named_where, named_sorted, named_numbers, named_all}
 use Rattle.cy_graph.proofs.RelContents.{find_rel, rels_push, rels_edited, rels_where, rels_sorted, rels_numbers, rels_all}
 use Rattle.cy_graph.proofs.Slots.{sorted, same_tests, all_found, all_put, all_push}
@@ -55,10 +56,10 @@ graph_of nodes rels numbered rels_numbered all = record {
 
 -- ---- an entity that is there stands in its series
 
-pub there_named : (nodes : Line Node) (rels : Line Rel) (versions : Versions) (id : NodeId) → versions_of nodes rels ≡ versions → IsSome (node_at id versions.now) → IsSome (value_under id.0 nodes.now.entries)
+pub there_named : (nodes : SeriesVersions Node) (rels : SeriesVersions Rel) (versions : Versions) (id : NodeId) → versions_of nodes rels ≡ versions → IsSome (node_at id versions.now) → IsSome (value_under id.0 nodes.now.entries)
 there_named nodes rels versions id view there = sym (ap is_some (find_named id nodes.now.entries)) ∙ ap (λ (v : Versions). is_some (node_at id v.now)) view ∙ there
 
-pub there_joined : (nodes : Line Node) (rels : Line Rel) (versions : Versions) (id : RelId) → versions_of nodes rels ≡ versions → IsSome (rel_at id versions.now) → IsSome (value_under id.0 rels.now.entries)
+pub there_joined : (nodes : SeriesVersions Node) (rels : SeriesVersions Rel) (versions : Versions) (id : RelId) → versions_of nodes rels ≡ versions → IsSome (rel_at id versions.now) → IsSome (value_under id.0 rels.now.entries)
 there_joined nodes rels versions id view there = sym (ap is_some (find_rel id rels.now.entries)) ∙ ap (λ (v : Versions). is_some (rel_at id v.now)) view ∙ there
 
 -- ---- what an edit of the nodes leaves of them
@@ -96,7 +97,7 @@ changed_all P edited number es (Some value) is each all = all_put P number (edit
 
 -- ---- the nodes of a graph change
 
-module _ (nodes : Line Node) (rels : Line Rel) (outgoing incoming : Adjacency) (all : AreVersions nodes rels outgoing incoming) where
+module _ (nodes : SeriesVersions Node) (rels : SeriesVersions Rel) (outgoing incoming : Adjacency) (all : AreVersions nodes rels outgoing incoming) where
   -- with other nodes, among which the ends are still
   with_others : (now : Numbered Node) → AllByRecursion (λ (e : ℕ × Node). IsNode e.1) now.entries → ((k : ℕ) → IsSome (value_under k nodes.now.entries) → IsSome (value_under k now.entries))
       → AreVersions (record nodes { now = now }) rels outgoing incoming
@@ -139,28 +140,28 @@ module _ (nodes : Line Node) (rels : Line Rel) (outgoing incoming : Adjacency) (
 
 -- ---- what the calls make of the versions
 
-pub added_versions : (nodes : Line Node) (rels : Line Rel) (node : Node) → versions_of (record nodes { now = with_last node nodes.now }) rels ≡ record (versions_of nodes rels) { now = with_node node (state_of nodes.now rels.now) }
+pub added_versions : (nodes : SeriesVersions Node) (rels : SeriesVersions Rel) (node : Node) → versions_of (record nodes { now = with_last node nodes.now }) rels ≡ record (versions_of nodes rels) { now = with_node node (state_of nodes.now rels.now) }
 added_versions nodes rels node =
     ap (λ es. let v : Versions = record (versions_of nodes rels) { now = record { content = record { nodes = es; rels = rels_of rels.now.entries }; next_node = nodes.now.next + 1; next_rel = rels.now.next } } in v) (named_push nodes.now.entries nodes.now.next node)
 
-pub edited_versions : (nodes : Line Node) (rels : Line Rel) (edited : Node → Node) (id : NodeId)
+pub edited_versions : (nodes : SeriesVersions Node) (rels : SeriesVersions Rel) (edited : Node → Node) (id : NodeId)
     → versions_of (record nodes { now = with_edited edited id.0 nodes.now }) rels ≡ record (versions_of nodes rels) { now = with_node_changed id edited (state_of nodes.now rels.now) }
 edited_versions nodes rels edited id =
     ap (λ es. let v : Versions = record (versions_of nodes rels) { now = record { content = record { nodes = es; rels = rels_of rels.now.entries }; next_node = nodes.now.next; next_rel = rels.now.next } } in v) (named_edited edited id nodes.now.entries)
 
-pub removed_versions : (nodes : Line Node) (rels : Line Rel) (id : NodeId) → versions_of (record nodes { now = without_number id.0 nodes.now }) rels ≡ record (versions_of nodes rels) { now = without_node id (state_of nodes.now rels.now) }
+pub removed_versions : (nodes : SeriesVersions Node) (rels : SeriesVersions Rel) (id : NodeId) → versions_of (record nodes { now = without_number id.0 nodes.now }) rels ≡ record (versions_of nodes rels) { now = without_node id (state_of nodes.now rels.now) }
 removed_versions nodes rels id =
     ap (λ es. let v : Versions = record (versions_of nodes rels) { now = record { content = record { nodes = es; rels = rels_of rels.now.entries }; next_node = nodes.now.next; next_rel = rels.now.next } } in v) (named_where id nodes.now.entries)
 
-pub rel_added_versions : (nodes : Line Node) (rels : Line Rel) (rel : Rel) → versions_of nodes (record rels { now = with_last rel rels.now }) ≡ record (versions_of nodes rels) { now = with_rel rel (state_of nodes.now rels.now) }
+pub rel_added_versions : (nodes : SeriesVersions Node) (rels : SeriesVersions Rel) (rel : Rel) → versions_of nodes (record rels { now = with_last rel rels.now }) ≡ record (versions_of nodes rels) { now = with_rel rel (state_of nodes.now rels.now) }
 rel_added_versions nodes rels rel =
     ap (λ es. let v : Versions = record (versions_of nodes rels) { now = record { content = record { nodes = nodes_of nodes.now.entries; rels = es }; next_node = nodes.now.next; next_rel = rels.now.next + 1 } } in v) (rels_push rels.now.entries rels.now.next rel)
 
-pub rel_edited_versions : (nodes : Line Node) (rels : Line Rel) (edited : Rel → Rel) (id : RelId)
+pub rel_edited_versions : (nodes : SeriesVersions Node) (rels : SeriesVersions Rel) (edited : Rel → Rel) (id : RelId)
     → versions_of nodes (record rels { now = with_edited edited id.0 rels.now }) ≡ record (versions_of nodes rels) { now = with_rel_changed id edited (state_of nodes.now rels.now) }
 rel_edited_versions nodes rels edited id =
     ap (λ es. let v : Versions = record (versions_of nodes rels) { now = record { content = record { nodes = nodes_of nodes.now.entries; rels = es }; next_node = nodes.now.next; next_rel = rels.now.next } } in v) (rels_edited edited id rels.now.entries)
 
-pub rel_removed_versions : (nodes : Line Node) (rels : Line Rel) (id : RelId) → versions_of nodes (record rels { now = without_number id.0 rels.now }) ≡ record (versions_of nodes rels) { now = without_rel id (state_of nodes.now rels.now) }
+pub rel_removed_versions : (nodes : SeriesVersions Node) (rels : SeriesVersions Rel) (id : RelId) → versions_of nodes (record rels { now = without_number id.0 rels.now }) ≡ record (versions_of nodes rels) { now = without_rel id (state_of nodes.now rels.now) }
 rel_removed_versions nodes rels id =
     ap (λ es. let v : Versions = record (versions_of nodes rels) { now = record { content = record { nodes = nodes_of nodes.now.entries; rels = es }; next_node = nodes.now.next; next_rel = rels.now.next } } in v) (rels_where id rels.now.entries)

@@ -8,7 +8,8 @@ use Rattle.cy_values.specs.declared.numbers.RelId.{RelId}
 use Rattle.cy_graph.specs.declared.nodes.Rel.{Rel}
 use Rattle.cy_graph.specs.internal.Adjacency.{IsRising, with_id, without_id}
 use Rattle.cy_graph.specs.Graph.{rels_from, rels_into}
-use Rattle.cy_graph.specs.internal.Contents.{rels_of, ids_by}
+use Rattle.cy_graph.specs.internal.Contents.{ids_by}
+use Rattle.cy_graph.specs.Model.{rels_of}
 use Rattle.cy_graph.specs.internal.Slots.{RiseFrom}
 use Rattle.cy_graph.proofs.Slots.{above, same_tests}
 

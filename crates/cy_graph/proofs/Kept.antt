@@ -12,7 +12,8 @@ use Rattle.cy_graph.specs.declared.nodes.Rel.{Rel}
 use Rattle.cy_graph.specs.internal.Adjacency.{IsRising, with_id, without_id, ids_at, room_at, before_step, undone, IsUndoable}
 use Rattle.cy_graph.specs.internal.Contents.{ids_by, IsJoined}
 use Rattle.cy_graph.specs.internal.Slots.{RiseFrom, value_under}
-use Rattle.cy_graph.specs.internal.Versions.{Numbered, Line, IsNumbered, with_last, without_number}
+use Rattle.cy_graph.specs.internal.Versions.{IsNumbered, with_last, without_number}
+use Rattle.cy_graph.specs.Model.{Numbered, SeriesVersions}
 use Rattle.cy_graph.proofs.Joining.{ids_rising}
 use Rattle.cy_graph.proofs.Joined.{linked_now, linked_before, unlinked_now, unlinked_before, length_with, length_without}
 use Rattle.cy_graph.proofs.Slots.{rises_push, weaker}
@@ -65,7 +66,7 @@ never : {X : Type 0} {A : Type 0} (o : Option X) → IsSome o → IsNone o → A
 never None there none = cc
 never (Some x) there none = cc
 
-module _ (end : Rel → ℕ) (rels : Line Rel) (rel : Rel) (numbered : IsNumbered rels.now) (open_change : IsSome rels.was) (old made new : Adjacency) (joined : IsJoined end rels old)
+module _ (end : Rel → ℕ) (rels : SeriesVersions Rel) (rel : Rel) (numbered : IsNumbered rels.now) (open_change : IsSome rels.was) (old made new : Adjacency) (joined : IsJoined end rels old)
     (same_ids : (m : ℕ) → ids_at m made.lists ≡ ids_at m old.lists) (more_room : (m : ℕ) → room_at m old.lists ≤ room_at m made.lists) (same_steps : made.steps.items ≡ old.steps.items)
     (room : length (ids_at (end rel) made.lists) < room_at (end rel) made.lists)
     (linked : (m : ℕ) → ids_at m new.lists ≡ (if eqb (end rel) m then with_id (record { 0 = rels.now.next }) (ids_at m made.lists) else ids_at m made.lists))
@@ -114,7 +115,7 @@ module _ (end : Rel → ℕ) (rels : Line Rel) (rel : Rel) (numbered : IsNumbere
             ∙ joined.was before is m;
       }
 
-module _ (end : Rel → ℕ) (rels : Line Rel) (rel : Rel) (k : ℕ) (numbered : IsNumbered rels.now) (open_change : IsSome rels.was) (found : value_under k rels.now.entries ≡ Some rel) (old made new : Adjacency) (joined : IsJoined end rels old)
+module _ (end : Rel → ℕ) (rels : SeriesVersions Rel) (rel : Rel) (k : ℕ) (numbered : IsNumbered rels.now) (open_change : IsSome rels.was) (found : value_under k rels.now.entries ≡ Some rel) (old made new : Adjacency) (joined : IsJoined end rels old)
     (same_lists : made.lists ≡ old.lists) (same_steps : made.steps.items ≡ old.steps.items)
     (unlinked : (m : ℕ) → ids_at m new.lists ≡ (if eqb (end rel) m then without_id (record { 0 = k }) (ids_at m made.lists) else ids_at m made.lists))
     (same_room : (m : ℕ) → room_at m new.lists ≡ room_at m made.lists) (step : new.steps.items ≡ made.steps.items ++ Unlinked (end rel) (record { 0 = k }) ∷ []) where
@@ -173,7 +174,7 @@ module _ (end : Rel → ℕ) (rels : Line Rel) (rel : Rel) (k : ℕ) (numbered :
       }
 
 -- when a change begins nothing was done
-pub joined_begun : (end : Rel → ℕ) (rels : Line Rel) (adjacency : Adjacency) → IsNone rels.was → IsJoined end rels adjacency → IsJoined end (record rels { was = Some rels.now }) adjacency
+pub joined_begun : (end : Rel → ℕ) (rels : SeriesVersions Rel) (adjacency : Adjacency) → IsNone rels.was → IsJoined end rels adjacency → IsJoined end (record rels { was = Some rels.now }) adjacency
 joined_begun end rels adjacency none joined =
     let nothing = joined.closed none in
     record {

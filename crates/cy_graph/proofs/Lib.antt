@@ -8,6 +8,7 @@ pub mod Joining
 pub mod Kept
 pub mod Least
 pub mod Opening
+pub mod Ordered
 pub mod Places
 pub mod RelContents
 pub mod Relating

@@ -3,8 +3,8 @@ use Rattle.std.proofs.Common.{◌≡◌, is_some, Option, Some, None, IsNone, re
 use Rattle.cy_graph.specs.declared.adjacency.Adjacency.{Adjacency}
 use Rattle.cy_graph.specs.declared.nodes.Node.{Node}
 use Rattle.cy_graph.specs.declared.nodes.Rel.{Rel}
-use Rattle.cy_graph.specs.internal.Contents.{before_of, AreValues, AreVersions}
-use Rattle.cy_graph.specs.internal.Versions.{Numbered, Line}
+use Rattle.cy_graph.specs.internal.Contents.{AreValues, AreVersions}
+use Rattle.cy_graph.specs.Model.{Numbered, SeriesVersions, before_of}
 use Rattle.cy_graph.proofs.Kept.{joined_begun}
 
 -- where no change is open none is in either series
@@ -19,7 +19,7 @@ none_in_rels None (Some r) both none = cc
 none_in_rels (Some n) None both none = cc
 none_in_rels (Some n) (Some r) both none = none
 
-pub are_begun : (nodes : Line Node) (rels : Line Rel) (outgoing incoming : Adjacency) → IsNone rels.was → AreVersions nodes rels outgoing incoming
+pub are_begun : (nodes : SeriesVersions Node) (rels : SeriesVersions Rel) (outgoing incoming : Adjacency) → IsNone rels.was → AreVersions nodes rels outgoing incoming
     → AreVersions (record nodes { was = Some nodes.now }) (record rels { was = Some rels.now }) outgoing incoming
 are_begun nodes rels outgoing incoming none all = record {
   now = all.now;

@@ -135,7 +135,7 @@ module _ {V : Type 0} where
   with_value-gap key v (e ∷ es) (suc at) gap = ap (λ o. by_order o ((key, v) ∷ e ∷ es) ((e.0, v) ∷ es) (e ∷ with_value key v es)) gap.0 ∙ ap (λ l. e ∷ l) (with_value-gap key v es at gap.1)
 
   -- nothing goes where a key is below all
-  without-below : (key : List ℕ) (es : List (List ℕ × V)) → below_all text_order key es ≡ true → without key es ≡ es
+  pub without-below : (key : List ℕ) (es : List (List ℕ × V)) → below_all text_order key es ≡ true → without key es ≡ es
   without-below key [] below = refl
   without-below key (e ∷ es) below = ap (λ o. cond (not (is_eq o)) (e ∷ without key es) (without key es)) (less _ (and_parts _ _ below).0) ∙ ap (λ l. e ∷ l) (without-below key es (and_parts _ _ below).1)
 

@@ -9,7 +9,8 @@ use Rattle.std.proofs.lemmas.Bool.{and_from, and_parts}
 use Rattle.cy_values.specs.declared.numbers.RelId.{RelId}
 use Rattle.cy_graph.specs.declared.nodes.Rel.{Rel}
 use Rattle.cy_graph.specs.Graph.{rel_order, replaced_rel}
-use Rattle.cy_graph.specs.internal.Contents.{rels_of, IsRel}
+use Rattle.cy_graph.specs.internal.Contents.{IsRel}
+use Rattle.cy_graph.specs.Model.{rels_of}
 use Rattle.cy_graph.specs.internal.Slots.{RiseFrom, value_under}
 use Rattle.cy_graph.specs.internal.Versions.{put_under}
 

@@ -14,9 +14,10 @@ use Rattle.cy_graph.specs.declared.nodes.Node.{Node}
 use Rattle.cy_graph.specs.declared.nodes.Rel.{Rel}
 use Rattle.cy_graph.specs.Graph.{State}
 use Rattle.cy_graph.specs.internal.Adjacency.{IsRising, with_id, without_id, ids_at, room_at, before_step, undone, CanUndo, IsUndoable}
-use Rattle.cy_graph.specs.internal.Contents.{before_of, versions_of, ids_by, IsRel, AreVersions, IsJoined}
+use Rattle.cy_graph.specs.internal.Contents.{ids_by, IsRel, AreVersions, IsJoined}
 use Rattle.cy_graph.specs.internal.Slots.{RiseFrom, value_under}
-use Rattle.cy_graph.specs.internal.Versions.{Numbered, Line, IsNumbered, with_last, with_edited, without_number, put_under}
+use Rattle.cy_graph.specs.internal.Versions.{IsNumbered, with_last, with_edited, without_number, put_under}
+use Rattle.cy_graph.specs.Model.{Numbered, SeriesVersions, before_of, versions_of}
 use Rattle.cy_graph.proofs.Graphs.{EndsIn}
 use Rattle.cy_graph.proofs.Joining.{ids_rising}
 use Rattle.cy_graph.proofs.Joined.{length_with, length_without}
@@ -27,7 +28,7 @@ use Rattle.cy_graph.proofs.Undoing.{undone_same, undoable_same}
 -- ---- the lists at one end
 
 -- more room, and nothing else
-pub joined_reserved : (end : Rel → ℕ) (rels : Line Rel) (old new : Adjacency) → IsJoined end rels old → ((m : ℕ) → ids_at m new.lists ≡ ids_at m old.lists) → ((m : ℕ) → room_at m old.lists ≤ room_at m new.lists)
+pub joined_reserved : (end : Rel → ℕ) (rels : SeriesVersions Rel) (old new : Adjacency) → IsJoined end rels old → ((m : ℕ) → ids_at m new.lists ≡ ids_at m old.lists) → ((m : ℕ) → room_at m old.lists ≤ room_at m new.lists)
     → new.steps.items ≡ old.steps.items → IsJoined end rels new
 joined_reserved end rels old new joined ids room steps = record {
   now = λ m. ids m ∙ joined.now m;
@@ -40,7 +41,7 @@ joined_reserved end rels old new joined ids room steps = record {
 }
 
 -- the numbers in a list rise
-pub list_rises : (end : Rel → ℕ) (rels : Line Rel) (adjacency : Adjacency) → IsNumbered rels.now → IsJoined end rels adjacency → (m : ℕ) → IsRising (ids_at m adjacency.lists)
+pub list_rises : (end : Rel → ℕ) (rels : SeriesVersions Rel) (adjacency : Adjacency) → IsNumbered rels.now → IsJoined end rels adjacency → (m : ℕ) → IsRising (ids_at m adjacency.lists)
 list_rises end rels adjacency numbered joined m = subst IsRising (sym (joined.now m)) (ids_rising end m 1 rels.now.next rels.now.entries numbered.rising)
 
 less : (m n : ℕ) → nat_cmp m n ≡ Less → m < n
@@ -77,7 +78,7 @@ module _ (end : Rel → ℕ) (edited : Rel → Rel) (same : (rel : Rel) → end 
   ids_edited number None low high es r found = refl
   ids_edited number (Some rel) low high es r found = ids_put number rel low high es r found
 
-pub joined_edited : (end : Rel → ℕ) (edited : Rel → Rel) → ((rel : Rel) → end (edited rel) ≡ end rel) → (rels : Line Rel) (number : ℕ) (adjacency : Adjacency) → IsNumbered rels.now → IsJoined end rels adjacency
+pub joined_edited : (end : Rel → ℕ) (edited : Rel → Rel) → ((rel : Rel) → end (edited rel) ≡ end rel) → (rels : SeriesVersions Rel) (number : ℕ) (adjacency : Adjacency) → IsNumbered rels.now → IsJoined end rels adjacency
     → IsJoined end (record rels { now = with_edited edited number rels.now }) adjacency
 joined_edited end edited same rels number adjacency numbered joined = record {
   now = λ m. joined.now m ∙ sym (ids_edited end edited same m number (value_under number rels.now.entries) 1 rels.now.next rels.now.entries numbered.rising refl);
@@ -89,7 +90,7 @@ joined_edited end edited same rels number adjacency numbered joined = record {
 
 -- ---- the graph
 
-module _ (nodes : Line Node) (rels : Line Rel) (outgoing incoming new_outgoing new_incoming : Adjacency) (all : AreVersions nodes rels outgoing incoming) where
+module _ (nodes : SeriesVersions Node) (rels : SeriesVersions Rel) (outgoing incoming new_outgoing new_incoming : Adjacency) (all : AreVersions nodes rels outgoing incoming) where
   -- more room, and nothing else
   pub reserved_are : IsJoined (λ rel. rel.source.0) rels new_outgoing → IsJoined (λ rel. rel.target.0) rels new_incoming → AreVersions nodes rels new_outgoing new_incoming
   reserved_are out into = record { now = all.now; both = all.both; was = all.was; out_joined = out; in_joined = into }
@@ -150,7 +151,7 @@ undone_fits : (steps : List Step) (ids : ℕ → List RelId) (room : ℕ → ℕ
 undone_fits [] ids room fits can m = fits m
 undone_fits (s ∷ steps) ids room fits can m = undone_fits steps (before_step s ids) room (step_fits s ids room fits can.0) can.1 m
 
-pub joined_undone : (end : Rel → ℕ) (rels : Line Rel) (before : Numbered Rel) (old new : Adjacency) → rels.was ≡ Some before → IsJoined end rels old → IsUndone old new → IsJoined end (record { now = before; was = None }) new
+pub joined_undone : (end : Rel → ℕ) (rels : SeriesVersions Rel) (before : Numbered Rel) (old new : Adjacency) → rels.was ≡ Some before → IsJoined end rels old → IsUndone old new → IsJoined end (record { now = before; was = None }) new
 joined_undone end rels before old new is joined undo = record {
   now = λ m. undo.ids m ∙ joined.was before is m;
   fits = λ m. omega (arith, ap length (undo.ids m), undone_fits (reverse old.steps.items) (λ n. ids_at n old.lists) (λ n. room_at n old.lists) joined.fits joined.undoable m, undo.room m);
@@ -160,11 +161,11 @@ joined_undone end rels before old new is joined undo = record {
 }
 
 -- a closed version of a series
-abbrev pub closed : {V : Type 0} → Numbered V → Line V
+abbrev pub closed : {V : Type 0} → Numbered V → SeriesVersions V
 closed now = record { now = now; was = None }
 
 -- the change is taken back
-pub rolled_are : (nodes new_nodes : Line Node) (rels new_rels : Line Rel) (outgoing incoming new_outgoing new_incoming : Adjacency) → AreVersions nodes rels outgoing incoming
+pub rolled_are : (nodes new_nodes : SeriesVersions Node) (rels new_rels : SeriesVersions Rel) (outgoing incoming new_outgoing new_incoming : Adjacency) → AreVersions nodes rels outgoing incoming
     → (before : Option (Numbered Node)) → nodes.was ≡ before → (before_rels : Option (Numbered Rel)) → rels.was ≡ before_rels → IsSome before → IsSome before_rels
     → IfSome before (λ b. new_nodes ≡ closed b) → IfSome before_rels (λ b. new_rels ≡ closed b) → IsUndone outgoing new_outgoing → IsUndone incoming new_incoming → AreVersions new_nodes new_rels new_outgoing new_incoming
 rolled_are nodes new_nodes rels new_rels outgoing incoming new_outgoing new_incoming all None is rels_before rels_is some rels_some nodes_back rels_back out into = let no : false ≡ true = some in cc
@@ -178,14 +179,14 @@ rolled_are nodes new_nodes rels new_rels outgoing incoming new_outgoing new_inco
       in_joined = joined_undone (λ rel. rel.target.0) rels before_rels incoming new_incoming rels_is all.in_joined into;
     }))
 
-pub rolled_versions : (nodes new_nodes : Line Node) (rels new_rels : Line Rel) → (before : Option (Numbered Node)) (before_rels : Option (Numbered Rel)) → IsSome before → IsSome before_rels
+pub rolled_versions : (nodes new_nodes : SeriesVersions Node) (rels new_rels : SeriesVersions Rel) → (before : Option (Numbered Node)) (before_rels : Option (Numbered Rel)) → IsSome before → IsSome before_rels
     → IfSome before (λ b. new_nodes ≡ closed b) → IfSome before_rels (λ b. new_rels ≡ closed b) → IfSome (before_of before before_rels) (λ (state : State). versions_of new_nodes new_rels ≡ record { now = state; was = None })
 rolled_versions nodes new_nodes rels new_rels None before_rels some rels_some nodes_back rels_back = let no : false ≡ true = some in cc
 rolled_versions nodes new_nodes rels new_rels (Some before) None some rels_some nodes_back rels_back = let no : false ≡ true = rels_some in cc
 rolled_versions nodes new_nodes rels new_rels (Some before) (Some before_rels) some rels_some nodes_back rels_back = ap (λ n. versions_of n new_rels) nodes_back ∙ ap (λ r. versions_of (closed before) r) rels_back
 
 -- the change stays
-pub committed_are : (nodes : Line Node) (rels : Line Rel) (outgoing incoming new_outgoing new_incoming : Adjacency) → AreVersions nodes rels outgoing incoming
+pub committed_are : (nodes : SeriesVersions Node) (rels : SeriesVersions Rel) (outgoing incoming new_outgoing new_incoming : Adjacency) → AreVersions nodes rels outgoing incoming
     → IsJoined (λ rel. rel.source.0) (closed rels.now) new_outgoing → IsJoined (λ rel. rel.target.0) (closed rels.now) new_incoming → AreVersions (closed nodes.now) (closed rels.now) new_outgoing new_incoming
 committed_are nodes rels outgoing incoming new_outgoing new_incoming all out into = record { now = all.now; both = refl; was = λ other none. cc; out_joined = out; in_joined = into }
 

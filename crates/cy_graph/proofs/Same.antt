@@ -85,7 +85,7 @@ same_values value.Null (value.Bool _) e = cc
 same_values value.Null (value.Int _) e = cc
 same_values value.Null value.Null e = refl
 
-value_itself : (x : Value) → (value_eq.eq-value).it x x ≡ true
+pub value_itself : (x : Value) → (value_eq.eq-value).it x x ≡ true
 value_itself (value.List xs) = lists_themselves (scalar_eq.eq-value).it scalar_itself xs
 value_itself (value.Text s) = (bytes_decides s s).1 refl
 value_itself (value.Bool false) = refl

@@ -11,7 +11,7 @@ use Rattle.std.specs.FinMap.Entries as entries
 use Rattle.std.proofs.lemmas.Bool.{and_from}
 use Rattle.std.proofs.lemmas.Bool.Decides.{nat_tests}
 use Rattle.indexmap.specs.IndexMap.{set_value_at}
-use Rattle.cy_graph.specs.internal.Slots.{RiseFrom, with_slot, standing, value_under, slot_at, as_it_was, restored}
+use Rattle.cy_graph.specs.internal.Slots.{RiseFrom, with_slot, live, value_under, slot_at, as_it_was, restored}
 
 -- what the comparison of two numbers answers
 pub tied : (m n : ℕ) → m ≡ n → nat_cmp m n ≡ Equal
@@ -129,60 +129,60 @@ module _ {V : Type 0} where
 
 module _ {V : Type 0} where
   -- the values that stand have rising numbers
-  pub standing_rises : (low high : ℕ) (es : List (ℕ × Option V)) → RiseFrom low high es → RiseFrom low high (standing es)
-  standing_rises low high [] r = tt
-  standing_rises low high (e ∷ es) r =
-      let rest = standing_rises (e.0 + 1) high es r.2 in
-      elim e.1 as (λ s. RiseFrom low high (with_slot e.0 s (standing es))) [ None ↦ weaker (e.0 + 1) low high (standing es) (omega (arith, r.0)) rest | Some n ↦ (r.0, r.1, rest) ]
+  pub live_rises : (low high : ℕ) (es : List (ℕ × Option V)) → RiseFrom low high es → RiseFrom low high (live es)
+  live_rises low high [] r = tt
+  live_rises low high (e ∷ es) r =
+      let rest = live_rises (e.0 + 1) high es r.2 in
+      elim e.1 as (λ s. RiseFrom low high (with_slot e.0 s (live es))) [ None ↦ weaker (e.0 + 1) low high (live es) (omega (arith, r.0)) rest | Some n ↦ (r.0, r.1, rest) ]
 
   -- a look-up among them finds what stands in the slot
-  pub find_standing : (low high : ℕ) (id : ℕ) (es : List (ℕ × Option V)) → RiseFrom low high es → entries.find nat_cmp id (standing es) ≡ option_flatten (entries.find nat_cmp id es)
-  find_standing low high id [] r = refl
-  find_standing low high id (e ∷ es) r =
-      let rest = find_standing (e.0 + 1) high id es r.2 in
+  pub find_live : (low high : ℕ) (id : ℕ) (es : List (ℕ × Option V)) → RiseFrom low high es → entries.find nat_cmp id (live es) ≡ option_flatten (entries.find nat_cmp id es)
+  find_live low high id [] r = refl
+  find_live low high id (e ∷ es) r =
+      let rest = find_live (e.0 + 1) high id es r.2 in
       let empty : Option V = None in
-      elim e.1 as (λ s. entries.find nat_cmp id (with_slot e.0 s (standing es)) ≡ option_flatten (cond (is_eq (nat_cmp id e.0)) (Some s) (entries.find nat_cmp id es))) [
-        | None ↦ elim (is_eq (nat_cmp id e.0)) as (λ b. is_eq (nat_cmp id e.0) ≡ b → entries.find nat_cmp id (standing es) ≡ option_flatten (cond b (Some empty) (entries.find nat_cmp id es))) [
-          | true ↦ λ t. let same : id ≡ e.0 = same_number id e.0 t in find_smaller id (e.0 + 1) high (standing es) (omega arith) (standing_rises (e.0 + 1) high es r.2)
+      elim e.1 as (λ s. entries.find nat_cmp id (with_slot e.0 s (live es)) ≡ option_flatten (cond (is_eq (nat_cmp id e.0)) (Some s) (entries.find nat_cmp id es))) [
+        | None ↦ elim (is_eq (nat_cmp id e.0)) as (λ b. is_eq (nat_cmp id e.0) ≡ b → entries.find nat_cmp id (live es) ≡ option_flatten (cond b (Some empty) (entries.find nat_cmp id es))) [
+          | true ↦ λ t. let same : id ≡ e.0 = same_number id e.0 t in find_smaller id (e.0 + 1) high (live es) (omega arith) (live_rises (e.0 + 1) high es r.2)
           | false ↦ λ t. rest
         ] refl
-        | Some n ↦ elim (is_eq (nat_cmp id e.0)) as (λ b. cond b (Some n) (entries.find nat_cmp id (standing es)) ≡ option_flatten (cond b (Some (Some n)) (entries.find nat_cmp id es))) [ true ↦ refl | false ↦ rest ]
+        | Some n ↦ elim (is_eq (nat_cmp id e.0)) as (λ b. cond b (Some n) (entries.find nat_cmp id (live es)) ≡ option_flatten (cond b (Some (Some n)) (entries.find nat_cmp id es))) [ true ↦ refl | false ↦ rest ]
       ]
 
   pub value_found : (high : ℕ) (id : ℕ) (es : List (ℕ × Option V)) (found : Option (Option V)) → RiseFrom 1 high es → found ≡ lookup (λ (k : ℕ). eqb id k) es
-      → option_flatten found ≡ entries.find nat_cmp id (standing es)
-  value_found high id es found r is = ap option_flatten (is ∙ same_look_up id es) ∙ sym (find_standing 1 high id es r)
+      → option_flatten found ≡ entries.find nat_cmp id (live es)
+  value_found high id es found r is = ap option_flatten (is ∙ same_look_up id es) ∙ sym (find_live 1 high id es r)
 
   -- what stands in a slot stands under its number
-  pub find_at : (low high : ℕ) (es : List (ℕ × Option V)) (i : ℕ) (id : ℕ) (n : V) → RiseFrom low high es → slice_get es i ≡ Some (id, Some n) → entries.find nat_cmp id (standing es) ≡ Some n
+  pub find_at : (low high : ℕ) (es : List (ℕ × Option V)) (i : ℕ) (id : ℕ) (n : V) → RiseFrom low high es → slice_get es i ≡ Some (id, Some n) → entries.find nat_cmp id (live es) ≡ Some n
   find_at low high [] i id n r is = cc
   find_at low high (e ∷ es) zero id n r is =
       let key : e.0 ≡ id = cc in
       let slot : e.1 ≡ Some n = cc in
-      ap (λ s. entries.find nat_cmp id (with_slot e.0 s (standing es))) slot ∙ ap (λ o. cond (is_eq o) (Some n) (entries.find nat_cmp id (standing es))) (tied id e.0 (ap (λ (k : ℕ). k) (sym key)))
+      ap (λ s. entries.find nat_cmp id (with_slot e.0 s (live es))) slot ∙ ap (λ o. cond (is_eq o) (Some n) (entries.find nat_cmp id (live es))) (tied id e.0 (ap (λ (k : ℕ). k) (sym key)))
   find_at low high (e ∷ es) (suc i) id n r is =
       let rest = find_at (e.0 + 1) high es i id n r.2 is in
       let apart : e.0 < id = omega (arith, at_least (e.0 + 1) high es i (id, Some n) r.2 is) in
-      elim e.1 as (λ s. entries.find nat_cmp id (with_slot e.0 s (standing es)) ≡ Some n) [
+      elim e.1 as (λ s. entries.find nat_cmp id (with_slot e.0 s (live es)) ≡ Some n) [
         | None ↦ rest
-        | Some m ↦ ap (λ o. cond (is_eq o) (Some m) (entries.find nat_cmp id (standing es))) (above id e.0 apart) ∙ rest
+        | Some m ↦ ap (λ o. cond (is_eq o) (Some m) (entries.find nat_cmp id (live es))) (above id e.0 apart) ∙ rest
       ]
 
   -- the slot of a value that changes has the value as it is then
-  pub standing_set : (low high : ℕ) (es : List (ℕ × Option V)) (i : ℕ) (id : ℕ) (old new : V) → RiseFrom low high es → slice_get es i ≡ Some (id, Some old)
-      → standing (set_value_at es i (Some new)) ≡ entries.put nat_cmp id new (standing es)
-  standing_set low high [] i id old new r is = cc
-  standing_set low high (e ∷ es) zero id old new r is =
+  pub live_set : (low high : ℕ) (es : List (ℕ × Option V)) (i : ℕ) (id : ℕ) (old new : V) → RiseFrom low high es → slice_get es i ≡ Some (id, Some old)
+      → live (set_value_at es i (Some new)) ≡ entries.put nat_cmp id new (live es)
+  live_set low high [] i id old new r is = cc
+  live_set low high (e ∷ es) zero id old new r is =
       let key : e.0 ≡ id = cc in
       let slot : e.1 ≡ Some old = cc in
-      sym (ap (λ s. entries.put nat_cmp id new (with_slot e.0 s (standing es))) slot
-      ∙ ap (λ o. entries.by_order o ((id, new) ∷ (e.0, old) ∷ standing es) ((e.0, new) ∷ standing es) ((e.0, old) ∷ entries.put nat_cmp id new (standing es))) (tied id e.0 (ap (λ (k : ℕ). k) (sym key))))
-  standing_set low high (e ∷ es) (suc i) id old new r is =
-      let rest = standing_set (e.0 + 1) high es i id old new r.2 is in
+      sym (ap (λ s. entries.put nat_cmp id new (with_slot e.0 s (live es))) slot
+      ∙ ap (λ o. entries.by_order o ((id, new) ∷ (e.0, old) ∷ live es) ((e.0, new) ∷ live es) ((e.0, old) ∷ entries.put nat_cmp id new (live es))) (tied id e.0 (ap (λ (k : ℕ). k) (sym key))))
+  live_set low high (e ∷ es) (suc i) id old new r is =
+      let rest = live_set (e.0 + 1) high es i id old new r.2 is in
       let apart : e.0 < id = omega (arith, at_least (e.0 + 1) high es i (id, Some old) r.2 is) in
-      elim e.1 as (λ s. with_slot e.0 s (standing (set_value_at es i (Some new))) ≡ entries.put nat_cmp id new (with_slot e.0 s (standing es))) [
+      elim e.1 as (λ s. with_slot e.0 s (live (set_value_at es i (Some new))) ≡ entries.put nat_cmp id new (with_slot e.0 s (live es))) [
         | None ↦ rest
-        | Some m ↦ ap (λ l. (e.0, m) ∷ l) rest ∙ sym (ap (λ o. entries.by_order o ((id, new) ∷ (e.0, m) ∷ standing es) ((e.0, new) ∷ standing es) ((e.0, m) ∷ entries.put nat_cmp id new (standing es))) (above id e.0 apart))
+        | Some m ↦ ap (λ l. (e.0, m) ∷ l) rest ∙ sym (ap (λ o. entries.by_order o ((id, new) ∷ (e.0, m) ∷ live es) ((e.0, new) ∷ live es) ((e.0, m) ∷ entries.put nat_cmp id new (live es))) (above id e.0 apart))
       ]
 
   -- greater numbers are other ones
@@ -193,35 +193,35 @@ module _ {V : Type 0} where
       ∙ ap (λ l. e ∷ l) (others_stay id (e.0 + 1) high es (omega (arith, r.0)) r.2)
 
   -- the slot of a value that is removed is empty
-  pub standing_clear : (low high : ℕ) (es : List (ℕ × Option V)) (i : ℕ) (id : ℕ) (old : V) → RiseFrom low high es → slice_get es i ≡ Some (id, Some old)
-      → standing (set_value_at es i None) ≡ entries.where_key nat_cmp (λ k. not (eq_by_cmp nat_cmp id k)) (standing es)
-  standing_clear low high [] i id old r is = cc
-  standing_clear low high (e ∷ es) zero id old r is =
+  pub live_clear : (low high : ℕ) (es : List (ℕ × Option V)) (i : ℕ) (id : ℕ) (old : V) → RiseFrom low high es → slice_get es i ≡ Some (id, Some old)
+      → live (set_value_at es i None) ≡ entries.where_key nat_cmp (λ k. not (eq_by_cmp nat_cmp id k)) (live es)
+  live_clear low high [] i id old r is = cc
+  live_clear low high (e ∷ es) zero id old r is =
       let key : e.0 ≡ id = cc in
       let slot : e.1 ≡ Some old = cc in
-      let left = entries.where_key nat_cmp (λ k. not (eq_by_cmp nat_cmp id k)) (standing es) in
+      let left = entries.where_key nat_cmp (λ k. not (eq_by_cmp nat_cmp id k)) (live es) in
       let same : id ≡ e.0 = ap (λ (k : ℕ). k) (sym key) in
-      sym (ap (λ s. entries.where_key nat_cmp (λ k. not (eq_by_cmp nat_cmp id k)) (with_slot e.0 s (standing es))) slot
+      sym (ap (λ s. entries.where_key nat_cmp (λ k. not (eq_by_cmp nat_cmp id k)) (with_slot e.0 s (live es))) slot
       ∙ ap (λ o. cond (not (is_eq o)) ((e.0, old) ∷ left) left) (tied id e.0 same)
-      ∙ others_stay id (e.0 + 1) high (standing es) (omega arith) (standing_rises (e.0 + 1) high es r.2))
-  standing_clear low high (e ∷ es) (suc i) id old r is =
-      let rest = standing_clear (e.0 + 1) high es i id old r.2 is in
-      let left = entries.where_key nat_cmp (λ k. not (eq_by_cmp nat_cmp id k)) (standing es) in
+      ∙ others_stay id (e.0 + 1) high (live es) (omega arith) (live_rises (e.0 + 1) high es r.2))
+  live_clear low high (e ∷ es) (suc i) id old r is =
+      let rest = live_clear (e.0 + 1) high es i id old r.2 is in
+      let left = entries.where_key nat_cmp (λ k. not (eq_by_cmp nat_cmp id k)) (live es) in
       let apart : e.0 < id = omega (arith, at_least (e.0 + 1) high es i (id, Some old) r.2 is) in
-      elim e.1 as (λ s. with_slot e.0 s (standing (set_value_at es i None)) ≡ entries.where_key nat_cmp (λ k. not (eq_by_cmp nat_cmp id k)) (with_slot e.0 s (standing es))) [
+      elim e.1 as (λ s. with_slot e.0 s (live (set_value_at es i None)) ≡ entries.where_key nat_cmp (λ k. not (eq_by_cmp nat_cmp id k)) (with_slot e.0 s (live es))) [
         | None ↦ rest
         | Some m ↦ ap (λ l. (e.0, m) ∷ l) rest ∙ sym (ap (λ o. cond (not (is_eq o)) ((e.0, m) ∷ left) left) (above id e.0 apart))
       ]
 
   -- one more slot, with a value
-  pub standing_push : (es : List (ℕ × Option V)) (id : ℕ) (n : V) → standing (es ++ (id, Some n) ∷ []) ≡ standing es ++ (id, n) ∷ []
-  standing_push [] id n = refl
-  standing_push (e ∷ es) id n = elim e.1 as (λ s. with_slot e.0 s (standing (es ++ (id, Some n) ∷ [])) ≡ with_slot e.0 s (standing es) ++ (id, n) ∷ []) [ None ↦ standing_push es id n | Some m ↦ ap (λ l. (e.0, m) ∷ l) (standing_push es id n) ]
+  pub live_push : (es : List (ℕ × Option V)) (id : ℕ) (n : V) → live (es ++ (id, Some n) ∷ []) ≡ live es ++ (id, n) ∷ []
+  live_push [] id n = refl
+  live_push (e ∷ es) id n = elim e.1 as (λ s. with_slot e.0 s (live (es ++ (id, Some n) ∷ [])) ≡ with_slot e.0 s (live es) ++ (id, n) ∷ []) [ None ↦ live_push es id n | Some m ↦ ap (λ l. (e.0, m) ∷ l) (live_push es id n) ]
 
   -- empty slots go without a trace
-  pub standing_filter : (es : List (ℕ × Option V)) → standing (filter (λ e. is_some e.1) es) ≡ standing es
-  standing_filter [] = refl
-  standing_filter (e ∷ es) = elim e.1 as (λ s. standing (cond (is_some s) ((e.0, s) ∷ filter (λ e. is_some e.1) es) (filter (λ e. is_some e.1) es)) ≡ with_slot e.0 s (standing es)) [ None ↦ standing_filter es | Some m ↦ ap (λ l. (e.0, m) ∷ l) (standing_filter es) ]
+  pub live_filter : (es : List (ℕ × Option V)) → live (filter (λ e. is_some e.1) es) ≡ live es
+  live_filter [] = refl
+  live_filter (e ∷ es) = elim e.1 as (λ s. live (cond (is_some s) ((e.0, s) ∷ filter (λ e. is_some e.1) es) (filter (λ e. is_some e.1) es)) ≡ with_slot e.0 s (live es)) [ None ↦ live_filter es | Some m ↦ ap (λ l. (e.0, m) ∷ l) (live_filter es) ]
 
   -- with nothing kept the slots are as they were
   pub restored_nothing : (es : List (ℕ × Option V)) → restored [] es ≡ es
@@ -321,14 +321,14 @@ module _ {V : Type 0} where
   set_back (e ∷ es) (suc i) id v is = ap (λ l. e ∷ l) (set_back es i id v is)
 
   -- what holds of each value that stands holds of the one in a slot
-  pub all_at : (P : ℕ × V → Type 0) (es : List (ℕ × Option V)) (i : ℕ) (id : ℕ) (n : V) → AllByRecursion P (standing es) → slice_get es i ≡ Some (id, Some n) → P (id, n)
+  pub all_at : (P : ℕ × V → Type 0) (es : List (ℕ × Option V)) (i : ℕ) (id : ℕ) (n : V) → AllByRecursion P (live es) → slice_get es i ≡ Some (id, Some n) → P (id, n)
   all_at P [] i id n all is = cc
   all_at P (e ∷ es) zero id n all is =
       let same : e ≡ (id, Some n) = cc in
-      let here = subst (λ (x : ℕ × Option V). AllByRecursion P (with_slot x.0 x.1 (standing es))) same all in
+      let here = subst (λ (x : ℕ × Option V). AllByRecursion P (with_slot x.0 x.1 (live es))) same all in
       here.0
   all_at P (e ∷ es) (suc i) id n all is =
-      elim e.1 as (λ s. AllByRecursion P (with_slot e.0 s (standing es)) → P (id, n)) [ None ↦ λ a. all_at P es i id n a is | Some m ↦ λ a. all_at P es i id n a.1 is ] all
+      elim e.1 as (λ s. AllByRecursion P (with_slot e.0 s (live es)) → P (id, n)) [ None ↦ λ a. all_at P es i id n a is | Some m ↦ λ a. all_at P es i id n a.1 is ] all
 
   module _ (Q : V → Type 0) where
     -- and of each value of an edited graph
@@ -373,9 +373,9 @@ module _ {V : Type 0} where
   value_read (e ∷ es) (suc i) id v w is read = value_read es i id v w is read
 
   -- a value that is there stands in its slot
-  pub not_empty : (high : ℕ) (id : ℕ) (es : List (ℕ × Option V)) (found : Option (Option V)) → RiseFrom 1 high es → IsSome (value_under id (standing es)) → found ≡ lookup (λ (k : ℕ). eqb id k) es → option_flatten found ≡ None → ⊥
+  pub not_empty : (high : ℕ) (id : ℕ) (es : List (ℕ × Option V)) (found : Option (Option V)) → RiseFrom 1 high es → IsSome (value_under id (live es)) → found ≡ lookup (λ (k : ℕ). eqb id k) es → option_flatten found ≡ None → ⊥
   not_empty high id es found r there is none =
-      let gone : value_under id (standing es) ≡ None = sym (value_found high id es found r is) ∙ none in
+      let gone : value_under id (live es) ≡ None = sym (value_found high id es found r is) ∙ none in
       let no : false ≡ true = sym (ap is_some gone) ∙ there in
       cc
 

@@ -9,10 +9,11 @@ use Rattle.indexmap.proofs.CallerLemmas.{insert_entry-new}
 use Rattle.std.specs.Prelude.{nat_eq}
 use Rattle.cy_graph.specs.declared.series.Start.{Start}
 use Rattle.cy_graph.specs.Graph.{number_end}
-use Rattle.cy_graph.specs.internal.Series.{numbered_of, slots_before, numbered_before, line_of, IsKept, IsKeptBefore, Keeps, KeepsNothing, Changes, ChangesNothing}
-use Rattle.cy_graph.specs.internal.Slots.{RiseFrom, standing, value_under, slot_at, restored}
-use Rattle.cy_graph.specs.internal.Versions.{Numbered, Line, with_last, with_edited, without_number, put_under}
-use Rattle.cy_graph.proofs.Slots.{same_look_up, set_rises, filter_rises, restored_rises, rises_push, take_set, set_back, standing_push, standing_set, standing_clear, find_at, restored_nothing, keeps, kept_last, restored_set, kept_push, slot_within, slot_set}
+use Rattle.cy_graph.specs.internal.Series.{numbered_of, slots_before, numbered_before, series_versions, IsKept, IsKeptBefore, Keeps, KeepsNothing, Changes, ChangesNothing}
+use Rattle.cy_graph.specs.internal.Slots.{RiseFrom, live, value_under, slot_at, restored}
+use Rattle.cy_graph.specs.internal.Versions.{with_last, with_edited, without_number, put_under}
+use Rattle.cy_graph.specs.Model.{Numbered, SeriesVersions}
+use Rattle.cy_graph.proofs.Slots.{same_look_up, set_rises, filter_rises, restored_rises, rises_push, take_set, set_back, live_push, live_set, live_clear, find_at, restored_nothing, keeps, kept_last, restored_set, kept_push, slot_within, slot_set}
 
 -- what holds of the one value holds of the value
 pub only : {X : Type 0} (P : X → Type 0) (x : X) → P x → ForSome (Some x) P
@@ -25,7 +26,7 @@ either (Err e) ok err a b = b err
 
 module _ {V : Type 0} where
   -- a version as it is, with the other
-  abbrev with_was : Numbered V → Numbered V → Line V
+  abbrev with_was : Numbered V → Numbered V → SeriesVersions V
   with_was now before = record { now = now; was = Some before }
 
   -- the series before a change that has just begun is the series
@@ -48,7 +49,7 @@ module _ {V : Type 0} where
       }
 
   pub begun_line : (slots : List (ℕ × Option V)) (start : Start V) → start.before.entries ≡ [] → start.slots ≡ length slots
-      → line_of slots start.next (Some start) ≡ with_was (numbered_of slots start.next) (numbered_of slots start.next)
+      → series_versions slots start.next (Some start) ≡ with_was (numbered_of slots start.next) (numbered_of slots start.next)
   begun_line slots start none all = ap (with_was (numbered_of slots start.next)) (begun slots start none all)
 
   -- one more slot at the end leaves those of the change's beginning
@@ -57,12 +58,12 @@ module _ {V : Type 0} where
 
   -- the series with one more value
   pub added_line : (slots : List (ℕ × Option V)) (next : ℕ) (change : Option (Start V)) (value : V) → IsKept slots next change
-      → line_of (slots ++ (next, Some value) ∷ []) (next + 1) change ≡ record { now = with_last value (numbered_of slots next); was = (line_of slots next change).was }
+      → series_versions (slots ++ (next, Some value) ∷ []) (next + 1) change ≡ record { now = with_last value (numbered_of slots next); was = (series_versions slots next change).was }
   added_line slots next None value kept =
-      ap (λ es. let l : Line V = record { now = record { entries = es; next = next + 1 }; was = None } in l) (standing_push slots next value)
+      ap (λ es. let l : SeriesVersions V = record { now = record { entries = es; next = next + 1 }; was = None } in l) (live_push slots next value)
   added_line slots next (Some start) value kept =
       λ i. record {
-        now = record { entries = standing_push slots next value i; next = next + 1 };
+        now = record { entries = live_push slots next value i; next = next + 1 };
         was = Some (numbered_of (restored start.before.entries (pushed_before slots (next, Some value) start (kept.was start refl).within i)) start.next);
       }
 
@@ -162,7 +163,7 @@ module _ {V : Type 0} where
         }
 
     written_line : (after : Numbered V) → IsKept slots next (Some old) → slice_get slots i ≡ Some (number, Some value) → Keeps i number value old new → numbered_of (set_value_at slots i w) next ≡ after
-        → line_of (set_value_at slots i w) next (Some new) ≡ with_was after (numbered_before slots old)
+        → series_versions (set_value_at slots i w) next (Some new) ≡ with_was after (numbered_before slots old)
     written_line after all is kept now =
         let before = written_before all.rising is kept in
         λ j. with_was (now j) (before j)
@@ -189,7 +190,7 @@ module _ {V : Type 0} where
         });
       }
 
-  nothing_line : (slots : List (ℕ × Option V)) (next : ℕ) (old new : Start V) → KeepsNothing old new → line_of slots next (Some new) ≡ line_of slots next (Some old)
+  nothing_line : (slots : List (ℕ × Option V)) (next : ℕ) (old new : Start V) → KeepsNothing old new → series_versions slots next (Some new) ≡ series_versions slots next (Some old)
   nothing_line slots next old new kept = ap (with_was (numbered_of slots next)) (nothing_before slots old new kept)
 
   -- what is kept does not hang on the room for more
@@ -209,32 +210,32 @@ module _ {V : Type 0} where
     edited_kept edited c = subst (λ es. IsKept es next (Some new)) (sym c.written) (is_kept_written slots next c.slot number c.value (Some (edited c.value)) old new all c.there c.kept)
 
     pub edited_line : (edited : V → V) → Changes number (λ value. Some (edited value)) slots after old new
-        → line_of after next (Some new) ≡ with_was (with_edited edited number (numbered_of slots next)) (numbered_before slots old)
+        → series_versions after next (Some new) ≡ with_was (with_edited edited number (numbered_of slots next)) (numbered_before slots old)
     edited_line edited c =
-        let now : standing (set_value_at slots c.slot (Some (edited c.value))) ≡ put_under number (option_map edited (value_under number (standing slots))) (standing slots) =
-        standing_set 1 next slots c.slot number c.value (edited c.value) all.rising c.there
-        ∙ sym (ap (λ found. put_under number (option_map edited found) (standing slots)) (find_at 1 next slots c.slot number c.value all.rising c.there)) in
-        ap (λ es. line_of es next (Some new)) c.written
+        let now : live (set_value_at slots c.slot (Some (edited c.value))) ≡ put_under number (option_map edited (value_under number (live slots))) (live slots) =
+        live_set 1 next slots c.slot number c.value (edited c.value) all.rising c.there
+        ∙ sym (ap (λ found. put_under number (option_map edited found) (live slots)) (find_at 1 next slots c.slot number c.value all.rising c.there)) in
+        ap (λ es. series_versions es next (Some new)) c.written
         ∙ written_line slots next c.slot number c.value (Some (edited c.value)) old new (with_edited edited number (numbered_of slots next)) all c.there c.kept (ap (λ es. let n : Numbered V = record { entries = es; next = next } in n) now)
 
     -- and once one is removed
     pub removed_kept : Changes number (λ _. None) slots after old new → IsKept after next (Some new)
     removed_kept c = subst (λ es. IsKept es next (Some new)) (sym c.written) (is_kept_written slots next c.slot number c.value None old new all c.there c.kept)
 
-    pub removed_line : Changes number (λ _. None) slots after old new → line_of after next (Some new) ≡ with_was (without_number number (numbered_of slots next)) (numbered_before slots old)
+    pub removed_line : Changes number (λ _. None) slots after old new → series_versions after next (Some new) ≡ with_was (without_number number (numbered_of slots next)) (numbered_before slots old)
     removed_line c =
-        ap (λ es. line_of es next (Some new)) c.written
+        ap (λ es. series_versions es next (Some new)) c.written
         ∙ written_line slots next c.slot number c.value None old new (without_number number (numbered_of slots next)) all c.there c.kept
-        (ap (λ es. let n : Numbered V = record { entries = es; next = next } in n) (standing_clear 1 next slots c.slot number c.value all.rising c.there))
+        (ap (λ es. let n : Numbered V = record { entries = es; next = next } in n) (live_clear 1 next slots c.slot number c.value all.rising c.there))
 
     -- and where nothing is changed
     pub unchanged_kept : ChangesNothing number slots after old new → IsKept after next (Some new)
     unchanged_kept (inl nothing) = subst (λ es. IsKept es next (Some new)) (sym nothing.0) (is_kept_nothing slots next old new all nothing.1)
     unchanged_kept (inr c) = subst (λ es. IsKept es next (Some new)) (sym c.written) (is_kept_written slots next c.slot number c.value (Some c.value) old new all c.there c.kept)
 
-    pub unchanged_line : ChangesNothing number slots after old new → line_of after next (Some new) ≡ line_of slots next (Some old)
-    unchanged_line (inl nothing) = ap (λ es. line_of es next (Some new)) nothing.0 ∙ nothing_line slots next old new nothing.1
+    pub unchanged_line : ChangesNothing number slots after old new → series_versions after next (Some new) ≡ series_versions slots next (Some old)
+    unchanged_line (inl nothing) = ap (λ es. series_versions es next (Some new)) nothing.0 ∙ nothing_line slots next old new nothing.1
     unchanged_line (inr c) =
         let back = set_back slots c.slot number (Some c.value) c.there in
-        ap (λ es. line_of es next (Some new)) c.written
+        ap (λ es. series_versions es next (Some new)) c.written
         ∙ written_line slots next c.slot number c.value (Some c.value) old new (numbered_of slots next) all c.there c.kept (ap (λ es. numbered_of es next) back)

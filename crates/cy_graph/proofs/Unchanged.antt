@@ -12,7 +12,8 @@ use Rattle.cy_values.specs.declared.scalars.Value.{Value}
 use Rattle.cy_graph.specs.declared.nodes.Node.{Node}
 use Rattle.cy_graph.specs.Graph.{set_or_removed, with_label, without_label}
 use Rattle.cy_graph.specs.Maps.{text_order, rises, value_at, with_value, without}
-use Rattle.cy_graph.specs.internal.Versions.{Numbered, IsNumbered, put_under, with_edited}
+use Rattle.cy_graph.specs.internal.Versions.{IsNumbered, put_under, with_edited}
+use Rattle.cy_graph.specs.Model.{Numbered}
 use Rattle.cy_graph.specs.internal.Slots.{value_under}
 use Rattle.cy_graph.proofs.Places.{held}
 use Rattle.cy_graph.proofs.Slots.{sorted}

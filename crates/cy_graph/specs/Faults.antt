@@ -1,4 +1,4 @@
--- The numbers of faults.
+-- The numbers of faults (own).
 use Rattle.std.specs.Prelude.{ℕ}
 use Rattle.cy_graph.specs.declared.faults.GraphFault.{GraphFault}
 use Rattle.cy_graph.specs.declared.faults.GraphFault.TheVariants.{StillConnected, Full, NoMemory}

@@ -1,4 +1,5 @@
--- The graph and its content, as it is and as it was when the open change began.
+-- The graph and its content, as it is and as it was when the open change began. (Francis et al., property graphs; numbers, and one
+-- change at a time: own)
 use Rattle.std.specs.Prelude.{ℕ, ◌+◌, ◌^◌, ◌≤◌, ◌<◌, not, eqb, ◌||◌, map, filter, List, [], ◌∷◌, ◌++◌, Option, None, Some, IsSome, IsTrue}
 use Rattle.std.specs.Option.{option_map}
 use Rattle.std.specs.List.{AllByRecursion}

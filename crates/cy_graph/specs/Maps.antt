@@ -1,5 +1,5 @@
 -- Finite maps from texts, as lists of entries whose keys strictly rise. So each map has one form, and two maps
--- are the same where their lists are.
+-- are the same where their lists are. (own)
 use Rattle.std.specs.Prelude.{ℕ, not, List, Option, Bool}
 use Rattle.std.specs.declared.cmp.Ordering.{Ordering}
 use Rattle.std.specs.Ordering.{nat_cmp, eq_by_cmp}

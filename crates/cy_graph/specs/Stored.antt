@@ -1,4 +1,4 @@
--- Which values can be stored: no null, and no list with null in it.
+-- Which values can be stored: no null, and no list with null in it. (openCypher 9, property types; lists of several types: own)
 use Rattle.std.specs.Prelude.{ℕ, Bool, true, false, not, List, IsTrue}
 use Rattle.std.specs.List.{list_all}
 use Rattle.cy_values.specs.declared.scalars.Scalar.{Scalar}

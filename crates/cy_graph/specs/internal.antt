@@ -1,8 +1,8 @@
 -- What proofs alone need.
 pub mod Adjacency
+pub mod BeforeImages
 pub mod Contents
 pub mod Differences
-pub mod Entries
 pub mod Place
 pub mod Series
 pub mod Slots

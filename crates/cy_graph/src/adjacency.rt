@@ -30,7 +30,7 @@ pub(crate) struct Adjacency {
 
 impl Adjacency {
     /// No relationship at any node.
-    pub fn new(alloc: Global) -> Self
+    pub(crate) fn new(alloc: Global) -> Self
         ensures none { (m : ℕ) → ids_at m result.lists ≡ [] }
         ensures steps { result.steps.items ≡ [] }
     {
@@ -41,7 +41,7 @@ impl Adjacency {
     }
 
     /// The relationships at a node, by rising number.
-    pub fn at(&self, node: u64) -> &[RelId]
+    pub(crate) fn at(&self, node: u64) -> &[RelId]
         ensures { result.now ≡ ids_at node self.now.lists }
     {
         match self.lists.get(&node) {
@@ -51,7 +51,7 @@ impl Adjacency {
     }
 
     /// Makes room for one more relationship at a node. Fails only for want of memory.
-    pub fn reserve(&mut self, node: u64) -> Result<(), GraphFault>
+    pub(crate) fn reserve(&mut self, node: u64) -> Result<(), GraphFault>
         ensures ids { (m : ℕ) → ids_at m self.new.lists ≡ ids_at m self.old.lists }
         ensures room { (m : ℕ) → room_at m self.old.lists ≤ room_at m self.new.lists }
         ensures steps { self.new.steps.items ≡ self.old.steps.items }
@@ -64,7 +64,7 @@ impl Adjacency {
     }
 
     /// Makes room for one more step. Fails only for want of memory.
-    pub fn reserve_step(&mut self) -> Result<(), GraphFault>
+    pub(crate) fn reserve_step(&mut self) -> Result<(), GraphFault>
         ensures lists { self.new.lists ≡ self.old.lists }
         ensures steps { self.new.steps.items ≡ self.old.steps.items }
         ensures ok { OnOk result (vec_len self.new.steps < vec_capacity self.new.steps) }
@@ -74,7 +74,7 @@ impl Adjacency {
     }
 
     /// Adds a relationship at a node that has room for it.
-    pub fn link(&mut self, node: u64, rel: RelId)
+    pub(crate) fn link(&mut self, node: u64, rel: RelId)
         requires rising { IsRising (ids_at node self.old.lists) }
         requires room { length (ids_at node self.old.lists) < room_at node self.old.lists }
         requires step { vec_len self.old.steps < vec_capacity self.old.steps }
@@ -87,7 +87,7 @@ impl Adjacency {
     }
 
     /// Takes a relationship out at a node. Its room stays.
-    pub fn unlink(&mut self, node: u64, rel: RelId)
+    pub(crate) fn unlink(&mut self, node: u64, rel: RelId)
         requires rising { IsRising (ids_at node self.old.lists) }
         requires step { vec_len self.old.steps < vec_capacity self.old.steps }
         ensures ids { (m : ℕ) → ids_at m self.new.lists ≡ (if eqb node m then without_id rel (ids_at m self.old.lists) else ids_at m self.old.lists) }
@@ -99,7 +99,7 @@ impl Adjacency {
     }
 
     /// Ends the change: what it did stays.
-    pub fn commit(&mut self)
+    pub(crate) fn commit(&mut self)
         ensures ids { (m : ℕ) → ids_at m self.new.lists ≡ ids_at m self.old.lists }
         ensures room { (m : ℕ) → room_at m self.new.lists ≡ room_at m self.old.lists }
         ensures steps { self.new.steps.items ≡ [] }
@@ -108,7 +108,7 @@ impl Adjacency {
     }
 
     /// Ends the change: what it did is undone, the latest first.
-    pub fn rollback(&mut self)
+    pub(crate) fn rollback(&mut self)
         requires { IsUndoable (reverse self.old.steps.items) (λ m. ids_at m self.old.lists) (λ m. room_at m self.old.lists) }
         ensures ids { (m : ℕ) → ids_at m self.new.lists ≡ undone (reverse self.old.steps.items) (λ m. ids_at m self.old.lists) m }
         ensures room { (m : ℕ) → room_at m self.new.lists ≡ room_at m self.old.lists }

@@ -4,16 +4,16 @@ ghost use Rattle.std.specs.Prelude.{◌≡◌, ◌≤◌, ◌↔◌, IsTrue, IsS
 ghost use Rattle.cy_values.specs.declared.numbers.RelId.{RelId};
 ghost use Rattle.std.specs.Option.{option_copied};
 ghost use Rattle.cy_graph.specs.Graph.{Versions, empty_state, node_at, rel_at, rels_from, rels_into, rels_with, with_node, with_rel, without_rel, with_label, without_label, with_node_changed, with_prop, without_node, number_end, IsThere, IsGraph};
-ghost use Rattle.cy_graph.specs.Touched.{entry_of, AreTouched};
+ghost use Rattle.cy_graph.specs.Touched.{before_image, AreTouched};
 ghost use Rattle.cy_graph.specs.Stored.{is_storable, IsStorable};
 
 use crate::adjacency::Adjacency;
 use crate::edits::{AddLabel, DropLabel, SetProp};
 use crate::faults::GraphFault;
+use crate::iterators::{Nodes, Rels};
 use crate::nodes::{Labels, Node, Props, Rel};
 use crate::series::Series;
 use crate::touched::{Touched, push_nodes, push_rels};
-use crate::walks::{Nodes, Rels};
 use cy_values::{Entity, NodeId, RelId, Text, Value};
 use std::alloc::Global;
 use std::marker::Model;
@@ -30,7 +30,8 @@ pub struct Graph {
 
 impl Model for Graph {
     ghost use Rattle.cy_graph.specs.Graph.{Versions};
-    ghost use Rattle.cy_graph.specs.internal.Contents.{versions_of, AreVersions};
+    ghost use Rattle.cy_graph.specs.internal.Contents.{AreVersions};
+    ghost use Rattle.cy_graph.specs.Model.{versions_of};
 
     ghost Value = { Versions };
 
@@ -116,6 +117,15 @@ impl Graph {
         ensures { result.now ≡ rels_into id self.now.now.content.rels }
     {
         self.incoming.at(id.0)
+    }
+
+    /// The number that the next node gets. `Full` where number 2^40 was given out.
+    pub fn next_node(&self) -> Result<NodeId, GraphFault>
+        ensures number { IfOk result (λ id. id.0 ≡ self.now.now.next_node) }
+        ensures full { IsErrOf result GraphFault.Full ↔ (self.now.now.next_node ≡ number_end) }
+        ensures fault { IfErr result (λ fault. fault ≡ GraphFault.Full) }
+    {
+        Ok(NodeId(self.nodes.next_number()?))
     }
 
     /// Opens a change, which `commit` or `rollback` ends.
@@ -249,8 +259,8 @@ impl Graph {
         self.nodes.remove(id.0)
     }
 
-    // The relationship at a node that has the least number, if there is one.
-    fn least_rel(&self, id: NodeId) -> Option<RelId>
+    /// The relationship at a node that has the least number, if there is one.
+    pub fn least_rel(&self, id: NodeId) -> Option<RelId>
         ensures { result ≡ slice_get (rels_with id self.now.now.content.rels) 0 }
     {
         self.laws();
@@ -266,7 +276,7 @@ impl Graph {
     /// was changed and changed back, or made and removed, is not among them. Fails only for want of memory.
     pub fn touched(&self, alloc: Global) -> Result<Vec<Touched<'_>>, GraphFault>
         requires { IsSome self.now.was }
-        ensures ok { IfOk result (λ touched. IfSome self.now.was (λ before. AreTouched before self.now.now (map entry_of touched.items))) }
+        ensures ok { IfOk result (λ touched. IfSome self.now.was (λ before. AreTouched before self.now.now (map before_image touched.items))) }
         ensures graphs { OnOk result (IsGraph self.now.now × IfSome self.now.was (λ before. IsGraph before)) }
         ensures fault { IfErr result (λ fault. fault ≡ GraphFault.NoMemory) }
     {

@@ -5,6 +5,7 @@ mod adjacency;
 mod edits;
 mod faults;
 mod graph;
+mod iterators;
 mod maps;
 mod nodes;
 mod series;
@@ -17,11 +18,10 @@ mod test_steps;
 #[cfg(test)]
 mod tests;
 mod touched;
-mod walks;
 
 pub use faults::GraphFault;
 pub use graph::Graph;
+pub use iterators::{Nodes, Rels};
 pub use maps::TextMap;
 pub use nodes::{Labels, Node, Props, Rel};
 pub use touched::{Touched, Was};
-pub use walks::{Nodes, Rels};

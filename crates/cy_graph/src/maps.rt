@@ -7,6 +7,7 @@ ghost use Rattle.cy_graph.specs.internal.Place.{IsAt, IsGapFor};
 
 use cy_values::{Duplicate, Fault, Text};
 use std::alloc::Global;
+use std::collections::BTreeMap;
 use std::marker::Model;
 
 /// A map from texts to values, in the order of its keys. A clause sees the list of its entries.
@@ -62,6 +63,18 @@ impl<V> TextMap<V> {
 }
 
 impl<V: Drop> TextMap<V> {
+    /// The map with the entries of an ordered map, in just the room that they need. Fails only for want of memory.
+    #[tactic(auto, using(crate::proofs::Ordered::rises_in_order))]
+    pub fn collected(alloc: Global, map: BTreeMap<Text, V>) -> Result<Self, Fault>
+        ensures { IfOk result (λ collected. collected ≡ map.entries) }
+    {
+        let mut entries = Vec::with_capacity(alloc, map.len())?;
+        for entry in map {
+            entries.push(entry)?;
+        }
+        Ok(TextMap { entries })
+    }
+
     /// Sets the value at a key. Fails only for want of memory, and then the map is as before. A key that is there
     /// takes no memory.
     pub fn insert(&mut self, key: Text, value: V) -> Result<(), Fault>
@@ -90,7 +103,7 @@ impl<V: Drop> TextMap<V> {
 
 impl<V: Duplicate> Duplicate for TextMap<V> {
     fn copy(&self, alloc: Global) -> Result<Self, Fault> {
-        let mut entries = Vec::new(alloc);
+        let mut entries = Vec::with_capacity(alloc, self.entries.len())?;
         for (key, value) in self.entries.iter() {
             entries.push((key.copy(alloc)?, value.copy(alloc)?))?;
         }

@@ -4,13 +4,14 @@ ghost use Rattle.std.specs.Prelude.{◌≡◌, ◌≤◌, ◌<◌, ◌↔◌, �
 ghost use Rattle.std.specs.Option.{option_copied, option_map};
 ghost use Rattle.indexmap.specs.IndexMap.{spare, IsUnique};
 ghost use Rattle.cy_graph.specs.Graph.{number_end};
-ghost use Rattle.cy_graph.specs.internal.Differences.{AreDifferences, stands_as, changed_of, added_of};
+ghost use Rattle.cy_graph.specs.internal.Differences.{AreDifferences, has_value, changed_of, added_of};
 ghost use Rattle.cy_graph.specs.internal.Series.{Keeps, KeepsNothing, Changes, ChangesNothing};
-ghost use Rattle.cy_graph.specs.internal.Slots.{RiseFrom, value_under, standing, restored};
-ghost use Rattle.cy_graph.specs.internal.Versions.{Line, IsNumbered, empty_from, with_last, with_edited, without_number};
+ghost use Rattle.cy_graph.specs.internal.Slots.{RiseFrom, value_under, live, restored};
+ghost use Rattle.cy_graph.specs.internal.Versions.{IsNumbered, empty_from, with_last, with_edited, without_number};
+ghost use Rattle.cy_graph.specs.Model.{SeriesVersions};
 
 use crate::faults::GraphFault;
-use crate::walks::Values;
+use crate::iterators::Values;
 use cy_values::{Duplicate, Fault};
 use indexmap::IndexMap;
 use std::alloc::Global;
@@ -90,19 +91,19 @@ pub(crate) struct Series<V> {
 }
 
 impl<V> Model for Series<V> {
-    ghost use Rattle.cy_graph.specs.internal.Versions.{Line};
-    ghost use Rattle.cy_graph.specs.internal.Series.{line_of, IsKept};
+    ghost use Rattle.cy_graph.specs.Model.{SeriesVersions};
+    ghost use Rattle.cy_graph.specs.internal.Series.{series_versions, IsKept};
 
-    ghost Value = { Line V };
+    ghost Value = { SeriesVersions V };
 
-    ghost view = { λ s. line_of s.slots.entries s.next s.change };
+    ghost view = { λ s. series_versions s.slots.entries s.next s.change };
 
     ghost invariant = { λ s. IsKept s.slots.entries s.next s.change };
 }
 
 impl<V: Duplicate + Drop> Series<V> {
     /// A series with nothing in it, whose next number is this one, from 1 to 2^40 + 1.
-    pub fn starting_at(alloc: Global, next: u64) -> Self
+    pub(crate) fn starting_at(alloc: Global, next: u64) -> Self
         requires from { 1 ≤ next }
         requires to { next ≤ number_end }
         ensures { result ≡ empty_from next }
@@ -116,14 +117,14 @@ impl<V: Duplicate + Drop> Series<V> {
     }
 
     /// What holds of every series: the numbers rise from 1 and stay below the next one.
-    pub fn laws(&self)
+    pub(crate) fn laws(&self)
         ensures { IsNumbered self.now.now }
     {
         let _slots = &self.slots;
     }
 
     /// The value under a number, if there is one.
-    pub fn get(&self, number: u64) -> Option<&V>
+    pub(crate) fn get(&self, number: u64) -> Option<&V>
         ensures value { option_copied result ≡ value_under number self.now.now.entries }
         ensures numbered { IsNumbered self.now.now }
     {
@@ -131,14 +132,14 @@ impl<V: Duplicate + Drop> Series<V> {
     }
 
     /// The values with their numbers, by rising number.
-    pub fn values(&self) -> Values<'_, V>
+    pub(crate) fn values(&self) -> Values<'_, V>
         ensures { result ≡ self.now.now.entries }
     {
         Values::new(self.slots.iter())
     }
 
     /// Opens a change, which `commit` or `rollback` ends.
-    pub fn begin(&mut self)
+    pub(crate) fn begin(&mut self)
         requires { IsNone self.old.was }
         ensures { self.new ≡ record self.old { was = Some self.old.now } }
     {
@@ -151,7 +152,7 @@ impl<V: Duplicate + Drop> Series<V> {
     }
 
     /// The number that the next value gets. `Full` where number 2^40 was given out.
-    pub fn next_number(&self) -> Result<u64, GraphFault>
+    pub(crate) fn next_number(&self) -> Result<u64, GraphFault>
         ensures number { IfOk result (λ number. number ≡ self.now.now.next) }
         ensures full { IsErrOf result GraphFault.Full ↔ (self.now.now.next ≡ number_end) }
         ensures fault { IfErr result (λ fault. fault ≡ GraphFault.Full) }
@@ -164,7 +165,7 @@ impl<V: Duplicate + Drop> Series<V> {
 
     /// Adds a value under the next number, which it gives. `Full` where number 2^40 was given out; else it fails only
     /// for want of memory.
-    pub fn add(&mut self, value: V) -> Result<u64, GraphFault>
+    pub(crate) fn add(&mut self, value: V) -> Result<u64, GraphFault>
         ensures number { IfOk result (λ number. number ≡ self.old.now.next) }
         ensures added { OnOk result (self.new ≡ record self.old { now = with_last value self.old.now }) }
         ensures full { IsErrOf result GraphFault.Full ↔ (self.old.now.next ≡ number_end) }
@@ -191,7 +192,7 @@ impl<V: Duplicate + Drop> Series<V> {
     }
 
     /// Changes the value under a number. One that would stay the same is let be. Fails only for want of memory.
-    pub fn edit<E: Edit<V>>(&mut self, number: u64, edit: E) -> Result<(), GraphFault>
+    pub(crate) fn edit<E: Edit<V>>(&mut self, number: u64, edit: E) -> Result<(), GraphFault>
         requires open { IsSome self.old.was }
         requires there { IsSome (value_under number self.old.now.entries) }
         ensures ok { OnOk result (self.new ≡ record self.old { now = with_edited (E.edited edit) number self.old.now }) }
@@ -211,7 +212,7 @@ impl<V: Duplicate + Drop> Series<V> {
     }
 
     /// Removes the value under a number, which is not used again. Fails only for want of memory.
-    pub fn remove(&mut self, number: u64) -> Result<(), GraphFault>
+    pub(crate) fn remove(&mut self, number: u64) -> Result<(), GraphFault>
         requires open { IsSome self.old.was }
         requires there { IsSome (value_under number self.old.now.entries) }
         ensures ok { OnOk result (self.new ≡ record self.old { now = without_number number self.old.now }) }
@@ -230,7 +231,7 @@ impl<V: Duplicate + Drop> Series<V> {
     }
 
     /// Ends the change: what it did stays.
-    pub fn commit(&mut self)
+    pub(crate) fn commit(&mut self)
         ensures { self.new ≡ record self.old { was = None } }
     {
         self.change = None;
@@ -241,7 +242,7 @@ impl<V: Duplicate + Drop> Series<V> {
     }
 
     /// Ends the change: the values are as they were when it began, and so is the next number.
-    pub fn rollback(&mut self)
+    pub(crate) fn rollback(&mut self)
         requires { IsSome self.old.was }
         ensures { IfSome self.old.was (λ before. self.new ≡ record { now = before; was = None }) }
     {
@@ -257,7 +258,7 @@ impl<V: Duplicate + Drop> Series<V> {
 impl<V: Duplicate + Eq + Drop> Series<V> {
     /// The numbers whose value is another than when the change began, each once, with the value that they had. Fails
     /// only for want of memory.
-    pub fn differing(&self, alloc: Global) -> Result<Vec<(u64, Option<&V>)>, GraphFault>
+    pub(crate) fn differing(&self, alloc: Global) -> Result<Vec<(u64, Option<&V>)>, GraphFault>
         requires open { IsSome self.now.was }
         requires decides { (x y : V) → V.eq x y ≡ true → x ≡ y }
         ensures ok { IfOk result (λ found. IfSome self.now.was (λ before. AreDifferences before self.now.now (map (λ f. (f.0, option_copied f.1)) found.items))) }
@@ -293,7 +294,7 @@ impl<V: Duplicate + Eq + Drop> Series<V> {
 
     // Whether the number has this very value.
     fn has(&self, number: u64, value: &V) -> bool
-        ensures { result ≡ stands_as V.eq self.now.now (number, value.now) }
+        ensures { result ≡ has_value V.eq self.now.now (number, value.now) }
     {
         self.get(number) == Some(value)
     }
@@ -347,7 +348,7 @@ fn put_back<V: Drop>(slots: &mut IndexMap<u64, Option<V>>, mut before: IndexMap<
 fn place_of<V>(slots: &IndexMap<u64, Option<V>>, number: u64) -> Option<(usize, &V)>
     requires { RiseFrom 1 number_end slots.now.entries }
     ensures place { IfSome result (λ found. slice_get slots.now.entries found.0 ≡ Some (number, Some found.1.now)) }
-    ensures found { is_some result ≡ is_some (value_under number (standing slots.now.entries)) }
+    ensures found { is_some result ≡ is_some (value_under number (live slots.now.entries)) }
 {
     let (slot, _number, value) = slots.get_full(&number)?;
     Some((slot, value.as_ref()?))
@@ -362,7 +363,7 @@ fn edit_in_change<V: Duplicate + Drop, E: Edit<V>>(
     edit: E,
 ) -> Result<(), GraphFault>
     requires rising { RiseFrom 1 number_end slots.old.entries }
-    requires there { IsSome (value_under number (standing slots.old.entries)) }
+    requires there { IsSome (value_under number (live slots.old.entries)) }
     ensures ok { OnOk result (Changes number (λ value. Some (E.edited edit value)) slots.old.entries slots.new.entries start.old start.new) }
     ensures fault { IfErr result (λ fault. fault ≡ GraphFault.NoMemory) }
     ensures err { OnErr result (ChangesNothing number slots.old.entries slots.new.entries start.old start.new) }
@@ -392,7 +393,7 @@ fn remove_in_change<V: Duplicate + Drop>(
     number: u64,
 ) -> Result<(), GraphFault>
     requires rising { RiseFrom 1 number_end slots.old.entries }
-    requires there { IsSome (value_under number (standing slots.old.entries)) }
+    requires there { IsSome (value_under number (live slots.old.entries)) }
     ensures ok { OnOk result (Changes number (λ _. None) slots.old.entries slots.new.entries start.old start.new) }
     ensures fault { IfErr result (λ fault. fault ≡ GraphFault.NoMemory) }
     ensures err { OnErr result (ChangesNothing number slots.old.entries slots.new.entries start.old start.new) }

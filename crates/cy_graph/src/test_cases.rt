@@ -84,7 +84,7 @@ fn touched(alloc: Global, graph: &Graph) -> Result<String, GraphFault>
     }
 }
 
-// What holds of every graph. It is told here alone, so that no other proof reads through it.
+// What holds of every graph. It is said here alone, so that no other proof reads through it.
 fn recall_laws(graph: &Graph) {
     graph.laws();
 }

@@ -2,8 +2,8 @@
 
 ghost use Rattle.std.specs.Prelude.{◌≡◌, ◌++◌, IfErr, OnOk, map};
 ghost use Rattle.std.specs.Option.{option_copied};
-ghost use Rattle.cy_graph.specs.Touched.{entry_of};
-ghost use Rattle.cy_graph.specs.internal.Entries.{node_entry, rel_entry};
+ghost use Rattle.cy_graph.specs.Touched.{before_image};
+ghost use Rattle.cy_graph.specs.internal.BeforeImages.{node_image, rel_image};
 
 use crate::faults::GraphFault;
 use crate::nodes::{Node, Rel};
@@ -29,7 +29,7 @@ pub(crate) fn push_nodes<'a>(
     touched: &mut Vec<Touched<'a>>,
     found: &[(u64, Option<&'a Node>)],
 ) -> Result<(), GraphFault>
-    ensures ok { OnOk result (map entry_of touched.new.items ≡ map entry_of touched.old.items ++ map node_entry (map (λ f. (f.0, option_copied f.1)) found.now)) }
+    ensures ok { OnOk result (map before_image touched.new.items ≡ map before_image touched.old.items ++ map node_image (map (λ f. (f.0, option_copied f.1)) found.now)) }
     ensures fault { IfErr result (λ fault. fault ≡ GraphFault.NoMemory) }
 {
     for (number, was) in found.iter() {
@@ -46,7 +46,7 @@ pub(crate) fn push_rels<'a>(
     touched: &mut Vec<Touched<'a>>,
     found: &[(u64, Option<&'a Rel>)],
 ) -> Result<(), GraphFault>
-    ensures ok { OnOk result (map entry_of touched.new.items ≡ map entry_of touched.old.items ++ map rel_entry (map (λ f. (f.0, option_copied f.1)) found.now)) }
+    ensures ok { OnOk result (map before_image touched.new.items ≡ map before_image touched.old.items ++ map rel_image (map (λ f. (f.0, option_copied f.1)) found.now)) }
     ensures fault { IfErr result (λ fault. fault ≡ GraphFault.NoMemory) }
 {
     for (number, was) in found.iter() {

@@ -1,40 +1,16 @@
 -- What a graph keeps stands for its content.
-use Rattle.std.specs.Prelude.{◌≡◌, ℕ, ◌≤◌, eqb, cond, is_some, length, reverse, List, [], ◌∷◌, Option, None, Some, IsSome, IsNone, IsTrue}
+use Rattle.std.specs.Prelude.{◌≡◌, ℕ, ◌≤◌, eqb, cond, is_some, length, reverse, List, [], ◌∷◌, IsSome, IsNone, IsTrue}
 use Rattle.std.specs.List.{AllByRecursion}
-use Rattle.std.specs.Option.{option_map, ForSome}
-use Rattle.cy_values.specs.declared.numbers.NodeId.{NodeId}
+use Rattle.std.specs.Option.{ForSome}
 use Rattle.cy_values.specs.declared.numbers.RelId.{RelId}
 use Rattle.cy_graph.specs.declared.adjacency.Adjacency.{Adjacency}
 use Rattle.cy_graph.specs.declared.nodes.Node.{Node}
 use Rattle.cy_graph.specs.declared.nodes.Rel.{Rel}
-use Rattle.cy_graph.specs.Graph.{State, Versions}
 use Rattle.cy_graph.specs.Maps.{rises}
 use Rattle.cy_graph.specs.Stored.{IsStorable}
 use Rattle.cy_graph.specs.internal.Adjacency.{ids_at, room_at, undone, IsUndoable}
 use Rattle.cy_graph.specs.internal.Slots.{value_under}
-use Rattle.cy_graph.specs.internal.Versions.{Numbered, Line}
-
--- the nodes under the numbers of nodes
-abbrev pub nodes_of : List (ℕ × Node) → List (NodeId × Node)
-nodes_of [] = []
-nodes_of (e ∷ es) = (record { 0 = e.0 }, e.1) ∷ nodes_of es
-
--- the relationships under the numbers of relationships
-abbrev pub rels_of : List (ℕ × Rel) → List (RelId × Rel)
-rels_of [] = []
-rels_of (e ∷ es) = (record { 0 = e.0 }, e.1) ∷ rels_of es
-
--- the graph of these nodes and relationships
-abbrev pub state_of : Numbered Node → Numbered Rel → State
-state_of nodes rels = record { content = record { nodes = nodes_of nodes.entries; rels = rels_of rels.entries }; next_node = nodes.next; next_rel = rels.next }
-
--- the graph before the change, where both series have one open
-abbrev pub before_of : Option (Numbered Node) → Option (Numbered Rel) → Option State
-before_of None rels = None
-before_of (Some nodes) rels = option_map (state_of nodes) rels
-
-abbrev pub versions_of : Line Node → Line Rel → Versions
-versions_of nodes rels = record { now = state_of nodes.now rels.now; was = before_of nodes.was rels.was }
+use Rattle.cy_graph.specs.Model.{Numbered, SeriesVersions}
 
 -- a node that may stand in a graph: its labels and its keys rise, and its values can be stored
 pub record IsNode (node : Node) : Type 0 where
@@ -60,14 +36,14 @@ ids_by end node (e ∷ es) = cond (eqb node (end e.1)) (record { 0 = e.0 } ∷ i
 
 -- the lists have the relationships of which each node is this end, as they are and, once their steps are undone, as they
 -- were when the change began
-pub record IsJoined (end : Rel → ℕ) (rels : Line Rel) (adjacency : Adjacency) : Type 0 where
+pub record IsJoined (end : Rel → ℕ) (rels : SeriesVersions Rel) (adjacency : Adjacency) : Type 0 where
   pub now : (node : ℕ) → ids_at node adjacency.lists ≡ ids_by end node rels.now.entries
   pub fits : (node : ℕ) → length (ids_at node adjacency.lists) ≤ room_at node adjacency.lists
   pub undoable : IsUndoable (reverse adjacency.steps.items) (λ node. ids_at node adjacency.lists) (λ node. room_at node adjacency.lists)
   pub closed : IsNone rels.was → adjacency.steps.items ≡ []
   pub was : ForSome rels.was (λ before. (node : ℕ) → undone (reverse adjacency.steps.items) (λ m. ids_at m adjacency.lists) node ≡ ids_by end node before.entries)
 
-pub record AreVersions (nodes : Line Node) (rels : Line Rel) (outgoing incoming : Adjacency) : Type 0 where
+pub record AreVersions (nodes : SeriesVersions Node) (rels : SeriesVersions Rel) (outgoing incoming : Adjacency) : Type 0 where
   pub now : AreValues nodes.now rels.now
   pub both : is_some nodes.was ≡ is_some rels.was
   pub was : ForSome nodes.was (λ before. ForSome rels.was (AreValues before))

@@ -3,8 +3,8 @@ use Rattle.std.specs.Prelude.{◌≡◌, ◌≢◌, ℕ, Bool, false, not, List,
 use Rattle.std.specs.List.{AllByRecursion}
 use Rattle.std.specs.Option.{option_map_or}
 use Rattle.std.specs.Prelude.{◌⊎◌}
-use Rattle.cy_graph.specs.internal.Slots.{value_under, standing}
-use Rattle.cy_graph.specs.internal.Versions.{Numbered}
+use Rattle.cy_graph.specs.internal.Slots.{value_under, live}
+use Rattle.cy_graph.specs.Model.{Numbered}
 
 -- an element of a list
 abbrev pub IsIn : {X : Type 0} → X → List X → Type 0
@@ -28,8 +28,8 @@ module _ {V : Type 0} where
     pub all : (number : ℕ) → value_under number before.entries ≢ value_under number now.entries → IsIn (number, value_under number before.entries) found
 
   -- the number has this very value
-  abbrev pub stands_as : (V → V → Bool) → Numbered V → ℕ × V → Bool
-  stands_as eq now e = option_map_or (λ value. eq value e.1) (value_under e.0 now.entries) false
+  abbrev pub has_value : (V → V → Bool) → Numbered V → ℕ × V → Bool
+  has_value eq now e = option_map_or (λ value. eq value e.1) (value_under e.0 now.entries) false
 
   -- a value that was kept
   abbrev pub was_value : ℕ × V → ℕ × Option V
@@ -37,7 +37,7 @@ module _ {V : Type 0} where
 
   -- the values that were kept and are others now
   abbrev pub changed_of : (V → V → Bool) → Numbered V → List (ℕ × V) → List (ℕ × Option V)
-  changed_of eq now kept = map was_value (filter (λ e. not (stands_as eq now e)) kept)
+  changed_of eq now kept = map was_value (filter (λ e. not (has_value eq now e)) kept)
 
   -- a value that was not there
   abbrev pub was_none : ℕ × V → ℕ × Option V
@@ -45,4 +45,4 @@ module _ {V : Type 0} where
 
   -- the values in new slots
   abbrev pub added_of : List (ℕ × Option V) → List (ℕ × Option V)
-  added_of slots = map was_none (standing slots)
+  added_of slots = map was_none (live slots)

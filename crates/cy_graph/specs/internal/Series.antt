@@ -4,13 +4,13 @@ use Rattle.std.specs.Option.{option_map, ForSome}
 use Rattle.indexmap.specs.IndexMap.{set_value_at}
 use Rattle.cy_graph.specs.declared.series.Start.{Start}
 use Rattle.cy_graph.specs.Graph.{number_end}
-use Rattle.cy_graph.specs.internal.Slots.{RiseFrom, standing, value_under, slot_at, restored}
-use Rattle.cy_graph.specs.internal.Versions.{Numbered, Line}
+use Rattle.cy_graph.specs.internal.Slots.{RiseFrom, live, value_under, slot_at, restored}
+use Rattle.cy_graph.specs.Model.{Numbered, SeriesVersions}
 
 module _ {V : Type 0} where
   -- the values in these slots, and the next number
   abbrev pub numbered_of : List (ℕ × Option V) → ℕ → Numbered V
-  numbered_of slots next = record { entries = standing slots; next = next }
+  numbered_of slots next = record { entries = live slots; next = next }
 
   -- the slots when the change began: the first ones, with what was kept of their values
   abbrev pub slots_before : List (ℕ × Option V) → Start V → List (ℕ × Option V)
@@ -20,8 +20,8 @@ module _ {V : Type 0} where
   abbrev pub numbered_before : List (ℕ × Option V) → Start V → Numbered V
   numbered_before slots start = numbered_of (slots_before slots start) start.next
 
-  abbrev pub line_of : List (ℕ × Option V) → ℕ → Option (Start V) → Line V
-  line_of slots next change = record { now = numbered_of slots next; was = option_map (numbered_before slots) change }
+  abbrev pub series_versions : List (ℕ × Option V) → ℕ → Option (Start V) → SeriesVersions V
+  series_versions slots next change = record { now = numbered_of slots next; was = option_map (numbered_before slots) change }
 
   -- the slots of the change's beginning are the first ones, their numbers below the next one of that time, and what was
   -- kept is of these slots

@@ -14,10 +14,10 @@ module _ {V : Type 0} where
   with_slot number None values = values
   with_slot number (Some value) values = (number, value) ∷ values
 
-  -- the values that stand in the slots
-  abbrev pub standing : List (ℕ × Option V) → List (ℕ × V)
-  standing [] = []
-  standing (e ∷ es) = with_slot e.0 e.1 (standing es)
+  -- the live values: those that the slots have, with their numbers
+  abbrev pub live : List (ℕ × Option V) → List (ℕ × V)
+  live [] = []
+  live (e ∷ es) = with_slot e.0 e.1 (live es)
 
   -- the value under a number
   abbrev pub value_under : ℕ → List (ℕ × V) → Option V

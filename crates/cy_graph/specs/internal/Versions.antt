@@ -4,21 +4,12 @@ use Rattle.std.specs.Option.{option_map}
 use Rattle.std.specs.Ordering.{nat_cmp, eq_by_cmp}
 use Rattle.std.specs.FinMap.Entries as entries
 use Rattle.cy_graph.specs.Graph.{number_end}
+use Rattle.cy_graph.specs.Model.{Numbered, SeriesVersions}
 use Rattle.cy_graph.specs.internal.Slots.{RiseFrom, value_under}
-
--- values under their numbers, and the next number
-pub record Numbered (V : Type 0) : Type 0 where
-  pub entries : List (ℕ × V)
-  pub next : ℕ
-
--- a series as it is and, while a change is open, as it was when the change began
-pub record Line (V : Type 0) : Type 0 where
-  pub now : Numbered V
-  pub was : Option (Numbered V)
 
 module _ {V : Type 0} where
   -- a series with nothing in it
-  abbrev pub empty_from : ℕ → Line V
+  abbrev pub empty_from : ℕ → SeriesVersions V
   empty_from next = record { now = record { entries = []; next = next }; was = None }
 
   -- the values with one more, under the next number

@@ -1,10 +1,10 @@
 use Rattle.std.proofs.Common.{◌≡◌, ◌++◌, map, take}
 use Rattle.std.specs.Option.{option_copied}
-use Rattle.cy_graph.specs.Touched.{entry_of}
-use Rattle.cy_graph.specs.internal.Entries.{node_entry}
+use Rattle.cy_graph.specs.Touched.{before_image}
+use Rattle.cy_graph.specs.internal.BeforeImages.{node_image}
 use Rattle.cy_graph.proofs.touched.push_nodes.Given as goal
 
 -- what was found so far is added
 abbrev pub invariant-loop-number : goal.invariant-loop-number
 invariant-loop-number l =
-    map entry_of l.touched.items ≡ map entry_of l.initial.touched.items ++ map node_entry (map (λ f. (f.0, option_copied f.1)) (take l.number-index l.found))
+    map before_image l.touched.items ≡ map before_image l.initial.touched.items ++ map node_image (map (λ f. (f.0, option_copied f.1)) (take l.number-index l.found))

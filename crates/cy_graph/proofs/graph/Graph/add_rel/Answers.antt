@@ -2,7 +2,8 @@ use Rattle.std.proofs.Common.{IsSome, sym, ap, subst, ◌∙◌}
 use Rattle.cy_graph.specs.declared.nodes.Rel.{Rel}
 use Rattle.cy_graph.specs.Graph.{Versions}
 use Rattle.cy_graph.specs.internal.Contents.{AreVersions}
-use Rattle.cy_graph.specs.internal.Versions.{Line, with_last}
+use Rattle.cy_graph.specs.internal.Versions.{with_last}
+use Rattle.cy_graph.specs.Model.{SeriesVersions}
 use Rattle.cy_graph.proofs.Graphs.{there_named, rel_added_versions}
 use Rattle.cy_graph.proofs.Kept.{joined_linked}
 use Rattle.cy_graph.proofs.Relating.{joined_reserved, list_rises, reserved_are, rel_added_are, some_in_rels}
@@ -58,7 +59,7 @@ invariant_of-self-2 c =
     let into = c.in_ok-reserve-2.ensures in
     let linked_out = rw number at c.link.ensures in
     let linked_into = rw number at c.link-2.ensures in
-    subst (λ r. AreVersions inside.nodes r c.link.new.self c.link-2.new.self) (sym (c.in_ok-add.ensures.added ∙ ap (λ x. let l : Line Rel = record inside.rels { now = with_last x inside.rels.now } in l) c.new.ensures.rel))
+    subst (λ r. AreVersions inside.nodes r c.link.new.self c.link-2.new.self) (sym (c.in_ok-add.ensures.added ∙ ap (λ x. let l : SeriesVersions Rel = record inside.rels { now = with_last x inside.rels.now } in l) c.new.ensures.rel))
     (rel_added_are inside.nodes inside.rels inside.outgoing inside.incoming c.link.new.self c.link-2.new.self c.self.invariant rel (record { props = c.new.ensures.props_rise; stored = c.requires.storable })
     (there_named inside.nodes inside.rels c.args.self.now c.args.source c.self.view_is c.requires.from, there_named inside.nodes inside.rels c.args.self.now c.args.target c.self.view_is c.requires.to)
     (joined_linked (λ x. x.source.0) inside.rels rel c.laws.ensures open_change inside.outgoing c.reserve.new.self c.link.new.self c.self.invariant.out_joined out.ids out.room out.steps out.ok linked_out.ids linked_out.room linked_out.steps)

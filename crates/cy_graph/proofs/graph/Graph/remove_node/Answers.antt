@@ -1,7 +1,7 @@
 use Rattle.std.proofs.Common.{◌≡◌, None, sym, ap, ◌∙◌}
 use Rattle.std.specs.Prelude.{slice_get}
 use Rattle.cy_graph.specs.Graph.{Versions, rels_with}
-use Rattle.cy_graph.specs.internal.Contents.{rels_of}
+use Rattle.cy_graph.specs.Model.{rels_of}
 use Rattle.cy_graph.proofs.Graphs.{there_named}
 use Rattle.cy_graph.proofs.Edited.{node_removed_are, node_removed_versions}
 use Rattle.cy_graph.proofs.graph.Graph.remove_node.Goals as goal

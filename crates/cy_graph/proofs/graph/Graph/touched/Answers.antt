@@ -1,7 +1,7 @@
 use Rattle.std.proofs.Common.{◌≡◌, List, ◌++◌, map, ap, ◌∙◌}
 use Rattle.std.specs.Option.{option_copied}
-use Rattle.cy_graph.specs.Touched.{Entry, entry_of}
-use Rattle.cy_graph.specs.internal.Entries.{node_entry, rel_entry}
+use Rattle.cy_graph.specs.Touched.{BeforeImage, before_image}
+use Rattle.cy_graph.specs.internal.BeforeImages.{node_image, rel_image}
 use Rattle.cy_graph.proofs.Same.{same_node, same_rel}
 use Rattle.cy_graph.proofs.Touching.{versions_touched, versions_graphs}
 use Rattle.cy_graph.proofs.graph.Graph.touched.Goals as goal
@@ -17,13 +17,13 @@ pub returns-clause-ok : goal.returns-clause-ok
 returns-clause-ok c =
     let found = map (λ f. (f.0, option_copied f.1)) c.in_ok-differing.field-0.items in
     let rels_found = map (λ f. (f.0, option_copied f.1)) c.in_ok-differing-2.field-0.items in
-    let entries = map entry_of c.push_rels.new.touched.items in
-    let nodes_pushed : map entry_of c.push_nodes.new.touched.items ≡ map node_entry found =
-    c.in_ok-push_nodes.ensures.ok ∙ ap (λ es. map entry_of es ++ map node_entry (map (λ f. (f.0, option_copied f.1)) c.deref.result.now)) c.new-touched.ensures.items
-    ∙ ap (λ es. map node_entry (map (λ f. (f.0, option_copied f.1)) es)) c.deref.ensures.value in
-    let gathered : entries ≡ map node_entry found ++ map rel_entry rels_found =
-    c.in_ok-push_rels.ensures.ok ∙ ap (λ (es : List Entry). es ++ map rel_entry (map (λ f. (f.0, option_copied f.1)) c.deref-2.result.now)) nodes_pushed
-    ∙ ap (λ fs. map node_entry found ++ map rel_entry (map (λ f. (f.0, option_copied f.1)) fs)) c.deref-2.ensures.value in
+    let entries = map before_image c.push_rels.new.touched.items in
+    let nodes_pushed : map before_image c.push_nodes.new.touched.items ≡ map node_image found =
+    c.in_ok-push_nodes.ensures.ok ∙ ap (λ es. map before_image es ++ map node_image (map (λ f. (f.0, option_copied f.1)) c.deref.result.now)) c.new-touched.ensures.items
+    ∙ ap (λ es. map node_image (map (λ f. (f.0, option_copied f.1)) es)) c.deref.ensures.value in
+    let gathered : entries ≡ map node_image found ++ map rel_image rels_found =
+    c.in_ok-push_rels.ensures.ok ∙ ap (λ (es : List BeforeImage). es ++ map rel_image (map (λ f. (f.0, option_copied f.1)) c.deref-2.result.now)) nodes_pushed
+    ∙ ap (λ fs. map node_image found ++ map rel_image (map (λ f. (f.0, option_copied f.1)) fs)) c.deref-2.ensures.value in
     versions_touched c.self.inside.nodes c.self.inside.rels c.args.self.now found rels_found entries c.self.view_is gathered c.in_ok-differing.ensures.ok c.in_ok-differing-2.ensures.ok
 
 pub returns-clause-graphs : goal.returns-clause-graphs

@@ -1,7 +1,7 @@
 use Rattle.std.proofs.Common.{None, ap, sym, subst}
 use Rattle.cy_graph.specs.internal.Series.{IsKept}
-use Rattle.cy_graph.specs.internal.Versions.{Line}
-use Rattle.cy_graph.proofs.Slots.{standing_filter}
+use Rattle.cy_graph.specs.Model.{SeriesVersions}
+use Rattle.cy_graph.proofs.Slots.{live_filter}
 use Rattle.cy_graph.proofs.Steps.{is_kept_compacted}
 use Rattle.cy_graph.proofs.series.Series.commit.Goals as goal
 
@@ -14,4 +14,4 @@ invariant_of-self g c =
 pub returns-then-self-len : goal.returns-then-self-len
 returns-then-self-len g c =
     let inside = c.self.inside in
-    rw (← c.self.view_is, c.drop_empty.ensures) (ap (λ values. let l : Line g.row.V.Denot = record { now = record { entries = values; next = inside.next }; was = None } in l) (standing_filter inside.slots.entries))
+    rw (← c.self.view_is, c.drop_empty.ensures) (ap (λ values. let l : SeriesVersions g.row.V.Denot = record { now = record { entries = values; next = inside.next }; was = None } in l) (live_filter inside.slots.entries))

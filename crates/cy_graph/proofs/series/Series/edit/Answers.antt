@@ -1,8 +1,9 @@
 use Rattle.std.proofs.Common.{sym, ap, subst, ◌∙◌}
 use Rattle.std.proofs.lemmas.Result.{on_ok_weaker, on_err_weaker}
 use Rattle.cy_graph.specs.Graph.{number_end}
-use Rattle.cy_graph.specs.internal.Series.{IsKept, line_of}
-use Rattle.cy_graph.specs.internal.Versions.{Line, with_edited}
+use Rattle.cy_graph.specs.internal.Series.{IsKept, series_versions}
+use Rattle.cy_graph.specs.internal.Versions.{with_edited}
+use Rattle.cy_graph.specs.Model.{SeriesVersions}
 use Rattle.cy_graph.proofs.Slots.{raised}
 use Rattle.cy_graph.proofs.Steps.{edited_kept, edited_line, unchanged_kept, unchanged_line, either}
 use Rattle.cy_graph.proofs.series.Series.edit.Goals as goal
@@ -35,10 +36,10 @@ returns-clause-ok g c =
     let new = c.edit_in_change-done.new in
     let open_change = sym c.take.ensures.value ∙ c.in-Some.is in
     let kept = subst (IsKept slots inside.next) open_change c.self.invariant in
-    let now = sym (ap (line_of slots inside.next) open_change) ∙ c.self.view_is in
+    let now = sym (ap (series_versions slots inside.next) open_change) ∙ c.self.view_is in
     on_ok_weaker c.edit_in_change-done.result (λ changed.
     edited_line slots new.slots.entries inside.next c.args.number start new.start kept (g.E.Edit.edited c.args.edit) changed
-    ∙ ap (λ (l : Line g.row.V.Denot). let m : Line g.row.V.Denot = record { now = with_edited (g.E.Edit.edited c.args.edit) c.args.number l.now; was = l.was } in m) now) c.edit_in_change-done.ensures.ok
+    ∙ ap (λ (l : SeriesVersions g.row.V.Denot). let m : SeriesVersions g.row.V.Denot = record { now = with_edited (g.E.Edit.edited c.args.edit) c.args.number l.now; was = l.was } in m) now) c.edit_in_change-done.ensures.ok
 
 -- nothing changed
 pub returns-clause-err : goal.returns-clause-err
@@ -49,5 +50,5 @@ returns-clause-err g c =
     let new = c.edit_in_change-done.new in
     let open_change = sym c.take.ensures.value ∙ c.in-Some.is in
     let kept = subst (IsKept slots inside.next) open_change c.self.invariant in
-    let now = sym (ap (line_of slots inside.next) open_change) ∙ c.self.view_is in
+    let now = sym (ap (series_versions slots inside.next) open_change) ∙ c.self.view_is in
     on_err_weaker c.edit_in_change-done.result (λ same. unchanged_line slots new.slots.entries inside.next c.args.number start new.start kept same ∙ now) c.edit_in_change-done.ensures.err

@@ -1,6 +1,6 @@
 use Rattle.std.proofs.Common.{Some, None, ap, ◌∙◌}
 use Rattle.std.specs.Option.{option_copied}
-use Rattle.cy_graph.proofs.Slots.{value_found, standing_rises}
+use Rattle.cy_graph.proofs.Slots.{value_found, live_rises}
 use Rattle.cy_graph.proofs.series.Series.get.Goals as goal
 
 -- the number was not given out, or its value is gone since a compaction
@@ -9,7 +9,7 @@ returns-in_err-get g c =
     let inside = c.self.inside in
     rw (← c.self.view_is) (record {
       value = ap option_copied c.from_residual.ensures ∙ value_found inside.next c.args.number inside.slots.entries None c.self.invariant.rising c.in_err-get.ensures.value;
-      numbered = record { rising = standing_rises 1 inside.next inside.slots.entries c.self.invariant.rising; range = c.self.invariant.range };
+      numbered = record { rising = live_rises 1 inside.next inside.slots.entries c.self.invariant.rising; range = c.self.invariant.range };
     })
 
 -- what stands in the slot is what stands under the number
@@ -18,5 +18,5 @@ returns g c =
     let inside = c.self.inside in
     rw (← c.self.view_is) (record {
       value = c.as_ref.ensures.value ∙ value_found inside.next c.args.number inside.slots.entries (Some c.in_ok-get.field-0.now) c.self.invariant.rising c.in_ok-get.ensures.value;
-      numbered = record { rising = standing_rises 1 inside.next inside.slots.entries c.self.invariant.rising; range = c.self.invariant.range };
+      numbered = record { rising = live_rises 1 inside.next inside.slots.entries c.self.invariant.rising; range = c.self.invariant.range };
     })

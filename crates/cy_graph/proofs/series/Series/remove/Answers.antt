@@ -1,8 +1,9 @@
 use Rattle.std.proofs.Common.{sym, ap, subst, ◌∙◌}
 use Rattle.std.proofs.lemmas.Result.{on_ok_weaker, on_err_weaker}
 use Rattle.cy_graph.specs.Graph.{number_end}
-use Rattle.cy_graph.specs.internal.Series.{IsKept, line_of}
-use Rattle.cy_graph.specs.internal.Versions.{Line, without_number}
+use Rattle.cy_graph.specs.internal.Series.{IsKept, series_versions}
+use Rattle.cy_graph.specs.internal.Versions.{without_number}
+use Rattle.cy_graph.specs.Model.{SeriesVersions}
 use Rattle.cy_graph.proofs.Slots.{raised}
 use Rattle.cy_graph.proofs.Steps.{removed_kept, removed_line, unchanged_kept, unchanged_line, either}
 use Rattle.cy_graph.proofs.series.Series.remove.Goals as goal
@@ -47,10 +48,10 @@ returns-then-is_ok-clause-ok g c =
     let new = c.remove_in_change-done.new in
     let open_change = sym c.take.ensures.value ∙ c.in-Some.is in
     let kept = subst (IsKept slots inside.next) open_change c.self.invariant in
-    let now = sym (ap (line_of slots inside.next) open_change) ∙ c.self.view_is in
+    let now = sym (ap (series_versions slots inside.next) open_change) ∙ c.self.view_is in
     on_ok_weaker c.remove_in_change-done.result (λ changed.
     removed_line slots new.slots.entries inside.next c.args.number start new.start kept changed
-    ∙ ap (λ (l : Line g.row.V.Denot). let m : Line g.row.V.Denot = record { now = without_number c.args.number l.now; was = l.was } in m) now) c.remove_in_change-done.ensures.ok
+    ∙ ap (λ (l : SeriesVersions g.row.V.Denot). let m : SeriesVersions g.row.V.Denot = record { now = without_number c.args.number l.now; was = l.was } in m) now) c.remove_in_change-done.ensures.ok
 
 -- nothing changed
 pub returns-else-is_ok-clause-err : goal.returns-else-is_ok-clause-err
@@ -61,5 +62,5 @@ returns-else-is_ok-clause-err g c =
     let new = c.remove_in_change-done.new in
     let open_change = sym c.take.ensures.value ∙ c.in-Some.is in
     let kept = subst (IsKept slots inside.next) open_change c.self.invariant in
-    let now = sym (ap (line_of slots inside.next) open_change) ∙ c.self.view_is in
+    let now = sym (ap (series_versions slots inside.next) open_change) ∙ c.self.view_is in
     on_err_weaker c.remove_in_change-done.result (λ same. unchanged_line slots new.slots.entries inside.next c.args.number start new.start kept same ∙ now) c.remove_in_change-done.ensures.err

@@ -1,9 +1,9 @@
-//! Walks over a graph.
+//! Iterators over the nodes and the relationships of a graph.
 
 ghost use Rattle.std.specs.Prelude.{◌≡◌};
 ghost use Rattle.std.specs.Iterator.{item_count, YieldsFirstBy};
-ghost use Rattle.cy_graph.specs.internal.Contents.{nodes_of, rels_of};
-ghost use Rattle.cy_graph.specs.internal.Slots.{standing};
+ghost use Rattle.cy_graph.specs.Model.{nodes_of, rels_of};
+ghost use Rattle.cy_graph.specs.internal.Slots.{live};
 
 use crate::nodes::{Node, Rel};
 use cy_values::{NodeId, RelId};
@@ -21,14 +21,14 @@ impl<'a, V> Model for Values<'a, V> {
 
     ghost Value = { List (ℕ × V) };
 
-    ghost use Rattle.cy_graph.specs.internal.Slots.{standing};
+    ghost use Rattle.cy_graph.specs.internal.Slots.{live};
 
-    ghost view = { λ v. standing v.slots };
+    ghost view = { λ v. live v.slots };
 }
 
 impl<'a, V> Values<'a, V> {
-    pub fn new(slots: map::Iter<'a, u64, Option<V>>) -> Self
-        ensures { result ≡ standing slots.entry }
+    pub(crate) fn new(slots: map::Iter<'a, u64, Option<V>>) -> Self
+        ensures { result ≡ live slots.entry }
     {
         Values { slots }
     }
@@ -64,7 +64,7 @@ impl<'a> Model for Nodes<'a> {
 
     ghost Value = { List (NodeId × Node) };
 
-    ghost use Rattle.cy_graph.specs.internal.Contents.{nodes_of};
+    ghost use Rattle.cy_graph.specs.Model.{nodes_of};
 
     ghost view = { λ n. nodes_of n.values };
 }
@@ -103,7 +103,7 @@ impl<'a> Model for Rels<'a> {
 
     ghost Value = { List (RelId × Rel) };
 
-    ghost use Rattle.cy_graph.specs.internal.Contents.{rels_of};
+    ghost use Rattle.cy_graph.specs.Model.{rels_of};
 
     ghost view = { λ r. rels_of r.values };
 }

@@ -1,0 +1,8 @@
+use Rattle.std.proofs.Common.{◌≡◌, ◌||◌, take}
+use Rattle.cy_index.specs.declared.keys.Key.{Key}
+use Rattle.cy_index.specs.internal.Under.{among, is_prop, by_label}
+use Rattle.cy_index.proofs.keys.push_label_keys.Given as goal
+
+-- the values at the places so far are among the keys
+abbrev pub invariant-loop-place : goal.invariant-loop-place
+invariant-loop-place l = (k : Key) → among k l.keys.items ≡ (among k l.initial.keys.items || is_prop (take l.place l.chosen) (by_label l.label l.props) k)

@@ -1,0 +1,5 @@
+-- What proofs alone need.
+pub mod Indexed
+pub mod Numbers
+pub mod Postings
+pub mod Under

@@ -1,0 +1,154 @@
+//! The keys under which a node stands in the indexes.
+
+ghost use Rattle.std.specs.Prelude.{◌≡◌, ◌||◌, OnOk, IfOk};
+ghost use Rattle.std.specs.Option.{option_copied};
+ghost use Rattle.cy_index.specs.declared.keys.Key.{Key};
+ghost use Rattle.cy_index.specs.Index.{is_pair};
+ghost use Rattle.cy_index.specs.internal.Under.{among, by_label, by_value, is_here, is_same, is_key_of_label, is_key_of_value, is_key_of};
+
+use cy_graph::{Labels, Props};
+use cy_values::{Duplicate, Fault, Text, Value};
+use std::alloc::Global;
+
+/// A label and a key of properties for which there is an index.
+#[derive(Debug, Drop)]
+pub struct Pair {
+    pub label: Text,
+    pub key: Text,
+}
+
+impl Pair {
+    /// Whether this is the pair of a label and a key.
+    pub(crate) fn is_for(&self, label: &str, key: &str) -> bool
+        ensures { result ≡ is_pair label.now key.now self.now }
+    {
+        self.label.as_str() == label && self.key.as_str() == key
+    }
+}
+
+/// What a node is looked up by.
+#[derive(Debug, Drop, PartialEq, Eq, Hash)]
+pub(crate) enum Key {
+    /// One of its labels.
+    Label(Text),
+    /// The value of its property, in the index with this place among the chosen ones.
+    Prop(usize, Value),
+}
+
+/// Adds the keys under which a label stands, at a node with these properties: itself, and the values in the indexes of
+/// the label. Fails only for want of memory.
+pub(crate) fn push_label_keys(
+    alloc: Global,
+    keys: &mut Vec<Key>,
+    chosen: &[Pair],
+    label: &str,
+    props: &Props,
+) -> Result<(), Fault>
+    ensures { OnOk result ((k : Key) → among k keys.new.items ≡ (among k keys.old.items || is_key_of_label chosen.now label.now props.now k)) }
+{
+    keys.push(Key::Label(Text::from_str(alloc, label)?))?;
+    for (place, pair) in chosen.iter().enumerate() {
+        push_key_by_label(alloc, keys, place, pair, label, props)?;
+    }
+    Ok(())
+}
+
+// Adds the key of a value in the index at this place, if there is a value.
+fn push_prop_key(
+    alloc: Global,
+    keys: &mut Vec<Key>,
+    place: usize,
+    value: Option<&Value>,
+) -> Result<(), Fault>
+    ensures { OnOk result ((k : Key) → among k keys.new.items ≡ (among k keys.old.items || is_here place (λ v. is_same v (option_copied value.entry)) k)) }
+{
+    match value {
+        None => Ok(()),
+        Some(value) => Ok(keys.push(Key::Prop(place, value.copy(alloc)?))?),
+    }
+}
+
+// Adds the key of the value at a node with these properties, if the pair at this place has the label.
+fn push_key_by_label(
+    alloc: Global,
+    keys: &mut Vec<Key>,
+    place: usize,
+    pair: &Pair,
+    label: &str,
+    props: &Props,
+) -> Result<(), Fault>
+    ensures { OnOk result ((k : Key) → among k keys.new.items ≡ (among k keys.old.items || is_here place (λ v. by_label label.now props.now v pair.now) k)) }
+{
+    if pair.label.as_str() == label {
+        push_prop_key(alloc, keys, place, props.get(pair.key.as_str()))
+    } else {
+        Ok(())
+    }
+}
+
+// Adds the key of a value at a node with these labels, if the pair at this place has the key and one of the labels.
+fn push_key_by_value(
+    alloc: Global,
+    keys: &mut Vec<Key>,
+    place: usize,
+    pair: &Pair,
+    labels: &Labels,
+    key: &str,
+    value: Option<&Value>,
+) -> Result<(), Fault>
+    ensures { OnOk result ((k : Key) → among k keys.new.items ≡ (among k keys.old.items || is_here place (λ v. by_value labels.now key.now (option_copied value.entry) v pair.now) k)) }
+{
+    let meant = pair.key.as_str() == key && labels.get(pair.label.as_str()).is_some();
+    if meant {
+        push_prop_key(alloc, keys, place, value)
+    } else {
+        Ok(())
+    }
+}
+
+/// The keys under which a label stands, at a node with these properties, as `push_label_keys` gives them.
+pub(crate) fn label_keys(
+    alloc: Global,
+    chosen: &[Pair],
+    label: &str,
+    props: &Props,
+) -> Result<Vec<Key>, Fault>
+    ensures { IfOk result (λ keys. (k : Key) → among k keys.items ≡ is_key_of_label chosen.now label.now props.now k) }
+{
+    let mut keys = Vec::new(alloc);
+    push_label_keys(alloc, &mut keys, chosen, label, props)?;
+    Ok(keys)
+}
+
+/// The keys under which a node with these labels and properties stands. Fails only for want of memory.
+pub(crate) fn node_keys(
+    alloc: Global,
+    chosen: &[Pair],
+    labels: &Labels,
+    props: &Props,
+) -> Result<Vec<Key>, Fault>
+    ensures { IfOk result (λ keys. (k : Key) → among k keys.items ≡ is_key_of chosen.now labels.now props.now k) }
+{
+    let mut keys = Vec::new(alloc);
+    for (label, _) in labels.entries() {
+        push_label_keys(alloc, &mut keys, chosen, label.as_str(), props)?;
+    }
+    Ok(keys)
+}
+
+/// The keys under which the value of a property stands, at a node with these labels. Fails only for want of memory.
+pub(crate) fn value_keys(
+    alloc: Global,
+    chosen: &[Pair],
+    labels: &Labels,
+    key: &str,
+    value: Option<&Value>,
+) -> Result<Vec<Key>, Fault>
+    ensures { IfOk result (λ keys. (k : Key) → among k keys.items ≡ is_key_of_value chosen.now labels.now key.now (option_copied value.entry) k) }
+{
+    let mut keys = Vec::new(alloc);
+    for (place, pair) in chosen.iter().enumerate() {
+        push_key_by_value(alloc, &mut keys, place, pair, labels, key, value)?;
+    }
+    Ok(keys)
+}

@@ -4,3 +4,4 @@ pub mod Rules
 pub mod ReadingLemmas
 pub mod KindLemmas
 pub mod SureLemmas
+pub mod LabelNames

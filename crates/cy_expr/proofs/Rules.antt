@@ -9,6 +9,7 @@ use Rattle.std.specs.Int.{w64}
 use Rattle.std.specs.Str.Pattern.{HasMatch, FindsText, LacksTextAt}
 use Rattle.std.specs.List.{starts_with}
 use Rattle.cy_values.specs.declared.scalars.Scalar.{Scalar}
+use Rattle.cy_values.specs.declared.scalars.Scalar.TheVariants as scalar
 use Rattle.cy_values.specs.declared.scalars.Value.{Value}
 use Rattle.cy_values.specs.declared.scalars.Value.TheVariants as value
 use Rattle.cy_values.specs.declared.truth.Truth.{Truth}
@@ -17,20 +18,20 @@ use Rattle.cy_values.specs.Truth.{both, one_at_least, is_yes}
 use Rattle.cy_values.specs.Compare.{value_in, equality}
 use Rattle.cy_scope.specs.declared.functions.Function.{Function}
 use Rattle.cy_scope.specs.declared.functions.Function.TheVariants as function
-use Rattle.cy_scope.specs.Functions.{function_named}
 use Rattle.cy_expr.specs.declared.faults.EvalFault.{EvalFault}
 use Rattle.cy_expr.specs.Faults.{on_one, on_two}
-use Rattle.cy_expr.specs.Lists.{element, elements, list_of, equals_one}
+use Rattle.cy_expr.specs.Lists.{element, elements, list_of, equals_one, membership}
 use Rattle.cy_expr.specs.Predicates.{has_within}
-use Rattle.cy_expr.specs.declared.faults.EvalFault.TheVariants.{NoMemory, WrongType}
+use Rattle.cy_expr.specs.declared.faults.EvalFault.TheVariants.{NoMemory, WrongType, NestedList}
 use Rattle.cy_expr.specs.Operators.{compared, value_in_cell}
 use Rattle.cy_expr.specs.Lookups.{Lookups, existence}
-use Rattle.cy_expr.specs.Logic.{truth_of}
 use Rattle.cy_expr.specs.Choice.{choice}
-use Rattle.cy_expr.specs.internal.Arms.{chosen}
+use Rattle.cy_expr.specs.Logic.{truth_of, value_of}
+use Rattle.cy_expr.specs.internal.Membership.{equals_also, equals_more, membership_from}
 use Rattle.cy_expr.specs.declared.held.Held.{Held}
-use Rattle.cy_expr.specs.Lent.{held_cell}
-use Rattle.cy_expr.specs.Evaluation.{as_cell, call_value, called, cell_of, cells_of, chain, outcomes_of, outcomes_of_arms, property_exists, values_of}
+use Rattle.cy_expr.specs.internal.Arms.{chosen}
+use Rattle.cy_expr.specs.internal.Lent.{GivesOrWants}
+use Rattle.cy_expr.specs.Evaluation.{as_cell, call_value, called, cell_of, cells_of, chain, outcomes_of_arms, property_exists, values_of}
 use Rattle.std.specs.declared.boxed.Box.{Box}
 use Rattle.cy_trees.specs.Trees.{Name, Expression, null, boolean, integer, text, variable, property, has_labels, unary, binary, comparison, list, case, call, call_star, Expressions, no_more, more, nothing, otherwise}
 use Rattle.cy_trees.specs.Views.{arms_of, expression_of, expressions_from, link_of, links_from}
@@ -119,6 +120,39 @@ stopped es v left others values fault (Err e) at next so_far given = rw (← so_
 -- no value is left
 pub all_made : (es : List Scalar) (left values : List Value) → left ≡ [] → behind es (elements left) ≡ elements values → Ok (value.List es) ≡ list_of values
 all_made es left values none so_far = rw (← so_far, none, append-nil) refl
+
+-- IN with a list that is written out is IN with the list that is made
+equals_more-fault : (fault : EvalFault) (x : Value) (vs : List Value) → equals_more (Err fault) x vs ≡ Err fault
+equals_more-fault fault x [] = refl
+equals_more-fault fault x (v ∷ vs) = equals_more-fault fault x vs
+
+equals_also-one : (a : Truth) (x : Value) (e : Scalar) (r : Result (List Scalar) EvalFault)
+    → on_one (λ es. Ok (one_at_least (one_at_least a (equality x (value_in e))) (equals_one x es))) r
+    ≡ on_one (λ es. Ok (one_at_least a (equals_one x es))) (on_two (λ f fs. Ok (f ∷ fs)) (Ok e) r)
+equals_also-one a x e (Ok es) = ap (λ (t : Truth). Ok t) (or-or a (equality x (value_in e)) (equals_one x es))
+equals_also-one a x e (Err fault) = refl
+
+equals_more-all : (a : Truth) (x : Value) (vs : List Value) → equals_more (Ok a) x vs ≡ on_one (λ es. Ok (one_at_least a (equals_one x es))) (elements vs)
+equals_more-all a x [] = ap (λ (t : Truth). Ok t) (sym (or-no a))
+equals_more-all a x (value.Text t ∷ vs) = equals_more-all (one_at_least a (equality x (value.Text t))) x vs ∙ equals_also-one a x (scalar.Text t) (elements vs)
+equals_more-all a x (value.Bool b ∷ vs) = equals_more-all (one_at_least a (equality x (value.Bool b))) x vs ∙ equals_also-one a x (scalar.Bool b) (elements vs)
+equals_more-all a x (value.Int n ∷ vs) = equals_more-all (one_at_least a (equality x (value.Int n))) x vs ∙ equals_also-one a x (scalar.Int n) (elements vs)
+equals_more-all a x (value.Null ∷ vs) = equals_more-all (one_at_least a (equality x value.Null)) x vs ∙ equals_also-one a x scalar.Null (elements vs)
+equals_more-all a x (value.List es ∷ vs) = equals_more-fault NestedList x vs
+
+membership-made : (x : Value) (r : Result (List Scalar) EvalFault)
+    → on_one (λ a. Ok (value_of a)) (on_one (λ es. Ok (one_at_least No (equals_one x es))) r) ≡ on_one (membership x) (on_one (λ es. Ok (value.List es)) r)
+membership-made x (Ok es) = rw (no-or (equals_one x es)) refl
+membership-made x (Err fault) = refl
+
+pub membership-all : (x : Value) (r : Result (List Value) EvalFault) → membership_from (Ok No) x r ≡ on_one (membership x) (on_one list_of r)
+membership-all x (Ok vs) = ap (λ (t : Result Truth EvalFault). on_one (λ a. Ok (value_of a)) t) (equals_more-all No x vs) ∙ membership-made x (elements vs)
+membership-all x (Err fault) = refl
+
+membership-one : (any : Result Truth EvalFault) (x v : Value) (r : Result (List Value) EvalFault)
+    → membership_from (equals_also any x v) x r ≡ membership_from any x (on_two (λ w ws. Ok (w ∷ ws)) (Ok v) r)
+membership-one any x v (Ok vs) = refl
+membership-one any x v (Err fault) = refl
 
 -- a text starts with another exactly where it is the other and a rest
 starts : (s t : List ℕ) → (starts_with nat_eq s t ≡ true → s ≡ t ++ drop (length t) s) × ((rest : List ℕ) → s ≡ t ++ rest → starts_with nat_eq s t ≡ true)
@@ -217,6 +251,13 @@ chain-more graph row a s t c d links i l inside is value truth step =
 abbrev pub behind_values : List Value → Result (List Value) EvalFault → Result (List Value) EvalFault
 behind_values vs others = on_one (λ ws. Ok (vs ++ ws)) others
 
+-- one element more was compared with a value
+pub membership-more : (graph : Lookups) (row : List Cell) (any known : Result Truth EvalFault) (x v : Value) (c : Cell) (es : List Expr) (i : ℕ) (e : Expr)
+    → i < length es → e ≡ get_or es i e → cell_of graph row (expression_of e) ≡ Ok c → value_in_cell c ≡ Ok v → known ≡ equals_also any x v
+    → membership_from known x (values_of graph row (expressions_from (map expression_of (drop (i + 1) es)))) ≡ membership_from any x (values_of graph row (expressions_from (map expression_of (drop i es))))
+membership-more graph row any known x v c es i e inside is value seen step =
+    rw (add-one, drop-cons es i e, ← is, value, seen, step) (membership-one any x v (values_of graph row (expressions_from (map expression_of (drop (suc i) es)))))
+
 -- how many cells there are
 abbrev pub counted : Result (List Cell) EvalFault → Result ℕ EvalFault
 counted cells = on_one (λ cs. Ok (length cs)) cells
@@ -269,24 +310,24 @@ cells-more graph row c es i e inside is known =
 cell_fault : (graph : Lookups) (row : List Cell) (f : Option Function) (fault : EvalFault) (es : List Expr) (i : ℕ) (e : Expr)
     → i < length es → e ≡ get_or es i e → cell_of graph row (expression_of e) ≡ Err fault
     → count_from i (counted (cells_of graph row (expressions_from (map expression_of (drop i es))))) ≡ counted (cells_of graph row (expressions_from (map expression_of es)))
-    → on_one (called graph f) (cells_of graph row (expressions_from (map expression_of es))) ≡ Err fault
+    → as_cell (on_one (called graph f) (cells_of graph row (expressions_from (map expression_of es)))) ≡ Err fault
 cell_fault graph row f fault es i e inside is known counts =
-    faulty (called graph f) (cells_of graph row (expressions_from (map expression_of es))) fault (sym counts ∙ rw (drop-cons es i e, ← is, known) refl)
+    ap as_cell (faulty (called graph f) (cells_of graph row (expressions_from (map expression_of es))) fault (sym counts ∙ rw (drop-cons es i e, ← is, known) refl))
 
 pub cell-faults : (graph : Lookups) (row : List Cell) (f : Option Function) (fault : EvalFault) (es : List Expr) (i : ℕ) (e : Expr)
     → i < length es → e ≡ get_or es i e → (cell_of graph row (expression_of e) ≡ Err fault) ⊎ (fault ≡ NoMemory)
     → count_from i (counted (cells_of graph row (expressions_from (map expression_of (drop i es))))) ≡ counted (cells_of graph row (expressions_from (map expression_of es)))
-    → (on_one (called graph f) (cells_of graph row (expressions_from (map expression_of es))) ≡ Err fault) ⊎ (fault ≡ NoMemory)
+    → (as_cell (on_one (called graph f) (cells_of graph row (expressions_from (map expression_of es)))) ≡ Err fault) ⊎ (fault ≡ NoMemory)
 cell-faults graph row f fault es i e inside is (inl known) counts = inl (cell_fault graph row f fault es i e inside is known counts)
 cell-faults graph row f fault es i e inside is (inr want) counts = inr want
 
 -- no argument is left, and there isn't one alone
 pub cells-refused : (graph : Lookups) (row : List Cell) (f : Option Function) (es : List Expr) (i : ℕ) → length es ≤ i → i ≤ length es → length es ≢ 1
     → count_from i (counted (cells_of graph row (expressions_from (map expression_of (drop i es))))) ≡ counted (cells_of graph row (expressions_from (map expression_of es)))
-    → on_one (called graph f) (cells_of graph row (expressions_from (map expression_of es))) ≡ Err WrongType
+    → as_cell (on_one (called graph f) (cells_of graph row (expressions_from (map expression_of es)))) ≡ Err WrongType
 cells-refused graph row f es i ends within others counts =
     let all : i ≡ length es = omega arith in
-    refused graph f (cells_of graph row (expressions_from (map expression_of es))) i (λ one. others (sym all ∙ one)) (sym counts ∙ rw (drop_all i es ends) (ap (λ (n : ℕ). Ok n) (omega arith)))
+    ap as_cell (refused graph f (cells_of graph row (expressions_from (map expression_of es))) i (λ one. others (sym all ∙ one)) (sym counts ∙ rw (drop_all i es ends) (ap (λ (n : ℕ). Ok n) (omega arith))))
 
 -- a fault that is passed on
 pub failed : {A : Type 0} (P : A → Type 0) (Q : EvalFault → Type 0) (r : Result A EvalFault) (fault : EvalFault) → IsErr r × IsErrAnd r (λ e. e ≡ fault) → Q fault → MatchResult r P Q
@@ -300,7 +341,7 @@ or_else (Ok (Some c)) others = Ok c
 or_else (Err fault) others = Err fault
 
 choice-step : (t : Result Truth EvalFault) (r c o : Result Value EvalFault) (d : Result (Option Cell) EvalFault) → as_cell c ≡ or_else d (as_cell o)
-    → as_cell (on_one (λ x. if is_yes x then r else c) t) ≡ or_else (on_one (λ x. if is_yes x then on_one (λ v. Ok (Some (cell.Value v))) r else d) t) (as_cell o)
+    → as_cell (on_one (λ x. if is_yes x then r else c) t) ≡ or_else (on_one (λ x. if is_yes x then on_one (λ e. Ok (Some e)) (as_cell r) else d) t) (as_cell o)
 choice-step (Ok Yes) (Ok v) c o d same = refl
 choice-step (Ok Yes) (Err fault) c o d same = refl
 choice-step (Ok No) r c o d same = same
@@ -337,6 +378,8 @@ pub case_fault : (graph : Lookups) (row : List Cell) (arms : Vec Arm Global) (e 
     → chosen (outcomes_of_arms graph row (arms_of arms)) ≡ Err fault → cell_of graph row (expression_of (coded.Case arms e)) ≡ Err fault
 case_fault graph row arms None fault is = case_nothing graph row arms ∙ rw is refl
 case_fault graph row arms (Some e) fault is = case_otherwise graph row arms e ∙ rw is refl
+
+pub ruleset case_steps = (case_nothing, case_otherwise, case_chosen, case_fault)
 
 -- exists asks for one property
 two_asked : (graph : Lookups) (row : List Cell) (e f : Expression) (es : Expressions) → property_exists graph row (more e (more f es)) ≡ Err WrongType
@@ -376,31 +419,14 @@ property_asked graph row e key = rw (property_is e key) refl
 pub ruleset argument_steps = (alone, others_asked)
 
 -- a call of another function than coalesce and exists
-call_is : (name : Name) (distinct : Bool) (es : Vec Expr Global) → expression_of (coded.Call name distinct es) ≡ call name distinct (expressions_from (map expression_of es.items))
-call_is name distinct es = search (rules, the_lemmas)
-
 other_function : (graph : Lookups) (f : Function) (cells : Result (List Cell) EvalFault) (outcomes : List (Result Value EvalFault)) (there : Result Value EvalFault)
     → (f ≡ function.Coalesce → ⊥) → (f ≡ function.Exists → ⊥) → call_value graph (Some f) cells outcomes there ≡ on_one (called graph (Some f)) cells
 other_function graph function.Coalesce cells outcomes there first asked = absurd (first refl)
 other_function graph function.Exists cells outcomes there first asked = absurd (asked refl)
 other_function graph f cells outcomes there first asked = refl
 
-other_call : (graph : Lookups) (row : List Cell) (name : Name) (distinct : Bool) (es : Vec Expr Global) (f : Function)
-    → Some f ≡ function_named name → (f ≡ function.Coalesce → ⊥) → (f ≡ function.Exists → ⊥)
-    → cell_of graph row (expression_of (coded.Call name distinct es)) ≡ as_cell (on_one (called graph (Some f)) (cells_of graph row (expressions_from (map expression_of es.items))))
-other_call graph row name distinct es f named first asked =
-    ap (cell_of graph row) (call_is name distinct es)
-    ∙ ap (λ (o : Option Function). as_cell (call_value graph o (cells_of graph row (expressions_from (map expression_of es.items))) (outcomes_of graph row (expressions_from (map expression_of es.items))) (property_exists graph row (expressions_from (map expression_of es.items))))) (sym named)
-    ∙ ap as_cell (other_function graph f (cells_of graph row (expressions_from (map expression_of es.items))) (outcomes_of graph row (expressions_from (map expression_of es.items))) (property_exists graph row (expressions_from (map expression_of es.items))) first asked)
-
-pub call_answers : (graph : Lookups) (row : List Cell) (name : Name) (distinct : Bool) (es : Vec Expr Global) (f : Function) (r : Result Held EvalFault)
-    → Some f ≡ function_named name → (f ≡ function.Coalesce → ⊥) → (f ≡ function.Exists → ⊥)
-    → MatchResult r (λ h. as_cell (on_one (called graph (Some f)) (cells_of graph row (expressions_from (map expression_of es.items)))) ≡ Ok (held_cell h))
-    (λ fault. (on_one (called graph (Some f)) (cells_of graph row (expressions_from (map expression_of es.items))) ≡ Err fault) ⊎ (fault ≡ NoMemory))
-    → MatchResult r (λ h. cell_of graph row (expression_of (coded.Call name distinct es)) ≡ Ok (held_cell h))
-    (λ fault. (cell_of graph row (expression_of (coded.Call name distinct es)) ≡ Err fault) ⊎ (fault ≡ NoMemory))
-call_answers graph row name distinct es f (Ok h) named first asked is = other_call graph row name distinct es f named first asked ∙ is
-call_answers graph row name distinct es f (Err fault) named first asked (inl is) = inl (other_call graph row name distinct es f named first asked ∙ ap as_cell is)
-call_answers graph row name distinct es f (Err fault) named first asked (inr wants) = inr wants
-
-pub ruleset case_steps = (case_nothing, case_otherwise, case_chosen, case_fault, call_answers)
+pub other_call : (graph : Lookups) (f : Option Function) (g : Function) (cells : Result (List Cell) EvalFault) (outcomes : List (Result Value EvalFault)) (there : Result Value EvalFault) (r : Result Held EvalFault)
+    → f ≡ Some g → (g ≡ function.Coalesce → ⊥) → (g ≡ function.Exists → ⊥)
+    → GivesOrWants r (as_cell (on_one (called graph (Some g)) cells)) → GivesOrWants r (as_cell (call_value graph f cells outcomes there))
+other_call graph f g cells outcomes there r is first asked given =
+    rw (is, other_function graph g cells outcomes there first asked) given

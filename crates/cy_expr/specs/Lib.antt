@@ -1,5 +1,4 @@
 pub mod Faults
-pub mod Lent
 pub mod Logic
 pub mod Comparison
 pub mod Predicates
@@ -9,6 +8,7 @@ pub mod Conversions
 pub mod Choice
 pub mod Operators
 pub mod Lookups
+pub mod Graphs
 pub mod Evaluation
 pub mod Reading
 pub mod internal

@@ -1,7 +1,9 @@
 -- What an expression reads of a graph, by the entities that its row names: their properties, the labels of nodes and the
 -- types of relationships. (Francis et al., property graphs) An expression has the same value on two graphs that answer these alike.
-use Rattle.std.specs.Prelude.{◌≤◌, ◌^◌, ⊤, List, Option, unwrap_or, Result, Ok, Err, is_some, pos, map}
+use Rattle.std.specs.Prelude.{◌≤◌, ◌^◌, ⊤, Bool, true, ◌&&◌, List, [], ◌∷◌, Option, unwrap_or, Result, Ok, Err, is_some, pos, map}
 use Rattle.std.specs.List.{list_all, list_any}
+use Rattle.std.specs.Ordering.{is_lt, nat_cmp}
+use Rattle.std.specs.Cmp.Lexicographic.{slice_cmp}
 use Rattle.std.specs.Str.{bytes_eq}
 use Rattle.cy_values.specs.declared.numbers.NodeId.{NodeId}
 use Rattle.cy_values.specs.declared.numbers.RelId.{RelId}
@@ -18,9 +20,14 @@ use Rattle.cy_expr.specs.declared.faults.EvalFault.TheVariants.{WrongType}
 
 pub record Lookups : Type 0 where
   pub property_of : Entity → Name → Option Value
-  -- by rising bytes
+  -- by rising bytes, each once, as the trait of the code asks of each graph
   pub labels_of : NodeId → List Name
   pub type_of : RelId → Name
+
+-- whether names rise by their bytes, so that each is there once
+abbrev pub rises : List Name → Bool
+rises [] = true
+rises (l ∷ ls) = list_all (λ m. is_lt (slice_cmp nat_cmp l m)) ls && rises ls
 
 -- a cell that names no entity, where an entity is asked: null gives null
 abbrev pub no_entity : Value → Result Value EvalFault

@@ -1,6 +1,7 @@
 -- What an expression reads of the graph: of the entities that its row names the properties, the labels and the types, and
--- nothing else. (Francis et al., property graphs; columns alone: own)
-use Rattle.std.specs.Prelude.{◌≡◌, Bool, true, false, not, ◌&&◌, ⊤, Option, Some}
+-- nothing else; and which columns of its row. (Francis et al., property graphs; columns: own)
+use Rattle.std.specs.Prelude.{◌≡◌, ℕ, Bool, true, false, not, ◌&&◌, ⊤, Option, Some, nat_lt}
+use Rattle.std.specs.Option.{option_map_or}
 use Rattle.cy_values.specs.declared.numbers.Entity.TheVariants as entity
 use Rattle.cy_values.specs.declared.rows.Cell.{Cell}
 use Rattle.cy_values.specs.declared.rows.Cell.TheVariants as cell
@@ -59,3 +60,37 @@ abbrev mutual
   pub else_reads_columns : Otherwise → Bool
   else_reads_columns nothing = true
   else_reads_columns (otherwise e) = reads_columns e
+
+-- whether an expression reads only the first so many columns of its row
+abbrev mutual
+  pub reads_below : ℕ → Expression → Bool
+  reads_below width null = true
+  reads_below width (boolean b) = true
+  reads_below width (integer n) = true
+  reads_below width (text t) = true
+  reads_below width (variable v) = option_map_or (λ column. nat_lt column width) v.column true
+  reads_below width (property e key) = reads_below width e
+  reads_below width (has_labels e labels) = reads_below width e
+  reads_below width (unary operator e) = reads_below width e
+  reads_below width (binary operator a b) = reads_below width a && reads_below width b
+  reads_below width (comparison e links) = reads_below width e && links_read_below width links
+  reads_below width (list es) = all_read_below width es
+  reads_below width (case arms e) = arms_read_below width arms && else_reads_below width e
+  reads_below width (call name distinct es) = all_read_below width es
+  reads_below width (call_star name) = true
+
+  pub all_read_below : ℕ → Expressions → Bool
+  all_read_below width no_more = true
+  all_read_below width (more e es) = reads_below width e && all_read_below width es
+
+  pub links_read_below : ℕ → Links → Bool
+  links_read_below width no_links = true
+  links_read_below width (link comparator e links) = reads_below width e && links_read_below width links
+
+  pub arms_read_below : ℕ → Arms → Bool
+  arms_read_below width no_arms = true
+  arms_read_below width (arm condition outcome arms) = reads_below width condition && reads_below width outcome && arms_read_below width arms
+
+  pub else_reads_below : ℕ → Otherwise → Bool
+  else_reads_below width nothing = true
+  else_reads_below width (otherwise e) = reads_below width e

@@ -1,11 +1,12 @@
 //! Arithmetic. Null on either side gives null; an operand of a type that the operator doesn't take is `WrongType`, and an
 //! integer that 64 bits don't hold is `Overflow`.
 
-ghost use Rattle.std.specs.Prelude.{◌≡◌, ◌⊎◌, ◌++◌, ℤ, pos, unsigned_abs, Result, Err, SomeIff, FitsSigned, MatchResult};
+ghost use Rattle.std.specs.Prelude.{◌≡◌, ◌⊎◌, ◌++◌, ℤ, pos, unsigned_abs, Result, Err, SomeIff, FitsSigned, IsTrue, MatchResult};
 ghost use Rattle.std.specs.Int.{w64};
 ghost use Rattle.cy_values.specs.Compare.{lent};
 ghost use Rattle.cy_expr.specs.declared.faults.EvalFault.TheVariants.{NoMemory};
 ghost use Rattle.cy_expr.specs.Arithmetic as spec;
+ghost use Rattle.cy_expr.specs.internal.Joins.{joins};
 
 use crate::faults::EvalFault;
 use cy_values::{Duplicate, Scalar, Sequence, Text, Value, View};
@@ -14,7 +15,7 @@ use std::alloc::Global;
 /// `+`: the sum of two integers, or two texts or two lists joined, which alone take memory.
 /// (openCypher 9, Mathematical operators, String operators, List operators; the faults: own)
 pub(crate) fn add(alloc: Global, left: View<'_>, right: View<'_>) -> Result<Value, EvalFault>
-    ensures { (result ≡ spec.sum (lent left.entry) (lent right.entry)) ⊎ (result ≡ Err NoMemory) }
+    ensures { (result ≡ spec.sum (lent left.entry) (lent right.entry)) ⊎ ((result ≡ Err NoMemory) × IsTrue (joins (lent left.entry) (lent right.entry))) }
 {
     match (left, right) {
         (View::Int(left), View::Int(right)) => integer(left.checked_add(right)),

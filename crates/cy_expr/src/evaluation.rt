@@ -1,28 +1,31 @@
-//! The value of an expression on a row and a graph.
+//! The value of an expression on a row and a graph. What is done with operands that have values stands in modules of its own,
+//! so that only what goes from an expression to those within it is here.
 
-ghost use Rattle.std.specs.Prelude.{◌≡◌, ◌⊎◌, MatchResult, IfOk, IfSome, Ok, Err, All, map, option_map};
+ghost use Rattle.std.specs.Prelude.{◌≡◌, ◌⊎◌, MatchResult, Ok, Err, All, map, option_map};
+ghost use Rattle.cy_values.specs.Compare.{lent};
 ghost use Rattle.cy_trees.specs.Trees.{more, no_more};
 ghost use Rattle.cy_trees.specs.Views.{expression_of, expressions_from, links_from, link_of, arms_from, arm_of};
 ghost use Rattle.cy_expr.specs.declared.faults.EvalFault.TheVariants.{NoMemory};
 ghost use Rattle.cy_expr.specs.Choice.{coalesce};
+ghost use Rattle.cy_expr.specs.Faults.{on_one, on_two};
+ghost use Rattle.cy_expr.specs.Lists.{list_of, membership};
+ghost use Rattle.cy_expr.specs.Logic.{value_of};
 ghost use Rattle.cy_expr.specs.internal.Arms.{chosen};
-ghost use Rattle.cy_expr.specs.Faults.{on_one};
-ghost use Rattle.cy_expr.specs.Lent.{lent_cell, held_cell};
+ghost use Rattle.cy_expr.specs.internal.Lent.{lent_cell, held_cell, GivesOrWants};
 ghost use Rattle.cy_expr.specs.Lookups.{IsNumbered};
+ghost use Rattle.cy_expr.specs.Operators.{binary_value, value_in_cell};
 ghost use Rattle.cy_expr.specs.Evaluation as spec;
 
-use crate::comparison::is_null;
 use crate::faults::EvalFault;
-use crate::functions::apply;
-use crate::held::{Held, only_value};
-use crate::lists::list_of;
-use crate::logic::{truth_of, value_of};
-use crate::lookups::{Lookups, has_labels, has_property, property};
-use crate::operators::{binary, compare, unary, value_in};
+use crate::functions::call;
+use crate::held::Held;
+use crate::lists::{equals_also, list_of};
+use crate::logic::value_of;
+use crate::lookups::Lookups;
 use crate::views::{CellView, view_of};
 use cy_scope::Function;
-use cy_trees::{Arm, Expr, Link};
-use cy_values::{Cell, Truth, Value, View};
+use cy_trees::{Arm, BinaryOperator, Expr, Link};
+use cy_values::{Cell, Truth, View};
 use std::alloc::Global;
 
 /// The cell of an expression, on a row whose numbers are at most 2^40. Fails with the fault that the expression has, or
@@ -36,75 +39,49 @@ pub(crate) fn evaluate<'a, G: Lookups>(
     graph: &'a G,
 ) -> Result<Held<'a>, EvalFault>
     requires { All IsNumbered row.now }
-    ensures cell { MatchResult result (λ h. spec.cell_of (G.lookups graph.now) row.now (expression_of expression.now) ≡ Ok (held_cell h)) (λ fault. (spec.cell_of (G.lookups graph.now) row.now (expression_of expression.now) ≡ Err fault) ⊎ (fault ≡ NoMemory)) }
-    ensures numbered { IfOk result (λ h. IsNumbered (held_cell h)) }
+    ensures { GivesOrWants result (spec.cell_of (G.lookups graph.now) row.now (expression_of expression.now)) }
 {
     match expression {
-        Expr::Null => Ok(lent(View::Null)),
-        Expr::Boolean(truth) => Ok(lent(View::Bool(*truth))),
-        Expr::Integer(number) => Ok(lent(View::Int(*number))),
-        Expr::Text(text) => Ok(lent(View::Text(text.as_str()))),
+        Expr::Null => Ok(Held::lent(View::Null)),
+        Expr::Boolean(truth) => Ok(Held::lent(View::Bool(*truth))),
+        Expr::Integer(number) => Ok(Held::lent(View::Int(*number))),
+        Expr::Text(text) => Ok(Held::lent(View::Text(text.as_str()))),
         Expr::Variable(variable) => Ok(Held::Lent(column(variable.column, row))),
         Expr::Property(owner, key) => {
-            let owner = evaluate(alloc, owner, row, graph)?;
-            Ok(lent(property(graph, key.as_str(), owner.view())?))
+            evaluate(alloc, owner, row, graph)?.property(graph, key.as_str())
         }
         Expr::HasLabels(owner, labels) => {
-            let owner = evaluate(alloc, owner, row, graph)?;
-            Ok(Held::Made(has_labels(graph, labels, owner.view())?))
+            evaluate(alloc, owner, row, graph)?.has_labels(graph, labels)
         }
-        Expr::Unary(operator, operand) => {
-            let operand = evaluate(alloc, operand, row, graph)?;
-            Ok(Held::Made(unary(*operator, operand.view())?))
-        }
+        Expr::Unary(operator, operand) => evaluate(alloc, operand, row, graph)?.unary(*operator),
         Expr::Binary(operator, left, right) => {
             let left = evaluate(alloc, left, row, graph)?;
-            let first = value_in(left.view())?;
-            let right = evaluate(alloc, right, row, graph)?;
-            Ok(Held::Made(binary(alloc, *operator, first, value_in(right.view())?)?))
+            evaluate_binary(alloc, *operator, left, right, row, graph)
         }
         Expr::Comparison(first, links) => {
             let first = evaluate(alloc, first, row, graph)?;
-            let truth = evaluate_links(alloc, first, links, row, graph)?;
-            Ok(Held::Made(value_of(truth)))
+            evaluate_links(alloc, first, links, row, graph)
         }
-        Expr::List(elements) => {
-            let elements = evaluate_elements(alloc, elements, row, graph)?;
-            Ok(Held::Made(list_of(alloc, elements)?))
-        }
+        Expr::List(elements) => evaluate_list(alloc, elements, row, graph),
         Expr::Case(arms, otherwise) => {
             if let Some(outcome) = evaluate_arms(alloc, arms, row, graph)? {
                 return Ok(outcome);
             }
             match otherwise {
-                Some(otherwise) => only_value(evaluate(alloc, otherwise, row, graph)?),
-                None => Ok(lent(View::Null)),
+                Some(otherwise) => evaluate(alloc, otherwise, row, graph)?.only_value(),
+                None => Ok(Held::lent(View::Null)),
             }
         }
-        Expr::Call(name, _, arguments) => match Function::named(name.as_str()) {
-            Some(function) => match function {
-                Function::Coalesce => evaluate_first(alloc, arguments, row, graph),
-                Function::Exists => evaluate_existence(alloc, arguments, row, graph),
-                _ => evaluate_function(alloc, Some(function), arguments, row, graph),
-            },
-            None => evaluate_function(alloc, None, arguments, row, graph),
-        },
+        Expr::Call(name, _, arguments) => {
+            evaluate_call(alloc, Function::named(name.as_str()), arguments, row, graph)
+        }
         Expr::CallStar(_) => Err(EvalFault::WrongType),
     }
 }
 
-// A value that stands where it is.
-fn lent(view: View<'_>) -> Held<'_>
-    ensures { result ≡ Held.Lent (CellView.Value view.entry) }
-{
-    Held::Lent(CellView::Value(view))
-}
-
 // A column of the row; null for a variable that has none.
 fn column<'a>(column: Option<usize>, row: &'a [Cell]) -> CellView<'a>
-    requires { All IsNumbered row.now }
-    ensures cell { lent_cell result ≡ spec.column_value column row.now }
-    ensures numbered { IsNumbered (lent_cell result) }
+    ensures { lent_cell result ≡ spec.column_value column row.now }
 {
     match column {
         Some(column) if column < row.len() => view_of(&row[column]),
@@ -112,7 +89,49 @@ fn column<'a>(column: Option<usize>, row: &'a [Cell]) -> CellView<'a>
     }
 }
 
-/// The truth of a chain of comparisons behind its first operand.
+/// An operator behind its left operand. Of an `IN` with a list that is written out no list is made.
+#[cycle(evaluation)]
+fn evaluate_binary<'a, G: Lookups>(
+    alloc: Global,
+    operator: BinaryOperator,
+    left: Held<'a>,
+    right: &'a Expr,
+    row: &'a [Cell],
+    graph: &'a G,
+) -> Result<Held<'a>, EvalFault>
+    requires { All IsNumbered row.now }
+    ensures { GivesOrWants result (spec.as_cell (on_two (binary_value operator) (value_in_cell (held_cell left.entry)) (on_one value_in_cell (spec.cell_of (G.lookups graph.now) row.now (expression_of right.now))))) }
+{
+    let value = left.value()?;
+    match (operator, right) {
+        (BinaryOperator::In, Expr::List(elements)) => {
+            evaluate_membership(alloc, value, elements, row, graph)
+        }
+        _ => evaluate(alloc, right, row, graph)?.right_of(alloc, operator, value),
+    }
+}
+
+/// Whether a value equals an element of a list that is written out. All elements are evaluated, and no list is made.
+#[cycle(evaluation)]
+fn evaluate_membership<'a, G: Lookups>(
+    alloc: Global,
+    value: View<'_>,
+    elements: &'a [Expr],
+    row: &'a [Cell],
+    graph: &'a G,
+) -> Result<Held<'a>, EvalFault>
+    requires { All IsNumbered row.now }
+    ensures { GivesOrWants result (spec.as_cell (on_one (membership (lent value.entry)) (on_one list_of (spec.values_of (G.lookups graph.now) row.now (expressions_from (map expression_of elements.now)))))) }
+{
+    let mut any = Ok(Truth::No);
+    for element in elements {
+        let element = evaluate(alloc, element, row, graph)?;
+        any = equals_also(any, value, element.value()?);
+    }
+    Ok(Held::Made(value_of(any?)))
+}
+
+/// A chain of comparisons behind its first operand.
 #[cycle(evaluation)]
 #[tactic(auto, using(crate::proofs::Rules::chain_steps))]
 fn evaluate_links<'a, G: Lookups>(
@@ -121,38 +140,37 @@ fn evaluate_links<'a, G: Lookups>(
     links: &'a [Link],
     row: &'a [Cell],
     graph: &'a G,
-) -> Result<Truth, EvalFault>
+) -> Result<Held<'a>, EvalFault>
     requires { All IsNumbered row.now }
-    ensures { MatchResult result (λ t. spec.chain (G.lookups graph.now) row.now (held_cell first.entry) (links_from (map link_of links.now)) ≡ Ok t) (λ fault. (spec.chain (G.lookups graph.now) row.now (held_cell first.entry) (links_from (map link_of links.now)) ≡ Err fault) ⊎ (fault ≡ NoMemory)) }
+    ensures { GivesOrWants result (spec.as_cell (on_one (λ a. Ok (value_of a)) (spec.chain (G.lookups graph.now) row.now (held_cell first.entry) (links_from (map link_of links.now))))) }
 {
     let mut left = first;
     let mut all = Truth::Yes;
     for link in links {
         let right = evaluate(alloc, &link.operand, row, graph)?;
-        all = all.and(compare(link.comparator, left.view(), right.view())?);
+        all = all.and(left.compare(link.comparator, &right)?);
         left = right;
     }
-    Ok(all)
+    Ok(Held::Made(value_of(all)))
 }
 
-/// The values of a list's elements, all of them.
+/// The list of its elements' values.
 #[cycle(evaluation)]
-fn evaluate_elements<'a, G: Lookups>(
+fn evaluate_list<'a, G: Lookups>(
     alloc: Global,
     elements: &'a [Expr],
     row: &'a [Cell],
     graph: &'a G,
-) -> Result<Vec<Value>, EvalFault>
+) -> Result<Held<'a>, EvalFault>
     requires { All IsNumbered row.now }
-    ensures { let all = spec.values_of (G.lookups graph.now) row.now (expressions_from (map expression_of elements.now)) in MatchResult result (λ values. all ≡ Ok values.items) (λ fault. (all ≡ Err fault) ⊎ (fault ≡ NoMemory)) }
+    ensures { GivesOrWants result (spec.as_cell (on_one list_of (spec.values_of (G.lookups graph.now) row.now (expressions_from (map expression_of elements.now))))) }
 {
     let mut values = Vec::with_capacity(alloc, elements.len())?;
     for element in elements {
-        let cell = evaluate(alloc, element, row, graph)?;
-        let value = cell.into_value(alloc)?;
+        let value = evaluate(alloc, element, row, graph)?.into_value(alloc)?;
         values.push(value)?;
     }
-    Ok(values)
+    Ok(Held::Made(list_of(alloc, values)?))
 }
 
 /// The result of the first condition that is true, if one is; what stands behind it isn't evaluated.
@@ -164,17 +182,37 @@ fn evaluate_arms<'a, G: Lookups>(
     graph: &'a G,
 ) -> Result<Option<Held<'a>>, EvalFault>
     requires { All IsNumbered row.now }
-    ensures cell { let given = chosen (spec.outcomes_of_arms (G.lookups graph.now) row.now (arms_from (map arm_of arms.now))) in MatchResult result (λ found. given ≡ Ok (option_map held_cell found)) (λ fault. (given ≡ Err fault) ⊎ (fault ≡ NoMemory)) }
-    ensures numbered { IfOk result (λ found. IfSome found (λ h. IsNumbered (held_cell h))) }
+    ensures { let given = chosen (spec.outcomes_of_arms (G.lookups graph.now) row.now (arms_from (map arm_of arms.now))) in MatchResult result (λ found. given ≡ Ok (option_map held_cell found)) (λ fault. (given ≡ Err fault) ⊎ (fault ≡ NoMemory)) }
 {
     for arm in arms {
-        let condition = evaluate(alloc, &arm.condition, row, graph)?;
-        if truth_of(value_in(condition.view())?)? == Truth::Yes {
+        if evaluate(alloc, &arm.condition, row, graph)?.holds()? {
             let outcome = evaluate(alloc, &arm.outcome, row, graph)?;
-            return Ok(Some(only_value(outcome)?));
+            return Ok(Some(outcome.only_value()?));
         }
     }
     Ok(None)
+}
+
+/// A call of the function that a name stands for, if it is one's.
+#[cycle(evaluation)]
+fn evaluate_call<'a, G: Lookups>(
+    alloc: Global,
+    function: Option<Function>,
+    arguments: &'a [Expr],
+    row: &'a [Cell],
+    graph: &'a G,
+) -> Result<Held<'a>, EvalFault>
+    requires { All IsNumbered row.now }
+    ensures { let lookups = G.lookups graph.now in let es = expressions_from (map expression_of arguments.now) in GivesOrWants result (spec.as_cell (spec.call_value lookups function (spec.cells_of lookups row.now es) (spec.outcomes_of lookups row.now es) (spec.property_exists lookups row.now es))) }
+{
+    match function {
+        Some(function) => match function {
+            Function::Coalesce => evaluate_first(alloc, arguments, row, graph),
+            Function::Exists => evaluate_existence(alloc, arguments, row, graph),
+            _ => evaluate_function(alloc, Some(function), arguments, row, graph),
+        },
+        None => evaluate_function(alloc, None, arguments, row, graph),
+    }
 }
 
 /// The first of the values that isn't null, else null; what stands behind it isn't evaluated.
@@ -186,16 +224,15 @@ fn evaluate_first<'a, G: Lookups>(
     graph: &'a G,
 ) -> Result<Held<'a>, EvalFault>
     requires { All IsNumbered row.now }
-    ensures cell { let first = coalesce (spec.outcomes_of (G.lookups graph.now) row.now (expressions_from (map expression_of arguments.now))) in MatchResult result (λ h. spec.as_cell first ≡ Ok (held_cell h)) (λ fault. (first ≡ Err fault) ⊎ (fault ≡ NoMemory)) }
-    ensures numbered { IfOk result (λ h. IsNumbered (held_cell h)) }
+    ensures { GivesOrWants result (spec.as_cell (coalesce (spec.outcomes_of (G.lookups graph.now) row.now (expressions_from (map expression_of arguments.now))))) }
 {
     for argument in arguments {
-        let argument = only_value(evaluate(alloc, argument, row, graph)?)?;
-        if !is_null(argument.view()) {
+        let argument = evaluate(alloc, argument, row, graph)?.only_value()?;
+        if !argument.is_null() {
             return Ok(argument);
         }
     }
-    Ok(lent(View::Null))
+    Ok(Held::lent(View::Null))
 }
 
 /// Whether the property that is asked for is there. `WrongType` for other arguments.
@@ -208,8 +245,7 @@ fn evaluate_existence<'a, G: Lookups>(
     graph: &'a G,
 ) -> Result<Held<'a>, EvalFault>
     requires { All IsNumbered row.now }
-    ensures cell { let there = spec.property_exists (G.lookups graph.now) row.now (expressions_from (map expression_of arguments.now)) in MatchResult result (λ h. spec.as_cell there ≡ Ok (held_cell h)) (λ fault. (there ≡ Err fault) ⊎ (fault ≡ NoMemory)) }
-    ensures numbered { IfOk result (λ h. IsNumbered (held_cell h)) }
+    ensures { GivesOrWants result (spec.as_cell (spec.property_exists (G.lookups graph.now) row.now (expressions_from (map expression_of arguments.now)))) }
 {
     if arguments.len() != 1 {
         return Err(EvalFault::WrongType);
@@ -227,13 +263,11 @@ fn evaluate_presence<'a, G: Lookups>(
     graph: &'a G,
 ) -> Result<Held<'a>, EvalFault>
     requires { All IsNumbered row.now }
-    ensures cell { let there = spec.property_exists (G.lookups graph.now) row.now (more (expression_of argument.now) no_more) in MatchResult result (λ h. spec.as_cell there ≡ Ok (held_cell h)) (λ fault. (there ≡ Err fault) ⊎ (fault ≡ NoMemory)) }
-    ensures numbered { IfOk result (λ h. IsNumbered (held_cell h)) }
+    ensures { GivesOrWants result (spec.as_cell (spec.property_exists (G.lookups graph.now) row.now (more (expression_of argument.now) no_more))) }
 {
     match argument {
         Expr::Property(owner, key) => {
-            let owner = evaluate(alloc, owner, row, graph)?;
-            Ok(Held::Made(has_property(graph, key.as_str(), owner.view())?))
+            evaluate(alloc, owner, row, graph)?.has_property(graph, key.as_str())
         }
         _ => Err(EvalFault::WrongType),
     }
@@ -251,8 +285,7 @@ fn evaluate_function<'a, G: Lookups>(
     graph: &'a G,
 ) -> Result<Held<'a>, EvalFault>
     requires { All IsNumbered row.now }
-    ensures cell { let given = on_one (spec.called (G.lookups graph.now) function) (spec.cells_of (G.lookups graph.now) row.now (expressions_from (map expression_of arguments.now))) in MatchResult result (λ h. spec.as_cell given ≡ Ok (held_cell h)) (λ fault. (given ≡ Err fault) ⊎ (fault ≡ NoMemory)) }
-    ensures numbered { IfOk result (λ h. IsNumbered (held_cell h)) }
+    ensures { GivesOrWants result (spec.as_cell (on_one (spec.called (G.lookups graph.now) function) (spec.cells_of (G.lookups graph.now) row.now (expressions_from (map expression_of arguments.now))))) }
 {
     if arguments.len() != 1 {
         for argument in arguments {
@@ -261,8 +294,5 @@ fn evaluate_function<'a, G: Lookups>(
         return Err(EvalFault::WrongType);
     }
     let argument = evaluate(alloc, &arguments[0], row, graph)?;
-    match function {
-        Some(function) => apply(alloc, function, argument.view(), graph),
-        None => Err(EvalFault::WrongType),
-    }
+    call(alloc, function, argument, graph)
 }

@@ -1,8 +1,7 @@
 //! The functions of one argument.
 
-ghost use Rattle.std.specs.Prelude.{◌≡◌, ◌⊎◌, MatchResult, IfOk, Ok, Err};
-ghost use Rattle.cy_expr.specs.declared.faults.EvalFault.TheVariants.{NoMemory};
-ghost use Rattle.cy_expr.specs.Lent.{lent_cell, held_cell};
+ghost use Rattle.std.specs.Prelude.{[], ◌∷◌};
+ghost use Rattle.cy_expr.specs.internal.Lent.{lent_cell, held_cell, GivesOrWants};
 ghost use Rattle.cy_expr.specs.Lookups.{IsNumbered};
 ghost use Rattle.cy_expr.specs.Evaluation as spec;
 
@@ -17,20 +16,35 @@ use crate::views::CellView;
 use cy_scope::Function;
 use std::alloc::Global;
 
-/// What a function gives for its argument. `WrongType` for an aggregate, and for those whose arguments have rules of their own.
-pub(crate) fn apply<'a, G: Lookups>(
+/// What a function gives for its argument. `WrongType` for a name that is no function's.
+pub(crate) fn call<'a, G: Lookups>(
+    alloc: Global,
+    function: Option<Function>,
+    argument: Held<'_>,
+    graph: &'a G,
+) -> Result<Held<'a>, EvalFault>
+    requires { IsNumbered (held_cell argument) }
+    ensures { GivesOrWants result (spec.as_cell (spec.called (G.lookups graph.now) function (held_cell argument.entry ∷ []))) }
+{
+    match function {
+        Some(function) => apply(alloc, function, argument.view(), graph),
+        None => Err(EvalFault::WrongType),
+    }
+}
+
+// What a function gives for a cell. `WrongType` for an aggregate, and for those whose arguments have rules of their own.
+fn apply<'a, G: Lookups>(
     alloc: Global,
     function: Function,
     argument: CellView<'_>,
     graph: &'a G,
 ) -> Result<Held<'a>, EvalFault>
     requires { IsNumbered (lent_cell argument) }
-    ensures cell { MatchResult result (λ h. spec.as_cell (spec.function_value (G.lookups graph.now) function (lent_cell argument.entry)) ≡ Ok (held_cell h)) (λ fault. (spec.function_value (G.lookups graph.now) function (lent_cell argument.entry) ≡ Err fault) ⊎ (fault ≡ NoMemory)) }
-    ensures numbered { IfOk result (λ h. IsNumbered (held_cell h)) }
+    ensures { GivesOrWants result (spec.as_cell (spec.function_value (G.lookups graph.now) function (lent_cell argument.entry))) }
 {
     match function {
         Function::Id => Ok(Held::Made(number_in(argument)?)),
-        Function::Type => Ok(Held::Lent(CellView::Value(type_in(graph, argument)?))),
+        Function::Type => Ok(Held::lent(type_in(graph, argument)?)),
         Function::Labels => Ok(Held::Made(labels_in(alloc, graph, argument)?)),
         Function::Size => Ok(Held::Made(size(argument)?)),
         Function::Abs => Ok(Held::Made(absolute(value_in(argument)?)?)),

@@ -1,15 +1,15 @@
 //! What an expression gives: something that stands where it is, or a value that was made.
 
 ghost use Rattle.std.specs.Prelude.{◌≡◌, ◌⊎◌, MatchResult, Result, Ok, Err};
+ghost use Rattle.cy_values.specs.Compare.{lent};
 ghost use Rattle.cy_expr.specs.declared.faults.EvalFault.TheVariants.{NoMemory};
-ghost use Rattle.cy_expr.specs.Evaluation.{as_cell};
-ghost use Rattle.cy_expr.specs.Lent.{lent_cell, held_cell};
+ghost use Rattle.cy_expr.specs.internal.Lent.{lent_cell, held_cell};
 ghost use Rattle.cy_expr.specs.Operators as spec;
 
 use crate::faults::EvalFault;
 use crate::operators::value_in;
 use crate::views::{CellView, copy, copy_items};
-use cy_values::{Cell, Value};
+use cy_values::{Cell, Value, View};
 use std::alloc::Global;
 
 /// A cell, lent or made.
@@ -19,7 +19,14 @@ pub(crate) enum Held<'a> {
     Made(Value),
 }
 
-impl Held<'_> {
+impl<'a> Held<'a> {
+    /// A value that stands where it is.
+    pub(crate) fn lent(value: View<'a>) -> Held<'a>
+        ensures { result ≡ Held.Lent (CellView.Value value.entry) }
+    {
+        Held::Lent(CellView::Value(value))
+    }
+
     /// The cell, lent.
     pub(crate) fn view(&self) -> CellView<'_>
         ensures { lent_cell result ≡ held_cell self.now }
@@ -28,6 +35,13 @@ impl Held<'_> {
             Held::Lent(cell) => *cell,
             Held::Made(value) => CellView::Value(value.view()),
         }
+    }
+
+    /// The value in the cell, lent. `WrongType` for what is no value.
+    pub(crate) fn value(&self) -> Result<View<'_>, EvalFault>
+        ensures { MatchResult result (λ v. spec.value_in_cell (held_cell self.now) ≡ Ok (lent v)) (λ fault. spec.value_in_cell (held_cell self.now) ≡ Err fault) }
+    {
+        value_in(self.view())
     }
 
     /// The value in the cell, which is copied where it is lent. `WrongType` for what is no value.
@@ -52,12 +66,4 @@ impl Held<'_> {
             Held::Made(value) => Ok(Cell::Value(value)),
         }
     }
-}
-
-/// A cell that is a value, as it is. `WrongType` for one that is none.
-pub(crate) fn only_value(cell: Held<'_>) -> Result<Held<'_>, EvalFault>
-    ensures { MatchResult result (λ h. (h ≡ cell.entry) × (as_cell (spec.value_in_cell (held_cell cell.entry)) ≡ Ok (held_cell h))) (λ fault. spec.value_in_cell (held_cell cell.entry) ≡ Err fault) }
-{
-    value_in(cell.view())?;
-    Ok(cell)
 }

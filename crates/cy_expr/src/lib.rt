@@ -14,14 +14,13 @@ pub mod laws;
 mod lists;
 mod logic;
 mod lookups;
+mod operands;
 mod operators;
-#[cfg(test)]
-mod postfix;
 mod predicates;
-#[cfg(test)]
-mod tests;
+mod stores;
 mod views;
 
-pub use cells::{eval, eval_sure};
+pub use cells::{eval, eval_sure, eval_truth, eval_value};
 pub use faults::EvalFault;
+pub use lists::list_of;
 pub use lookups::Lookups;

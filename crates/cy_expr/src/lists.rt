@@ -3,8 +3,9 @@
 ghost use Rattle.std.specs.Prelude.{◌≡◌, ◌⊎◌, Result, Err};
 ghost use Rattle.cy_expr.specs.declared.faults.EvalFault.TheVariants.{NoMemory};
 ghost use Rattle.cy_values.specs.Compare.{lent};
-ghost use Rattle.cy_expr.specs.Lent.{lent_cell};
+ghost use Rattle.cy_expr.specs.internal.Lent.{lent_cell};
 ghost use Rattle.cy_expr.specs.Lists as spec;
+ghost use Rattle.cy_expr.specs.internal.Membership.{equals_also};
 
 use crate::faults::EvalFault;
 use crate::logic::value_of;
@@ -14,7 +15,7 @@ use std::alloc::Global;
 
 /// `[..]`: the list of the values, which it takes over. `NestedList` where one of them is a list.
 /// (openCypher 9, Lists; the fault: own)
-pub(crate) fn list_of(alloc: Global, values: Vec<Value>) -> Result<Value, EvalFault>
+pub fn list_of(alloc: Global, values: Vec<Value>) -> Result<Value, EvalFault>
     ensures { (result ≡ spec.list_of values.items) ⊎ (result ≡ Err NoMemory) }
 {
     let mut elements = Vec::with_capacity(alloc, values.len())?;
@@ -34,6 +35,25 @@ fn element(value: Value) -> Result<Scalar, EvalFault>
         Value::Int(number) => Ok(Scalar::Int(number)),
         Value::Null => Ok(Scalar::Null),
         Value::List(_) => Err(EvalFault::NestedList),
+    }
+}
+
+/// Whether a value equals one of the elements so far, or this one too; `NestedList` once one of them is a list.
+pub(crate) fn equals_also(
+    any: Result<Truth, EvalFault>,
+    value: View<'_>,
+    element: View<'_>,
+) -> Result<Truth, EvalFault>
+    ensures { result ≡ equals_also any (lent value.entry) (lent element.entry) }
+{
+    match element {
+        View::List(_) => {
+            any?;
+            Err(EvalFault::NestedList)
+        }
+        View::Text(_) | View::Bool(_) | View::Int(_) | View::Null => {
+            Ok(any?.or(value.equal(element)))
+        }
     }
 }
 

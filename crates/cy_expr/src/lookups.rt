@@ -1,6 +1,6 @@
 //! What an expression reads of a graph, and what is read for the entity in a cell.
 
-ghost use Rattle.std.specs.Prelude.{◌≡◌, ◌⊎◌, Option, option_map, MatchResult, IfOk, Result, Ok, Err, map};
+ghost use Rattle.std.specs.Prelude.{◌≡◌, ◌⊎◌, Option, option_map, MatchResult, IfOk, IsTrue, Result, Ok, Err, map};
 ghost use Rattle.std.specs.List.{list_any, list_all};
 ghost use Rattle.std.specs.Str.{bytes_eq};
 ghost use Rattle.cy_values.specs.declared.numbers.Entity.{Entity};
@@ -8,7 +8,7 @@ ghost use Rattle.cy_values.specs.declared.scalars.Scalar.TheVariants as scalar;
 ghost use Rattle.cy_values.specs.declared.scalars.Value.{Value};
 ghost use Rattle.cy_values.specs.Compare.{lent};
 ghost use Rattle.cy_expr.specs.declared.faults.EvalFault.TheVariants.{NoMemory};
-ghost use Rattle.cy_expr.specs.Lent.{lent_cell};
+ghost use Rattle.cy_expr.specs.internal.Lent.{lent_cell};
 ghost use Rattle.cy_expr.specs.Lookups as spec;
 ghost use Rattle.cy_expr.specs.internal.Empty.{empty};
 
@@ -29,9 +29,10 @@ pub trait Lookups {
     fn has_label(&self, node: NodeId, label: &str) -> bool
         ensures { result ≡ list_any (bytes_eq label.now) ((lookups self.now).labels_of node) };
 
-    /// The labels of a node by rising bytes, as the elements of a list. Fails only for want of memory.
+    /// The labels of a node by rising bytes, each once, as the elements of a list. Fails only for want of memory.
     fn labels(&self, alloc: Global, node: NodeId) -> Result<Vec<Scalar>, Fault>
-        ensures { IfOk result (λ labels. labels.items ≡ map (λ l. scalar.Text l) ((lookups self.now).labels_of node)) };
+        ensures rising { IsTrue (spec.rises ((lookups self.now).labels_of node)) }
+        ensures all { IfOk result (λ labels. labels.items ≡ map (λ l. scalar.Text l) ((lookups self.now).labels_of node)) };
 
     /// The type of a relationship.
     fn type_of(&self, rel: RelId) -> &str

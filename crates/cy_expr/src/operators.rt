@@ -1,10 +1,11 @@
 //! What each operator gives for operands that have values. (openCypher 9, Operators)
 
-ghost use Rattle.std.specs.Prelude.{◌≡◌, ◌⊎◌, Result, Err, MatchResult, Ok};
+ghost use Rattle.std.specs.Prelude.{◌≡◌, ◌⊎◌, Result, Err, MatchResult, Ok, IsTrue};
 ghost use Rattle.cy_values.specs.Compare.{lent};
-ghost use Rattle.cy_expr.specs.Lent.{lent_cell};
+ghost use Rattle.cy_expr.specs.internal.Lent.{lent_cell};
 ghost use Rattle.cy_expr.specs.declared.faults.EvalFault.TheVariants.{NoMemory};
 ghost use Rattle.cy_expr.specs.Operators as spec;
+ghost use Rattle.cy_expr.specs.internal.Joins.{makes};
 
 use crate::arithmetic::{add, divide, multiply, negate, plus, remainder, subtract};
 use crate::comparison::{equal, is_null, less_or_equal, unequal};
@@ -17,14 +18,14 @@ use cy_trees::{BinaryOperator, Comparator, UnaryOperator};
 use cy_values::{Truth, Value, View};
 use std::alloc::Global;
 
-/// An operator with two values. Only `+` takes memory.
+/// An operator with two values. Only `+` of two texts or two lists takes memory.
 pub(crate) fn binary(
     alloc: Global,
     operator: BinaryOperator,
     left: View<'_>,
     right: View<'_>,
 ) -> Result<Value, EvalFault>
-    ensures { (result ≡ spec.binary_value operator (lent left.entry) (lent right.entry)) ⊎ (result ≡ Err NoMemory) }
+    ensures { (result ≡ spec.binary_value operator (lent left.entry) (lent right.entry)) ⊎ ((result ≡ Err NoMemory) × IsTrue (makes operator (lent left.entry) (lent right.entry))) }
 {
     match operator {
         BinaryOperator::Or => or(left, right),

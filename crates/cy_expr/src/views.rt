@@ -3,7 +3,7 @@
 ghost use Rattle.std.specs.Prelude.{◌≡◌, ◌⊎◌, MatchResult, Ok, Err};
 ghost use Rattle.cy_values.specs.Compare.{lent};
 ghost use Rattle.cy_expr.specs.declared.faults.EvalFault.TheVariants.{NoMemory};
-ghost use Rattle.cy_expr.specs.Lent.{lent_cell};
+ghost use Rattle.cy_expr.specs.internal.Lent.{lent_cell};
 
 use crate::faults::EvalFault;
 use cy_values::{Cell, Duplicate, NodeId, RelId, Scalar, Sequence, Text, Value, View};

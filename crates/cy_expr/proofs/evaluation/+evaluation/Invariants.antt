@@ -2,7 +2,11 @@ use Rattle.std.proofs.Common.{◌≡◌, drop, map}
 use Rattle.cy_trees.specs.Views.{expressions_from, expression_of, links_from, link_of, arms_from, arm_of}
 use Rattle.cy_expr.specs.Choice.{coalesce}
 use Rattle.cy_expr.specs.internal.Arms.{chosen}
-use Rattle.cy_expr.specs.Lent.{held_cell}
+use Rattle.cy_expr.specs.internal.Membership.{membership_from}
+use Rattle.cy_values.specs.Compare.{lent}
+use Rattle.cy_expr.specs.Faults.{on_one}
+use Rattle.cy_expr.specs.Lists.{list_of, membership}
+use Rattle.cy_expr.specs.internal.Lent.{held_cell}
 use Rattle.cy_expr.specs.Evaluation as spec
 use Rattle.cy_expr.proofs.Rules.{and_then, behind_values, counted, count_from}
 use Rattle.cy_expr.proofs.evaluation.+evaluation.Given as goal
@@ -14,10 +18,16 @@ invariant-evaluate_links-loop-link g l =
     ≡ spec.chain (g.G.Lookups.lookups l.graph) l.row (held_cell l.fn.first) (links_from (map link_of l.links))
 
 -- the values so far, and the elements that are left
-abbrev pub invariant-evaluate_elements-loop-element : goal.invariant-evaluate_elements-loop-element
-invariant-evaluate_elements-loop-element g l =
+abbrev pub invariant-evaluate_list-loop-element : goal.invariant-evaluate_list-loop-element
+invariant-evaluate_list-loop-element g l =
     behind_values l.values.items (spec.values_of (g.G.Lookups.lookups l.graph) l.row (expressions_from (map expression_of (drop l.element-index l.elements))))
     ≡ spec.values_of (g.G.Lookups.lookups l.graph) l.row (expressions_from (map expression_of l.elements))
+
+-- what is known of the elements that were compared, and those that are left
+abbrev pub invariant-evaluate_membership-loop-element : goal.invariant-evaluate_membership-loop-element
+invariant-evaluate_membership-loop-element g l =
+    membership_from l.any (lent l.value) (spec.values_of (g.G.Lookups.lookups l.graph) l.row (expressions_from (map expression_of (drop l.element-index l.elements))))
+    ≡ on_one (membership (lent l.value)) (on_one list_of (spec.values_of (g.G.Lookups.lookups l.graph) l.row (expressions_from (map expression_of l.elements))))
 
 -- the arms that are left decide
 abbrev pub invariant-evaluate_arms-loop-arm : goal.invariant-evaluate_arms-loop-arm

@@ -11,7 +11,7 @@ use Rattle.cy_values.specs.declared.scalars.Value.{Value}
 use Rattle.cy_graph.specs.declared.nodes.Node.{Node}
 use Rattle.cy_graph.specs.Graph.{State, node_order, set_at, replaced, with_nodes}
 use Rattle.cy_engine.specs.declared.forms.SetProperty.{SetProperty}
-use Rattle.cy_engine.specs.internal.Each.{set_each, CanSet, without_each, CanRemove}
+use Rattle.cy_engine.specs.internal.Each.{set_each, CanSet}
 use Rattle.cy_engine.specs.Meaning.{has_label, set_at_label, unless_null}
 
 -- these numbers are above one
@@ -56,18 +56,12 @@ above_numbers label low (e ∷ es) below =
 abbrev pub removed_at : NodeId → List (NodeId × Node) → List (NodeId × Node)
 removed_at id es = entries.where_key node_order (λ k. not (eq_by_cmp node_order id k)) es
 
-remove_behind : (id : NodeId) (e : NodeId × Node) (es : List (NodeId × Node)) → e.0.0 < id.0 → removed_at id (e ∷ es) ≡ e ∷ removed_at id es
-remove_behind id e es lt = ap (λ b. cond (not b) (e ∷ removed_at id es) (removed_at id es)) (above_other e.0 id lt)
-
 pub nothing_removed : (id : NodeId) (es : List (NodeId × Node)) → IsBelow id es → removed_at id es ≡ es
 nothing_removed id [] below = refl
 nothing_removed id (e ∷ es) below =
     let parts = and_parts _ _ below in
     let other : eq_by_cmp node_order id e.0 ≡ false = grind (arith, nat_tests) in
     ap (λ b. cond (not b) (e ∷ removed_at id es) (removed_at id es)) other ∙ ap (λ (fs : List (NodeId × Node)). e ∷ fs) (nothing_removed id es parts.1)
-
-pub remove_first : (e : NodeId × Node) (es : List (NodeId × Node)) → IsBelow e.0 es → removed_at e.0 (e ∷ es) ≡ es
-remove_first e es below = ap (λ b. cond (not b) (e ∷ removed_at e.0 es) (removed_at e.0 es)) (itself e.0) ∙ nothing_removed e.0 es below
 
 found_behind : (id : NodeId) (e : NodeId × Node) (es : List (NodeId × Node)) → e.0.0 < id.0 → entries.find node_order id (e ∷ es) ≡ entries.find node_order id es
 found_behind id e es lt = ap (λ b. cond b (Some e.1) (entries.find node_order id es)) (above_other e.0 id lt)
@@ -78,45 +72,6 @@ found_first e es = ap (λ b. cond b (Some e.1) (entries.find node_order e.0 es))
 module _ (graph : State) where
   abbrev with : List (NodeId × Node) → State
   with nodes = with_nodes nodes graph
-
-  -- ---- removal
-
-  can_remove_behind : (ids : List NodeId) (e : NodeId × Node) (es : List (NodeId × Node)) → AreAbove e.0 ids → CanRemove ids (with es) → CanRemove ids (with (e ∷ es))
-  can_remove_behind [] e es above can = tt
-  can_remove_behind (id ∷ ids) e es above can = (
-    subst (λ (o : Option Node). IsSome o) (sym (found_behind id e es above.0)) can.0,
-    subst (λ (fs : List (NodeId × Node)). CanRemove ids (with fs)) (sym (remove_behind id e es above.0)) (can_remove_behind ids e (removed_at id es) above.1 can.1),
-  )
-
-  removed_behind : (ids : List NodeId) (e : NodeId × Node) (es : List (NodeId × Node)) → AreAbove e.0 ids → without_each ids (with (e ∷ es)) ≡ with (e ∷ (without_each ids (with es)).content.nodes)
-  removed_behind [] e es above = refl
-  removed_behind (id ∷ ids) e es above =
-      ap (λ (fs : List (NodeId × Node)). without_each ids (with fs)) (remove_behind id e es above.0) ∙ removed_behind ids e (removed_at id es) above.1
-
-  abbrev WithoutLabelled : List ℕ → List NodeId → List (NodeId × Node) → List (NodeId × Node) → Type 0
-  WithoutLabelled label ids es left = CanRemove ids (with es) × (without_each ids (with es) ≡ with left)
-
-  pub without_labelled : (label : List ℕ) (es : List (NodeId × Node)) → IsTrue (entries.is_sorted node_order es)
-      → WithoutLabelled label (numbers label es) es (filter (λ (e : NodeId × Node). not (has_label label e)) es)
-  without_labelled label [] sorted = (tt, refl)
-  without_labelled label (e ∷ es) sorted =
-      let parts = and_parts _ _ sorted in
-      let rest = without_labelled label es parts.1 in
-      let above = above_numbers label e.0 es parts.0 in
-      elim (has_label label e) as (λ b. WithoutLabelled label (map (λ (f : NodeId × Node). f.0) (cond b (e ∷ filter (has_label label) es) (filter (has_label label) es))) (e ∷ es)
-      (cond (not b) (e ∷ filter (λ (f : NodeId × Node). not (has_label label f)) es) (filter (λ (f : NodeId × Node). not (has_label label f)) es))) [
-        | true ↦ (
-          (
-            subst (λ (o : Option Node). IsSome o) (sym (found_first e es)) refl,
-            subst (λ (fs : List (NodeId × Node)). CanRemove (numbers label es) (with fs)) (sym (remove_first e es parts.0)) rest.0,
-          ),
-          ap (λ (fs : List (NodeId × Node)). without_each (numbers label es) (with fs)) (remove_first e es parts.0) ∙ rest.1,
-        )
-        | false ↦ (
-          can_remove_behind (numbers label es) e es above rest.0,
-          removed_behind (numbers label es) e es above ∙ ap (λ (g : State). with (e ∷ g.content.nodes)) rest.1,
-        )
-      ]
 
   -- ---- setting
 

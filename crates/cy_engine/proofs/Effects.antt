@@ -1,17 +1,18 @@
 -- What a step does to the views and the graph.
-use Rattle.std.proofs.Common.{◌≡◌, ◌⊎◌, ℕ, Bool, true, false, nat_lt, length, List, [], ◌∷◌, ◌++◌, Option, None, Some, Result, Ok, Err, refl, sym, ap, subst, ◌∙◌, inl, inr}
+use Rattle.std.proofs.Common.{◌≡◌, ◌⊎◌, ℕ, Bool, true, false, nat_lt, length, List, [], Option, None, Some, Result, Ok, Err, refl, sym, ap, subst, ◌∙◌, inl, inr}
 use Rattle.cy_lexer.specs.declared.faults.LexFault.{LexFault}
 use Rattle.cy_lexer.specs.declared.tokens.Token.{Token}
 use Rattle.cy_lexer.specs.Tokens.{tokens_of}
 use Rattle.cy_trees.specs.Trees.{Statement}
-use Rattle.cy_graph.specs.Graph.{Content}
 use Rattle.cy_engine.specs.declared.faults.Fault.{Fault}
 use Rattle.cy_engine.specs.declared.faults.Fault.TheVariants as fault
 use Rattle.cy_engine.specs.declared.forms.Query.{Query}
-use Rattle.cy_engine.specs.Requests.{Request, Nothing, StatementOf, ViewOf, RowsOf, Refused, request, first_offset}
+use Rattle.cy_index.specs.declared.keys.Pair.{Pair}
+use Rattle.cy_engine.specs.Meaning.{◌>>=◌}
+use Rattle.cy_engine.specs.Requests.{Request, Nothing, StatementOf, ViewOf, RowsOf, IndexOf, Refused, request, first_offset}
 use Rattle.cy_engine.specs.State.{EngineState, Entries, View, view_at, view_limit}
-use Rattle.cy_engine.specs.Step.{Answer, AreEntries, IsCarried, IsMade, Carries, Makes, Shows, Answers, Lexed, Step}
-use Rattle.cy_engine.specs.Verdicts.{◌>>=◌, unless, needs, next_tick, Carried, statement_verdict, query_verdict, make_verdict, view_verdict, rows_verdict}
+use Rattle.cy_engine.specs.Step.{Answer, AreEntries, IsCarried, IsMade, IsIndexed, Carries, Makes, Indexes, Shows, Answers, Lexed, Step}
+use Rattle.cy_engine.specs.Verdicts.{unless, needs, next_tick, Carried, statement_verdict, query_verdict, make_verdict, view_verdict, rows_verdict, index_verdict}
 use Rattle.cy_engine.proofs.Chains.{nothing_changed}
 
 bind_ok : {A B : Type 0} (r : Result A Fault) (f : A → Result B Fault) (y : B) → (r >>= f) ≡ Ok y → (x : A) × (r ≡ Ok x) × (f x ≡ Ok y)
@@ -61,18 +62,23 @@ module _ (old : EngineState) (answer : Answer) (entries : Entries) (new : Engine
       ((new ≡ old) × (entries ≡ []))
       ⊎ ((carried : Carried) × IsCarried carried old answer entries new)
       ⊎ ((view : View) × (view_at view.name old ≡ None) × IsMade view old answer entries new)
+      ⊎ ((pair : Pair) × IsIndexed pair old answer entries new)
 
   carries_effects : (v : Result Carried Fault) → Carries v old answer entries new → Effects
   carries_effects (Ok carried) a = inr (inl (carried, a))
   carries_effects (Err why) a = inl (a.left, a.no_entries)
 
   makes_effects : (v : Result View Fault) → ((view : View) → v ≡ Ok view → view_at view.name old ≡ None) → Makes v old answer entries new → Effects
-  makes_effects (Ok view) free a = inr (inr (view, free view refl, a))
+  makes_effects (Ok view) free a = inr (inr (inl (view, free view refl, a)))
   makes_effects (Err why) free a = inl (a.left, a.no_entries)
 
   shows_effects : (name : List ℕ) (v : Result View Fault) → Shows name v old answer entries new → Effects
   shows_effects name (Ok view) (rows, are, a) = inl (a.left, a.no_entries)
   shows_effects name (Err why) a = inl (a.left, a.no_entries)
+
+  indexes_effects : (v : Result Pair Fault) → Indexes v old answer entries new → Effects
+  indexes_effects (Ok pair) a = inr (inr (inr (pair, a)))
+  indexes_effects (Err why) a = inl (a.left, a.no_entries)
 
   answers_effects : (line : List ℕ) (asked : Request) → Answers line asked old answer entries new → Effects
   answers_effects line Nothing a = inl (a.left, a.no_entries)
@@ -82,6 +88,7 @@ module _ (old : EngineState) (answer : Answer) (entries : Entries) (new : Engine
       makes_effects (view_verdict tree name (first_offset line tokens) old) (view_new tree name (first_offset line tokens) old) a
   answers_effects line (ViewOf name tokens) (inr (why, unspelt, a)) = inl (a.left, a.no_entries)
   answers_effects line (RowsOf name) a = shows_effects name (rows_verdict name old) a
+  answers_effects line (IndexOf label key) a = indexes_effects (index_verdict label key old) a
   answers_effects line (Refused why) a = inl (a.left, a.no_entries)
 
   lexed_effects : (line : List ℕ) (lexed : Result (List Token) LexFault) → Lexed line lexed old answer entries new → Effects
@@ -102,4 +109,5 @@ module _ (old : EngineState) (answer : Answer) (entries : Entries) (new : Engine
   pub exact : Effects → AreExact
   exact (inl (left, none)) = no_entries none (ap (λ (s : EngineState). s.graph) left)
   exact (inr (inl (carried, a))) = subst (λ (s : EngineState). AreEntries old.views old.graph.content s.graph.content s.tick entries) (sym a.left) a.entries_are
-  exact (inr (inr (view, free, a))) = no_entries a.no_entries (ap (λ (s : EngineState). s.graph) a.left)
+  exact (inr (inr (inl (view, free, a)))) = no_entries a.no_entries (ap (λ (s : EngineState). s.graph) a.left)
+  exact (inr (inr (inr (pair, a)))) = no_entries a.no_entries (ap (λ (s : EngineState). s.graph) a.left)

@@ -1,5 +1,5 @@
 -- The rows of a view are those that it had when it was made, changed by its later entries.
-use Rattle.std.proofs.Common.{◌≡◌, ◌⊎◌, ℕ, ◌+◌, ◌-◌, true, false, cond, List, [], ◌∷◌, ◌++◌, find, Option, None, Some, Ok, refl, sym, ap, subst, ◌∙◌, arith, inl, inr}
+use Rattle.std.proofs.Common.{◌≡◌, ◌⊎◌, ℕ, ◌+◌, ◌-◌, cond, List, [], ◌∷◌, find, Option, None, Some, Ok, refl, sym, ap, subst, ◌∙◌, arith, inl, inr}
 use Rattle.std.specs.Prelude.{Contains}
 use Rattle.std.specs.Option.{option_map}
 use Rattle.std.specs.Str.{bytes_eq}
@@ -105,7 +105,8 @@ maintained_or_there view old new (e ∷ events) (mid, step, run) named here =
     stood : Effects old e.answer e.entries mid → Among view mid.views → Among view old.views ⊎ IsMaintained old new (e ∷ events) view
     stood (inl (left, none)) there = inl (subst (λ (s : EngineState). Among view s.views) left there)
     stood (inr (inl (carried, a))) there = inl (subst (λ (s : EngineState). Among view s.views) a.left there)
-    stood (inr (inr (made, free, a))) there = either (among_either view made old.views (subst (λ (s : EngineState). Among view s.views) a.left there))
+    stood (inr (inr (inr (pair, a)))) there = inl (subst (λ (s : EngineState). Among view s.views) a.left there)
+    stood (inr (inr (inl (made, free, a)))) there = either (among_either view made old.views (subst (λ (s : EngineState). Among view s.views) a.left there))
       where
         either : Among view old.views ⊎ (made ≡ view) → Among view old.views ⊎ IsMaintained old new (e ∷ events) view
         either (inl before) = inl before

@@ -1,5 +1,5 @@
 -- From tokens to verdicts.
-use Rattle.std.proofs.Common.{◌≡◌, ◌≢◌, ◌⊎◌, ℕ, List, [], ◌∷◌, ◌++◌, cond, Bool, true, false, Option, Some, None, Result, Ok, Err, length, Bor, arith, refl, sym, ap, subst, ◌∙◌, inl, inr, append_assoc}
+use Rattle.std.proofs.Common.{◌≡◌, ◌≢◌, ◌⊎◌, ℕ, List, [], ◌∷◌, ◌++◌, cond, Bool, true, false, Option, Some, None, Result, Ok, Err, length, arith, refl, sym, ap, inl, inr, append_assoc}
 use Rattle.std.specs.Option.{option_map}
 use Rattle.cy_lexer.specs.declared.symbols.Symbol.{Symbol}
 use Rattle.cy_lexer.specs.declared.symbols.Symbol.TheVariants as sign
@@ -27,9 +27,8 @@ use Rattle.cy_engine.specs.declared.forms.Form.{Form}
 use Rattle.cy_engine.specs.declared.forms.Query.{Query}
 use Rattle.cy_engine.specs.Faults.{of_lexer, of_parser, of_scope, of_view}
 use Rattle.cy_engine.specs.Forms.{with_entry, served_statement, served_query}
-use Rattle.cy_engine.specs.internal.Stages.{HasTree, Fails, Gives}
+use Rattle.cy_engine.specs.internal.Stages.{HasTree, Fails}
 use Rattle.cy_engine.specs.Requests.{is_semicolon, without_end, first_offset}
-use Rattle.cy_engine.specs.Step.{IsUnspelt}
 use Rattle.cy_engine.specs.Verdicts.{scope_verdict, form_verdict, query_verdict}
 
 -- ---- the tokens of a command

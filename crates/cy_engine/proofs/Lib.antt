@@ -1,6 +1,8 @@
 pub mod Chains
 pub mod Contents
 pub mod Counting
+pub mod Created
+pub mod Detached
 pub mod Differing
 pub mod Each
 pub mod Effects
@@ -9,9 +11,10 @@ pub mod FromTokens
 pub mod Lines
 pub mod Names
 pub mod OneAnswer
+pub mod Places
+pub mod Properties
 pub mod Registry
 pub mod Rows
-pub mod Setting
 pub mod Steps
 pub mod Surpluses
 pub mod TouchedRows

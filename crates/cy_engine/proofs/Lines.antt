@@ -1,22 +1,19 @@
 -- A line, from its tokens to its step.
-use Rattle.std.proofs.Common.{◌≡◌, ◌≢◌, ◌⊎◌, ◌<◌, ◌≤◌, ℕ, nat_lt, Bool, true, false, List, [], ◌∷◌, length, Option, Some, None, Result, Ok, Err, refl, sym, ap, subst, ◌∙◌, inl, inr, arith}
+use Rattle.std.proofs.Common.{◌≡◌, ◌≢◌, ◌⊎◌, ◌<◌, ◌≤◌, ℕ, nat_lt, true, false, List, [], length, Result, Ok, Err, refl, sym, ap, subst, ◌∙◌, inl, inr, arith}
 use Rattle.std.proofs.lemmas.Bool.Decides.{nat_tests}
 use Rattle.cy_lexer.specs.declared.faults.LexFault.{LexFault}
 use Rattle.cy_lexer.specs.declared.faults.LexFault.TheVariants as lex
 use Rattle.cy_lexer.specs.declared.tokens.Token.{Token}
 use Rattle.cy_lexer.specs.Line.{longest_line}
 use Rattle.cy_lexer.specs.Tokens.{tokens_of}
-use Rattle.cy_values.specs.declared.rows.Cell.{Cell}
 use Rattle.cy_engine.specs.declared.faults.Fault.{Fault}
 use Rattle.cy_engine.specs.declared.faults.Fault.TheVariants as fault
-use Rattle.cy_engine.specs.declared.replies.Reply.{Reply}
 use Rattle.cy_engine.specs.declared.replies.Reply.TheVariants as reply
 use Rattle.cy_engine.specs.Faults.{of_lexer}
 use Rattle.cy_engine.specs.internal.Stages.{AnswersOrWants, ShowsRows}
 use Rattle.cy_engine.specs.Requests.{Request, RowsOf, Refused, request}
-use Rattle.cy_engine.specs.State.{EngineState, Entries, View, view_at}
+use Rattle.cy_engine.specs.State.{EngineState, Entries, View}
 use Rattle.cy_engine.specs.Step.{Answer, Answers, IsRefused, Lexed, Shows, Step}
-use Rattle.cy_engine.specs.Verdicts.{there, rows_verdict}
 use Rattle.cy_engine.proofs.FromTokens.{lexed}
 
 short_or_long : (n m : ℕ) → (n ≤ m) ⊎ (m < n)
@@ -67,12 +64,13 @@ rows_answered line name state entries (Ok reply.Nothing) none shows = absurd sho
 rows_answered line name state entries (Ok (reply.Statement changed columns rows)) none shows = absurd shows
 rows_answered line name state entries (Ok (reply.Made columns tick view)) none shows = absurd shows
 rows_answered line name state entries (Ok (reply.Rows rows tick view)) none (found, is, are, ticks, named) =
-    inr (subst (λ (v : Result View Fault). Shows name v state (Ok (reply.Rows rows tick view)) entries state) (sym (ap (there fault.NoSuchView) is))
+    inr (subst (λ (v : Result View Fault). Shows name v state (Ok (reply.Rows rows tick view)) entries state) (sym is)
     (rows, are, record { answered = λ i. Ok (reply.Rows rows (ticks i) (named i)); no_entries = none; left = refl }))
+rows_answered line name state entries (Ok (reply.Index label key)) none shows = absurd shows
 rows_answered line name state entries (Err why) none (inl wants) = inl (record { answered = ap Err wants; no_entries = none; left = refl })
-rows_answered line name state entries (Err why) none (inr (missing, is)) =
-    inr (subst (λ (v : Result View Fault). Shows name v state (Err why) entries state) (sym (ap (there fault.NoSuchView) missing))
-    (let refused : IsRefused fault.NoSuchView state (Err why) entries state = record { answered = ap Err is; no_entries = none; left = refl } in refused))
+rows_answered line name state entries (Err why) none (inr is) =
+    inr (subst (λ (v : Result View Fault). Shows name v state (Err why) entries state) (sym is)
+    (let refused : IsRefused why state (Err why) entries state = record { answered = refl; no_entries = none; left = refl } in refused))
 
 pub no_error : {A : Type 0} (x : A) (why : LexFault) → (let r : Result A LexFault = Ok x in r) ≡ Err why → ⊥
 no_error x why is = cc

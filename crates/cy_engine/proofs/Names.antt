@@ -1,10 +1,9 @@
 -- Views keep names of their own.
 use Rattle.std.proofs.Common.{◌≡◌, ◌⊎◌, ◌<◌, ℕ, zero, suc, true, false, cond, List, [], ◌∷◌, ◌++◌, find, length, get_or, None, Some, refl, sym, ap, subst, ◌∙◌, arith, inl, inr}
-use Rattle.std.specs.Prelude.{Contains}
 use Rattle.std.specs.Str.{bytes_eq}
 use Rattle.std.proofs.lemmas.Slice.Eq.{bytes_eq-Decides}
-use Rattle.cy_engine.specs.State.{EngineState, Entries, View, view_at}
-use Rattle.cy_engine.specs.Step.{Answer, Step}
+use Rattle.cy_engine.specs.State.{EngineState, Entries, View}
+use Rattle.cy_engine.specs.Step.{Answer}
 use Rattle.cy_engine.proofs.Effects.{Effects}
 
 -- a name that none of these views has
@@ -81,12 +80,14 @@ module _ (old : EngineState) (answer : Answer) (entries : Entries) (new : Engine
   pub effects_named : Effects old answer entries new → AreNamed old.views → AreNamed new.views
   effects_named (inl (left, none)) named = subst (λ (s : EngineState). AreNamed s.views) (sym left) named
   effects_named (inr (inl (carried, a))) named = subst (λ (s : EngineState). AreNamed s.views) (sym a.left) named
-  effects_named (inr (inr (view, free, a))) named = subst (λ (s : EngineState). AreNamed s.views) (sym a.left) (new_last view.name view old.views refl free named)
+  effects_named (inr (inr (inl (view, free, a)))) named = subst (λ (s : EngineState). AreNamed s.views) (sym a.left) (new_last view.name view old.views refl free named)
+  effects_named (inr (inr (inr (pair, a)))) named = subst (λ (s : EngineState). AreNamed s.views) (sym a.left) named
 
   pub effects_among : (view : View) → Effects old answer entries new → Among view old.views → Among view new.views
   effects_among view (inl (left, none)) here = subst (λ (s : EngineState). Among view s.views) (sym left) here
   effects_among view (inr (inl (carried, a))) here = subst (λ (s : EngineState). Among view s.views) (sym a.left) here
-  effects_among view (inr (inr (made, free, a))) here = subst (λ (s : EngineState). Among view s.views) (sym a.left) (still_among view old.views (made ∷ []) here)
+  effects_among view (inr (inr (inr (pair, a)))) here = subst (λ (s : EngineState). Among view s.views) (sym a.left) here
+  effects_among view (inr (inr (inl (made, free, a)))) here = subst (λ (s : EngineState). Among view s.views) (sym a.left) (still_among view old.views (made ∷ []) here)
 
 pub found : (vs : List View) (view : View) → AreNamed vs → Among view vs → find (λ v. bytes_eq view.name v.name) vs ≡ Some view
 found [] view named here = absurd here

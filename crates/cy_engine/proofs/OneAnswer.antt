@@ -1,5 +1,5 @@
 -- What becomes of a line is determined.
-use Rattle.std.proofs.Common.{◌≡◌, ◌≢◌, ◌⊎◌, ℕ, true, List, [], ◌∷◌, Result, Ok, Err, refl, sym, ap, subst, ◌∙◌, inl, inr}
+use Rattle.std.proofs.Common.{◌≡◌, ℕ, true, List, [], ◌∷◌, Result, Ok, Err, refl, sym, ap, subst, ◌∙◌, inl, inr}
 use Rattle.std.specs.Prelude.{IsTrue}
 use Rattle.std.specs.Cmp.{IsTotalOrder}
 use Rattle.cy_lexer.specs.declared.faults.LexFault.{LexFault}
@@ -8,10 +8,11 @@ use Rattle.cy_lexer.specs.Tokens.{tokens_of}
 use Rattle.cy_parser.specs.SpellsClauses.{SpellsStatement}
 use Rattle.cy_trees.specs.Trees.{Statement}
 use Rattle.cy_values.specs.declared.rows.Cell.{Cell}
-use Rattle.cy_values.specs.Bag.{IsCanonical}
+use Rattle.cy_values.specs.Bag.{IsSurplus}
 use Rattle.cy_values.specs.Order.{row_cmp}
 use Rattle.cy_values.proofs.Identity.{same_rows}
 use Rattle.cy_graph.specs.Graph.{Content}
+use Rattle.cy_index.specs.declared.keys.Pair.{Pair}
 use Rattle.cy_engine.specs.declared.entries.Change.{Change}
 use Rattle.cy_engine.specs.declared.entries.Entry.{Entry}
 use Rattle.cy_engine.specs.declared.faults.Fault.{Fault}
@@ -19,13 +20,13 @@ use Rattle.cy_engine.specs.declared.faults.Fault.TheVariants as fault
 use Rattle.cy_engine.specs.declared.forms.Query.{Query}
 use Rattle.cy_engine.specs.declared.replies.Reply.{Reply}
 use Rattle.cy_engine.specs.declared.replies.Reply.TheVariants as reply
-use Rattle.cy_engine.specs.Difference.{IsSurplus, IsDifference}
+use Rattle.cy_engine.specs.Difference.{IsDifference}
 use Rattle.cy_engine.specs.Meaning.{rows_of}
-use Rattle.cy_engine.specs.Requests.{Request, Nothing, StatementOf, ViewOf, RowsOf, Refused, request, first_offset}
+use Rattle.cy_engine.specs.Requests.{Request, Nothing, StatementOf, ViewOf, RowsOf, IndexOf, Refused, request, first_offset}
 use Rattle.cy_engine.specs.Runs.{is_parsers, Agree, HasRoom}
 use Rattle.cy_engine.specs.State.{EngineState, Entries, View}
-use Rattle.cy_engine.specs.Step.{Answer, AreRows, IsEntry, AreEntries, IsRefused, IsReplied, Carries, Makes, Shows, Reads, Answers, Lexed, Step}
-use Rattle.cy_engine.specs.Verdicts.{Carried, statement_verdict, view_verdict, rows_verdict}
+use Rattle.cy_engine.specs.Step.{Answer, AreRows, IsEntry, AreEntries, IsRefused, IsReplied, Carries, Makes, Indexes, Shows, Reads, Answers, Lexed, Step}
+use Rattle.cy_engine.specs.Verdicts.{Carried, statement_verdict, view_verdict, rows_verdict, index_verdict}
 use Rattle.cy_engine.proofs.Surpluses.{same_pairs}
 
 abbrev IsOne : Type 0
@@ -82,6 +83,10 @@ module _ (total : IsTotalOrder row_cmp) where
     makes_one (Err why) a b = refused_one why a b
     makes_one (Ok view) a b = (inl (a.answered ∙ sym b.answered), a.no_entries ∙ sym b.no_entries, a.left ∙ sym b.left)
 
+    indexes_one : (v : Result Pair Fault) → Indexes v old answer entries new → Indexes v old again more other → Same
+    indexes_one (Err why) a b = refused_one why a b
+    indexes_one (Ok pair) a b = (inl (a.answered ∙ sym b.answered), a.no_entries ∙ sym b.no_entries, a.left ∙ sym b.left)
+
     shows_one : (name : List ℕ) (v : Result View Fault) → Shows name v old answer entries new → Shows name v old again more other → Same
     shows_one name (Err why) a b = refused_one why a b
     shows_one name (Ok view) (rows, are, a) (rows_2, are_2, b) =
@@ -110,6 +115,7 @@ module _ (total : IsTotalOrder row_cmp) where
     answers_one line (ViewOf name tokens) a b =
         reads_one line tokens (λ tree. Makes (view_verdict tree name (first_offset line tokens) old)) (λ tree. makes_one (view_verdict tree name (first_offset line tokens) old)) a b
     answers_one line (RowsOf name) a b = shows_one name (rows_verdict name old) a b
+    answers_one line (IndexOf label key) a b = indexes_one (index_verdict label key old) a b
     answers_one line (Refused why) a b = refused_one why a b
 
     lexed_one : (line : List ℕ) (lexed : Result (List Token) LexFault) → Lexed line lexed old answer entries new → Lexed line lexed old again more other → Same

@@ -1,10 +1,13 @@
 -- What the parts of the engine's work on a line come to.
-use Rattle.std.proofs.Common.{◌≡◌, ◌⊎◌, ℕ, ◌<◌, ◌≤◌, Bool, true, false, nat_lt, length, is_some, arith, List, [], ◌∷◌, ◌++◌, map, Option, Some, None, Result, Ok, Err, String, Global, refl, sym, ap, subst, ◌∙◌, inl, inr}
+use Rattle.std.proofs.Common.{◌≡◌, ◌⊎◌, ℕ, ◌<◌, ◌≤◌, Bool, true, false, nat_lt, length, is_some, arith, List, [], ◌∷◌, ◌++◌, map, Option, Some, None, Result, Ok, Err, String, Global, refl, ap, inl, inr}
 use Rattle.std.proofs.lemmas.Bool.Decides.{nat_tests}
 use Rattle.std.specs.Result.{MatchResult}
 use Rattle.cy_lexer.specs.declared.tokens.Token.{Token}
-use Rattle.cy_trees.specs.Trees.{Statement}
-use Rattle.cy_graph.specs.Graph.{State, Versions}
+use Rattle.cy_graph.specs.Graph.{State}
+use Rattle.cy_index.specs.Index.{StoreState, has_pair}
+use Rattle.cy_index.specs.declared.faults.IndexFault.{IndexFault}
+use Rattle.cy_index.specs.declared.faults.IndexFault.TheVariants as index
+use Rattle.cy_engine.specs.Faults.{of_index}
 use Rattle.cy_engine.specs.declared.engine.Effect.{Effect}
 use Rattle.cy_engine.specs.declared.faults.Fault.{Fault}
 use Rattle.cy_engine.specs.declared.faults.Fault.TheVariants as fault
@@ -14,14 +17,14 @@ use Rattle.cy_engine.specs.declared.replies.Reply.{Reply}
 use Rattle.cy_engine.specs.declared.replies.Reply.TheVariants as reply
 use Rattle.cy_values.specs.declared.rows.Cell.{Cell}
 use Rattle.cy_engine.specs.declared.views.Registered.{Registered}
-use Rattle.cy_engine.specs.internal.Stages.{HasTree, Fails, AnswersOrWants, Changes}
+use Rattle.cy_engine.specs.internal.Stages.{HasTree, Fails, AddsIndex, AnswersOrWants, Changes}
 use Rattle.cy_engine.specs.internal.Representation.{named}
 use Rattle.cy_engine.specs.Model.{view_of, state_of}
-use Rattle.cy_engine.specs.Meaning.{Outcome, carried_out}
+use Rattle.cy_engine.specs.Meaning.{◌>>=◌, Outcome, carried_out}
 use Rattle.cy_engine.specs.Requests.{Request, StatementOf, ViewOf, first_offset}
 use Rattle.cy_engine.specs.State.{EngineState, Entries, View, view_at, view_limit}
-use Rattle.cy_engine.specs.Step.{Answer, Carries, IsCarried, IsMade, IsRefused, Makes}
-use Rattle.cy_engine.specs.Verdicts.{◌>>=◌, unless, needs, Carried, tick_after, next_tick, carry_verdict, form_verdict, statement_verdict, query_verdict, make_verdict, view_verdict}
+use Rattle.cy_engine.specs.Step.{Answer, IsCarried, IsMade, IsRefused}
+use Rattle.cy_engine.specs.Verdicts.{unless, needs, Carried, tick_after, next_tick, carry_verdict, form_verdict, query_verdict, make_verdict}
 
 -- ---- what carrying a form out comes to
 
@@ -143,27 +146,42 @@ module _ (name : List ℕ) (query : Query) (state : EngineState) where
 
 -- ---- what is kept, and the step that it makes
 
-pub form_done : (graph new : Versions) (views : List (String Global × Registered)) (tick history : ℕ) (line : List ℕ) (tokens : List Token) (form : Form) (effect : Effect) (after : State) (columns : List (List ℕ)) (rows : List (List Cell))
-    → HasTree line tokens (λ tree. form_verdict tree (first_offset line tokens) ≡ Ok form) → Changes form (map view_of views) graph.now tick effect after → columns ≡ [] → rows ≡ [] → new.now ≡ after
-    → AnswersOrWants line (StatementOf tokens) (state_of graph views tick history) (Ok (reply.Statement effect.changed columns rows)) effect.entries (state_of new views effect.tick history)
-form_done graph new views tick history line tokens form effect after columns rows tree changes no_columns no_rows committed =
-    form_carried line tokens (state_of graph views tick history) (Ok (reply.Statement effect.changed columns rows)) effect.entries (state_of new views effect.tick history) form
+pub form_done : (store new : StoreState) (views : List (String Global × Registered)) (tick history : ℕ) (line : List ℕ) (tokens : List Token) (form : Form) (effect : Effect) (after : State) (columns : List (List ℕ)) (rows : List (List Cell))
+    → HasTree line tokens (λ tree. form_verdict tree (first_offset line tokens) ≡ Ok form) → Changes form (map view_of views) store.graph.now tick effect after → columns ≡ [] → rows ≡ [] → new.graph.now ≡ after → new.chosen ≡ store.chosen
+    → AnswersOrWants line (StatementOf tokens) (state_of store views tick history) (Ok (reply.Statement effect.changed columns rows)) effect.entries (state_of new views effect.tick history)
+form_done store new views tick history line tokens form effect after columns rows tree changes no_columns no_rows committed chosen =
+    form_carried line tokens (state_of store views tick history) (Ok (reply.Statement effect.changed columns rows)) effect.entries (state_of new views effect.tick history) form
     (record { outcome = record { graph = after; changed = effect.changed; columns = []; rows = [] }; tick = effect.tick }) tree changes.verdict
     (record {
       answered = λ i. Ok (reply.Statement effect.changed (no_columns i) (no_rows i));
       entries_are = changes.entries_are;
-      left = ap (λ (g : State). let s : EngineState = record { graph = g; views = map view_of views; tick = effect.tick; history = history } in s) committed;
+      left = λ i. record { graph = committed i; indexes = chosen i; views = map view_of views; tick = effect.tick; history = history };
     })
 
-pub view_done : (graph : Versions) (views more : List (String Global × Registered)) (tick history made : ℕ) (line name : List ℕ) (tokens : List Token) (query : Query) (entries : Entries) (answer : Reply)
+pub view_done : (store : StoreState) (views more : List (String Global × Registered)) (tick history made : ℕ) (line name : List ℕ) (tokens : List Token) (query : Query) (entries : Entries) (answer : Reply)
     → HasTree line tokens (λ tree. query_verdict tree (first_offset line tokens) ≡ Ok query)
-    → make_verdict name query (state_of graph views tick history) ≡ Ok (record { name = name; query = query; made = made })
+    → make_verdict name query (state_of store views tick history) ≡ Ok (record { name = name; query = query; made = made })
     → entries ≡ [] → answer ≡ reply.Made (query.column ∷ []) made name → map view_of more ≡ map view_of views ++ named name (record { query = query; made = made }) ∷ []
-    → AnswersOrWants line (ViewOf name tokens) (state_of graph views tick history) (Ok answer) entries (state_of graph more made history)
-view_done graph views more tick history made line name tokens query entries answer tree verdict none is added =
-    view_made line tokens (state_of graph views tick history) (Ok answer) entries (state_of graph more made history) name query (record { name = name; query = query; made = made }) tree verdict
+    → AnswersOrWants line (ViewOf name tokens) (state_of store views tick history) (Ok answer) entries (state_of store more made history)
+view_done store views more tick history made line name tokens query entries answer tree verdict none is added =
+    view_made line tokens (state_of store views tick history) (Ok answer) entries (state_of store more made history) name query (record { name = name; query = query; made = made }) tree verdict
     (record {
       answered = ap Ok is;
       no_entries = none;
-      left = ap (λ (vs : List View). let s : EngineState = record { graph = graph.now; views = vs; tick = made; history = history } in s) added;
+      left = ap (λ (vs : List View). let s : EngineState = record { graph = store.graph.now; indexes = store.chosen; views = vs; tick = made; history = history } in s) added;
     })
+
+-- an index that is made, and one that isn't
+module _ (store new : StoreState) (views : List (String Global × Registered)) (tick history : ℕ) (label key : List ℕ) (entries : Entries) (none : entries ≡ []) where
+  pub index_made : (has_pair label key store.chosen ≡ true → ⊥) → new ≡ record store { chosen = store.chosen ++ (record { label = label; key = key }) ∷ [] }
+      → AddsIndex label key (state_of store views tick history) (Ok (reply.Index label key)) entries (state_of new views tick history)
+  index_made free is = inr (rw (absent (has_pair label key store.chosen) free) (record { answered = refl; no_entries = none; left = ap (λ (s : StoreState). state_of s views tick history) is }))
+    where
+      absent : (b : Bool) → (b ≡ true → ⊥) → b ≡ false
+      absent true never = absurd (never refl)
+      absent false never = refl
+
+  pub index_refused : (why : IndexFault) → (why ≡ index.IndexThere → has_pair label key store.chosen ≡ true) → new ≡ store
+      → AddsIndex label key (state_of store views tick history) (Err (of_index why)) entries (state_of new views tick history)
+  index_refused index.IndexThere there same = inr (rw (there refl) (refused fault.IndexThere (state_of store views tick history) entries (state_of new views tick history) none (ap (λ (s : StoreState). state_of s views tick history) same)))
+  index_refused index.NoMemory there same = inl (refused fault.NoMemory (state_of store views tick history) entries (state_of new views tick history) none (ap (λ (s : StoreState). state_of s views tick history) same))

@@ -23,7 +23,7 @@ use Rattle.cy_graph.specs.contracts.nodes.RelPartialEq.TheImpl as rel_eq
 use Rattle.cy_graph.proofs.Same.{same_node, node_itself, same_rel, rel_itself}
 use Rattle.cy_graph.proofs.Touching.{same_nodes, same_rels}
 use Rattle.cy_graph.specs.Graph.{Content, State, node_order, rel_order, node_at, rel_at, IsGraph}
-use Rattle.cy_graph.specs.Touched.{Old, Entry, Differs, AreApart, AreTouched, value_of}
+use Rattle.cy_graph.specs.Touched.{Old, BeforeImage, Differs, AreApart, AreTouched, value_of}
 use Rattle.cy_engine.specs.declared.forms.Query.{Query}
 use Rattle.cy_engine.specs.Meaning.{has_label, row_of, rows_among, rows_of}
 use Rattle.cy_engine.specs.internal.Touched.{as_node, row_if, rows_before, rows_after}
@@ -31,7 +31,7 @@ use Rattle.cy_engine.proofs.Each.{itself}
 use Rattle.cy_engine.proofs.Differing.{is_in, AreDistinct, same_number, number_order, tied, held, total, counted_at, balanced}
 
 -- the numbers of nodes among them
-abbrev ids_of : List Entry → List NodeId
+abbrev ids_of : List BeforeImage → List NodeId
 ids_of [] = []
 ids_of ((entity.Node id, old) ∷ es) = id ∷ ids_of es
 ids_of ((entity.Rel id, old) ∷ es) = ids_of es
@@ -41,18 +41,18 @@ or_later true b h = refl
 or_later false b h = h
 
 -- the number of an entity that stands among them is among their numbers
-in_listed : (x : NodeId) (old : Option Old) (es : List Entry) (k : ℕ) → k < length es → get_or es k (entity.Node x, old) ≡ (entity.Node x, old) → is_in x (ids_of es) ≡ true
+in_listed : (x : NodeId) (old : Option Old) (es : List BeforeImage) (k : ℕ) → k < length es → get_or es k (entity.Node x, old) ≡ (entity.Node x, old) → is_in x (ids_of es) ≡ true
 in_listed x old [] k lt at = absurd (omega arith)
 in_listed x old ((entity.Node id, o) ∷ es) zero lt at =
-    let same : entity.Node id ≡ entity.Node x = ap (λ (e : Entry). e.0) at in
+    let same : entity.Node id ≡ entity.Node x = ap (λ (e : BeforeImage). e.0) at in
     let number : id ≡ x = cc same in
     ap (λ b. cond b true (is_in x (ids_of es))) (subst (λ (k : NodeId). eq_by_cmp node_order x k ≡ true) (sym number) (itself x))
 in_listed x old ((entity.Node id, o) ∷ es) (suc k) lt at = or_later (eq_by_cmp node_order x id) _ (in_listed x old es k (omega arith) at)
-in_listed x old ((entity.Rel id, o) ∷ es) zero lt at = let same : entity.Rel id ≡ entity.Node x = ap (λ (e : Entry). e.0) at in absurd (cc)
+in_listed x old ((entity.Rel id, o) ∷ es) zero lt at = let same : entity.Rel id ≡ entity.Node x = ap (λ (e : BeforeImage). e.0) at in absurd (cc)
 in_listed x old ((entity.Rel id, o) ∷ es) (suc k) lt at = in_listed x old es k (omega arith) at
 
 -- a number isn't among those of other entities
-apart_numbers : (x : NodeId) (es : List Entry) → AllByRecursion (λ (f : Entry). entity.Node x ≢ f.0) es → is_in x (ids_of es) ≡ false
+apart_numbers : (x : NodeId) (es : List BeforeImage) → AllByRecursion (λ (f : BeforeImage). entity.Node x ≢ f.0) es → is_in x (ids_of es) ≡ false
 apart_numbers x [] apart = refl
 apart_numbers x ((entity.Node id, o) ∷ es) apart =
     elim (eq_by_cmp node_order x id) as (λ b. eq_by_cmp node_order x id ≡ b → cond b true (is_in x (ids_of es)) ≡ false) [
@@ -61,19 +61,19 @@ apart_numbers x ((entity.Node id, o) ∷ es) apart =
     ] refl
 apart_numbers x ((entity.Rel id, o) ∷ es) apart = apart_numbers x es apart.1
 
-distinct : (es : List Entry) → AreApart es → AreDistinct (ids_of es)
+distinct : (es : List BeforeImage) → AreApart es → AreDistinct (ids_of es)
 distinct [] once = tt
 distinct ((entity.Node id, o) ∷ es) once = (apart_numbers id es once.0, distinct es once.1)
 distinct ((entity.Rel id, o) ∷ es) once = distinct es once.1
 
 -- what holds of each holds of the first, and of each that follows
-abbrev AllDiffer : State → State → List Entry → Type 0
-AllDiffer before now es = (e : Entry) → Contains es e → Differs before now e
+abbrev AllDiffer : State → State → List BeforeImage → Type 0
+AllDiffer before now es = (e : BeforeImage) → Contains es e → Differs before now e
 
-first_differs : (before now : State) (e : Entry) (es : List Entry) → AllDiffer before now (e ∷ es) → Differs before now e
+first_differs : (before now : State) (e : BeforeImage) (es : List BeforeImage) → AllDiffer before now (e ∷ es) → Differs before now e
 first_differs before now e es all = all e (0, omega arith, refl)
 
-others_differ : (before now : State) (e : Entry) (es : List Entry) → AllDiffer before now (e ∷ es) → AllDiffer before now es
+others_differ : (before now : State) (e : BeforeImage) (es : List BeforeImage) → AllDiffer before now (e ∷ es) → AllDiffer before now es
 others_differ before now e es all = λ f here. all f (suc here.0, omega (arith, here.1), here.2)
 
 -- what can't differ is the same
@@ -91,7 +91,7 @@ decided eq same itself (Some m) (Some n) e =
     ] refl
 
 -- two graphs differ only at touched nodes
-others_same : (before now : State) (es : List Entry) → AreTouched before now es → (x : NodeId) → is_in x (ids_of es) ≡ false → node_at x before ≡ node_at x now
+others_same : (before now : State) (es : List BeforeImage) → AreTouched before now es → (x : NodeId) → is_in x (ids_of es) ≡ false → node_at x before ≡ node_at x now
 others_same before now es touched x out = decided (node_eq.eq-value).it same_node node_itself (node_at x before) (node_at x now) (λ differ.
     let here = touched.all (entity.Node x) (λ e. differ (same_nodes (node_at x before) (node_at x now) e)) in
     let wrong : true ≡ false = sym (in_listed x (value_of (entity.Node x) before) es here.0 here.1 here.2) ∙ out in
@@ -123,7 +123,7 @@ nothing_touched before now touched graph_before graph_now =
     λ i. record { nodes = nodes i; rels = rels i }
 
 -- where something is, it is another
-pub something_touched : (before now : State) (e : Entry) (es : List Entry) → AreTouched before now (e ∷ es) → now.content ≡ before.content → ⊥
+pub something_touched : (before now : State) (e : BeforeImage) (es : List BeforeImage) → AreTouched before now (e ∷ es) → now.content ≡ before.content → ⊥
 something_touched before now (entity.Node id, old) es touched same =
     (first_differs before now (entity.Node id, old) es touched.differ).1 (ap (λ (content : Content). let o : Option Old = option_map (λ node. inl node) (entries.find node_order id content.nodes) in o) (sym same))
 something_touched before now (entity.Rel id, old) es touched same =
@@ -157,7 +157,7 @@ module _ (query : Query) (row : List Cell) where
   apart_count : (xs ys : List (List Cell)) → count_of row (xs ++ ys) ≡ count_of row xs + count_of row ys
   apart_count xs ys = sum_by-append (λ r. cond (eq_by_cmp row_cmp row r) 1 0) xs ys
 
-  counted_before : (before now : State) (es : List Entry) → AllDiffer before now es → counted_at counts refl before.content.nodes (ids_of es) ≡ count_of row (rows_before query es)
+  counted_before : (before now : State) (es : List BeforeImage) → AllDiffer before now es → counted_at counts refl before.content.nodes (ids_of es) ≡ count_of row (rows_before query es)
   counted_before before now [] all = refl
   counted_before before now ((entity.Node id, old) ∷ es) all =
       let rest = counted_before before now es (others_differ before now (entity.Node id, old) es all) in
@@ -169,7 +169,7 @@ module _ (query : Query) (row : List Cell) where
       let was = (first_differs before now (entity.Rel id, old) es all).0 in
       rest ∙ sym (ap (λ (o : Option Node). count_of row (row_if query o ++ rows_before query es)) (ap as_node was ∙ no_node (rel_at id before)))
 
-  counted_after : (before now : State) (es : List Entry) → AllDiffer before now es → counted_at counts refl now.content.nodes (ids_of es) ≡ count_of row (rows_after query now es)
+  counted_after : (before now : State) (es : List BeforeImage) → AllDiffer before now es → counted_at counts refl now.content.nodes (ids_of es) ≡ count_of row (rows_after query now es)
   counted_after before now [] all = refl
   counted_after before now ((entity.Node id, old) ∷ es) all =
       let rest = counted_after before now es (others_differ before now (entity.Node id, old) es all) in
@@ -177,13 +177,13 @@ module _ (query : Query) (row : List Cell) where
   counted_after before now ((entity.Rel id, old) ∷ es) all = counted_after before now es (others_differ before now (entity.Rel id, old) es all)
 
   -- the rows before and those of touched nodes now are, as a bag, the rows now and those of touched nodes before
-  pub rows_balanced : (before now : State) (es : List Entry) → AreTouched before now es → IsGraph before → IsGraph now
+  pub rows_balanced : (before now : State) (es : List BeforeImage) → AreTouched before now es → IsGraph before → IsGraph now
       → count_of row (rows_of query before.content) + count_of row (rows_after query now es) ≡ count_of row (rows_of query now.content) + count_of row (rows_before query es)
   rows_balanced before now es touched graph_before graph_now =
       let even = balanced counts refl (ids_of es) before.content.nodes now.content.nodes graph_before.rising graph_now.rising (distinct es touched.once) (others_same before now es touched) in
       omega (arith, even, total_rows before.content.nodes, total_rows now.content.nodes, counted_before before now es touched.differ, counted_after before now es touched.differ)
 
 -- so the contents differ where something is touched
-pub touched_differs : (before now : State) (es : List Entry) → AreTouched before now es → (es ≡ [] → ⊥) → now.content ≢ before.content
+pub touched_differs : (before now : State) (es : List BeforeImage) → AreTouched before now es → (es ≡ [] → ⊥) → now.content ≢ before.content
 touched_differs before now [] touched some = λ same. some refl
 touched_differs before now (e ∷ es) touched some = something_touched before now e es touched

@@ -1,17 +1,17 @@
 -- Refused lines leave no trace.
-use Rattle.std.proofs.Common.{◌≡◌, ◌≢◌, ◌⊎◌, ℕ, true, false, List, [], ◌∷◌, map, Result, Ok, Err, refl, sym, ap, subst, ◌∙◌, inl, inr}
+use Rattle.std.proofs.Common.{◌≡◌, ℕ, true, false, List, [], ◌∷◌, map, Result, Ok, Err, refl, sym, ap, subst, ◌∙◌, inl, inr}
 use Rattle.std.specs.List.{AllByRecursion}
 use Rattle.cy_lexer.specs.declared.faults.LexFault.{LexFault}
 use Rattle.cy_lexer.specs.declared.tokens.Token.{Token}
 use Rattle.cy_lexer.specs.Tokens.{tokens_of}
-use Rattle.cy_trees.specs.Trees.{Statement}
+use Rattle.cy_index.specs.declared.keys.Pair.{Pair}
 use Rattle.cy_engine.specs.declared.faults.Fault.{Fault}
 use Rattle.cy_engine.specs.declared.replies.Reply.{Reply}
-use Rattle.cy_engine.specs.Requests.{Request, Nothing, StatementOf, ViewOf, RowsOf, Refused, request, first_offset}
+use Rattle.cy_engine.specs.Requests.{Request, Nothing, StatementOf, ViewOf, RowsOf, IndexOf, Refused, request, first_offset}
 use Rattle.cy_engine.specs.Runs.{Event, Run, Agree, HasRoom, IsDetermined, accepted, accepted_before, is_parsers}
 use Rattle.cy_engine.specs.State.{EngineState, Entries, View}
-use Rattle.cy_engine.specs.Step.{Answer, Carries, Makes, Shows, Reads, Answers, Lexed, Step}
-use Rattle.cy_engine.specs.Verdicts.{Carried, statement_verdict, view_verdict, rows_verdict}
+use Rattle.cy_engine.specs.Step.{Answer, Carries, Makes, Indexes, Shows, Answers, Lexed, Step}
+use Rattle.cy_engine.specs.Verdicts.{Carried, statement_verdict, view_verdict, rows_verdict, index_verdict}
 
 abbrev is_ok : Answer → Type 0
 is_ok answer = (reply : Reply) × (answer ≡ Ok reply)
@@ -32,6 +32,10 @@ module _ (old : EngineState) (answer : Answer) (entries : Entries) (new : Engine
   shows_left name (Ok view) (rows, are, a) = a.left
   shows_left name (Err other) a = a.left
 
+  indexes_left : (v : Result Pair Fault) → Indexes v old answer entries new → new ≡ old
+  indexes_left (Ok pair) a = absurd (no_reply _ a.answered)
+  indexes_left (Err other) a = a.left
+
   answers_left : (line : List ℕ) (asked : Request) → Answers line asked old answer entries new → new ≡ old
   answers_left line Nothing a = a.left
   answers_left line (StatementOf tokens) (inl (tree, spelt, a)) = carries_left (statement_verdict tree (first_offset line tokens) old) a
@@ -39,6 +43,7 @@ module _ (old : EngineState) (answer : Answer) (entries : Entries) (new : Engine
   answers_left line (ViewOf name tokens) (inl (tree, spelt, a)) = makes_left (view_verdict tree name (first_offset line tokens) old) a
   answers_left line (ViewOf name tokens) (inr (parsed, unspelt, a)) = a.left
   answers_left line (RowsOf name) a = shows_left name (rows_verdict name old) a
+  answers_left line (IndexOf label key) a = indexes_left (index_verdict label key old) a
   answers_left line (Refused other) a = a.left
 
   lexed_left : (line : List ℕ) (lexed : Result (List Token) LexFault) → Lexed line lexed old answer entries new → new ≡ old

@@ -4,17 +4,17 @@ use Rattle.std.specs.Cmp.{IsTotalOrder, tied_itself}
 use Rattle.std.specs.Ordering.{eq_by_cmp, is_eq}
 use Rattle.std.proofs.lemmas.List.Sums.{sum_by-cons}
 use Rattle.cy_values.specs.declared.rows.Cell.{Cell}
-use Rattle.cy_values.specs.Bag.{weight_of, IsBagOf, IsCanonical}
+use Rattle.cy_values.specs.Bag.{weight_of, IsBagOf, IsCanonical, IsSameBag, IsSurplus}
 use Rattle.cy_values.specs.Order.{row_cmp}
 use Rattle.std.proofs.lemmas.List.{append_assoc}
 use Rattle.cy_graph.specs.Graph.{Content, State, Versions, IsGraph}
-use Rattle.cy_graph.specs.Touched.{Entry as Mark, AreTouched}
+use Rattle.cy_graph.specs.Touched.{BeforeImage, AreTouched}
 use Rattle.cy_engine.specs.declared.entries.Change.{Change}
 use Rattle.cy_engine.specs.declared.entries.Entry.{Entry}
 use Rattle.cy_engine.specs.declared.faults.Fault.{Fault}
 use Rattle.cy_engine.specs.declared.views.Registered.{Registered}
 use Rattle.cy_engine.specs.declared.forms.Query.{Query}
-use Rattle.cy_engine.specs.Difference.{IsSameBag, IsSurplus, IsDifference}
+use Rattle.cy_engine.specs.Difference.{IsDifference}
 use Rattle.cy_engine.specs.internal.Surplus.{IsCountedSurplus}
 use Rattle.cy_engine.specs.Model.{view_of}
 use Rattle.cy_engine.specs.Meaning.{rows_of}
@@ -24,7 +24,7 @@ use Rattle.cy_engine.specs.internal.Touched.{HasTouched, rows_before, rows_after
 use Rattle.cy_engine.proofs.TouchedRows.{rows_balanced}
 
 -- the surplus of the touched nodes' rows, before over after and after over before, is that of all rows
-module _ (query : Query) (before now : State) (es : List Mark) (touched : AreTouched before now es) (graph_before : IsGraph before) (graph_now : IsGraph now)
+module _ (query : Query) (before now : State) (es : List BeforeImage) (touched : AreTouched before now es) (graph_before : IsGraph before) (graph_now : IsGraph now)
     (old new : List (List Cell × ℕ)) (old_bag : IsBagOf (rows_before query es) old) (new_bag : IsBagOf (rows_after query now es) new) where
   pub removed_surplus : (pairs : List (List Cell × ℕ)) → IsCountedSurplus old new pairs → IsSurplus (rows_of query before.content) (rows_of query now.content) pairs
   removed_surplus pairs surplus = record {
@@ -79,7 +79,7 @@ one_some None gives p = tt
 one_some (Some x) gives p = gives x p
 
 -- the difference of the touched nodes' rows is that of all rows
-pub touched_difference : (query : Query) (graph : Versions) (es : List Mark) (old new : List (List Cell × ℕ)) (r : Result Change Fault)
+pub touched_difference : (query : Query) (graph : Versions) (es : List BeforeImage) (old new : List (List Cell × ℕ)) (r : Result Change Fault)
     → HasTouched graph es → IsBagOf (rows_before query es) old → IsBagOf (rows_after query graph.now es) new
     → IfOk r (λ change. IsCountedSurplus old new change.removed) → IfOk r (λ change. IsCountedSurplus new old change.added)
     → IfOk r (λ change. IfSome graph.was (λ before. IsDifference (rows_of query before.content) (rows_of query graph.now.content) change))

@@ -1,5 +1,5 @@
 -- Worked lines: the tokens of each, and the tree that they spell, computed.
-use Rattle.std.proofs.Common.{◌≡◌, ℕ, ◌+◌, ◌<◌, true, false, pos, List, [], ◌∷◌, Option, Some, None, Ok, refl, arith}
+use Rattle.std.proofs.Common.{◌≡◌, ℕ, ◌+◌, ◌<◌, true, false, pos, List, [], ◌∷◌, Some, None, Ok, refl, arith}
 use Rattle.std.specs.Prelude.{codes}
 use Rattle.std.specs.Str.{chars}
 use Rattle.std.specs.Char.{encode_utf8}
@@ -14,7 +14,7 @@ use Rattle.cy_lexer.specs.Keywords.{keyword_of}
 use Rattle.cy_lexer.specs.Symbols.{symbol}
 use Rattle.cy_lexer.specs.Tokens.{piece, tokens_from, tokens_of}
 use Rattle.cy_trees.specs.declared.expressions.Variable.{Variable}
-use Rattle.cy_trees.specs.Trees.{Name, Expression, null, integer, variable, property, Entry, NodePattern, Path, Item, Projection, SetItem, set_property, Clause, «match», «return», create, set, delete, Statement}
+use Rattle.cy_trees.specs.Trees.{Name, Expression, null, integer, variable, property, MapEntry, NodePattern, Path, Item, Projection, set_property, Clause, «match», «return», create, set, delete, Statement}
 use Rattle.cy_parser.specs.Words.{denotes, slice_in, number_limit}
 use Rattle.cy_parser.specs.Spells as spell
 use Rattle.cy_parser.specs.SpellsClauses.{SpellsStatement, SpellsClause, SpellsClauses, SpellsExpression, SpellsNode, most_levels, reading, updating, ended}
@@ -133,7 +133,7 @@ pub create_lexed : tokens_of create_line ≡ Ok create_tokens
 unfolding tokens_of tokens_from piece symbol keyword_of chars encode_utf8 unicode_ident
 create_lexed = refl
 
-abbrev seven : Entry
+abbrev seven : MapEntry
 seven = record { key = codes "k"; value = integer (pos 7) }
 
 abbrev created_node : NodePattern

@@ -1,5 +1,5 @@
 -- A run of worked lines from a new engine, computed: what each is answered, the entries that it makes, and the state after it.
-use Rattle.std.proofs.Common.{◌≡◌, ◌<◌, ℕ, ◌+◌, pos, List, [], ◌∷◌, ◌++◌, Option, Some, None, Result, Ok, Err, refl, sym, subst, inl, inr, arith}
+use Rattle.std.proofs.Common.{◌≡◌, ◌<◌, ℕ, ◌+◌, pos, List, [], ◌∷◌, Result, Ok, Err, refl, sym, subst, inl, inr, arith}
 use Rattle.std.specs.Prelude.{codes}
 use Rattle.std.specs.Str.{chars}
 use Rattle.std.specs.Char.{encode_utf8}
@@ -12,29 +12,23 @@ use Rattle.cy_lexer.specs.Tokens.{tokens_of}
 use Rattle.cy_parser.specs.Words.{denotes, slice_in}
 use Rattle.cy_scope.specs.declared.faults.ScopeFault.TheVariants as scope
 use Rattle.cy_trees.specs.Trees.{integer, null}
-use Rattle.cy_values.specs.declared.numbers.NodeId.{NodeId}
 use Rattle.cy_values.specs.declared.scalars.Value.{Value}
 use Rattle.cy_values.specs.declared.scalars.Value.TheVariants as value
 use Rattle.cy_values.specs.declared.rows.Cell.{Cell}
 use Rattle.cy_values.specs.declared.rows.Cell.TheVariants as cell
-use Rattle.cy_values.specs.Bag.{count_of, IsBagOf, IsCanonical}
+use Rattle.cy_values.specs.Bag.{count_of, IsCanonical}
 use Rattle.cy_values.specs.Order.{row_cmp}
-use Rattle.cy_graph.specs.Graph.{State}
 use Rattle.cy_graph.specs.declared.nodes.Node.{Node}
-use Rattle.cy_engine.specs.declared.entries.Change.{Change}
-use Rattle.cy_engine.specs.declared.entries.Entry.{Entry}
 use Rattle.cy_engine.specs.declared.faults.Fault.TheVariants as fault
 use Rattle.cy_engine.specs.declared.forms.Query.{Query}
-use Rattle.cy_engine.specs.declared.replies.Changed.{Changed}
 use Rattle.cy_engine.specs.declared.replies.Reply.TheVariants as reply
 use Rattle.cy_engine.specs.Difference.{IsDifference}
 use Rattle.cy_engine.specs.Requests.{request}
 use Rattle.cy_engine.specs.Runs.{Event, Run}
 use Rattle.cy_engine.specs.State.{EngineState, Entries, View, empty_engine}
-use Rattle.cy_engine.specs.Step.{Answer, Answers, IsEntry, Lexed, Step}
+use Rattle.cy_engine.specs.Step.{Answer, Answers, Lexed, Step}
 use Rattle.cy_engine.specs.internal.Counting.{counted_rows}
 use Rattle.cy_engine.specs.internal.Surplus.{surplus_of}
-use Rattle.cy_engine.proofs.Chains.{nothing_changed}
 use Rattle.cy_engine.proofs.Counting.{bag_of_counted}
 use Rattle.cy_engine.proofs.Surpluses.{is_surplus}
 use Rattle.cy_engine.proofs.WorkedLines.{digit, keyword, create_line, create_lexed, create_tree, create_tokens, create_spelt, view_line, view_lexed, view_tokens, query_tree, query_spelt, rows_line, rows_lexed, rows_tokens, set_line, set_lexed, set_tokens, set_tree, set_spelt, unknown_line, unknown_lexed, unknown_spelt, null_line, null_lexed, null_spelt_whole, delete_line, delete_lexed, delete_tokens, delete_tree, delete_spelt, bare_line, bare_lexed, bare_tokens, bare_tree, bare_spelt}
@@ -55,10 +49,10 @@ view = record { name = codes "v"; query = keys; made = 2 }
 
 -- an engine with one node, of this number, or with none
 abbrev one : ℕ → Node → ℕ → List View → EngineState
-one id n tick views = record { graph = record { content = record { nodes = (record { 0 = id }, n) ∷ []; rels = [] }; next_node = id + 1; next_rel = 1 }; views = views; tick = tick; history = 64 }
+one id n tick views = record { graph = record { content = record { nodes = (record { 0 = id }, n) ∷ []; rels = [] }; next_node = id + 1; next_rel = 1 }; indexes = []; views = views; tick = tick; history = 64 }
 
 abbrev none : ℕ → List View → EngineState
-none tick views = record { graph = record { content = record { nodes = []; rels = [] }; next_node = 2; next_rel = 1 }; views = views; tick = tick; history = 64 }
+none tick views = record { graph = record { content = record { nodes = []; rels = [] }; next_node = 2; next_rel = 1 }; indexes = []; views = views; tick = tick; history = 64 }
 
 abbrev int : ℕ → Value
 int n = value.Int (pos n)

@@ -13,8 +13,10 @@ use Rattle.cy_scope.specs.declared.faults.ViewFault.TheVariants as view
 use Rattle.cy_scope.specs.Faults.{scope_code, view_code}
 use Rattle.cy_graph.specs.declared.faults.GraphFault.{GraphFault}
 use Rattle.cy_graph.specs.declared.faults.GraphFault.TheVariants as graph
+use Rattle.cy_index.specs.declared.faults.IndexFault.{IndexFault}
+use Rattle.cy_index.specs.declared.faults.IndexFault.TheVariants as index
 use Rattle.cy_engine.specs.declared.faults.Fault.{Fault}
-use Rattle.cy_engine.specs.declared.faults.Fault.TheVariants.{Lex, Parse, Scope, View, Unexpected, StillConnected, Full, ViewNameTaken, NoSuchView, TooManyViews, UnknownCommand, BadArgument, NoMemory}
+use Rattle.cy_engine.specs.declared.faults.Fault.TheVariants.{Lex, Parse, Scope, View, Unexpected, StillConnected, Full, ViewNameTaken, NoSuchView, TooManyViews, UnknownCommand, IndexThere, BadArgument, NoMemory}
 
 abbrev pub code_of : Fault → ℕ
 code_of (Lex fault) = lexer.code_of fault
@@ -28,6 +30,7 @@ code_of ViewNameTaken = 60
 code_of NoSuchView = 61
 code_of TooManyViews = 68
 code_of UnknownCommand = 70
+code_of IndexThere = 71
 code_of BadArgument = 72
 code_of NoMemory = 90
 
@@ -59,3 +62,7 @@ abbrev pub of_graph : GraphFault → Fault
 of_graph (graph.StillConnected rel) = StillConnected rel
 of_graph graph.Full = Full
 of_graph graph.NoMemory = NoMemory
+
+abbrev pub of_index : IndexFault → Fault
+of_index index.IndexThere = IndexThere
+of_index index.NoMemory = NoMemory

@@ -1,14 +1,17 @@
 -- The statements and queries that are carried out so far, as they stand in the trees (own: the rest of the language is read,
 -- and refused).
-use Rattle.std.specs.Prelude.{ℕ, Bool, true, false, not, ◌&&◌, ◌||◌, List, [], ◌∷◌, Option, Some, None, is_some, option_map, if◌then◌else◌}
+use Rattle.std.specs.Prelude.{Bool, not, ◌&&◌, ◌||◌, List, [], ◌∷◌, map, Option, Some, None, is_some, option_map, if◌then◌else◌}
 use Rattle.cy_trees.specs.declared.expressions.Variable.{Variable}
-use Rattle.cy_trees.specs.Trees.{Name, Expression, null, boolean, integer, text, variable, property, Entry, NodePattern, Step, Path, Item, Projection, SetItem, set_property, set_labels, Clause, «match», «return», create, set, delete, Statement}
+use Rattle.cy_trees.specs.Trees.{Name, Expression, null, boolean, integer, text, variable, property, MapEntry, NodePattern, RelationshipPattern, Step, Path, Item, Projection, SetItem, set_property, set_labels, Clause, «match», «return», create, set, delete, Statement}
 use Rattle.cy_scope.specs.Views.{has_order}
 use Rattle.cy_values.specs.declared.scalars.Value.{Value}
 use Rattle.cy_values.specs.declared.scalars.Value.TheVariants as value
 use Rattle.cy_engine.specs.declared.forms.Form.{Form}
 use Rattle.cy_engine.specs.declared.forms.Form.TheVariants as form
-use Rattle.cy_engine.specs.declared.forms.Create.{Create}
+use Rattle.cy_engine.specs.declared.parts.Create.{Create}
+use Rattle.cy_engine.specs.declared.parts.Part.{Part}
+use Rattle.cy_engine.specs.declared.parts.NodePlace.{NodePlace}
+use Rattle.cy_engine.specs.declared.parts.RelPlace.{RelPlace}
 use Rattle.cy_engine.specs.declared.forms.SetProperty.{SetProperty}
 use Rattle.cy_engine.specs.declared.forms.DetachDelete.{DetachDelete}
 use Rattle.cy_engine.specs.declared.forms.Query.{Query}
@@ -36,12 +39,12 @@ with_entry key (Some v) (Some es) = Some ((key, v) ∷ es)
 with_entry key _ _ = None
 
 -- the entries of a map whose values are literals
-abbrev pub literals : List Entry → Option (List (Name × Value))
+abbrev pub literals : List MapEntry → Option (List (Name × Value))
 literals [] = Some []
 literals (e ∷ es) = with_entry e.key (literal e.value) (literals es)
 
 -- no map is one without entries
-abbrev pub map_literals : Option (List Entry) → Option (List (Name × Value))
+abbrev pub map_literals : Option (List MapEntry) → Option (List (Name × Value))
 map_literals None = Some []
 map_literals (Some es) = literals es
 
@@ -54,15 +57,34 @@ start_alone start (s ∷ ss) = None
 abbrev pub lone_node : List Path → Option NodePattern
 lone_node paths = only paths >>= λ path. start_alone path.start path.steps
 
--- the label of a node without a variable
-abbrev pub unnamed_label : NodePattern → Option Name
-unnamed_label node = if is_some node.variable then None else only node.labels
+-- what a function gives for each of them, if it does for all
+abbrev pub for_all : {A B : Type 0} → (A → Option B) → List A → Option (List B)
+for_all f [] = Some []
+for_all f (x ∷ xs) = f x >>= λ y. for_all f xs >>= λ ys. Some (y ∷ ys)
 
--- `CREATE (:label {key: literal, ..})`
+-- a node place of CREATE, if the entries of its map are literals
+abbrev pub node_place : NodePattern → Option NodePlace
+node_place node =
+    map_literals node.properties >>= λ entries.
+    Some (record { name = option_map (λ v. v.name) node.variable; labels = node.labels; entries = entries })
+
+-- a relationship place of CREATE with its one type, if the entries of its map are literals
+abbrev pub rel_place : RelationshipPattern → Option RelPlace
+rel_place rel =
+    only rel.types >>= λ kind.
+    map_literals rel.properties >>= λ entries.
+    Some (record { direction = rel.direction; kind = kind; entries = entries })
+
+-- a path as a part of CREATE: its node places and its relationship places, each from the left
+abbrev pub part : Path → Option Part
+part path =
+    for_all node_place (path.start ∷ map (λ s. s.node) path.steps) >>= λ nodes.
+    for_all rel_place (map (λ s. s.relationship) path.steps) >>= λ rels.
+    Some (record { nodes = nodes; rels = rels })
+
+-- CREATE of any paths whose map entries are literals
 abbrev pub create_form : List Path → Option Create
-create_form paths =
-    lone_node paths >>= λ node. unnamed_label node >>= λ label. map_literals node.properties >>= λ entries.
-    Some (record { label = label; entries = entries })
+create_form paths = option_map (λ parts. record { parts = parts }) (for_all part paths)
 
 -- the label of a node without a map
 abbrev pub label_alone : NodePattern → Option Name

@@ -1,5 +1,5 @@
 -- What a line asks for, by its tokens (own).
-use Rattle.std.specs.Prelude.{ℕ, Bool, true, false, List, [], ◌∷◌, length, codes, Option, Some, None, if◌then◌else◌}
+use Rattle.std.specs.Prelude.{ℕ, Bool, true, false, ◌&&◌, List, [], ◌∷◌, length, codes, if◌then◌else◌}
 use Rattle.cy_lexer.specs.declared.tokens.Kind.{Kind}
 use Rattle.cy_lexer.specs.declared.tokens.Kind.TheVariants as kind
 use Rattle.cy_lexer.specs.declared.tokens.Token.{Token}
@@ -18,6 +18,8 @@ pub data Request : Type 0 where
   ViewOf : (name : List ℕ) → (query : List Token) → Request
   -- `:rows NAME`
   RowsOf : (name : List ℕ) → Request
+  -- `:index LABEL KEY`
+  IndexOf : (label : List ℕ) → (key : List ℕ) → Request
   -- a command that is refused
   Refused : Fault → Request
 
@@ -50,6 +52,12 @@ abbrev pub rows_request : List ℕ → List Token → Request
 rows_request line (name ∷ []) = if is_word name.kind then RowsOf (denotes line name) else Refused BadArgument
 rows_request line _ = Refused BadArgument
 
+-- two names and no more
+abbrev pub index_request : List ℕ → List Token → Request
+index_request line (label ∷ key ∷ []) =
+    if is_word label.kind && is_word key.kind then IndexOf (denotes line label) (denotes line key) else Refused BadArgument
+index_request line _ = Refused BadArgument
+
 -- whether the token is this word, whatever the case of its ASCII letters
 abbrev pub is_command : List ℕ → List ℕ → Token → Bool
 is_command spelling line word = if is_unquoted word.kind then same_word spelling (slice_in line word) else false
@@ -60,6 +68,7 @@ command_request line [] = Refused UnknownCommand
 command_request line (word ∷ arguments) =
     if is_command (codes "VIEW") line word then view_request line arguments
     else if is_command (codes "ROWS") line word then rows_request line (without_end arguments)
+    else if is_command (codes "INDEX") line word then index_request line (without_end arguments)
     else Refused UnknownCommand
 
 -- a colon begins a command, any other token a statement

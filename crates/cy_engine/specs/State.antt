@@ -3,6 +3,7 @@ use Rattle.std.specs.Prelude.{ℕ, ◌-◌, ◌^◌, List, [], find, Option}
 use Rattle.std.specs.Option.{option_map}
 use Rattle.std.specs.Str.{bytes_eq}
 use Rattle.cy_graph.specs.Graph.{State, empty_state}
+use Rattle.cy_index.specs.declared.keys.Pair.{Pair}
 use Rattle.cy_engine.specs.declared.entries.Entry.{Entry}
 use Rattle.cy_engine.specs.declared.forms.Query.{Query}
 
@@ -13,10 +14,11 @@ pub record View : Type 0 where
   pub query : Query
   pub made : ℕ
 
--- the graph with its next numbers, the views in the order in which they were made, the tick, and how many entries
--- a view's history has
+-- the graph with its next numbers, the labels and keys that have an index and the views, each in the order in which they were
+-- made, the tick, and how many entries a view's history has
 pub record EngineState : Type 0 where
   pub graph : State
+  pub indexes : List Pair
   pub views : List View
   pub tick : ℕ
   pub history : ℕ
@@ -38,9 +40,9 @@ last_tick = 2 ^ 62 - 1
 abbrev pub view_limit : ℕ
 view_limit = 256
 
--- an empty graph, no view, tick 0
+-- an empty graph, no index, no view, tick 0
 abbrev pub empty_engine : ℕ → EngineState
-empty_engine history = record { graph = empty_state 1 1; views = []; tick = 0; history = history }
+empty_engine history = record { graph = empty_state 1 1; indexes = []; views = []; tick = 0; history = history }
 
 abbrev pub new_machine : ℕ → Machine
 new_machine history = record { state = empty_engine history; entries = [] }

@@ -10,19 +10,20 @@ use Rattle.cy_parser.specs.Faults.{PointsAtPlace}
 use Rattle.cy_parser.specs.SpellsClauses.{SpellsStatement}
 use Rattle.cy_trees.specs.Trees.{Statement}
 use Rattle.cy_values.specs.declared.rows.Cell.{Cell}
-use Rattle.cy_values.specs.Bag.{IsBagOf, IsCanonical}
+use Rattle.cy_values.specs.Bag.{IsBagOf, IsCanonical, IsSameBag}
 use Rattle.cy_graph.specs.Graph.{Content}
+use Rattle.cy_index.specs.declared.keys.Pair.{Pair}
 use Rattle.cy_engine.specs.declared.entries.Entry.{Entry}
 use Rattle.cy_engine.specs.declared.faults.Fault.{Fault}
 use Rattle.cy_engine.specs.declared.faults.Fault.TheVariants as fault
 use Rattle.cy_engine.specs.declared.replies.Reply.{Reply}
 use Rattle.cy_engine.specs.declared.replies.Reply.TheVariants as reply
 use Rattle.cy_engine.specs.declared.forms.Query.{Query}
-use Rattle.cy_engine.specs.Difference.{IsSameBag, IsDifference}
+use Rattle.cy_engine.specs.Difference.{IsDifference}
 use Rattle.cy_engine.specs.Meaning.{rows_of}
-use Rattle.cy_engine.specs.Requests.{Request, Nothing, StatementOf, ViewOf, RowsOf, Refused, request, first_offset}
+use Rattle.cy_engine.specs.Requests.{Request, Nothing, StatementOf, ViewOf, RowsOf, IndexOf, Refused, request, first_offset}
 use Rattle.cy_engine.specs.State.{EngineState, Entries, View}
-use Rattle.cy_engine.specs.Verdicts.{Carried, statement_verdict, view_verdict, rows_verdict}
+use Rattle.cy_engine.specs.Verdicts.{Carried, statement_verdict, view_verdict, rows_verdict, index_verdict}
 
 -- ---- what is answered
 
@@ -72,6 +73,12 @@ pub record IsMade (view : View) (old : EngineState) (answer : Answer) (entries :
   pub no_entries : entries ≡ []
   pub left : new ≡ record old { views = old.views ++ view ∷ []; tick = view.made }
 
+-- the label and the key have an index, and nothing else differs
+pub record IsIndexed (pair : Pair) (old : EngineState) (answer : Answer) (entries : Entries) (new : EngineState) : Type 0 where
+  pub answered : answer ≡ Ok (reply.Index pair.label pair.key)
+  pub no_entries : entries ≡ []
+  pub left : new ≡ record old { indexes = old.indexes ++ pair ∷ [] }
+
 -- a statement is carried out, or refused
 abbrev pub Carries : Result Carried Fault → EngineState → Answer → Entries → EngineState → Type 0
 Carries (Ok carried) = IsCarried carried
@@ -81,6 +88,11 @@ Carries (Err why) = IsRefused why
 abbrev pub Makes : Result View Fault → EngineState → Answer → Entries → EngineState → Type 0
 Makes (Ok view) = IsMade view
 Makes (Err why) = IsRefused why
+
+-- an index is made, or refused
+abbrev pub Indexes : Result Pair Fault → EngineState → Answer → Entries → EngineState → Type 0
+Indexes (Ok pair) = IsIndexed pair
+Indexes (Err why) = IsRefused why
 
 -- the rows of a view are shown, or there is no such view
 abbrev pub Shows : List ℕ → Result View Fault → EngineState → Answer → Entries → EngineState → Type 0
@@ -108,6 +120,7 @@ Answers line Nothing old = IsReplied reply.Nothing old
 Answers line (StatementOf tokens) old = Reads line tokens (λ tree. Carries (statement_verdict tree (first_offset line tokens) old)) old
 Answers line (ViewOf name tokens) old = Reads line tokens (λ tree. Makes (view_verdict tree name (first_offset line tokens) old)) old
 Answers line (RowsOf name) old = Shows name (rows_verdict name old) old
+Answers line (IndexOf label key) old = Indexes (index_verdict label key old) old
 Answers line (Refused why) old = IsRefused why old
 
 -- a line that isn't made of tokens is refused; any other is answered as it asks

@@ -1,6 +1,6 @@
--- Verdicts: what is done with a statement, a query that is to be a view, and a command, or the first reason against it. Each order
--- of reasons is said here, once (own).
-use Rattle.std.specs.Prelude.{ℕ, Bool, true, false, ◌+◌, ◌==◌, ◌&&◌, List, length, Option, Some, None, Result, Ok, Err, if◌then◌else◌, is_some, nat_lt}
+-- Verdicts (own). The verdict on a statement, on a query that is to be a view's, or on a command is what is done with it, or the
+-- first reason against it. Each order of reasons stands here, and nowhere else.
+use Rattle.std.specs.Prelude.{ℕ, Bool, true, false, ◌+◌, ◌==◌, ◌&&◌, not, List, length, Option, Some, None, Result, Ok, Err, if◌then◌else◌, nat_lt}
 use Rattle.std.specs.Ordering.{eq_by_cmp}
 use Rattle.std.specs.Cmp.Lexicographic.{pointwise}
 use Rattle.std.specs.Str.{bytes_eq}
@@ -15,18 +15,15 @@ use Rattle.cy_values.specs.declared.scalars.Value.{Value}
 use Rattle.cy_graph.specs.Graph.{Content, State}
 use Rattle.cy_graph.specs.declared.nodes.Node.{Node}
 use Rattle.cy_graph.specs.declared.nodes.Rel.{Rel}
+use Rattle.cy_index.specs.Index.{has_pair}
+use Rattle.cy_index.specs.declared.keys.Pair.{Pair}
 use Rattle.cy_engine.specs.declared.faults.Fault.{Fault}
 use Rattle.cy_engine.specs.declared.faults.Fault.TheVariants as fault
 use Rattle.cy_engine.specs.declared.forms.Form.{Form}
 use Rattle.cy_engine.specs.declared.forms.Query.{Query}
 use Rattle.cy_engine.specs.Forms.{served_statement, served_query}
-use Rattle.cy_engine.specs.Meaning.{Outcome, carried_out}
+use Rattle.cy_engine.specs.Meaning.{◌>>=◌, Outcome, carried_out}
 use Rattle.cy_engine.specs.State.{EngineState, View, view_at, last_tick, view_limit}
-
-infixl 10 ◌>>=◌
-abbrev pub ◌>>=◌ : {A B : Type 0} → Result A Fault → (A → Result B Fault) → Result B Fault
-(Ok x) >>= f = f x
-(Err e) >>= f = Err e
 
 -- nothing is against it, or this is
 abbrev pub unless : {F : Type 0} → (F → Fault) → Option F → Result (Unit {0}) Fault
@@ -129,3 +126,9 @@ view_verdict tree name at state = query_verdict tree at >>= λ query. make_verdi
 -- the view whose rows are asked for
 abbrev pub rows_verdict : List ℕ → EngineState → Result View Fault
 rows_verdict name state = there fault.NoSuchView (view_at name state)
+
+-- the label and the key that get an index, unless there is one for them
+abbrev pub index_verdict : List ℕ → List ℕ → EngineState → Result Pair Fault
+index_verdict label key state =
+    needs (not (has_pair label key state.indexes)) fault.IndexThere >>= λ _.
+    Ok (record { label = label; key = key })

@@ -1,4 +1,5 @@
 pub mod Counting
+pub mod Creating
 pub mod Each
 pub mod Literals
 pub mod Representation

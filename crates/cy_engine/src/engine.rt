@@ -1,13 +1,13 @@
 //! The engine: one line at a time.
 
-ghost use Rattle.std.specs.Prelude.{◌≡◌, ◌≤◌, ◌⊎◌, [], map, None, Some, IfErr, IfOk, IsSome, MatchResult, Ok, Err};
+ghost use Rattle.std.specs.Prelude.{◌≡◌, ◌≤◌, ◌⊎◌, [], map, Some, IfErr, IfOk, IsOk, MatchResult, Ok, Err};
 ghost use Rattle.std.specs.Option.{option_copied};
 ghost use Rattle.cy_engine.specs.internal.Literals.{HasLiterals};
-ghost use Rattle.cy_engine.specs.Requests.{StatementOf, ViewOf, RowsOf};
-ghost use Rattle.cy_engine.specs.State.{View, entry_at, last_tick, new_machine, view_at};
+ghost use Rattle.cy_engine.specs.Requests.{StatementOf, ViewOf};
+ghost use Rattle.cy_engine.specs.State.{View, entry_at, last_tick, new_machine};
 ghost use Rattle.cy_engine.specs.Step.{AreRows, Step};
-ghost use Rattle.cy_engine.specs.Verdicts.{carry_verdict, make_verdict, next_tick};
-ghost use Rattle.cy_engine.specs.internal.Stages.{AnswersOrWants, Changes, ShowsRows};
+ghost use Rattle.cy_engine.specs.Verdicts.{carry_verdict, make_verdict, next_tick, rows_verdict};
+ghost use Rattle.cy_engine.specs.internal.Stages.{AddsIndex, AnswersOrWants, Changes, ShowsRows};
 ghost use Rattle.cy_engine.specs.Model.{view_of};
 
 use crate::entries::{Entry, entries_of};
@@ -18,9 +18,9 @@ use crate::replies::{Changed, Reply};
 use crate::requests::{Request, read_request};
 use crate::statements::carry_out;
 use crate::views::{Registered, made_reply, register, rows_with_counts};
-use cy_graph::Graph;
+use cy_index::Store;
 use cy_lexer::{Token, lex};
-use cy_values::{Row, Sequence, Text};
+use cy_values::{Duplicate, Row, Sequence, Text};
 use indexmap::IndexMap;
 use std::alloc::Global;
 use std::marker::Model;
@@ -35,7 +35,7 @@ const VIEW_LIMIT: usize = 256;
 #[derive(Drop)]
 pub struct Engine {
     alloc: Global,
-    graph: Graph,
+    store: Store,
     /// By name, in the order in which they were made.
     views: IndexMap<String, Registered>,
     tick: u64,
@@ -59,13 +59,13 @@ impl Model for Engine {
 
     ghost Value = { Machine };
 
-    ghost view = { λ e. machine_of e.graph e.views.entries e.tick e.history e.entries };
+    ghost view = { λ e. machine_of e.store e.views.entries e.tick e.history e.entries };
 
-    ghost invariant = { λ e. IsAtRest e.graph e.views.entries e.tick };
+    ghost invariant = { λ e. IsAtRest e.store.graph e.views.entries e.tick };
 }
 
 impl Engine {
-    /// An engine with an empty graph and no view, at tick 0. History is how many entries of a view's feed are kept.
+    /// An engine with an empty graph, no index and no view, at tick 0. History is how many entries of a view's feed are kept.
     pub fn new(alloc: Global, history: usize) -> Self
         requires from { 1 ≤ history }
         requires to { history ≤ 4096 }
@@ -73,7 +73,7 @@ impl Engine {
     {
         Engine {
             alloc,
-            graph: Graph::new(alloc),
+            store: Store::new(alloc),
             views: IndexMap::new(alloc),
             tick: 0,
             history,
@@ -85,20 +85,16 @@ impl Engine {
     ///
     /// The line is made of tokens, or `Lex`. A colon begins a command: `UnknownCommand` or `BadArgument` where it isn't one. A
     /// statement is, in this order, `Parse`, `Scope`, `Unexpected` where it isn't carried out so far, or `Full` where number 2^40
-    /// was given out, or where it would change the content of the graph and the tick is the last. A view is, in this order,
+    /// of its series was given out, or where it would change the content of the graph and the tick is the last. A view is, in this order,
     /// `Parse`, `Scope`, `View`, `Unexpected`, `ViewNameTaken`, `TooManyViews`, or `Full` where the last tick was given out. Rows
-    /// are refused as `NoSuchView`. `NoMemory` may come of any line that isn't too long.
+    /// are refused as `NoSuchView`, an index as `IndexThere`. `NoMemory` may come of any line that isn't too long.
     pub fn line(&mut self, line: &str) -> Result<Reply, Fault>
         ensures { Step self.old.state line.now result self.new.entries self.new.state }
     {
-        self.entries = Sequence::new(Vec::new(self.alloc));
-        let tokens = lex(self.alloc, line)?;
-        match read_request(self.alloc, tokens.as_slice(), line)? {
-            Request::Nothing => Ok(Reply::Nothing),
-            Request::Statement(tokens) => self.answer_statement(line, tokens),
-            Request::View { name, query } => self.make_view(line, name.as_str(), query),
-            Request::Rows { name } => self.show_rows(name.as_str()),
-        }
+        let mut entries = Sequence::new(Vec::new(self.alloc));
+        let answer = self.answer(line, &mut entries);
+        self.entries = entries;
+        answer
     }
 
     /// The number of the last line that changed the graph or made a view, 0 before the first.
@@ -111,11 +107,11 @@ impl Engine {
     /// The rows of a view with their counts: what its query means on the graph, each row once, in canonical order.
     /// `NoSuchView` where there is no view of this name; else it fails only for want of memory.
     pub fn rows(&self, view: &str) -> Result<Vec<(Row, u64)>, Fault>
-        ensures rows { IfOk result (λ rows. (found : View) × (view_at view.now self.now.state ≡ Some found) × AreRows self.now.state found rows.items) }
-        ensures refused { IfErr result (λ fault. ((fault ≡ Fault.NoSuchView) × (view_at view.now self.now.state ≡ None)) ⊎ ((fault ≡ Fault.NoMemory) × IsSome (view_at view.now self.now.state))) }
+        ensures rows { IfOk result (λ rows. (found : View) × (rows_verdict view.now self.now.state ≡ Ok found) × AreRows self.now.state found rows.items) }
+        ensures refused { IfErr result (λ fault. (rows_verdict view.now self.now.state ≡ Err fault) ⊎ ((fault ≡ Fault.NoMemory) × IsOk (rows_verdict view.now self.now.state))) }
     {
         match self.views.get(view) {
-            Some(found) => rows_with_counts(self.alloc, &found.query, &self.graph),
+            Some(found) => rows_with_counts(self.alloc, &found.query, &self.store),
             None => Err(Fault::NoSuchView),
         }
     }
@@ -137,24 +133,44 @@ impl Engine {
         Some(entry)
     }
 
-    // Answers a statement.
-    fn answer_statement(&mut self, line: &str, tokens: &[Token]) -> Result<Reply, Fault>
-        requires no_entries { self.old.entries ≡ [] }
-        ensures { AnswersOrWants line.now (StatementOf tokens.now) self.old.state result self.new.entries self.new.state }
+    // Answers a line. The entries are none so far, and then those that it makes.
+    fn answer(&mut self, line: &str, entries: &mut Sequence<(Text, Entry)>) -> Result<Reply, Fault>
+        requires none { entries.old ≡ [] }
+        ensures { Step self.old.state line.now result entries.new self.new.state }
+    {
+        let tokens = lex(self.alloc, line)?;
+        match read_request(self.alloc, tokens.as_slice(), line)? {
+            Request::Nothing => Ok(Reply::Nothing),
+            Request::Statement(tokens) => self.answer_statement(line, tokens, entries),
+            Request::View { name, query } => self.make_view(line, name.as_str(), query),
+            Request::Rows { name } => self.show_rows(name.as_str()),
+            Request::Index { label, key } => self.add_index(label, key),
+        }
+    }
+
+    // Answers a statement. The entries are none so far, and then those that it makes.
+    fn answer_statement(
+        &mut self,
+        line: &str,
+        tokens: &[Token],
+        entries: &mut Sequence<(Text, Entry)>,
+    ) -> Result<Reply, Fault>
+        requires none { entries.old ≡ [] }
+        ensures { AnswersOrWants line.now (StatementOf tokens.now) self.old.state result entries.new self.new.state }
     {
         let form = read_form(self.alloc, line, tokens)?;
-        self.graph.begin();
-        match effect_of(self.alloc, &mut self.graph, &self.views, form, self.tick) {
+        self.store.begin();
+        match effect_of(self.alloc, &mut self.store, &self.views, form, self.tick) {
             Ok(
                 Effect {
                     changed,
                     tick,
-                    entries,
+                    entries: made,
                 },
             ) => {
-                self.graph.commit();
+                self.store.commit();
                 self.tick = tick;
-                self.entries = entries;
+                *entries = made;
                 Ok(Reply::Statement {
                     changed,
                     columns: Sequence::new(Vec::new(self.alloc)),
@@ -162,7 +178,7 @@ impl Engine {
                 })
             }
             Err(fault) => {
-                self.graph.rollback();
+                self.store.rollback();
                 Err(fault)
             }
         }
@@ -170,8 +186,7 @@ impl Engine {
 
     // Makes a view.
     fn make_view(&mut self, line: &str, name: &str, tokens: &[Token]) -> Result<Reply, Fault>
-        requires no_entries { self.old.entries ≡ [] }
-        ensures { AnswersOrWants line.now (ViewOf name.now tokens.now) self.old.state result self.new.entries self.new.state }
+        ensures { AnswersOrWants line.now (ViewOf name.now tokens.now) self.old.state result [] self.new.state }
     {
         let query = read_query(self.alloc, line, tokens)?;
         let made = self.next_view(name, &query)?;
@@ -198,6 +213,18 @@ impl Engine {
             return Err(Fault::TooManyViews);
         }
         next_tick(self.tick)
+    }
+
+    // Adds an index for a label and a key.
+    fn add_index(&mut self, label: Text, key: Text) -> Result<Reply, Fault>
+        ensures { AddsIndex label key self.old.state result [] self.new.state }
+    {
+        let reply = Reply::Index {
+            label: label.copy(self.alloc)?,
+            key: key.copy(self.alloc)?,
+        };
+        self.store.add_index(label, key)?;
+        Ok(reply)
     }
 
     // Shows the rows of a view.
@@ -228,22 +255,22 @@ fn next_tick(tick: u64) -> Result<u64, Fault>
 // Carries a form out in the open change, and says what that does. After a fault the change is to be rolled back.
 fn effect_of(
     alloc: Global,
-    graph: &mut Graph,
+    store: &mut Store,
     views: &IndexMap<String, Registered>,
     form: Form,
     tick: u64,
 ) -> Result<Effect, Fault>
-    requires open { graph.old.was ≡ Some graph.old.now }
-    requires bare { graph.old.now.content.rels ≡ [] }
+    requires open { store.old.graph.was ≡ Some store.old.graph.now }
     requires literals { HasLiterals form }
     requires in_time { tick ≤ last_tick }
-    ensures changes { IfOk result (λ effect. Changes form (map view_of views.now.entries) graph.old.now tick effect graph.new.now) }
-    ensures refused { IfErr result (λ fault. (fault ≡ Fault.NoMemory) ⊎ (carry_verdict form graph.old.now tick ≡ Err fault)) }
+    ensures changes { IfOk result (λ effect. Changes form (map view_of views.now.entries) store.old.graph.now tick effect store.new.graph.now) }
+    ensures refused { IfErr result (λ fault. (fault ≡ Fault.NoMemory) ⊎ (carry_verdict form store.old.graph.now tick ≡ Err fault)) }
     ensures in_time { IfOk result (λ effect. effect.tick ≤ last_tick) }
-    ensures open { graph.new.was ≡ graph.old.was }
+    ensures open { store.new.graph.was ≡ store.old.graph.was }
+    ensures indexes { store.new.chosen ≡ store.old.chosen }
 {
-    let changed = carry_out(alloc, graph, form)?;
-    let touched = graph.touched(alloc)?;
+    let changed = carry_out(alloc, store, form)?;
+    let touched = store.touched(alloc)?;
     if touched.is_empty() {
         return Ok(Effect {
             changed,
@@ -252,7 +279,7 @@ fn effect_of(
         });
     }
     let tick = next_tick(tick)?;
-    let entries = entries_of(alloc, views, graph, touched.as_slice(), tick)?;
+    let entries = entries_of(alloc, views, store, touched.as_slice(), tick)?;
     Ok(Effect {
         changed,
         tick,

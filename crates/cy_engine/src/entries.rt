@@ -2,7 +2,7 @@
 
 ghost use Rattle.std.specs.Prelude.{◌≡◌, ◌↔◌, ◌++◌, [], IfErr, IfOk, IfSome, IsTrue, OnOk, map};
 ghost use Rattle.std.specs.Option.{option_copied};
-ghost use Rattle.cy_graph.specs.Touched.{entry_of};
+ghost use Rattle.cy_graph.specs.Touched.{before_image};
 ghost use Rattle.cy_values.specs.Bag.{IsBagOf, IsCanonical};
 ghost use Rattle.cy_engine.specs.Difference.{IsDifference};
 ghost use Rattle.cy_engine.specs.Model.{view_of};
@@ -14,7 +14,8 @@ use crate::differences::difference;
 use crate::faults::Fault;
 use crate::forms::Query;
 use crate::views::{Registered, counted_in_order, row};
-use cy_graph::{Graph, Node, Touched, Was};
+use cy_graph::{Node, Touched, Was};
+use cy_index::Store;
 use cy_values::{Entity, Row, Sequence, Text, row_order_laws};
 use indexmap::IndexMap;
 use std::alloc::Global;
@@ -39,17 +40,17 @@ pub struct Entry {
 pub(crate) fn entries_of(
     alloc: Global,
     views: &IndexMap<String, Registered>,
-    graph: &Graph,
+    store: &Store,
     touched: &[Touched<'_>],
     tick: u64,
 ) -> Result<Vec<(Text, Entry)>, Fault>
-    requires { HasTouched graph.now (map entry_of touched.now) }
-    ensures entries { IfOk result (λ entries. IfSome graph.now.was (λ before. AreEntries (map view_of views.now.entries) before.content graph.now.now.content tick entries.items)) }
+    requires { HasTouched store.now.graph (map before_image touched.now) }
+    ensures entries { IfOk result (λ entries. IfSome store.now.graph.was (λ before. AreEntries (map view_of views.now.entries) before.content store.now.graph.now.content tick entries.items)) }
     ensures memory { IfErr result (λ fault. fault ≡ Fault.NoMemory) }
 {
     let mut entries = Vec::new(alloc);
     for (name, view) in views.iter() {
-        if let Some(change) = change_of(alloc, &view.query, graph, touched)? {
+        if let Some(change) = change_of(alloc, &view.query, store, touched)? {
             let name = Text::from_str(alloc, name.as_str())?;
             entries.push((name, Entry { tick, change }))?;
         }
@@ -61,14 +62,14 @@ pub(crate) fn entries_of(
 fn change_of(
     alloc: Global,
     query: &Query,
-    graph: &Graph,
+    store: &Store,
     touched: &[Touched<'_>],
 ) -> Result<Option<Change>, Fault>
-    requires { HasTouched graph.now (map entry_of touched.now) }
-    ensures change { IfOk result (λ change. IfSome graph.now.was (λ before. IsChangeOf query.now before.content graph.now.now.content change)) }
+    requires { HasTouched store.now.graph (map before_image touched.now) }
+    ensures change { IfOk result (λ change. IfSome store.now.graph.was (λ before. IsChangeOf query.now before.content store.now.graph.now.content change)) }
     ensures memory { IfErr result (λ fault. fault ≡ Fault.NoMemory) }
 {
-    let change = row_difference(alloc, query, graph, touched)?;
+    let change = row_difference(alloc, query, store, touched)?;
     row_order_laws();
     if is_empty(&change) {
         Ok(None)
@@ -88,21 +89,21 @@ fn is_empty(change: &Change) -> bool
 fn row_difference(
     alloc: Global,
     query: &Query,
-    graph: &Graph,
+    store: &Store,
     touched: &[Touched<'_>],
 ) -> Result<Change, Fault>
-    requires { HasTouched graph.now (map entry_of touched.now) }
-    ensures change { IfOk result (λ change. IfSome graph.now.was (λ before. IsDifference (rows_of query.now before.content) (rows_of query.now graph.now.now.content) change)) }
+    requires { HasTouched store.now.graph (map before_image touched.now) }
+    ensures change { IfOk result (λ change. IfSome store.now.graph.was (λ before. IsDifference (rows_of query.now before.content) (rows_of query.now store.now.graph.now.content) change)) }
     ensures memory { IfErr result (λ fault. fault ≡ Fault.NoMemory) }
 {
     let before = counted_in_order(alloc, old_rows(alloc, query, touched)?)?;
-    let after = counted_in_order(alloc, new_rows(alloc, query, graph, touched)?)?;
+    let after = counted_in_order(alloc, new_rows(alloc, query, store, touched)?)?;
     difference(alloc, before.as_slice(), after.as_slice())
 }
 
 // The rows of touched nodes as they were.
 fn old_rows(alloc: Global, query: &Query, touched: &[Touched<'_>]) -> Result<Vec<Row>, Fault>
-    ensures rows { IfOk result (λ rows. rows.items ≡ rows_before query.now (map entry_of touched.now)) }
+    ensures rows { IfOk result (λ rows. rows.items ≡ rows_before query.now (map before_image touched.now)) }
     ensures memory { IfErr result (λ fault. fault ≡ Fault.NoMemory) }
 {
     let mut rows = Vec::new(alloc);
@@ -118,16 +119,16 @@ fn old_rows(alloc: Global, query: &Query, touched: &[Touched<'_>]) -> Result<Vec
 fn new_rows(
     alloc: Global,
     query: &Query,
-    graph: &Graph,
+    store: &Store,
     touched: &[Touched<'_>],
 ) -> Result<Vec<Row>, Fault>
-    ensures rows { IfOk result (λ rows. rows.items ≡ rows_after query.now graph.now.now (map entry_of touched.now)) }
+    ensures rows { IfOk result (λ rows. rows.items ≡ rows_after query.now store.now.graph.now (map before_image touched.now)) }
     ensures memory { IfErr result (λ fault. fault ≡ Fault.NoMemory) }
 {
     let mut rows = Vec::new(alloc);
     for one in touched.iter() {
         if let Entity::Node(id) = one.entity {
-            push_row(alloc, query, &mut rows, graph.node(id))?;
+            push_row(alloc, query, &mut rows, store.node(id))?;
         }
     }
     Ok(rows)

@@ -1,10 +1,11 @@
 //! Why a line was refused.
 
 ghost use Rattle.std.specs.Prelude.{◌≡◌};
-ghost use Rattle.cy_engine.specs.Faults.{code_of, offset_of, of_graph, of_lexer, of_parser, of_scope, of_view};
+ghost use Rattle.cy_engine.specs.Faults.{code_of, offset_of, of_graph, of_index, of_lexer, of_parser, of_scope, of_view};
 ghost use Rattle.cy_engine.specs.declared.faults.Fault.TheVariants.{NoMemory};
 
 use cy_graph::GraphFault;
+use cy_index::IndexFault;
 use cy_lexer::LexFault;
 use cy_parser::ParseFault;
 use cy_scope::{ScopeFault, ViewFault};
@@ -33,7 +34,7 @@ pub enum Fault {
     /// A node that is to go has relationships; this is the one with the least number.
     #[error("a relationship is still there")]
     StillConnected(RelId),
-    /// All 2^40 numbers of nodes were given out, or the tick is at its end.
+    /// All 2^40 numbers of nodes or of relationships were given out, or the tick is at its end.
     #[error("no number is left")]
     Full,
     #[error("a view has this name")]
@@ -46,6 +47,9 @@ pub enum Fault {
     /// The word of a command is missing, quoted or no command's.
     #[error("unknown command")]
     UnknownCommand,
+    /// There is an index for this label and this key.
+    #[error("the index is there")]
+    IndexThere,
     /// An argument of a command is missing, wrong or one too many.
     #[error("bad argument")]
     BadArgument,
@@ -71,6 +75,7 @@ impl Fault {
             Fault::NoSuchView => 61,
             Fault::TooManyViews => 68,
             Fault::UnknownCommand => 70,
+            Fault::IndexThere => 71,
             Fault::BadArgument => 72,
             Fault::NoMemory => 90,
         }
@@ -157,6 +162,17 @@ impl From<GraphFault> for Fault {
             GraphFault::StillConnected(rel) => Fault::StillConnected(rel),
             GraphFault::Full => Fault::Full,
             GraphFault::NoMemory => Fault::NoMemory,
+        }
+    }
+}
+
+impl From<IndexFault> for Fault {
+    ghost from_gives = { λ refused fault. fault ≡ of_index refused };
+
+    fn from(refused: IndexFault) -> Fault {
+        match refused {
+            IndexFault::IndexThere => Fault::IndexThere,
+            IndexFault::NoMemory => Fault::NoMemory,
         }
     }
 }

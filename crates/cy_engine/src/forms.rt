@@ -8,10 +8,11 @@ ghost use Rattle.cy_engine.specs.Forms as spec;
 ghost use Rattle.cy_engine.specs.internal.Literals.{AreLiterals, HasLiterals, is_literal};
 
 use crate::faults::Fault;
+use crate::parts::{Create, create_form};
 use cy_trees::{
-    Clause, Delete, Entry, Expr, Match, NodePattern, Path, Projection, SetItem, Statement,
+    Clause, Delete, Expr, MapEntry, Match, NodePattern, Path, Projection, SetItem, Statement,
 };
-use cy_values::{Duplicate, Sequence, Text, Value};
+use cy_values::{Duplicate, Text, Value};
 use std::alloc::Global;
 
 /// A statement that is carried out.
@@ -20,14 +21,6 @@ pub(crate) enum Form {
     Create(Create),
     Set(SetProperty),
     Delete(DetachDelete),
-}
-
-/// `CREATE (:label {key: value, ..})`.
-#[derive(Debug, Drop)]
-pub(crate) struct Create {
-    pub(crate) label: Text,
-    /// The entries of the map as they stand, from the left.
-    pub(crate) entries: Sequence<(Text, Value)>,
 }
 
 /// `MATCH (n:label) SET n.key = value`.
@@ -61,7 +54,7 @@ pub(crate) fn served_statement(alloc: Global, statement: &Statement) -> Result<O
     ensures memory { IfErr result (λ fault. fault ≡ Fault.NoMemory) }
 {
     match statement.clauses.as_slice() {
-        [Clause::Create(paths)] => create_form(alloc, paths),
+        [Clause::Create(paths)] => Ok(create_form(alloc, paths)?.map(Form::Create)),
         [Clause::Match(matching), clause] => changed_form(alloc, matching, clause),
         _ => Ok(None),
     }
@@ -80,8 +73,8 @@ pub(crate) fn served_query(alloc: Global, statement: &Statement) -> Result<Optio
     }
 }
 
-// The one element of a slice.
-fn only<T>(elements: &[T]) -> Option<&T>
+/// The one element of a slice.
+pub(crate) fn only<T>(elements: &[T]) -> Option<&T>
     ensures { option_copied result ≡ spec.only elements.now }
 {
     match elements {
@@ -117,8 +110,11 @@ fn literal(alloc: Global, expression: &Expr) -> Result<Option<Value>, Fault>
     }
 }
 
-// The entries of a map whose values are literals.
-fn literals(alloc: Global, entries: &[Entry]) -> Result<Option<Vec<(Text, Value)>>, Fault>
+/// The entries of a map whose values are literals.
+pub(crate) fn literals(
+    alloc: Global,
+    entries: &[MapEntry],
+) -> Result<Option<Vec<(Text, Value)>>, Fault>
     ensures entries { IfOk result (λ found. option_map (λ es. es.items) found ≡ spec.literals (map entry_of entries.now)) }
     ensures literals { IfOk result (λ found. IfSome found (λ es. AreLiterals es.items)) }
     ensures memory { IfErr result (λ fault. fault ≡ Fault.NoMemory) }
@@ -133,10 +129,10 @@ fn literals(alloc: Global, entries: &[Entry]) -> Result<Option<Vec<(Text, Value)
     Ok(Some(found))
 }
 
-// The entries of a map, if there is one.
-fn map_literals(
+/// The entries of a map, if there is one.
+pub(crate) fn map_literals(
     alloc: Global,
-    properties: &Option<Vec<Entry>>,
+    properties: &Option<Vec<MapEntry>>,
 ) -> Result<Option<Vec<(Text, Value)>>, Fault>
     ensures entries { IfOk result (λ found. option_map (λ es. es.items) found ≡ spec.map_literals (option_map (λ es. map entry_of es.items) properties.now)) }
     ensures literals { IfOk result (λ found. IfSome found (λ es. AreLiterals es.items)) }
@@ -146,37 +142,6 @@ fn map_literals(
         Some(entries) => literals(alloc, entries),
         None => Ok(Some(Vec::new(alloc))),
     }
-}
-
-// The label of a node to be made that has no variable.
-fn unnamed_label(node: &NodePattern) -> Option<&Text>
-    ensures { option_map (λ label. label.now) result ≡ spec.unnamed_label (node_of node.now) }
-{
-    if node.variable.is_some() {
-        return None;
-    }
-    only(&node.labels)
-}
-
-// `CREATE (:label {key: literal, ..})`.
-fn create_form(alloc: Global, paths: &[Path]) -> Result<Option<Form>, Fault>
-    ensures form { IfOk result (λ form. form ≡ option_map (λ f. Form.Create f) (spec.create_form (map path_of paths.now))) }
-    ensures literals { IfOk result (λ form. IfSome form HasLiterals) }
-    ensures memory { IfErr result (λ fault. fault ≡ Fault.NoMemory) }
-{
-    let Some(node) = lone_node(paths) else {
-        return Ok(None);
-    };
-    let Some(label) = unnamed_label(node) else {
-        return Ok(None);
-    };
-    let Some(entries) = map_literals(alloc, &node.properties)? else {
-        return Ok(None);
-    };
-    Ok(Some(Form::Create(Create {
-        label: label.copy(alloc)?,
-        entries: Sequence::new(entries),
-    })))
 }
 
 // The label of `MATCH (n:label)`.

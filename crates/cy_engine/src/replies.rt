@@ -34,4 +34,9 @@ pub enum Reply {
         tick: u64,
         view: Text,
     },
+    /// An index was made.
+    Index {
+        label: Text,
+        key: Text,
+    },
 }

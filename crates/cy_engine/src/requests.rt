@@ -1,13 +1,12 @@
 //! What a line asks for, by its tokens.
 
-ghost use Rattle.std.specs.Prelude.{◌≡◌, IfOk, IfErr, MatchResult, ◌⊎◌};
-ghost use Rattle.cy_lexer.specs.Keywords.{same_word};
-ghost use Rattle.cy_parser.specs.Words.{is_word, denotes, slice_in};
+ghost use Rattle.std.specs.Prelude.{◌≡◌, MatchResult, ◌⊎◌};
 ghost use Rattle.cy_engine.specs.Requests as spec;
 ghost use Rattle.cy_engine.specs.internal.Stages.{shown};
 
 use crate::faults::Fault;
-use cy_lexer::{Kind, Symbol, Token};
+use cy_lexer::{Kind, Symbol, Token, is_same_word};
+use cy_parser::{denoted_text, is_word, slice_in};
 use cy_values::Text;
 use std::alloc::Global;
 
@@ -22,6 +21,8 @@ pub(crate) enum Request<'a> {
     View { name: Text, query: &'a [Token] },
     /// `:rows NAME`.
     Rows { name: Text },
+    /// `:index LABEL KEY`.
+    Index { label: Text, key: Text },
 }
 
 /// What the tokens of a line ask for: a colon begins a command, any other token a statement. A command whose word is missing,
@@ -57,6 +58,8 @@ fn command_request<'a>(
         view_request(alloc, arguments, line)
     } else if is_command("ROWS", line, word) {
         rows_request(alloc, without_end(arguments), line)
+    } else if is_command("INDEX", line, word) {
+        index_request(alloc, without_end(arguments), line)
     } else {
         Err(Fault::UnknownCommand)
     }
@@ -66,8 +69,8 @@ fn view_request<'a>(alloc: Global, arguments: &'a [Token], line: &str) -> Result
     ensures { MatchResult result (λ request. spec.view_request line.now arguments.now ≡ shown request) (λ fault. (fault ≡ Fault.NoMemory) ⊎ (spec.view_request line.now arguments.now ≡ spec.Refused fault)) }
 {
     match arguments.split_first() {
-        Some((name, query)) if is_name(name.kind) => Ok(Request::View {
-            name: name_text(alloc, line, name)?,
+        Some((name, query)) if is_word(name.kind) => Ok(Request::View {
+            name: denoted_text(alloc, line, name)?,
             query,
         }),
         _ => Err(Fault::BadArgument),
@@ -78,8 +81,24 @@ fn rows_request<'a>(alloc: Global, arguments: &'a [Token], line: &str) -> Result
     ensures { MatchResult result (λ request. spec.rows_request line.now arguments.now ≡ shown request) (λ fault. (fault ≡ Fault.NoMemory) ⊎ (spec.rows_request line.now arguments.now ≡ spec.Refused fault)) }
 {
     match arguments {
-        [name] if is_name(name.kind) => Ok(Request::Rows {
-            name: name_text(alloc, line, name)?,
+        [name] if is_word(name.kind) => Ok(Request::Rows {
+            name: denoted_text(alloc, line, name)?,
+        }),
+        _ => Err(Fault::BadArgument),
+    }
+}
+
+fn index_request<'a>(
+    alloc: Global,
+    arguments: &'a [Token],
+    line: &str,
+) -> Result<Request<'a>, Fault>
+    ensures { MatchResult result (λ request. spec.index_request line.now arguments.now ≡ shown request) (λ fault. (fault ≡ Fault.NoMemory) ⊎ (spec.index_request line.now arguments.now ≡ spec.Refused fault)) }
+{
+    match arguments {
+        [label, key] if is_word(label.kind) && is_word(key.kind) => Ok(Request::Index {
+            label: denoted_text(alloc, line, label)?,
+            key: denoted_text(alloc, line, key)?,
         }),
         _ => Err(Fault::BadArgument),
     }
@@ -103,38 +122,5 @@ fn without_end(tokens: &[Token]) -> &[Token]
 fn is_command(spelling: &str, line: &str, word: &Token) -> bool
     ensures { result ≡ spec.is_command spelling.now line.now word.now }
 {
-    word.kind == Kind::Name && is_alike(spelling, word_text(line, word))
-}
-
-// The text of a token as it stands in the line.
-fn word_text<'a>(line: &'a str, word: &Token) -> &'a str
-    ensures { result.now ≡ slice_in line.now word.now }
-{
-    word.slice(line)
-}
-
-// Whether two words are the same, whatever the case of their ASCII letters.
-fn is_alike(spelling: &str, word: &str) -> bool
-    ensures { result ≡ same_word spelling.now word.now }
-{
-    spelling.eq_ignore_ascii_case(word)
-}
-
-// A name, which may be a keyword or quoted.
-fn is_name(kind: Kind) -> bool
-    ensures { result ≡ is_word kind }
-{
-    matches!(kind, Kind::Name | Kind::QuotedName | Kind::Keyword(_))
-}
-
-// What a name denotes.
-#[tactic(auto, unfolding(cy_parser::specs::Words::denotes))]
-fn name_text(alloc: Global, line: &str, name: &Token) -> Result<Text, Fault>
-    ensures value { IfOk result (λ text. text ≡ denotes line.now name.now) }
-    ensures memory { IfErr result (λ fault. fault ≡ Fault.NoMemory) }
-{
-    match name.denoted(alloc, line) {
-        Ok(string) => Ok(Text::new(string)),
-        Err(_) => Err(Fault::NoMemory),
-    }
+    word.kind == Kind::Name && is_same_word(spelling, slice_in(line, word))
 }

@@ -10,7 +10,8 @@ ghost use Rattle.cy_engine.specs.Meaning.{row_of, rows_of};
 use crate::faults::Fault;
 use crate::forms::Query;
 use crate::replies::Reply;
-use cy_graph::{Graph, Node};
+use cy_graph::Node;
+use cy_index::Store;
 use cy_values::{Cell, Duplicate, Row, Sequence, Text, Value, row_order, row_order_laws};
 use indexmap::IndexMap;
 use std::alloc::Global;
@@ -63,13 +64,13 @@ pub(crate) fn register(
 pub(crate) fn rows_with_counts(
     alloc: Global,
     query: &Query,
-    graph: &Graph,
+    store: &Store,
 ) -> Result<Vec<(Row, u64)>, Fault>
-    ensures bag { IfOk result (λ rows. IsBagOf (rows_of query.now graph.now.now.content) rows.items) }
+    ensures bag { IfOk result (λ rows. IsBagOf (rows_of query.now store.now.graph.now.content) rows.items) }
     ensures canonical { IfOk result (λ rows. IsCanonical rows.items) }
     ensures memory { IfErr result (λ fault. fault ≡ Fault.NoMemory) }
 {
-    counted_in_order(alloc, rows_on(alloc, query, graph)?)
+    counted_in_order(alloc, rows_on(alloc, query, store)?)
 }
 
 /// Rows, each once with its count, in canonical order.
@@ -85,12 +86,12 @@ pub(crate) fn counted_in_order(alloc: Global, mut rows: Vec<Row>) -> Result<Vec<
 }
 
 // A row for each node with the label, as often as it counts.
-fn rows_on(alloc: Global, query: &Query, graph: &Graph) -> Result<Vec<Row>, Fault>
-    ensures rows { IfOk result (λ rows. rows.items ≡ rows_of query.now graph.now.now.content) }
+fn rows_on(alloc: Global, query: &Query, store: &Store) -> Result<Vec<Row>, Fault>
+    ensures rows { IfOk result (λ rows. rows.items ≡ rows_of query.now store.now.graph.now.content) }
     ensures memory { IfErr result (λ fault. fault ≡ Fault.NoMemory) }
 {
     let mut rows = Vec::new(alloc);
-    for (_, node) in graph.nodes() {
+    for (_, node) in store.nodes() {
         if node.labels.get(query.label.as_str()).is_some() {
             rows.push(row(alloc, &query.key, node)?)?;
         }

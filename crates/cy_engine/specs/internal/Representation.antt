@@ -1,5 +1,5 @@
 -- What holds of what the engine keeps between lines.
-use Rattle.std.specs.Prelude.{◌≡◌, ℕ, ◌≤◌, List, [], length, Option, None, string_bytes}
+use Rattle.std.specs.Prelude.{◌≡◌, ℕ, ◌≤◌, List, length, Option, None, string_bytes}
 use Rattle.std.specs.Map.{lookup}
 use Rattle.std.specs.Str.{bytes_eq}
 use Rattle.std.specs.declared.alloc.Global.{Global}
@@ -16,9 +16,8 @@ named name r = record { name = name; query = r.query; made = r.made }
 abbrev pub registered_at : List ℕ → List (String Global × Registered) → Option Registered
 registered_at name entries = lookup (λ k. bytes_eq name (string_bytes k)) entries
 
--- no change is open between lines, no relationship was made, and the limits hold
+-- no change is open between lines, and the limits hold
 pub record IsAtRest (graph : Versions) (views : List (String Global × Registered)) (tick : ℕ) : Type 0 where
   pub closed : graph.was ≡ None
-  pub bare : graph.now.content.rels ≡ []
   pub few : length views ≤ view_limit
   pub in_time : tick ≤ last_tick

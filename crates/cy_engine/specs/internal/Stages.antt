@@ -1,5 +1,5 @@
 -- What the stages of the engine's work on a line promise one another.
-use Rattle.std.specs.Prelude.{◌≡◌, ℕ, ◌⊎◌, List, [], None, Some, Result, Ok, Err}
+use Rattle.std.specs.Prelude.{◌≡◌, ℕ, ◌⊎◌, List, [], Result, Ok, Err}
 use Rattle.cy_lexer.specs.declared.tokens.Token.{Token}
 use Rattle.cy_parser.specs.SpellsClauses.{SpellsStatement}
 use Rattle.cy_parser.specs.declared.faults.ParseFault.{ParseFault}
@@ -13,10 +13,10 @@ use Rattle.cy_engine.specs.declared.replies.Reply.{Reply}
 use Rattle.cy_engine.specs.declared.replies.Reply.TheVariants as reply
 use Rattle.cy_engine.specs.declared.requests.Request.{Request as Code}
 use Rattle.cy_engine.specs.declared.requests.Request.TheVariants as code
-use Rattle.cy_engine.specs.Requests.{Request, Nothing, StatementOf, ViewOf, RowsOf}
-use Rattle.cy_engine.specs.State.{EngineState, Entries, View, view_at}
-use Rattle.cy_engine.specs.Step.{Answer, Answers, AreEntries, AreRows, IsRefused, IsUnspelt}
-use Rattle.cy_engine.specs.Verdicts.{carry_verdict}
+use Rattle.cy_engine.specs.Requests.{Request, Nothing, StatementOf, ViewOf, RowsOf, IndexOf}
+use Rattle.cy_engine.specs.State.{EngineState, Entries, View}
+use Rattle.cy_engine.specs.Step.{Answer, Answers, AreEntries, AreRows, Indexes, IsRefused, IsUnspelt}
+use Rattle.cy_engine.specs.Verdicts.{carry_verdict, index_verdict, rows_verdict}
 
 -- the request that the code has
 abbrev pub shown : Code → Request
@@ -24,6 +24,7 @@ shown code.Nothing = Nothing
 shown (code.Statement tokens) = StatementOf tokens.now
 shown (code.View name query) = ViewOf name query.now
 shown (code.Rows name) = RowsOf name
+shown (code.Index label key) = IndexOf label key
 
 -- a tree that the tokens spell
 pub record HasTree (line : List ℕ) (tokens : List Token) (P : Statement → Type 0) : Type 0 where
@@ -45,6 +46,11 @@ Gives see verdict line tokens (Err why) = Fails verdict line tokens why
 abbrev pub AnswersOrWants : List ℕ → Request → EngineState → Answer → Entries → EngineState → Type 0
 AnswersOrWants line asked old answer entries new = IsRefused fault.NoMemory old answer entries new ⊎ Answers line asked old answer entries new
 
+-- what is answered to `:index`, or want of memory
+abbrev pub AddsIndex : List ℕ → List ℕ → EngineState → Answer → Entries → EngineState → Type 0
+AddsIndex label key old answer entries new =
+    IsRefused fault.NoMemory old answer entries new ⊎ Indexes (index_verdict label key old) old answer entries new
+
 -- what becomes of a form, from a graph, the views and a tick: its effect, and the graph after it
 pub record Changes (form : Form) (views : List View) (old : State) (tick : ℕ) (effect : Effect) (new : State) : Type 0 where
   pub verdict : carry_verdict form old tick ≡ Ok (record { outcome = record { graph = new; changed = effect.changed; columns = []; rows = [] }; tick = effect.tick })
@@ -52,6 +58,6 @@ pub record Changes (form : Form) (views : List View) (old : State) (tick : ℕ) 
 
 -- what is answered to `:rows`
 abbrev pub ShowsRows : EngineState → List ℕ → Result Reply Fault → Type 0
-ShowsRows state name (Ok (reply.Rows rows tick view)) = (found : View) × (view_at name state ≡ Some found) × AreRows state found rows × (tick ≡ state.tick) × (view ≡ name)
+ShowsRows state name (Ok (reply.Rows rows tick view)) = (found : View) × (rows_verdict name state ≡ Ok found) × AreRows state found rows × (tick ≡ state.tick) × (view ≡ name)
 ShowsRows state name (Ok _) = ⊥
-ShowsRows state name (Err why) = (why ≡ fault.NoMemory) ⊎ ((view_at name state ≡ None) × (why ≡ fault.NoSuchView))
+ShowsRows state name (Err why) = (why ≡ fault.NoMemory) ⊎ (rows_verdict name state ≡ Err why)

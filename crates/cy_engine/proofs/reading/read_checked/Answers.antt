@@ -1,9 +1,5 @@
-use Rattle.std.proofs.Common.{◌≡◌, ◌⊎◌, Some, None, Result, Ok, Err, MatchResult, refl, sym, ap, subst, ◌∙◌}
 use Rattle.std.proofs.lemmas.Result.{err_from_is_err_and}
-use Rattle.cy_trees.specs.Trees.{Statement}
 use Rattle.cy_trees.specs.Views.{statement_of}
-use Rattle.cy_engine.specs.Faults.{of_parser, of_scope}
-use Rattle.cy_engine.specs.internal.Stages.{Fails}
 use Rattle.cy_engine.specs.Verdicts.{scope_verdict}
 use Rattle.cy_engine.proofs.FromTokens.{parse_fails, scope_fails, scope_given}
 use Rattle.cy_engine.proofs.reading.read_checked.Goals as goal

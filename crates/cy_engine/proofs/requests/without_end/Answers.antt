@@ -1,6 +1,6 @@
-use Rattle.std.proofs.Common.{◌≡◌, sym, ap, ◌∙◌}
+use Rattle.std.proofs.Common.{sym, ap, ◌∙◌}
 use Rattle.cy_engine.specs.Requests.{without_end}
-use Rattle.cy_engine.proofs.FromTokens.{end_taken, end_left, end_none, semicolon_is, semicolon_not}
+use Rattle.cy_engine.proofs.FromTokens.{end_taken, end_left, semicolon_is, semicolon_not}
 use Rattle.std.proofs.lemmas.Bool.{false≢true}
 use Rattle.cy_engine.proofs.requests.without_end.Goals as goal
 

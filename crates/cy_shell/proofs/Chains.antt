@@ -33,7 +33,7 @@ nothing_fed false = refl
 
 -- without entries, the text of the answer is that of the line
 no_feed : (feed : Bool) (result : Result Reply Fault) (text : List ℕ) → IsAnswerText result text → IsLineText feed result [] text
-no_feed feed result text answered = record { answer = text; told = []; is = sym (append-nil text); answered = answered; feeds = nothing_fed feed }
+no_feed feed result text answered = record { answer = text; entry_texts = []; is = sym (append-nil text); answered = answered; feeds = nothing_fed feed }
 
 -- want of memory may refuse it
 left_answer : (state : Serving) (line : List ℕ) → length line ≤ line_limit → IsUtf8 line → HasAnswer state line

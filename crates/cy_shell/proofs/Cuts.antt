@@ -4,10 +4,10 @@ use Rattle.std.proofs.lemmas.Bool.{ltb-true, ltb-false}
 use Rattle.std.proofs.lemmas.List.{append-nil}
 use Rattle.std.proofs.lemmas.Option.{cond_some}
 use Rattle.std.specs.List.{position, position_or_len}
-use Rattle.cy_shell.specs.Lines.{ended_lines, begun_line}
+use Rattle.cy_shell.specs.Lines.{line_feed, ended_lines, begun_line}
 
 abbrev pub is_end : ℕ → Bool
-is_end c = c == 10
+is_end c = c == line_feed
 
 -- lines in a longer text
 ended_at : (b : Bool) (begun : List ℕ) (x : ℕ) (xs ys : List ℕ) → is_end x ≡ b

@@ -16,7 +16,7 @@ use Rattle.cy_shell.proofs.Chains.{one_line, one_line_begun}
 abbrev Entries : Type 0
 Entries = List (List ℕ × Entry)
 
--- entries can be told in some way
+-- entries can be printed in some way
 some_feed : (es : Entries) → (text : List ℕ) × IsFeedText es text
 some_feed [] = ([], refl)
 some_feed (e ∷ es) = let more = some_feed es in (text_of (entry_json e) ++ more.0, (text_of (entry_json e), more.0, refl, inl refl, more.1))
@@ -28,21 +28,21 @@ pub record FedSoFar (entries left : Entries) (before now : Option (List ℕ)) : 
   pub goes_on : (rest : List ℕ) → IsFeedText left rest → IsFeedText entries (text ++ rest)
 
 pub fed_first : (entries : Entries) (known : Option (List ℕ)) → FedSoFar entries entries known known
-fed_first entries known = record { text = []; is = appended-nil known; goes_on = λ rest told. told }
+fed_first entries known = record { text = []; is = appended-nil known; goes_on = λ rest entry_texts. entry_texts }
 
 pub fed_more : (entries left rest : Entries) (e : List ℕ × Entry) (before mid after : Option (List ℕ)) (text : List ℕ) → left ≡ e ∷ rest → FedSoFar entries left before mid
     → IsObjectText (Some (entry_json e)) text → after ≡ appended mid text → FedSoFar entries rest before after
 fed_more entries left rest e before mid after text next so_far object is = record {
   text = so_far.text ++ text;
   is = is ∙ ap (λ k. appended k text) so_far.is ∙ appended-appended before so_far.text text;
-  goes_on = λ more told. subst (IsFeedText entries) (sym (append_assoc so_far.text text more))
-      (so_far.goes_on (text ++ more) (subst (λ (es : Entries). IsFeedText es (text ++ more)) (sym next) (text, more, refl, object, told)));
+  goes_on = λ more entry_texts. subst (IsFeedText entries) (sym (append_assoc so_far.text text more))
+      (so_far.goes_on (text ++ more) (subst (λ (es : Entries). IsFeedText es (text ++ more)) (sym next) (text, more, refl, object, entry_texts)));
 }
 
 pub fed_all : (entries left : Entries) (before now : Option (List ℕ)) → left ≡ [] → FedSoFar entries left before now → WritesFeed entries before now
 fed_all entries left before now none so_far = record {
   text = so_far.text;
-  told = subst (IsFeedText entries) (append-nil so_far.text) (so_far.goes_on [] (subst (λ (es : Entries). IsFeedText es []) (sym none) refl));
+  entry_texts = subst (IsFeedText entries) (append-nil so_far.text) (so_far.goes_on [] (subst (λ (es : Entries). IsFeedText es []) (sym none) refl));
   is = so_far.is;
 }
 
@@ -55,17 +55,17 @@ fed_begun entries left rest e before mid after text next so_far object front =
     record {
       text = so_far.text ++ front.front;
       unwritten = front.rest ++ more.0;
-      told = subst (IsFeedText entries) (sym whole) (so_far.goes_on (text ++ more.0) (subst (λ (es : Entries). IsFeedText es (text ++ more.0)) (sym next) (text, more.0, refl, object, more.1)));
+      entry_texts = subst (IsFeedText entries) (sym whole) (so_far.goes_on (text ++ more.0) (subst (λ (es : Entries). IsFeedText es (text ++ more.0)) (sym next) (text, more.0, refl, object, more.1)));
       is = front.is ∙ ap (λ k. appended k front.front) so_far.is ∙ appended-appended before so_far.text front.front;
     }
 
 -- ---- a line
 
 -- an answer that is carried, and its entries as they are fed
-carried_line : (old : EngineState) (line printed told : List ℕ) (new : Machine) (feed : Bool) → IsAnswer old line printed true new → IsFeedText (fed feed new.entries) told
-    → Answered (record { engine = old; feed = feed }) line (printed ++ told) (serving new feed)
-carried_line old line printed told new feed answer feeds =
-    Carried answer.2.0 new.entries answer.0 answer.1 answer.2.1 refl (record { answer = printed; told = told; is = refl; answered = answer.2.2; feeds = feeds })
+carried_line : (old : EngineState) (line printed entry_texts : List ℕ) (new : Machine) (feed : Bool) → IsAnswer old line printed true new → IsFeedText (fed feed new.entries) entry_texts
+    → Answered (record { engine = old; feed = feed }) line (printed ++ entry_texts) (serving new feed)
+carried_line old line printed entry_texts new feed answer feeds =
+    Carried answer.2.0 new.entries answer.0 answer.1 answer.2.1 refl (record { answer = printed; entry_texts = entry_texts; is = refl; answered = answer.2.2; feeds = feeds })
 
 -- nothing is fed of a line that is none for the engine
 unfed : (feed : Bool) → (feed && false) ≡ false
@@ -80,11 +80,11 @@ pub line_served : (old : EngineState) (line printed : List ℕ) (is_carried : Bo
     → mid ≡ appended before printed → (list : Entries) → list ≡ fed (feed && is_carried) new.entries → WritesFeed list mid after
     → WritesRun (record { engine = old; feed = feed }) (line ∷ []) (serving new feed) before after
 line_served old line printed true new feed before mid after answer is list same written =
-    let told = subst (λ (b : Bool). IsFeedText (fed b new.entries) written.text) (all_fed feed) (subst (λ (es : Entries). IsFeedText es written.text) same written.told) in
-    one_line _ _ line (printed ++ written.text) before after (carried_line old line printed written.text new feed answer told)
+    let entry_texts = subst (λ (b : Bool). IsFeedText (fed b new.entries) written.text) (all_fed feed) (subst (λ (es : Entries). IsFeedText es written.text) same written.entry_texts) in
+    one_line _ _ line (printed ++ written.text) before after (carried_line old line printed written.text new feed answer entry_texts)
     (written.is ∙ ap (λ k. appended k written.text) is ∙ appended-appended before printed written.text)
 line_served old line printed false new feed before mid after answer is list same written =
-    let none : written.text ≡ [] = subst (λ (b : Bool). IsFeedText (fed b new.entries) written.text) (unfed feed) (subst (λ (es : Entries). IsFeedText es written.text) same written.told) in
+    let none : written.text ≡ [] = subst (λ (b : Bool). IsFeedText (fed b new.entries) written.text) (unfed feed) (subst (λ (es : Entries). IsFeedText es written.text) same written.entry_texts) in
     one_line _ _ line printed before after (answer feed) (written.is ∙ ap (appended mid) none ∙ sym (appended-nil mid) ∙ is)
 
 pub line_begun : (old : EngineState) (line printed : List ℕ) (is_carried : Bool) (new : Machine) (feed : Bool) (before after : Option (List ℕ)) → IsAnswer old line printed is_carried new
@@ -99,8 +99,8 @@ pub line_feeding : (old : EngineState) (line printed : List ℕ) (is_carried : B
     → mid ≡ appended before printed → (list : Entries) → list ≡ fed (feed && is_carried) new.entries → BeginsFeed list mid after
     → WritesBeginning (record { engine = old; feed = feed }) (line ∷ []) before after
 line_feeding old line printed true new feed before mid after answer is list same begun =
-    let told = subst (λ (b : Bool). IsFeedText (fed b new.entries) (begun.text ++ begun.unwritten)) (all_fed feed) (subst (λ (es : Entries). IsFeedText es (begun.text ++ begun.unwritten)) same begun.told) in
-    one_line_begun _ _ line (printed ++ (begun.text ++ begun.unwritten)) before after (carried_line old line printed (begun.text ++ begun.unwritten) new feed answer told)
+    let entry_texts = subst (λ (b : Bool). IsFeedText (fed b new.entries) (begun.text ++ begun.unwritten)) (all_fed feed) (subst (λ (es : Entries). IsFeedText es (begun.text ++ begun.unwritten)) same begun.entry_texts) in
+    one_line_begun _ _ line (printed ++ (begun.text ++ begun.unwritten)) before after (carried_line old line printed (begun.text ++ begun.unwritten) new feed answer entry_texts)
     (record {
       front = printed ++ begun.text;
       rest = begun.unwritten;
@@ -108,7 +108,7 @@ line_feeding old line printed true new feed before mid after answer is list same
       is = begun.is ∙ ap (λ k. appended k begun.text) is ∙ appended-appended before printed begun.text;
     })
 line_feeding old line printed false new feed before mid after answer is list same begun =
-    let none : begun.text ++ begun.unwritten ≡ [] = subst (λ (b : Bool). IsFeedText (fed b new.entries) (begun.text ++ begun.unwritten)) (unfed feed) (subst (λ (es : Entries). IsFeedText es (begun.text ++ begun.unwritten)) same begun.told) in
+    let none : begun.text ++ begun.unwritten ≡ [] = subst (λ (b : Bool). IsFeedText (fed b new.entries) (begun.text ++ begun.unwritten)) (unfed feed) (subst (λ (es : Entries). IsFeedText es (begun.text ++ begun.unwritten)) same begun.entry_texts) in
     let nothing : begun.text ≡ [] = first_nil begun.text begun.unwritten none in
     one_line_begun _ _ line printed before after (answer feed)
     (record { front = printed; rest = []; whole = sym (append-nil printed); is = begun.is ∙ ap (appended mid) nothing ∙ sym (appended-nil mid) ∙ is })

@@ -1,4 +1,4 @@
--- What is kept of a line, and the answer to it.
+-- What is buffered of a line, and the answer to it.
 use Rattle.std.proofs.Common.{◌≡◌, ℕ, ◌<◌, ◌≤◌, List, length, Some, None, Result, Ok, Err, true, Bor, sym, subst, arith}
 use Rattle.std.proofs.lemmas.Bool.Decides.{nat_tests}
 use Rattle.std.proofs.lemmas.Str.{utf8_valid_len-IsValidUpTo}
@@ -9,19 +9,19 @@ use Rattle.cy_lexer.specs.declared.faults.LexFault.TheVariants as fault
 use Rattle.cy_engine.specs.State.{EngineState, Machine}
 use Rattle.cy_shell.specs.internal.Feeding.{Answers, IsAnswer}
 use Rattle.cy_shell.specs.Lines.{line_limit}
-use Rattle.cy_shell.specs.internal.Lines.{kept}
+use Rattle.cy_shell.specs.internal.Lines.{buffered}
 use Rattle.cy_shell.specs.Printed.{IsFaultText}
-use Rattle.cy_shell.specs.Runs.{Serving, Answered, TooLong, NotUtf8}
+use Rattle.cy_shell.specs.Runs.{IsLexFaultText, Serving, Answered, TooLong, NotUtf8}
 
-kept_whole : (line bytes : List ℕ) → kept line ≡ Some bytes → (line ≡ bytes) × (length line ≤ line_limit)
-kept_whole line bytes is = (grind (arith, nat_tests), grind (arith, nat_tests))
+buffered_whole : (line bytes : List ℕ) → buffered line ≡ Some bytes → (line ≡ bytes) × (length line ≤ line_limit)
+buffered_whole line bytes is = (grind (arith, nat_tests), grind (arith, nat_tests))
 
-pub kept_past : (line : List ℕ) → kept line ≡ None → line_limit < length line
-kept_past line is = grind (arith, nat_tests)
+pub buffered_past : (line : List ℕ) → buffered line ≡ None → line_limit < length line
+buffered_past line is = grind (arith, nat_tests)
 
--- what the kept bytes are as a text, the line is
-pub text_kept : (line bytes : List ℕ) (result : Result (Bor (List ℕ)) LexFault) → kept line ≡ Some bytes → IsTextOf bytes result → IsTextOf line result
-text_kept line bytes result is text = subst (λ (l : List ℕ). IsTextOf l result) (sym (kept_whole line bytes is).0) text
+-- what the buffered bytes are as a text, the line is
+pub text_buffered : (line bytes : List ℕ) (result : Result (Bor (List ℕ)) LexFault) → buffered line ≡ Some bytes → IsTextOf bytes result → IsTextOf line result
+text_buffered line bytes result is text = subst (λ (l : List ℕ). IsTextOf l result) (sym (buffered_whole line bytes is).0) text
 
 -- a line that is a text is answered as that text
 pub carried : (old : EngineState) (line printed : List ℕ) (text : Bor (List ℕ)) (new : Machine) → IsTextOf line (Ok text) → Answers old text.now printed new → IsAnswer old line printed true new
@@ -32,7 +32,7 @@ pub not_carried : (state : Serving) (line printed : List ℕ) (fault : LexFault)
     → IsTextOf line (Err fault) → IsFaultText (at_of fault) (code_of fault) printed → Answered state line printed state
 not_carried state line printed fault.LineTooLong is shown = TooLong is shown
 not_carried state line printed (fault.NotUtf8 at) is shown =
-    NotUtf8 is.0 is.1 (subst (λ n. IsFaultText (Some n) 18 printed) (sym (utf8_valid_len-IsValidUpTo line at is.2)) shown)
+    NotUtf8 is.0 is.1 (subst (λ n. IsLexFaultText (fault.NotUtf8 n) printed) (sym (utf8_valid_len-IsValidUpTo line at is.2)) shown)
 not_carried state line printed (fault.BadCharacter at) is shown = absurd is
 not_carried state line printed (fault.UnclosedText at) is shown = absurd is
 not_carried state line printed (fault.BadEscape at) is shown = absurd is

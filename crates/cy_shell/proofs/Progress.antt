@@ -3,7 +3,7 @@ use Rattle.std.proofs.Common.{◌≡◌, ℕ, suc, List, [], ◌∷◌, ◌++◌
 use Rattle.std.proofs.lemmas.List.{append-nil}
 use Rattle.std.specs.List.{position}
 use Rattle.cy_shell.specs.Lines.{ended_lines, begun_line}
-use Rattle.cy_shell.specs.internal.Lines.{kept}
+use Rattle.cy_shell.specs.internal.Lines.{buffered}
 use Rattle.cy_shell.specs.Runs.{Serving, WritesRun, WritesBeginning}
 use Rattle.cy_shell.proofs.Chains.{no_lines, more_lines, breaks_later, breaks_before}
 use Rattle.cy_shell.proofs.Cuts.{is_end, EndsAt, ends_at, ends_nowhere}
@@ -12,12 +12,12 @@ use Rattle.cy_shell.proofs.Cuts.{is_end, EndsAt, ends_at, ends_nowhere}
 pub record Served (begun piece : List ℕ) (start : Serving) (line : Option (List ℕ)) (rest : List ℕ) (engine : Serving) (before after : Option (List ℕ)) : Type 0 where
   pub now : List ℕ
   pub lines : List (List ℕ)
-  pub keeps : line ≡ kept now
+  pub keeps : line ≡ buffered now
   pub ended : ended_lines begun piece ≡ lines ++ ended_lines now rest
   pub next : begun_line begun piece ≡ begun_line now rest
   pub written : WritesRun start lines engine before after
 
-pub served_first : (begun piece : List ℕ) (engine : Serving) (line : Option (List ℕ)) (known : Option (List ℕ)) → line ≡ kept begun → Served begun piece engine line piece engine known known
+pub served_first : (begun piece : List ℕ) (engine : Serving) (line : Option (List ℕ)) (known : Option (List ℕ)) → line ≡ buffered begun → Served begun piece engine line piece engine known known
 served_first begun piece engine line known keeps = record {
   now = begun;
   lines = [];
@@ -35,7 +35,7 @@ ended_one_more begun piece now rest lines at ended end =
 -- one more line
 pub served_more : (begun piece : List ℕ) (start mid new : Serving) (line line' : Option (List ℕ)) (rest rest' : List ℕ) (at : ℕ) (before between after : Option (List ℕ))
     → Served begun piece start line rest mid before between → position is_end rest ≡ Some at → rest' ≡ drop (suc at) rest
-    → ((now : List ℕ) → line ≡ kept now → WritesRun mid ((now ++ take at rest) ∷ []) new between after) → line' ≡ kept []
+    → ((now : List ℕ) → line ≡ buffered now → WritesRun mid ((now ++ take at rest) ∷ []) new between after) → line' ≡ buffered []
     → Served begun piece start line' rest' new before after
 served_more begun piece start mid new line line' rest rest' at before between after served is behind answered keeps =
     let end = ends_at served.now rest at is in record {
@@ -51,7 +51,7 @@ served_more begun piece start mid new line line' rest rest' at before between af
 -- one line that was broken off
 pub served_broken : (begun piece : List ℕ) (start mid : Serving) (line : Option (List ℕ)) (rest : List ℕ) (at : ℕ) (before between after : Option (List ℕ))
     → Served begun piece start line rest mid before between → position is_end rest ≡ Some at
-    → ((now : List ℕ) → line ≡ kept now → WritesBeginning mid ((now ++ take at rest) ∷ []) between after)
+    → ((now : List ℕ) → line ≡ buffered now → WritesBeginning mid ((now ++ take at rest) ∷ []) between after)
     → WritesBeginning start (ended_lines begun piece) before after
 served_broken begun piece start mid line rest at before between after served is answered =
     let end = ends_at served.now rest at is in
@@ -63,10 +63,10 @@ served_broken begun piece start mid line rest at before between after served is 
 -- no line ends in the rest
 pub served_last_line : (begun piece : List ℕ) (start engine : Serving) (line line' : Option (List ℕ)) (rest : List ℕ) (before after : Option (List ℕ))
     → Served begun piece start line rest engine before after → position is_end rest ≡ None
-    → ((now : List ℕ) → line ≡ kept now → line' ≡ kept (now ++ rest)) → line' ≡ kept (begun_line begun piece)
+    → ((now : List ℕ) → line ≡ buffered now → line' ≡ buffered (now ++ rest)) → line' ≡ buffered (begun_line begun piece)
 served_last_line begun piece start engine line line' rest before after served is grows =
     let none = ends_nowhere served.now rest is in
-    grows served.now served.keeps ∙ ap kept (sym (served.next ∙ none.begun_more))
+    grows served.now served.keeps ∙ ap buffered (sym (served.next ∙ none.begun_more))
 
 pub served_all : (begun piece : List ℕ) (start engine : Serving) (line : Option (List ℕ)) (rest : List ℕ) (before after : Option (List ℕ))
     → Served begun piece start line rest engine before after → position is_end rest ≡ None

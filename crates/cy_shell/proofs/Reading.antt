@@ -3,7 +3,7 @@ use Rattle.std.proofs.Common.{◌≡◌, ℕ, ◌+◌, ◌≤◌, ◌<◌, List,
 use Rattle.std.proofs.lemmas.List.{append-nil, take-append-drop, take_all, take-append-le, drop-append-le, drop-drop, length-take-le}
 use Rattle.std.proofs.Math.Seq.{take-add}
 use Rattle.cy_shell.specs.Lines.{ended_lines, begun_line, whole_lines, last_line, unless_empty, lines_of, lines_read}
-use Rattle.cy_shell.specs.internal.Lines.{kept}
+use Rattle.cy_shell.specs.internal.Lines.{buffered}
 use Rattle.cy_shell.specs.Runs.{Serving, WritesRun, WritesBeginning, WritesAll, input_limit, StopsReading, StopsWriting}
 use Rattle.cy_shell.specs.Streams.{TakesFront}
 use Rattle.cy_shell.proofs.Chains.{no_lines, more_lines, breaks_later, breaks_before}
@@ -13,14 +13,14 @@ use Rattle.cy_shell.proofs.Cuts.{ended-append, begun-append}
 pub record Reads (input : List ℕ) (total : ℕ) (start : Serving) (left line : Option (List ℕ)) (engine : Serving) (before after : Option (List ℕ)) : Type 0 where
   pub within : total ≤ length input
   pub unread : left ≡ Some (drop total input)
-  pub keeps : line ≡ kept (last_line (take total input))
+  pub keeps : line ≡ buffered (last_line (take total input))
   pub written : WritesRun start (whole_lines (take total input)) engine before after
 
 pub known_input : (left : Option (List ℕ)) {P : List ℕ → Type 0} → ((input : List ℕ) → left ≡ Some input → P input) → IfSome left P
 known_input None each = tt
 known_input (Some input) each = each input refl
 
-pub reads_first : (input : List ℕ) (start : Serving) (left line known : Option (List ℕ)) → left ≡ Some input → line ≡ kept [] → Reads input 0 start left line start known known
+pub reads_first : (input : List ℕ) (start : Serving) (left line known : Option (List ℕ)) → left ≡ Some input → line ≡ buffered [] → Reads input 0 start left line start known known
 reads_first input start left line known is keeps = record {
   within = omega arith;
   unread = is;
@@ -86,8 +86,8 @@ last_more front chunk = begun-append [] front chunk
 -- one more piece
 pub reads_more : (input : List ℕ) (total count : ℕ) (start mid new : Serving) (left left' line line' : Option (List ℕ)) (old_piece piece chunk : List ℕ) (before between after : Option (List ℕ))
     → Reads input total start left line mid before between → TakesFront left left' old_piece piece count → chunk ≡ take count piece
-    → ((begun : List ℕ) → line ≡ kept begun → line' ≡ kept (begun_line begun chunk))
-    → ((begun : List ℕ) → line ≡ kept begun → WritesRun mid (ended_lines begun chunk) new between after)
+    → ((begun : List ℕ) → line ≡ buffered begun → line' ≡ buffered (begun_line begun chunk))
+    → ((begun : List ℕ) → line ≡ buffered begun → WritesRun mid (ended_lines begun chunk) new between after)
     → Reads input (total + count) start left' line' new before after
 reads_more input total count start mid new left left' line line' old_piece piece chunk before between after reads taken is begins answers =
     let next = takes input total count left left' old_piece piece reads.within reads.unread taken in
@@ -95,7 +95,7 @@ reads_more input total count start mid new left left' line line' old_piece piece
     record {
       within = next.within;
       unread = next.unread;
-      keeps = begins (last_line (take total input)) reads.keeps ∙ ap kept (sym (ap last_line front ∙ last_more (take total input) chunk));
+      keeps = begins (last_line (take total input)) reads.keeps ∙ ap buffered (sym (ap last_line front ∙ last_more (take total input) chunk));
       written = subst (λ ls. WritesRun start ls new before after) (sym (ap whole_lines front ∙ whole_more (take total input) chunk))
           (more_lines start mid new _ _ before between after reads.written (answers (last_line (take total input)) reads.keeps));
     }
@@ -122,7 +122,7 @@ breaks_off front (c ∷ rest) start before after broken = broken
 -- a piece that was broken off
 pub stops_in_piece : (input : List ℕ) (total count : ℕ) (start mid : Serving) (left left' line : Option (List ℕ)) (old_piece piece chunk : List ℕ) (before between after : Option (List ℕ))
     → Reads input total start left line mid before between → TakesFront left left' old_piece piece count → total + count ≤ input_limit → chunk ≡ take count piece
-    → ((begun : List ℕ) → line ≡ kept begun → WritesBeginning mid (ended_lines begun chunk) between after)
+    → ((begun : List ℕ) → line ≡ buffered begun → WritesBeginning mid (ended_lines begun chunk) between after)
     → StopsWriting start input left' before after
 stops_in_piece input total count start mid left left' line old_piece piece chunk before between after reads taken limited is answers =
     let next = takes input total count left left' old_piece piece reads.within reads.unread taken in
@@ -152,7 +152,7 @@ size_read input total within all = ap length (sym all) ∙ length-take-le total 
 
 pub ends_well : (input : List ℕ) (total : ℕ) (start mid new : Serving) (left left' line : Option (List ℕ)) (old_piece piece : List ℕ) (before between after : Option (List ℕ))
     → Reads input total start left line mid before between → TakesFront left left' old_piece piece 0 → 0 < length old_piece → total < input_limit
-    → ((begun : List ℕ) → line ≡ kept begun → WritesRun mid (unless_empty begun) new between after)
+    → ((begun : List ℕ) → line ≡ buffered begun → WritesRun mid (unless_empty begun) new between after)
     → (left' ≡ Some []) × (length input < input_limit) × WritesAll start input before after
 ends_well input total start mid new left left' line old_piece piece before between after reads taken room limited answers =
     let all = all_read input total left left' old_piece piece reads.within reads.unread taken room in (
@@ -167,7 +167,7 @@ ends_well input total start mid new left left' line old_piece piece before betwe
 
 pub stops_at_end : (input : List ℕ) (total : ℕ) (start mid : Serving) (left left' line : Option (List ℕ)) (old_piece piece : List ℕ) (before between after : Option (List ℕ))
     → Reads input total start left line mid before between → TakesFront left left' old_piece piece 0 → 0 < length old_piece → total ≤ input_limit
-    → ((begun : List ℕ) → line ≡ kept begun → WritesBeginning mid (unless_empty begun) between after)
+    → ((begun : List ℕ) → line ≡ buffered begun → WritesBeginning mid (unless_empty begun) between after)
     → StopsWriting start input left' before after
 stops_at_end input total start mid left left' line old_piece piece before between after reads taken room limited answers =
     let all = all_read input total left left' old_piece piece reads.within reads.unread taken room in record {

@@ -6,6 +6,7 @@ pub mod Options
 pub mod Printed
 pub mod Replies
 pub mod Runs
+pub mod Standard
 pub mod Streams
 pub mod Words
 pub mod internal

@@ -6,15 +6,19 @@ use Rattle.cy_lexer.specs.Line.{longest_line}
 abbrev pub line_limit : ℕ
 line_limit = longest_line
 
+-- LF, which ends a line
+abbrev pub line_feed : ℕ
+line_feed = 10
+
 -- the lines that end in the bytes, of which the first begins with what was read of it before
 abbrev pub ended_lines : List ℕ → List ℕ → List (List ℕ)
 ended_lines begun [] = []
-ended_lines begun (c ∷ cs) = if c == 10 then begun ∷ ended_lines [] cs else ended_lines (begun ++ c ∷ []) cs
+ended_lines begun (c ∷ cs) = if c == line_feed then begun ∷ ended_lines [] cs else ended_lines (begun ++ c ∷ []) cs
 
 -- what was read of the line that doesn't end in them
 abbrev pub begun_line : List ℕ → List ℕ → List ℕ
 begun_line begun [] = begun
-begun_line begun (c ∷ cs) = if c == 10 then begun_line [] cs else begun_line (begun ++ c ∷ []) cs
+begun_line begun (c ∷ cs) = if c == line_feed then begun_line [] cs else begun_line (begun ++ c ∷ []) cs
 
 -- the lines of which the end was read
 abbrev pub whole_lines : List ℕ → List (List ℕ)

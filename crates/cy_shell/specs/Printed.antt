@@ -5,26 +5,32 @@ use Rattle.serde_json.specs.Written.{compact_text}
 use Rattle.cy_engine.specs.Faults.{code_of, offset_of}
 use Rattle.cy_engine.specs.declared.entries.Entry.{Entry}
 use Rattle.cy_engine.specs.declared.faults.Fault.{Fault}
+use Rattle.cy_engine.specs.declared.faults.Fault.TheVariants.{NoMemory}
 use Rattle.cy_engine.specs.declared.replies.Reply.{Reply}
+use Rattle.cy_shell.specs.Lines.{line_feed}
 use Rattle.cy_shell.specs.Replies.{reply_json, entry_json, fault_json}
 
 -- an object as it is printed: compact, on a line of its own
 abbrev pub text_of : Data → List ℕ
-text_of json = compact_text json ++ 10 ∷ []
+text_of json = compact_text json ++ line_feed ∷ []
 
--- the text of 90, which stands in for that of any fault
+-- the text of want of memory, 90, which stands in for that of any fault
 abbrev pub no_memory_text : List ℕ
-no_memory_text = text_of (fault_json None 90)
+no_memory_text = text_of (fault_json None (code_of NoMemory))
 
--- the text of 91, which stands in for that of any other object
+-- the number of `ReplyLost`, which is the shell's own
+abbrev pub reply_lost_code : ℕ
+reply_lost_code = 91
+
+-- its text, which stands in for that of any other object
 abbrev pub reply_lost_text : List ℕ
-reply_lost_text = text_of (fault_json None 91)
+reply_lost_text = text_of (fault_json None reply_lost_code)
 
--- the text of a fault with this offset and number, or that of 90
+-- the text of a fault with this offset and number, or that of want of memory
 abbrev pub IsFaultText : Option ℕ → ℕ → List ℕ → Type 0
 IsFaultText at code text = (text ≡ text_of (fault_json at code)) ⊎ (text ≡ no_memory_text)
 
--- no text where there is no object, or the text of the object, or that of 91
+-- no text where there is no object, or the text of the object, or that of `ReplyLost`
 abbrev pub IsObjectText : Option Data → List ℕ → Type 0
 IsObjectText None text = text ≡ []
 IsObjectText (Some json) text = (text ≡ text_of json) ⊎ (text ≡ reply_lost_text)
@@ -50,7 +56,7 @@ fed false entries = []
 -- the text of what the engine answered and, with the feed, of the entries that the line made
 pub record IsLineText (feed : Bool) (result : Result Reply Fault) (entries : List (List ℕ × Entry)) (text : List ℕ) : Type 0 where
   pub answer : List ℕ
-  pub told : List ℕ
-  pub is : text ≡ answer ++ told
+  pub entry_texts : List ℕ
+  pub is : text ≡ answer ++ entry_texts
   pub answered : IsAnswerText result answer
-  pub feeds : IsFeedText (fed feed entries) told
+  pub feeds : IsFeedText (fed feed entries) entry_texts

@@ -6,7 +6,7 @@ use Rattle.cy_engine.specs.declared.entries.Entry.{Entry}
 use Rattle.cy_engine.specs.declared.replies.Changed.{Changed}
 use Rattle.cy_engine.specs.declared.replies.Reply.{Reply}
 use Rattle.cy_engine.specs.declared.replies.Reply.TheVariants as reply
-use Rattle.cy_shell.specs.Json.{list_json, row_json, counted_json}
+use Rattle.cy_shell.specs.Json.{keyed, list_json, row_json, counted_json}
 use Rattle.cy_shell.specs.Words.{word_of}
 
 abbrev pub columns_json : List (List ℕ) → Data
@@ -36,12 +36,17 @@ rows_json rows tick name =
     object (member (codes "rows") (list_json counted_json rows) (member (codes "tick") (number (unsigned tick))
     (member (codes "view") (string name) no_members)))
 
+-- {"index":[label,key]}
+abbrev pub index_json : List ℕ → List ℕ → Data
+index_json label key = keyed (codes "index") (array (item (string label) (item (string key) no_items)))
+
 -- the object that a reply is printed as, where it is printed
 abbrev pub reply_json : Reply → Option Data
 reply_json reply.Nothing = None
 reply_json (reply.Statement changed columns rows) = Some (statement_json changed columns rows)
 reply_json (reply.Made columns tick name) = Some (made_json columns tick name)
 reply_json (reply.Rows rows tick name) = Some (rows_json rows tick name)
+reply_json (reply.Index label key) = Some (index_json label key)
 
 -- {"added":[..],"removed":[..],"tick":t,"view":name}
 abbrev pub entry_json : List ℕ × Entry → Data

@@ -2,6 +2,9 @@
 use Rattle.std.specs.Prelude.{◌≡◌, ℕ, ◌^◌, ◌<◌, ◌≤◌, ◌⊎◌, Bool, true, List, [], ◌∷◌, ◌++◌, length, Option, Some, Result}
 use Rattle.std.specs.Str.{IsUtf8}
 use Rattle.std.specs.Str.Lossy.{utf8_valid_len}
+use Rattle.cy_lexer.specs.Faults.{at_of, code_of}
+use Rattle.cy_lexer.specs.declared.faults.LexFault.{LexFault}
+use Rattle.cy_lexer.specs.declared.faults.LexFault.TheVariants as lex
 use Rattle.cy_engine.specs.State.{EngineState, empty_engine}
 use Rattle.cy_engine.specs.Step.{Step}
 use Rattle.cy_engine.specs.declared.entries.Entry.{Entry}
@@ -10,6 +13,10 @@ use Rattle.cy_engine.specs.declared.replies.Reply.{Reply}
 use Rattle.cy_shell.specs.Lines.{line_limit, whole_lines, lines_of, lines_read}
 use Rattle.cy_shell.specs.Printed.{IsFaultText, IsLineText}
 use Rattle.cy_shell.specs.Streams.{appended}
+
+-- the text of a fault of the lexer, or that of want of memory
+abbrev pub IsLexFaultText : LexFault → List ℕ → Type 0
+IsLexFaultText fault text = IsFaultText (at_of fault) (code_of fault) text
 
 -- what a run goes on with: the engine, and whether the entries that a line makes are printed after its answer
 pub record Serving : Type 0 where
@@ -23,9 +30,9 @@ beginning history feed = record { engine = empty_engine history; feed = feed }
 -- From old, the text may be the answer to the line, and the engine goes on to new.
 pub data Answered : Serving → List ℕ → List ℕ → Serving → Type 0 where
   -- a line above the limit is not carried out: 17, at the limit
-  TooLong : {state : Serving} {line text : List ℕ} → line_limit < length line → IsFaultText (Some line_limit) 17 text → Answered state line text state
+  TooLong : {state : Serving} {line text : List ℕ} → line_limit < length line → IsLexFaultText lex.LineTooLong text → Answered state line text state
   -- nor is a line that isn't UTF-8: 18, at the end of its longest valid beginning
-  NotUtf8 : {state : Serving} {line text : List ℕ} → length line ≤ line_limit → (IsUtf8 line → ⊥) → IsFaultText (Some (utf8_valid_len line)) 18 text → Answered state line text state
+  NotUtf8 : {state : Serving} {line text : List ℕ} → length line ≤ line_limit → (IsUtf8 line → ⊥) → IsLexFaultText (lex.NotUtf8 (utf8_valid_len line)) text → Answered state line text state
   -- any other line is a step of the engine, and its answer is printed, with its entries after it where there is a feed
   Carried : {old new : Serving} {line text : List ℕ} (result : Result Reply Fault) (entries : List (List ℕ × Entry))
       → length line ≤ line_limit → IsUtf8 line → Step old.engine line result entries new.engine → new.feed ≡ old.feed

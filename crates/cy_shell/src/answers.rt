@@ -2,7 +2,7 @@
 
 ghost use Rattle.std.specs.Prelude.{◌≡◌, ℕ, List};
 ghost use Rattle.cy_lexer.specs.Line.{IsTextOf};
-ghost use Rattle.cy_shell.specs.internal.Lines.{kept};
+ghost use Rattle.cy_shell.specs.internal.Lines.{buffered};
 ghost use Rattle.cy_shell.specs.internal.Printing.{printed_text};
 ghost use Rattle.cy_shell.specs.internal.Feeding.{Answers, IsAnswer};
 
@@ -26,7 +26,7 @@ pub(crate) fn answer(
     line: &LineBuffer,
     room: &mut Vec<u8>,
 ) -> AnsweredLine
-    ensures { (bytes : List ℕ) → line.now ≡ kept bytes
+    ensures { (bytes : List ℕ) → line.now ≡ buffered bytes
         → IsAnswer engine.old.state bytes (printed_text result.printed room.new.items) result.is_carried engine.new }
 {
     match line_text(line) {
@@ -53,7 +53,7 @@ fn answer_text(alloc: Global, engine: &mut Engine, text: &str, room: &mut Vec<u8
 
 // The text of a line, of which no more than the limit is kept.
 fn line_text(line: &LineBuffer) -> Result<&str, LexFault>
-    ensures { (bytes : List ℕ) → line.now ≡ kept bytes → IsTextOf bytes result }
+    ensures { (bytes : List ℕ) → line.now ≡ buffered bytes → IsTextOf bytes result }
 {
     match line.bytes() {
         Some(bytes) => text_of(bytes),

@@ -1,7 +1,7 @@
 //! The line that is being read.
 
 ghost use Rattle.std.specs.Prelude.{◌≡◌, ◌++◌, ℕ, ◌↔◌, List, [], IfOk, IsTrue, option_map};
-ghost use Rattle.cy_shell.specs.internal.Lines.{kept};
+ghost use Rattle.cy_shell.specs.internal.Lines.{buffered};
 
 use cy_lexer::LONGEST_LINE;
 use std::alloc::{AllocError, Global};
@@ -28,7 +28,7 @@ impl Model for LineBuffer {
 impl LineBuffer {
     /// An empty line. Fails only for want of memory.
     pub(crate) fn new(alloc: Global) -> Result<Self, AllocError>
-        ensures { IfOk result (λ buffer. buffer ≡ kept []) }
+        ensures { IfOk result (λ buffer. buffer ≡ buffered []) }
     {
         Ok(LineBuffer {
             bytes: Vec::with_capacity(alloc, LONGEST_LINE)?,
@@ -49,14 +49,14 @@ impl LineBuffer {
 
     /// Whether nothing of the line was read.
     pub(crate) fn is_empty(&self) -> bool
-        ensures { (line : List ℕ) → self.now ≡ kept line → IsTrue result ↔ (line ≡ []) }
+        ensures { (line : List ℕ) → self.now ≡ buffered line → IsTrue result ↔ (line ≡ []) }
     {
         !self.is_too_long && self.bytes.is_empty()
     }
 
     /// Goes on with the line.
     pub(crate) fn append(&mut self, part: &[u8])
-        ensures { (line : List ℕ) → self.old ≡ kept line → self.new ≡ kept (line ++ part.now) }
+        ensures { (line : List ℕ) → self.old ≡ buffered line → self.new ≡ buffered (line ++ part.now) }
     {
         if self.is_too_long {
             return;
@@ -71,7 +71,7 @@ impl LineBuffer {
 
     /// Begins the next line.
     pub(crate) fn clear(&mut self)
-        ensures { self.new ≡ kept [] }
+        ensures { self.new ≡ buffered [] }
     {
         self.bytes.clear();
         self.is_too_long = false;

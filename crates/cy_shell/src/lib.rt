@@ -13,8 +13,6 @@ mod serving;
 mod session;
 mod standard;
 mod streams;
-#[cfg(test)]
-mod tests;
 mod words;
 mod writing;
 

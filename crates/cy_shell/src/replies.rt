@@ -1,7 +1,7 @@
 //! The JSON of replies, entries and faults, written token by token.
 
 ghost use Rattle.std.specs.Prelude.{◌≡◌, ◌++◌, OnOk};
-ghost use Rattle.cy_shell.specs.Replies.{changed_json, statement_json, made_json, rows_json, offset_json};
+ghost use Rattle.cy_shell.specs.Replies.{changed_json, statement_json, made_json, rows_json, index_json, offset_json};
 ghost use Rattle.cy_shell.specs.internal.Tokens.{tokens_of};
 
 use crate::json_values::{WriteJson, write_field};
@@ -31,6 +31,7 @@ impl WriteJson for Reply {
                 view,
             } => write_made(out, columns, *tick, view),
             Reply::Rows { rows, tick, view } => write_rows(out, rows, *tick, view),
+            Reply::Index { label, key } => write_index(out, label, key),
         }
     }
 }
@@ -93,6 +94,19 @@ fn write_rows(
     write_field(out, "rows", rows)?;
     write_field(out, "tick", &tick)?;
     write_field(out, "view", name)?;
+    out.end_object()
+}
+
+fn write_index(out: &mut Writer, label: &Text, key: &Text) -> Result<(), AllocError>
+    ensures tokens { OnOk result (out.new.tokens ≡ out.old.tokens ++ tokens_of (index_json label.now key.now)) }
+    ensures before { out.new.before ≡ out.old.before }
+{
+    out.begin_object()?;
+    out.key("index")?;
+    out.begin_array()?;
+    out.string(label.as_str())?;
+    out.string(key.as_str())?;
+    out.end_array()?;
     out.end_object()
 }
 

@@ -1,7 +1,7 @@
 //! The whole of a run: an input is read to its end, and its lines are answered.
 
 ghost use Rattle.std.specs.Prelude.{◌≡◌, ◌≢◌, ◌+◌, ◌≤◌, ◌<◌, [], length, ℕ, List, Option, Some, true, false, Err, OnOk, OnErr, IfOk, IfSome};
-ghost use Rattle.cy_shell.specs.internal.Lines.{kept};
+ghost use Rattle.cy_shell.specs.internal.Lines.{buffered};
 ghost use Rattle.cy_shell.specs.Runs.{input_limit, WritesAll, StopsReading, StopsWriting, beginning};
 ghost use Rattle.cy_shell.specs.internal.Serving.{serving};
 ghost use Rattle.cy_shell.specs.Streams.{TakesFront};
@@ -130,7 +130,7 @@ fn serve<R: Source, W: Sink>(
 ) -> Result<(), RunFault>
     requires readable { R.has_failed source.old ≡ false }
     requires writable { W.has_failed sink.old ≡ false }
-    requires begins { session.old.line ≡ kept [] }
+    requires begins { session.old.line ≡ buffered [] }
     requires some_room { 0 < length piece.old }
     ensures done { OnOk result (IfSome (R.remaining source.old) (λ input. (R.remaining source.new ≡ Some []) × (length input < input_limit)
         × WritesAll (serving session.old.engine session.old.feed) input (W.written sink.old) (W.written sink.new))) }

@@ -2,7 +2,7 @@
 
 ghost use Rattle.std.specs.Prelude.{◌≡◌, ◌&&◌, ◌==◌, [], ◌∷◌, ℕ, List, true, false, OnOk, OnErr, position, length, ◌<◌, ◌≤◌, IfOk, IfSome};
 ghost use Rattle.cy_shell.specs.Lines.{ended_lines, begun_line, unless_empty};
-ghost use Rattle.cy_shell.specs.internal.Lines.{kept};
+ghost use Rattle.cy_shell.specs.internal.Lines.{buffered};
 ghost use Rattle.cy_shell.specs.Printed.{fed};
 ghost use Rattle.cy_shell.specs.Runs.{WritesRun, WritesBeginning, beginning};
 ghost use Rattle.cy_shell.specs.internal.Serving.{serving};
@@ -34,7 +34,7 @@ impl Session {
         requires from { 1 ≤ history }
         requires to { history ≤ 4096 }
         ensures begins { IfOk result (λ session. serving session.engine session.feed ≡ beginning history feed) }
-        ensures line { IfOk result (λ session. session.line ≡ kept []) }
+        ensures line { IfOk result (λ session. session.line ≡ buffered []) }
     {
         Ok(Session {
             alloc,
@@ -48,11 +48,11 @@ impl Session {
     /// Serves the lines that end in a piece of the input, and keeps what it has of the next.
     pub(crate) fn serve_piece<W: Sink>(&mut self, sink: &mut W, piece: &[u8]) -> Result<(), Failed>
         requires { W.has_failed sink.old ≡ false }
-        ensures line { OnOk result ((begun : List ℕ) → self.old.line ≡ kept begun → self.new.line ≡ kept (begun_line begun piece.now)) }
-        ensures served { OnOk result ((begun : List ℕ) → self.old.line ≡ kept begun
+        ensures line { OnOk result ((begun : List ℕ) → self.old.line ≡ buffered begun → self.new.line ≡ buffered (begun_line begun piece.now)) }
+        ensures served { OnOk result ((begun : List ℕ) → self.old.line ≡ buffered begun
             → WritesRun (serving self.old.engine self.old.feed) (ended_lines begun piece.now) (serving self.new.engine self.new.feed) (W.written sink.old) (W.written sink.new)) }
         ensures works { OnOk result (W.has_failed sink.new ≡ false) }
-        ensures broken_off { OnErr result ((begun : List ℕ) → self.old.line ≡ kept begun
+        ensures broken_off { OnErr result ((begun : List ℕ) → self.old.line ≡ buffered begun
             → WritesBeginning (serving self.old.engine self.old.feed) (ended_lines begun piece.now) (W.written sink.old) (W.written sink.new)) }
         ensures fails { OnErr result (W.has_failed sink.new ≡ true) }
     {
@@ -70,10 +70,10 @@ impl Session {
     /// Serves the last line of an input, which counts if it is not empty.
     pub(crate) fn finish<W: Sink>(&mut self, sink: &mut W) -> Result<(), Failed>
         requires { W.has_failed sink.old ≡ false }
-        ensures served { OnOk result ((begun : List ℕ) → self.old.line ≡ kept begun
+        ensures served { OnOk result ((begun : List ℕ) → self.old.line ≡ buffered begun
             → WritesRun (serving self.old.engine self.old.feed) (unless_empty begun) (serving self.new.engine self.new.feed) (W.written sink.old) (W.written sink.new)) }
         ensures works { OnOk result (W.has_failed sink.new ≡ false) }
-        ensures broken_off { OnErr result ((begun : List ℕ) → self.old.line ≡ kept begun
+        ensures broken_off { OnErr result ((begun : List ℕ) → self.old.line ≡ buffered begun
             → WritesBeginning (serving self.old.engine self.old.feed) (unless_empty begun) (W.written sink.old) (W.written sink.new)) }
         ensures fails { OnErr result (W.has_failed sink.new ≡ true) }
     {
@@ -86,11 +86,11 @@ impl Session {
     // Answers the line, and begins the next.
     fn serve_line<W: Sink>(&mut self, sink: &mut W) -> Result<(), Failed>
         requires { W.has_failed sink.old ≡ false }
-        ensures line { self.new.line ≡ kept [] }
-        ensures served { OnOk result ((line : List ℕ) → self.old.line ≡ kept line
+        ensures line { self.new.line ≡ buffered [] }
+        ensures served { OnOk result ((line : List ℕ) → self.old.line ≡ buffered line
             → WritesRun (serving self.old.engine self.old.feed) (line ∷ []) (serving self.new.engine self.new.feed) (W.written sink.old) (W.written sink.new)) }
         ensures works { OnOk result (W.has_failed sink.new ≡ false) }
-        ensures broken_off { OnErr result ((line : List ℕ) → self.old.line ≡ kept line
+        ensures broken_off { OnErr result ((line : List ℕ) → self.old.line ≡ buffered line
             → WritesBeginning (serving self.old.engine self.old.feed) (line ∷ []) (W.written sink.old) (W.written sink.new)) }
         ensures fails { OnErr result (W.has_failed sink.new ≡ true) }
     {

@@ -24,12 +24,12 @@ IsAnswer old line text false new = (feed : Bool) → Answered (record { engine =
 -- the texts of the entries were written
 pub record WritesFeed (entries : List (List ℕ × Entry)) (before after : Option (List ℕ)) : Type 0 where
   pub text : List ℕ
-  pub told : IsFeedText entries text
+  pub entry_texts : IsFeedText entries text
   pub is : after ≡ appended before text
 
 -- a beginning of them was written
 pub record BeginsFeed (entries : List (List ℕ × Entry)) (before after : Option (List ℕ)) : Type 0 where
   pub text : List ℕ
   pub unwritten : List ℕ
-  pub told : IsFeedText entries (text ++ unwritten)
+  pub entry_texts : IsFeedText entries (text ++ unwritten)
   pub is : after ≡ appended before text

@@ -18,18 +18,18 @@ returns-in_err-write_text-clause-begun g c =
     let item = c.entry-item.result in
     on_err c.from_residual.result (fed_begun c.args.entries.now _ _ item _ _ _ _
     (next_entry c.args.entries.now c.loop-entry.entry-index item c.entry-item.is c.loop-entry-test.true)
-    c.loop-entry.invariant.told c.print_entry-printed.ensures (subst (AppendsFront _ _) (c.bytes.ensures ∙ ap (printed_text c.print_entry-printed.result) c.as_slice.ensures.value) c.in_err-write_text.ensures.front))
+    c.loop-entry.invariant.entry_texts c.print_entry-printed.ensures (subst (AppendsFront _ _) (c.bytes.ensures ∙ ap (printed_text c.print_entry-printed.result) c.as_slice.ensures.value) c.in_err-write_text.ensures.front))
 
 pub loop-entry-preserved : goal.loop-entry-preserved
 loop-entry-preserved g c =
     let item = c.entry-item.result in
     record {
       works = c.in_ok-write_text.ensures.works;
-      told = fed_more c.args.entries.now _ _ item _ _ _ _
+      entry_texts = fed_more c.args.entries.now _ _ item _ _ _ _
           (next_entry c.args.entries.now c.loop-entry.entry-index item c.entry-item.is c.loop-entry-test.true)
-          c.loop-entry.invariant.told c.print_entry-printed.ensures (c.in_ok-write_text.ensures.written ∙ ap (appended _) (c.bytes.ensures ∙ ap (printed_text c.print_entry-printed.result) c.as_slice.ensures.value));
+          c.loop-entry.invariant.entry_texts c.print_entry-printed.ensures (c.in_ok-write_text.ensures.written ∙ ap (appended _) (c.bytes.ensures ∙ ap (printed_text c.print_entry-printed.result) c.as_slice.ensures.value));
     }
 
 pub returns-clause-written : goal.returns-clause-written
 returns-clause-written g c =
-    fed_all c.args.entries.now _ _ _ (drop_all c.loop-entry.entry-index c.args.entries.now (omega (arith, c.loop-entry-test.false))) c.loop-entry.invariant.told
+    fed_all c.args.entries.now _ _ _ (drop_all c.loop-entry.entry-index c.args.entries.now (omega (arith, c.loop-entry-test.false))) c.loop-entry.invariant.entry_texts

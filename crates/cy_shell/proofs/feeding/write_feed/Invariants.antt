@@ -5,5 +5,5 @@ use Rattle.cy_shell.proofs.feeding.write_feed.Given as goal
 abbrev pub invariant-loop-entry : goal.invariant-loop-entry
 invariant-loop-entry g l = record {
   works : g.W.Sink.has_failed l.sink ≡ false;
-  told : FedSoFar l.entries (drop l.entry-index l.entries) (g.W.Sink.written l.initial.sink) (g.W.Sink.written l.sink);
+  entry_texts : FedSoFar l.entries (drop l.entry-index l.entries) (g.W.Sink.written l.initial.sink) (g.W.Sink.written l.sink);
 }

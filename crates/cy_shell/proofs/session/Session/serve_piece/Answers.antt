@@ -1,6 +1,6 @@
 use Rattle.std.proofs.Common.{◌≡◌, ℕ, suc, ◌-◌, List, ◌++◌, length, take, drop, sym, ◌∙◌, ap, add-one}
 use Rattle.std.proofs.lemmas.List.{take_rest, drop-drop}
-use Rattle.cy_shell.specs.internal.Lines.{kept}
+use Rattle.cy_shell.specs.internal.Lines.{buffered}
 use Rattle.cy_shell.proofs.Outcomes.{on_err}
 use Rattle.cy_shell.proofs.Progress.{served_more, served_broken, served_last_line, served_all}
 use Rattle.cy_shell.proofs.session.Session.serve_piece.Goals as goal
@@ -13,7 +13,7 @@ returns-in_err-serve_line-clause-broken_off g c =
     on_err c.from_residual.result (λ begun keeps.
     served_broken begun c.args.piece.now _ _ _ c.loop-end.rest.now c.in-Some.end _ _ _
     (c.loop-end.invariant.served begun keeps) (sym c.in-Some.ensures.first)
-    (λ now is. c.in_err-serve_line.ensures.broken_off _ (c.append.ensures now is ∙ ap (λ line. kept (now ++ line)) c.split_at.ensures.front)))
+    (λ now is. c.in_err-serve_line.ensures.broken_off _ (c.append.ensures now is ∙ ap (λ line. buffered (now ++ line)) c.split_at.ensures.front)))
 
 pub loop-end-preserved : goal.loop-end-preserved
 loop-end-preserved g c = record {
@@ -22,7 +22,7 @@ loop-end-preserved g c = record {
       served_more begun c.args.piece.now _ _ _ _ _ c.loop-end.rest.now _ c.in-Some.end _ _ _
       (c.loop-end.invariant.served begun keeps) (sym c.in-Some.ensures.first)
       (behind c.loop-end.rest.now c.split_at.result.1.now c.in-Some.end c.split_at.ensures.back)
-      (λ now is. c.in_ok-serve_line.ensures.served _ (c.append.ensures now is ∙ ap (λ line. kept (now ++ line)) c.split_at.ensures.front))
+      (λ now is. c.in_ok-serve_line.ensures.served _ (c.append.ensures now is ∙ ap (λ line. buffered (now ++ line)) c.split_at.ensures.front))
       c.in_ok-serve_line.ensures.line;
 }
 

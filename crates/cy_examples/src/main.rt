@@ -10,12 +10,13 @@ use std::rt::Files;
 use std::{fs, io};
 
 /// The transcripts, and whether entries follow the answers.
-const TRANSCRIPTS: [(&str, bool); 11] = [
+const TRANSCRIPTS: [(&str, bool); 12] = [
     ("dashboard.session", true),
     ("values.session", false),
     ("spellings.session", false),
     ("rows.session", false),
     ("entries.session", true),
+    ("relationships.session", true),
     ("refused.session", true),
     ("tokens.session", false),
     ("grammar.session", false),

@@ -1,211 +1,199 @@
 //! How deep expressions may be, and how many levels may be open in them.
 
-use crate::faults::{around, expect_fault};
-use crate::trees::expect_tree;
+use cy_lexer::lex;
+use cy_parser::parse;
 use std::alloc::{AllocError, Global};
 use std::process::Abort;
 use std::test::Fail;
 
-/// Expressions around another one, which stands at the `^` and has one level of depth less.
-const DEEPER: &str = "\
-NOT ^
--^
-+^
-[^]
-[1, ^, 2]
-f(^)
-f(DISTINCT 1, ^)
-CASE WHEN ^ THEN 1 END
-CASE WHEN 1 THEN ^ END
-CASE WHEN 1 THEN 2 WHEN 3 THEN 4 ELSE ^ END
-(1 - ^)
-(1 = ^)
-(^ = 1)
-(^:L)
-^.k
-^ * 2
-^ + 1
-^ IS NULL
-^ IS NOT NULL
-^ IN y
-^ STARTS WITH y
-^ AND y
-^ XOR y
-^ OR y";
-
-/// What opens one level of an expression, which stands at the `^`.
-const OPENINGS: &str = "\
-(^
-1 + (^
-[^
-[1, ^
-f(^
-f(DISTINCT 1, ^
-NOT ^
--^
-+ ^
-CASE WHEN ^
-CASE WHEN 1 THEN ^
-CASE WHEN 1 THEN 2 WHEN ^
-CASE WHEN 1 THEN 2 ELSE ^";
-
-/// What may stand before an expression, which stands at the `^`.
-const FRONTS: &str = "\
-RETURN ^
-RETURN 1 AS a, ^
-MATCH (n {a: 1, k: ^
-MATCH (n)-[{k: ^
-MATCH (n) WHERE ^
-WITH ^
-WITH n WHERE ^
-CREATE (n {k: ^
-RETURN n ORDER BY ^
-SET n.k = ^
-UNWIND ^";
-
-/// Expressions that open no level, one level, two and three.
-const LEAVES: [&str; 4] = [
-    "\
-1
--5
-x.k:A
-1 + 2 * 3 < 4
-x IS NOT NULL",
-    "\
-[]
-f()
-f(*)
-f(DISTINCT x)
-NOT x
--x
-+5
-- -5
-CASE WHEN a THEN b END",
-    "[1, [x]]",
-    "NOT -f(x)",
+/// What stands before and after an expression in one that has one level of depth more.
+const DEEPER: [(&str, &str); 24] = [
+    ("NOT ", ""),
+    ("-", ""),
+    ("+", ""),
+    ("[", "]"),
+    ("[1, ", ", 2]"),
+    ("f(", ")"),
+    ("f(DISTINCT 1, ", ")"),
+    ("CASE WHEN ", " THEN 1 END"),
+    ("CASE WHEN 1 THEN ", " END"),
+    ("CASE WHEN 1 THEN 2 WHEN 3 THEN 4 ELSE ", " END"),
+    ("(1 - ", ")"),
+    ("(1 = ", ")"),
+    ("(", " = 1)"),
+    ("(", ":L)"),
+    ("", ".k"),
+    ("", " * 2"),
+    ("", " + 1"),
+    ("", " IS NULL"),
+    ("", " IS NOT NULL"),
+    ("", " IN y"),
+    ("", " STARTS WITH y"),
+    ("", " AND y"),
+    ("", " XOR y"),
+    ("", " OR y"),
 ];
 
-/// A text so many times.
-fn repeated(alloc: Global, piece: &str, times: usize) -> Result<String, AllocError> {
-    let mut text = String::new(alloc);
-    for _turn in 0..times {
-        text.push_str(piece)?;
-    }
-    Ok(text)
-}
+/// What opens one level of an expression, and stands before what it opens it for.
+const OPENINGS: [&str; 13] = [
+    "(",
+    "1 + (",
+    "[",
+    "[1, ",
+    "f(",
+    "f(DISTINCT 1, ",
+    "NOT ",
+    "-",
+    "+ ",
+    "CASE WHEN ",
+    "CASE WHEN 1 THEN ",
+    "CASE WHEN 1 THEN 2 WHEN ",
+    "CASE WHEN 1 THEN 2 ELSE ",
+];
 
-/// A leaf between pieces that stand so many times before it, and as often behind it.
-pub(crate) fn nested(
-    alloc: Global,
-    (front, back): (&str, &str),
+/// What may stand before an expression.
+const FRONTS: [&str; 11] = [
+    "RETURN ",
+    "RETURN 1 AS a, ",
+    "MATCH (n {a: 1, k: ",
+    "MATCH (n)-[{k: ",
+    "MATCH (n) WHERE ",
+    "WITH ",
+    "WITH n WHERE ",
+    "CREATE (n {k: ",
+    "RETURN n ORDER BY ",
+    "SET n.k = ",
+    "UNWIND ",
+];
+
+/// Expressions, and in how many brackets each may stand: 256, less one for each level that it opens itself.
+const LEAVES: [(&str, usize); 16] = [
+    ("1", 256),
+    ("-5", 256),
+    ("x.k:A", 256),
+    ("1 + 2 * 3 < 4", 256),
+    ("x IS NOT NULL", 256),
+    ("[]", 255),
+    ("f()", 255),
+    ("f(*)", 255),
+    ("f(DISTINCT x)", 255),
+    ("NOT x", 255),
+    ("-x", 255),
+    ("+5", 255),
+    ("- -5", 255),
+    ("CASE WHEN a THEN b END", 255),
+    ("[1, [x]]", 254),
+    ("NOT -f(x)", 253),
+];
+
+/// What stands before and after an expression in its clause, and in more of the expression, so many times.
+#[derive(Clone, Copy)]
+struct Around {
+    clause: (&'static str, &'static str),
+    nesting: (&'static str, &'static str),
     times: usize,
-    leaf: &str,
-) -> Result<String, AllocError> {
-    let opened = repeated(alloc, front, times)?;
-    let closed = repeated(alloc, back, times)?;
-    format!(in alloc; "{opened}{leaf}{closed}")
 }
 
-/// A line is a statement.
-fn expect_statement(rt: &impl Abort, alloc: Global, line: &str) -> Result<(), Fail> {
-    expect_fault(rt, alloc, line, 0, line.len())
-}
-
-/// An expression is refused at its first token, whatever stands behind it.
-fn expect_too_deep(rt: &impl Abort, alloc: Global, deep: &str) -> Result<(), Fail> {
-    for back in [" AS y", ",,", ""] {
-        let line = format!(in alloc; "RETURN {deep}{back}")?;
-        expect_fault(rt, alloc, line.as_str(), 21, 7)?;
+fn add_times(line: &mut String, piece: &str, times: usize) -> Result<(), AllocError> {
+    for _turn in 0..times {
+        line.push_str(piece)?;
     }
     Ok(())
 }
 
-/// An expression around others may have 64 levels of depth, and not one more.
-fn expect_depth(rt: &impl Abort, alloc: Global, pieces: (&str, &str)) -> Result<(), Fail> {
-    let deepest = nested(alloc, pieces, 63, "x")?;
-    let line = format!(in alloc; "RETURN {deepest} AS y")?;
-    expect_statement(rt, alloc, line.as_str())?;
-    let deep = nested(alloc, pieces, 64, "x")?;
-    expect_too_deep(rt, alloc, deep.as_str())?;
-    let inner = format!(in alloc; "RETURN 1 AS a, [2, {deep},,")?;
-    expect_fault(rt, alloc, inner.as_str(), 21, 15)
+/// The line with an expression in all that stands around it.
+fn line_of(alloc: Global, around: Around, leaf: &str) -> Result<String, AllocError> {
+    let mut line = String::from_str(alloc, around.clause.0)?;
+    add_times(&mut line, around.nesting.0, around.times)?;
+    line.push_str(leaf)?;
+    add_times(&mut line, around.nesting.1, around.times)?;
+    line.push_str(around.clause.1)?;
+    Ok(line)
 }
 
+/// The number of a line's fault and its offset, or 0 and the line's length for a statement.
+fn fault_of(alloc: Global, line: &str) -> Result<(u16, Option<usize>), Fail> {
+    let tokens = lex(alloc, line)?;
+    match parse(alloc, tokens.as_slice(), line) {
+        Ok(_) => Ok((0, Some(line.len()))),
+        Err(fault) => Ok((fault.code(), fault.at())),
+    }
+}
+
+/// The line has a fault of this number, at this offset or at its end; a statement has 0 there.
+fn expect_fault(
+    rt: &impl Abort,
+    alloc: Global,
+    around: Around,
+    leaf: &str,
+    (code, at): (u16, Option<usize>),
+) -> Result<(), Fail> {
+    let line = line_of(alloc, around, leaf)?;
+    let line = line.as_str();
+    let wanted = (code, Some(at.unwrap_or(line.len())));
+    assert!(rt; fault_of(alloc, line)? == wanted, "{line}");
+    Ok(())
+}
+
+// An expression around others may have 64 levels of depth, and not one more. It is then refused at its first token, whatever
+// stands after it.
 #[test]
 fn depth_of_expressions(rt: HostRuntime) -> Result<(), Fail> {
-    for marked in DEEPER.lines() {
-        expect_depth(&rt, rt.alloc(), around(marked))?;
+    let table = [
+        (("RETURN ", " AS y"), 63, (0, None)),
+        (("RETURN ", " AS y"), 64, (21, Some(7))),
+        (("RETURN ", ",,"), 64, (21, Some(7))),
+        (("RETURN ", ""), 64, (21, Some(7))),
+        (("RETURN 1 AS a, [2, ", ",,"), 64, (21, Some(15))),
+    ];
+    for nesting in DEEPER {
+        for (clause, times, wanted) in table {
+            let around = Around {
+                clause,
+                nesting,
+                times,
+            };
+            expect_fault(&rt, rt.alloc(), around, "x", wanted)?;
+        }
     }
     Ok(())
 }
 
-// An expression that ends nowhere isn't complete, so its depth isn't looked at.
-#[test]
-fn depth_of_no_expression(rt: HostRuntime) -> Result<(), Fail> {
-    let signs = nested(rt.alloc(), ("NOT ", ""), 64, "")?;
-    let line = format!(in rt.alloc(); "RETURN {signs}")?;
-    expect_fault(&rt, rt.alloc(), line.as_str(), 20, line.len())
-}
-
-/// Behind a front 256 levels may be open, and not one more.
-fn expect_levels(rt: &impl Abort, alloc: Global, front: &str, opening: &str) -> Result<(), Fail> {
-    let open = nested(alloc, (opening, ""), 256, "")?;
-    let line = format!(in alloc; "{front}{open}")?;
-    expect_fault(rt, alloc, line.as_str(), 20, line.len())?;
-    let more = format!(in alloc; "{front}{open}{opening}")?;
-    expect_fault(rt, alloc, more.as_str(), 21, front.len())
-}
-
-/// Behind a front, each piece that opens a level opens it.
-fn expect_openings(rt: &impl Abort, alloc: Global, front: &str) -> Result<(), Fail> {
-    for marked in OPENINGS.lines() {
-        let (opening, _) = around(marked);
-        expect_levels(rt, alloc, front, opening)?;
-    }
-    Ok(())
-}
-
+// In each place 256 levels may be open, and not one more.
 #[test]
 fn open_levels_of_expressions(rt: HostRuntime) -> Result<(), Fail> {
-    for marked in FRONTS.lines() {
-        let (front, _) = around(marked);
-        expect_openings(&rt, rt.alloc(), front)?;
+    for front in FRONTS {
+        for opening in OPENINGS {
+            for (times, wanted) in [(256, (20, None)), (257, (21, Some(front.len())))] {
+                let around = Around {
+                    clause: (front, ""),
+                    nesting: (opening, ""),
+                    times,
+                };
+                expect_fault(&rt, rt.alloc(), around, "", wanted)?;
+            }
+        }
     }
     Ok(())
 }
 
-/// A leaf may stand in so many brackets, and not in one more.
-fn expect_brackets(rt: &impl Abort, alloc: Global, leaf: &str, most: usize) -> Result<(), Fail> {
-    let bracketed = nested(alloc, ("(", ")"), most, leaf)?;
-    let line = format!(in alloc; "RETURN {bracketed} AS x")?;
-    expect_statement(rt, alloc, line.as_str())?;
-    let more = format!(in alloc; "RETURN ({bracketed}) AS x")?;
-    expect_fault(rt, alloc, more.as_str(), 21, 7)
-}
-
-/// Each line of a table is a leaf that may stand in so many brackets.
-fn expect_leaves(rt: &impl Abort, alloc: Global, leaves: &str, most: usize) -> Result<(), Fail> {
-    for leaf in leaves.lines() {
-        expect_brackets(rt, alloc, leaf, most)?;
-    }
-    Ok(())
-}
-
+// Levels that are open in the leaf count with the brackets around it, and those that are closed don't.
 #[test]
 fn levels_in_leaves(rt: HostRuntime) -> Result<(), Fail> {
-    for (levels, leaves) in LEAVES.iter().enumerate() {
-        expect_leaves(&rt, rt.alloc(), leaves, 256_usize.saturating_sub(levels))?;
+    for (leaf, most) in LEAVES {
+        for (more, wanted) in [(0, (0, None)), (1, (21, Some(7)))] {
+            let around = Around {
+                clause: ("RETURN ", " AS x"),
+                nesting: ("(", ")"),
+                times: most.saturating_add(more),
+            };
+            expect_fault(&rt, rt.alloc(), around, leaf, wanted)?;
+        }
     }
-    Ok(())
-}
-
-// Brackets leave no trace in a tree, and those that are closed open no level.
-#[test]
-fn closed_brackets(rt: HostRuntime) -> Result<(), Fail> {
-    let bracketed = nested(rt.alloc(), ("(", ")"), 256, "1")?;
-    let line = format!(in rt.alloc(); "RETURN {bracketed} AS x")?;
-    expect_tree(&rt, rt.alloc(), line.as_str(), "RETURN 1 AS `x`")?;
-    let closed = nested(rt.alloc(), ("(NOT x), ", ""), 300, "x")?;
-    let line = format!(in rt.alloc(); "RETURN [{closed}]")?;
-    expect_statement(&rt, rt.alloc(), line.as_str())
+    let closed = Around {
+        clause: ("RETURN [", "]"),
+        nesting: ("(NOT x), ", ""),
+        times: 300,
+    };
+    expect_fault(&rt, rt.alloc(), closed, "x", (0, None))
 }

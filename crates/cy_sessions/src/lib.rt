@@ -1,12 +1,15 @@
-//! The calls of the engine, lines that no transcript holds, and streams that fail. There is nothing here but tests.
+//! What no transcript holds: values, tokens and expressions, calls of the engine and the parser, lines of bytes or of great
+//! length, options, and streams that fail. There is nothing here but tests.
 #![tactic(auto)]
 
+#[cfg(test)]
+mod cells;
 #[cfg(test)]
 mod depths;
 #[cfg(test)]
 mod engine;
 #[cfg(test)]
-mod faults;
+mod expressions;
 #[cfg(test)]
 mod lines;
 #[cfg(test)]
@@ -18,4 +21,8 @@ mod stops;
 #[cfg(test)]
 mod streams;
 #[cfg(test)]
+mod tokens;
+#[cfg(test)]
 mod trees;
+#[cfg(test)]
+mod values;

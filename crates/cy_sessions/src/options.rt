@@ -4,122 +4,85 @@ use cy_shell::{ArgFault, Asked, Settings, settings};
 use std::alloc::{AllocError, Global};
 use std::test::Fail;
 
+/// Arguments, `""` for an empty one, and what they ask for: a run with a history, with a feed or without one; the help text;
+/// or nothing, since they are bad.
+const ARGUMENTS: &str = r#" => 64
+--feed => 64 feed
+--history 4096 --feed => 4096 feed
+--feed --history 1 => 1 feed
+--history=5 => 5
+--history +5 => 5
+--history=+5 --feed => 5 feed
+--history 007 => 7
+-- => 64
+--feed -- => 64 feed
+--history 0 => bad
+--history 4097 => bad
+--history=0 => bad
+--history=4097 => bad
+--history 18446744073709551617 => bad
+--history x => bad
+--history 5x => bad
+--history 5.0 => bad
+--history -5 => bad
+--history=-5 => bad
+--history "" => bad
+--history= => bad
+--history => bad
+--history --feed => bad
+--history 5 6 => bad
+--history 5 --history 5 => bad
+--histry 3 => bad
+--hist 3 => bad
+-feed 3 => bad
+--History 3 => bad
+--feed --feed => bad
+--feed=true => bad
+--fee => bad
+-f => bad
+feed => bad
+-- --feed => bad
+--feed --feed --help => bad
+--help=me => bad
+--help => help
+-h => help
+--feed --help => help
+--help --histry => help"#;
+
 // The words with the program's name before them.
-fn words_of(alloc: Global, arguments: &[&str]) -> Result<Vec<String>, AllocError> {
+fn words_of(alloc: Global, arguments: &str) -> Result<Vec<String>, AllocError> {
     let mut words = Vec::new(alloc);
     words.push(String::from_str(alloc, "cypher_live")?)?;
-    for argument in arguments {
-        words.push(String::from_str(alloc, argument)?)?;
+    for argument in arguments.split_whitespace() {
+        let word = if argument == "\"\"" { "" } else { argument };
+        words.push(String::from_str(alloc, word)?)?;
     }
     Ok(words)
 }
 
-// What is asked for, where it is a run: the history and whether there is a feed.
-fn run_of(asked: Result<Asked, ArgFault>) -> Option<(usize, bool)> {
+// What is asked for, as the table says it.
+fn outcome(alloc: Global, asked: Result<Asked, ArgFault>) -> Result<String, AllocError> {
     match asked {
-        Ok(Asked::Run(Settings { history, feed })) => Some((history, feed)),
-        _ => None,
+        Ok(Asked::Run(Settings { history, feed })) => {
+            let feed = if feed { " feed" } else { "" };
+            format!(in alloc; "{history}{feed}")
+        }
+        Ok(Asked::Help(text)) => {
+            let is_help = text.contains("--history <N>") && text.contains("--feed");
+            String::from_str(alloc, if is_help { "help" } else { "another text" })
+        }
+        Err(ArgFault::Bad) => String::from_str(alloc, "bad"),
+        Err(ArgFault::Memory) => String::from_str(alloc, "no memory"),
     }
 }
 
-const NONE: &[&str] = &[];
-
 #[test]
-fn reads_options(rt: HostRuntime) -> Result<(), Fail> {
-    let alloc = rt.alloc();
-    let table: [(&[&str], usize, bool); 10] = [
-        (NONE, 64, false),
-        (&["--feed"], 64, true),
-        (&["--history", "4096", "--feed"], 4096, true),
-        (&["--feed", "--history", "1"], 1, true),
-        (&["--history=5"], 5, false),
-        (&["--history", "+5"], 5, false),
-        (&["--history=+5", "--feed"], 5, true),
-        (&["--history", "007"], 7, false),
-        (&["--"], 64, false),
-        (&["--feed", "--"], 64, true),
-    ];
-    for (arguments, history, feed) in table {
-        let words = words_of(alloc, arguments)?;
-        assert!(rt;
-            run_of(settings(alloc, words.as_slice())) == Some((history, feed)),
-            "{arguments:?}"
-        );
-    }
-    assert!(rt;
-        run_of(settings(alloc, &[])) == Some((64, false)),
-        "not even a name"
-    );
-    Ok(())
-}
-
-#[test]
-fn refuses_bad_arguments(rt: HostRuntime) -> Result<(), Fail> {
-    let alloc = rt.alloc();
-    let table: [&[&str]; 28] = [
-        &["--history", "0"],
-        &["--history", "4097"],
-        &["--history=0"],
-        &["--history=4097"],
-        &["--history", "18446744073709551617"],
-        &["--history", "x"],
-        &["--history", "5x"],
-        &["--history", "5.0"],
-        &["--history", "-5"],
-        &["--history=-5"],
-        &["--history", ""],
-        &["--history="],
-        &["--history"],
-        &["--history", "--feed"],
-        &["--history", "5", "6"],
-        &["--history", "5", "--history", "5"],
-        &["--histry", "3"],
-        &["--hist", "3"],
-        &["-feed", "3"],
-        &["--History", "3"],
-        &["--feed", "--feed"],
-        &["--feed=true"],
-        &["--fee"],
-        &["-f"],
-        &["feed"],
-        &["--", "--feed"],
-        &["--feed", "--feed", "--help"],
-        &["--help=me"],
-    ];
-    for arguments in table {
-        let words = words_of(alloc, arguments)?;
-        let is_bad = matches!(settings(alloc, words.as_slice()), Err(ArgFault::Bad));
-        assert!(rt; is_bad, "{arguments:?}");
+fn reads_arguments(rt: HostRuntime) -> Result<(), Fail> {
+    for case in ARGUMENTS.lines() {
+        let (arguments, wanted) = case.split_once(" => ").ok_or("no outcome")?;
+        let words = words_of(rt.alloc(), arguments)?;
+        let asked = outcome(rt.alloc(), settings(rt.alloc(), words.as_slice()))?;
+        assert!(rt; asked.as_str() == wanted, "{case}");
     }
     Ok(())
-}
-
-#[test]
-fn helps(rt: HostRuntime) -> Result<(), Fail> {
-    let alloc = rt.alloc();
-    let table: [&[&str]; 4] = [
-        &["--help"],
-        &["-h"],
-        &["--feed", "--help"],
-        &["--help", "--histry"],
-    ];
-    for arguments in table {
-        let words = words_of(alloc, arguments)?;
-        let has_help = match settings(alloc, words.as_slice()) {
-            Ok(Asked::Help(text)) => {
-                text.contains("--history <N>") && text.contains("--feed") && text.contains("64")
-            }
-            _ => false,
-        };
-        assert!(rt; has_help, "{arguments:?}");
-    }
-    Ok(())
-}
-
-#[test]
-fn reports_statuses_of_bad_arguments(rt: HostRuntime) {
-    for (fault, status) in [(ArgFault::Bad, 2), (ArgFault::Memory, 4)] {
-        assert_eq!(rt; fault.code(), status);
-        assert_eq!(rt; fault.at(), None);
-    }
 }

@@ -1,9 +1,9 @@
-//! Lines as trees, and trees as lines.
+//! Lines and the text of their trees.
 
 use cy_lexer::lex;
-use cy_parser::{Clause, Item, Projection, Statement, parse, show};
-use cy_values::{Duplicate, Text};
-use std::alloc::{AllocError, Global};
+use cy_parser::{Clause, Statement, parse, show};
+use cy_values::Text;
+use std::alloc::Global;
 use std::process::Abort;
 use std::test::Fail;
 
@@ -98,118 +98,60 @@ CREATE (`n`) REMOVE `n`:`A`:`B`
 OPTIONAL MATCH (n), (m) WHERE n = m UNWIND [1] AS u WITH DISTINCT n, u AS v ORDER BY v DESC SKIP 1 LIMIT 2 WHERE v = 1 CREATE (n)-[:T]->(:L {k: v}), (m) WITH n MATCH (n) RETURN n
 OPTIONAL MATCH (`n`), (`m`) WHERE (`n` = `m`) UNWIND [1] AS `u` WITH DISTINCT `n` AS `n`, `u` AS `v` ORDER BY `v` DESC SKIP 1 LIMIT 2 WHERE (`v` = 1) CREATE (`n`)-[:`T`]->(:`L`{`k`:`v`}), (`m`) WITH `n` AS `n` MATCH (`n`) RETURN `n` AS `n`"#;
 
-/// The tree of a line.
-fn read(alloc: Global, line: &str) -> Result<Statement, Fail> {
-    let tokens = lex(alloc, line)?;
-    Ok(parse(alloc, tokens.as_slice(), line)?)
+/// A line with a LF in it, and a text with characters that are escaped there and stand as they are in the tree's text.
+const CONTROLS: [(&str, &str); 2] = [
+    (
+        "/* a */ RETURN\t1 // b\n+/* c */2 // d",
+        "RETURN (1 + 2) AS `1 // b\n+/* c */2`",
+    ),
+    (
+        "RETURN '\\b\\f\\n\\r\\t\\u0041\\U0001F600\\'\\\\\\\"' AS t",
+        "RETURN '\u{8}\u{c}\n\r\tA\u{1F600}\\'\\\\\"' AS `t`",
+    ),
+];
+
+/// Puts copies in the place of the expressions of a last RETURN.
+fn copy_items(alloc: Global, statement: &mut Statement) -> Result<(), Fail> {
+    if let Some(Clause::Return(projection)) = statement.clauses.last_mut() {
+        for item in &mut projection.items {
+            item.expression = item.expression.copy(alloc)?;
+        }
+    }
+    Ok(())
 }
 
-/// The text of the tree of a line.
+/// The text of the tree of a line, with copies in it.
 fn shown(alloc: Global, line: &str) -> Result<Text, Fail> {
-    let statement = read(alloc, line)?;
+    let tokens = lex(alloc, line)?;
+    let mut statement = parse(alloc, tokens.as_slice(), line)?;
+    copy_items(alloc, &mut statement)?;
     Ok(show(alloc, &statement)?)
 }
 
-/// The pairs of lines in a table, without its comments. A line that is left over has an empty one below it.
-fn pairs(
-    alloc: Global,
-    table: &'static str,
-) -> Result<Vec<(&'static str, &'static str)>, AllocError> {
-    let mut pairs = Vec::new(alloc);
-    let mut above = None;
-    for line in table.lines() {
-        if !line.starts_with("//") {
-            above = match above {
-                None => Some(line),
-                Some(first) => {
-                    pairs.push((first, line))?;
-                    None
-                }
-            };
-        }
-    }
-    if let Some(alone) = above {
-        pairs.push((alone, ""))?;
-    }
-    Ok(pairs)
-}
-
 /// The text of the tree of a line is this, and is that of its own tree.
-pub(crate) fn expect_tree(
-    rt: &impl Abort,
-    alloc: Global,
-    line: &str,
-    text: &str,
-) -> Result<(), Fail> {
-    assert_eq!(rt; shown(alloc, line)?.as_str(), text, "{line}");
-    assert_eq!(rt; shown(alloc, text)?.as_str(), text, "{line}");
+fn expect_tree(rt: &impl Abort, alloc: Global, line: &str, text: &str) -> Result<(), Fail> {
+    for spelling in [line, text] {
+        assert!(rt; shown(alloc, spelling)?.as_str() == text, "{line}");
+    }
     Ok(())
 }
 
 #[test]
 fn spellings_and_their_trees(rt: HostRuntime) -> Result<(), Fail> {
-    for (line, text) in pairs(rt.alloc(), SPELLINGS)? {
+    let mut above = None;
+    for line in SPELLINGS.lines() {
+        if !line.starts_with("//") {
+            match above {
+                Some(first) => {
+                    expect_tree(&rt, rt.alloc(), first, line)?;
+                    above = None;
+                }
+                None => above = Some(line),
+            }
+        }
+    }
+    for (line, text) in CONTROLS {
         expect_tree(&rt, rt.alloc(), line, text)?;
-    }
-    Ok(())
-}
-
-// A line with a LF in it, and a text with characters that are escaped there and stand as they are in the tree's text.
-#[test]
-fn spellings_with_control_characters(rt: HostRuntime) -> Result<(), Fail> {
-    expect_tree(
-        &rt,
-        rt.alloc(),
-        "/* a */ RETURN\t1 // b\n+/* c */2 // d",
-        "RETURN (1 + 2) AS `1 // b\n+/* c */2`",
-    )?;
-    expect_tree(
-        &rt,
-        rt.alloc(),
-        "RETURN '\\b\\f\\n\\r\\t\\u0041\\U0001F600\\'\\\\\\\"' AS t",
-        "RETURN '\u{8}\u{c}\n\r\tA\u{1F600}\\'\\\\\"' AS `t`",
-    )
-}
-
-/// The projection with a copy of each of its expressions, and the rest left out.
-fn copied(alloc: Global, projection: &Projection) -> Result<Statement, Fail> {
-    let mut items = Vec::new(alloc);
-    for item in projection.items.iter() {
-        items.push(Item {
-            expression: item.expression.copy(alloc)?,
-            column: item.column.copy(alloc)?,
-            named: item.named,
-        })?;
-    }
-    let mut clauses = Vec::new(alloc);
-    clauses.push(Clause::Return(Projection {
-        distinct: false,
-        items,
-        order: Vec::new(alloc),
-        skip: None,
-        limit: None,
-    }))?;
-    Ok(Statement { clauses })
-}
-
-/// The text of the first clause of a line, once its expressions are copied. Nothing where it is no RETURN.
-fn shown_copy(alloc: Global, line: &str) -> Result<Option<Text>, Fail> {
-    let statement = read(alloc, line)?;
-    match statement.clauses.as_slice() {
-        [Clause::Return(projection)] => {
-            let twin = copied(alloc, projection)?;
-            Ok(Some(show(alloc, &twin)?))
-        }
-        _ => Ok(None),
-    }
-}
-
-#[test]
-fn copies_of_expressions(rt: HostRuntime) -> Result<(), Fail> {
-    for (line, text) in pairs(rt.alloc(), SPELLINGS)? {
-        if let Some(twin) = shown_copy(rt.alloc(), line)? {
-            assert!(rt; text.starts_with(twin.as_str()), "{line}");
-        }
     }
     Ok(())
 }

@@ -17,9 +17,14 @@ MARKED = 50
 CRATE = "crates/cypher_live"
 
 
-def statement(text, made=0, gone=0, changes=True):
+def statement(text, made=0, gone=0, rels_made=0, rels_gone=0, changes=True):
     """A line with its answer, and whether the tick rises with it."""
-    return text, f'{{"changed":[{made},{gone},0,0],"columns":[],"rows":[]}}', changes
+    return text, f'{{"changed":[{made},{gone},{rels_made},{rels_gone}],"columns":[],"rows":[]}}', changes
+
+
+def index(key):
+    """A line that makes an index, with its answer, and that the tick stays."""
+    return f":index A {key}", f'{{"index":["A","{key}"]}}', False
 
 
 def view(name, label, tick):
@@ -38,6 +43,11 @@ def made_with_marks(size):
     for mark in range(MARKED):
         lines[mark * step + step // 2] = statement(f"CREATE (:B{mark} {{k: 0}})", made=1)
     return lines
+
+
+def joined(size):
+    """Lines that make two nodes each, with a relationship between them."""
+    return [statement(f"CREATE (:A {{k: {i}}})-[:T]->(:A {{k: 0}})", made=2, rels_made=1) for i in range(size // 2)]
 
 
 def removals(letter, found):
@@ -73,20 +83,20 @@ def costs(program, size):
     for name, label in (("a view that it doesn't fit", "Z"), ("a view that it fits", "A")):
         registered = [view("v", label, 1)]
         yield f"CREATE, with {name}", (count(registered, graph) - count(registered)) / size, True
+    chosen = [index("k")]
+    yield "CREATE, with an index", (count(chosen, graph) - count(chosen)) / size, True
+    yield "CREATE of a relationship and its ends", (count(joined(size)) - nothing) / (size // 2), True
     for name, lines in (("SET", settings), ("DETACH DELETE", removals)):
         no_nodes, one_node_each = lines("Q", 0), lines("B", 1)
         missed, found = count(marked, no_nodes), count(marked, one_node_each)
-        # One line alone tells what it costs beside its scan: each removal spares the scans behind it a node.
-        beside = count(marked, one_node_each[:1]) - count(marked, no_nodes[:1])
-        yield f"{name} of no node", (missed - base) / MARKED, False
-        yield f"{name} of no node, a node of the graph", (missed - base) / MARKED / size, True
-        yield f"{name} of one node", (found - base) / MARKED, False
-        yield f"{name} of one node, a node of the graph", (found - base) / MARKED / size, True
-        yield f"{name} of one node, above that of none", beside, True
+        yield f"{name} of no node", (missed - base) / MARKED, True
+        yield f"{name} of one node", (found - base) / MARKED, True
     whole = [statement("MATCH (n:A) SET n.k = -1")]
     yield "SET of all nodes, a node", (count(graph, whole) - plain) / size, True
     whole = [statement("MATCH (n:A) DETACH DELETE n", gone=size)]
     yield "DETACH DELETE of all nodes, a node", (count(graph, whole) - plain) / size, True
+    whole = [statement("MATCH (n:A) DETACH DELETE n", gone=size, rels_gone=size // 2)]
+    yield "the same, each with a relationship", (count(joined(size), whole) - count(joined(size))) / size, True
 
 
 def peak(program, lines):

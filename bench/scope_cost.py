@@ -4,9 +4,9 @@
 Run it at the top of the repository. It builds a program over a copy of the crates in a temporary folder, with what their
 folders `out/` have, if they are there. The program lexes and parses a line, and then tests its statement and whether it is
 a view's query, or does not. For each shape of line the script prints both differences, less that of the shortest
-statement, and their ratio. Linear work has a ratio of about 4, and look-ups among items, which are in order, have one of up
-to 6. A larger one ends the script with status 1, and so does a line of 65,536 bytes that takes more than 300,000,000
-instructions, or one that isn't answered as it should be.
+statement, and their ratio. Linear work has a ratio of about 4, and look-ups among items and names, which are in order, have
+one of up to 6. A larger one ends the script with status 1, and so does a line of 65,536 bytes that takes more than
+300,000,000 instructions, or one that isn't answered as it should be.
 
 The C library merges small blocks that were freed all at one time, once a large block is freed, and that happens with the
 longer lines alone. So the lines are counted with a setting by which it merges each block when it is freed.
@@ -28,7 +28,7 @@ CRATES = {
     "cy_lexer": "thiserror unicode_ident",
     "cy_trees": "cy_lexer cy_values",
     "cy_parser": "cy_lexer cy_trees cy_values thiserror",
-    "cy_scope": "cy_trees cy_values indexmap thiserror",
+    "cy_scope": "cy_trees cy_values thiserror",
 }
 LIBRARIES = "cy_lexer cy_parser cy_scope"
 # Reads a word and a line. Prints the number of the fault of the statement or of the query, or 0; where the word is `parse`, the
@@ -73,6 +73,9 @@ fn main(rt: HostRuntime) -> io::Result<()> {
 DIGITS = string.digits + string.ascii_lowercase
 # The square of the factor of the hash FNV-1a, in 64 bits.
 SQUARE = 1_099_511_628_211**2 % 2**64
+# The seed and the factor of the toolchain's hash, which its hash maps use.
+HASH_SEED = 0x243F_6A88_85A3_08D3
+HASH_FACTOR = 0x9E37_79B9_7F4A_7C15
 
 
 def name(number):
@@ -119,6 +122,30 @@ def nested(front, back, n):
     return filled("RETURN [", front * 62 + "TRUE" + back * 62 + ",", "TRUE] AS x", n)
 
 
+def folded(a, b):
+    """Both halves of the product of 128 bits, joined by exclusive or."""
+    product = a * b
+    return product % 2**64 ^ product >> 64
+
+
+def place(name):
+    """What hash maps of up to 1,024 groups see of a name of six letters and digits: its group, and a byte of its hash."""
+    first, last = (int.from_bytes(name[i : i + 4].encode(), "little") for i in (0, 2))
+    state = folded(HASH_SEED ^ first ^ last << 32, HASH_FACTOR ^ 12)
+    state = folded(state ^ 0xFFFFFF, HASH_FACTOR ^ 2)
+    number = (state ^ state >> 32) % 2**32
+    return number % 1024, number >> 24
+
+
+def colliding(n):
+    """A pattern of variables whose names have one place in each such map."""
+    with open("bench/colliding_names.txt") as it:
+        names = it.read().split()[: (n - 19) // 9]
+    if len({place(name) for name in names}) != 1:
+        sys.exit("bench/colliding_names.txt: the names have several places")
+    return f"MATCH {','.join(f'({name})' for name in names)} RETURN 1 AS x".ljust(n)
+
+
 def reading(n):
     """A pattern of variables, and an item for each."""
     names = [name(i) for i in range((n - 14) // 12)]
@@ -131,6 +158,7 @@ def shapes(n):
     return {
         "variables": (numbered("MATCH ", "(@)", ",", " RETURN 1 AS x", n), 0),
         "variables, one a clause": (numbered("", "MATCH (@)", " ", " RETURN 1 AS x", n), 0),
+        "variables whose hashes collide": (colliding(n), 0),
         "variables that are read": (reading(n), 0),
         "columns of WITH": (numbered("WITH ", "1 AS @", ",", " RETURN 1 AS x", n), 0),
         "columns of RETURN": (("RETURN " + numbers(10000, (n - 7) // 6)).ljust(n), 0),

@@ -10,7 +10,8 @@ work has a ratio of about 4. The script ends with status 1 where a count is abov
 of times than is stated, a ratio is 4.4 or more, or a value isn't the right one.
 
 The C library merges small blocks that were freed all at one time, once a large block is freed, and that happens with the
-longer lines alone. So the statements are counted with a setting by which it merges each block when it is freed.
+longer lines alone. And it copies long texts by one instruction that valgrind counts once for each byte. So the statements are
+counted with settings by which it merges each block when it is freed, and copies long texts as it copies short ones.
 """
 import os
 import re
@@ -22,6 +23,7 @@ import tempfile
 from lexer_cost import LIMIT, built, filled, instructions
 
 FEW, MANY = 10, 30
+SETTINGS = "glibc.malloc.mxfast=0:glibc.cpu.x86_rep_movsb_threshold=1000000000"
 # The crates that are copied, with what each stands on.
 CRATES = {
     "cy_values": "thiserror",
@@ -138,18 +140,18 @@ fn main(rt: HostRuntime) -> io::Result<()> {
 # Typical expressions of a node n, whose property k is 'abc' and whose property m is 7. Each has its value, the limit of its
 # instructions, and how often it takes memory: once for a text in the answer.
 TYPICAL = [
-    ("n.k = 'abc'", "true", 1000, 0),
-    ("n.m < 40", "true", 1000, 0),
-    ("1 <= n.m < 5", "false", 1000, 0),
-    ("n.m IN [1, 2, 3]", "false", 1000, 0),
-    ("n.k IN ['x', 'y', 'abc']", "true", 1000, 0),
-    ("n.k STARTS WITH 'ab'", "true", 1000, 0),
-    ("n.k ENDS WITH 'bc'", "true", 1000, 0),
-    ("n.k CONTAINS 'b'", "true", 1000, 0),
-    ("n:A:B", "true", 1000, 0),
-    ("n.z IS NULL AND n.m > 3", "true", 1000, 0),
-    ("coalesce(n.z, n.m) + 1", "8", 1000, 0),
-    ("CASE WHEN n.m < 5 THEN 'few' ELSE 'many' END", "'many'", 1000, 1),
+    ("n.k = 'abc'", "true", 700, 0),
+    ("n.m < 40", "true", 700, 0),
+    ("1 <= n.m < 5", "false", 1050, 0),
+    ("n.m IN [1, 2, 3]", "false", 1100, 0),
+    ("n.k IN ['x', 'y', 'abc']", "true", 1150, 0),
+    ("n.k STARTS WITH 'ab'", "true", 600, 0),
+    ("n.k ENDS WITH 'bc'", "true", 600, 0),
+    ("n.k CONTAINS 'b'", "true", 700, 0),
+    ("n:A:B", "true", 350, 0),
+    ("n.z IS NULL AND n.m > 3", "true", 1200, 0),
+    ("coalesce(n.z, n.m) + 1", "8", 1100, 0),
+    ("CASE WHEN n.m < 5 THEN 'few' ELSE 'many' END", "'many'", 1150, 1),
 ]
 
 
@@ -236,7 +238,7 @@ def main():
             it.writelines(f"{crate}: {below}\n" for crate, below in CRATES.items())
         program = built(folder, "expression_cost", PROGRAM, LIBRARIES)
         is_within = of_typical(program)
-        os.environ["GLIBC_TUNABLES"] = "glibc.malloc.mxfast=0"
+        os.environ["GLIBC_TUNABLES"] = SETTINGS
         is_linear = of_shapes(program)
         return 0 if is_within and is_linear else 1
 

@@ -1,0 +1,49 @@
+-- Rows with what their keys see, with their keys, and with the keys of their groups, as the code has them.
+use Rattle.std.specs.Prelude.{ℕ, List, ◌++◌, map, take, Option, Result, Ok}
+use Rattle.cy_values.specs.declared.rows.Cell.{Cell}
+use Rattle.cy_trees.specs.Trees.{Expression, Key}
+use Rattle.cy_trees.specs.Views.{key_of}
+use Rattle.cy_graph.specs.Graph.{Content}
+use Rattle.cy_expr.specs.declared.faults.EvalFault.{EvalFault}
+use Rattle.cy_expr.specs.Evaluation.{cell_of}
+use Rattle.cy_expr.specs.Faults.{on_one}
+use Rattle.cy_expr.specs.Graphs.{lookups}
+use Rattle.cy_oneshot.specs.Groups.{Grouped}
+use Rattle.cy_oneshot.specs.Order.{Keyed}
+use Rattle.cy_oneshot.specs.Outcomes.{gathered}
+use Rattle.cy_oneshot.specs.Projection.{Projected, key_cell}
+use Rattle.cy_oneshot.specs.internal.Grouping.{Gathering}
+use Rattle.cy_oneshot.specs.declared.order.Keyed as coded_keyed
+use Rattle.cy_oneshot.specs.declared.projection.SortKey as coded_key
+use Rattle.cy_oneshot.specs.declared.groups.Grouped as coded_grouped
+use Rattle.cy_oneshot.specs.declared.groups.Group as coded_group
+
+-- a row with the cells that its keys see behind it; it has so many cells itself
+abbrev pub projected_of : ℕ → List Cell → Projected
+projected_of width seen = record { row = take width seen; seen = seen }
+
+abbrev pub keyed_of : coded_keyed.Keyed → Keyed
+keyed_of k = record { row = k.row; keys = k.keys }
+
+-- the item that a key repeats, if it repeats one, and the key
+abbrev pub sort_key_of : coded_key.SortKey → Option ℕ × Key
+sort_key_of s = (s.place, key_of s.key.now)
+
+abbrev pub grouped_of : coded_grouped.Grouped → Grouped
+grouped_of g = record { key = g.key; row = g.row }
+
+abbrev pub group_of : coded_group.Group → Gathering
+group_of g = record { key = g.key; rows = g.rows.items }
+
+-- what expressions give on a row
+abbrev pub cells_by : Content → List Expression → List Cell → Result (List Cell) EvalFault
+cells_by graph expressions row = gathered (map (λ e. cell_of (lookups graph) row e) expressions)
+
+-- what they give, and the row behind it
+abbrev pub seen_by : Content → List Expression → List Cell → Result (List Cell) EvalFault
+seen_by graph expressions before = on_one (λ row. Ok (row ++ before)) (cells_by graph expressions before)
+
+-- a row with what these keys give on it
+abbrev pub keyed_by : Content → List (Option ℕ × Key) → Projected → Result Keyed EvalFault
+keyed_by graph keys r =
+    on_one (λ cells. Ok (record { row = r.row; keys = cells })) (gathered (map (λ k. key_cell graph r k.0 k.1.expression) keys))

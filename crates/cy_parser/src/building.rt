@@ -48,7 +48,7 @@ pub(crate) fn unary(
     ensures { Reads operand_of (checked (tree.unary operator (expression_of operand.tree)) tokens.now) result tokens.now }
 {
     let depth = deeper(operand.depth, tokens)?;
-    let tree = Expr::Unary(operator, Box::new(alloc, operand.tree)?);
+    let tree = Expr::Unary(operator, Box::new(alloc, operand.into_tree())?);
     Ok(Operand { tree, depth })
 }
 
@@ -63,8 +63,8 @@ pub(crate) fn binary(
     ensures { Reads operand_of (checked (tree.binary operator (expression_of left.tree) (expression_of right.tree)) tokens.now) result tokens.now }
 {
     let depth = deeper(left.depth.max(right.depth), tokens)?;
-    let left = Box::new(alloc, left.tree)?;
-    let tree = Expr::Binary(operator, left, Box::new(alloc, right.tree)?);
+    let left = Box::new(alloc, left.into_tree())?;
+    let tree = Expr::Binary(operator, left, Box::new(alloc, right.into_tree())?);
     Ok(Operand { tree, depth })
 }
 
@@ -78,7 +78,7 @@ pub(crate) fn property(
     ensures { Reads operand_of (checked (tree.property (expression_of owner.tree) key) tokens.now) result tokens.now }
 {
     let depth = deeper(owner.depth, tokens)?;
-    let tree = Expr::Property(Box::new(alloc, owner.tree)?, key);
+    let tree = Expr::Property(Box::new(alloc, owner.into_tree())?, key);
     Ok(Operand { tree, depth })
 }
 
@@ -92,7 +92,7 @@ pub(crate) fn has_labels(
     ensures { Reads operand_of (checked (tree.has_labels (expression_of node.tree) labels.items) tokens.now) result tokens.now }
 {
     let depth = deeper(node.depth, tokens)?;
-    let tree = Expr::HasLabels(Box::new(alloc, node.tree)?, labels);
+    let tree = Expr::HasLabels(Box::new(alloc, node.into_tree())?, labels);
     Ok(Operand { tree, depth })
 }
 
@@ -107,7 +107,7 @@ pub(crate) fn comparison(
     ensures { Reads operand_of (checked (tree.comparison (expression_of first.tree) (links_of links.items)) tokens.now) result tokens.now }
 {
     let depth = deeper(first.depth.max(links.depth), tokens)?;
-    let tree = Expr::Comparison(Box::new(alloc, first.tree)?, links.items);
+    let tree = Expr::Comparison(Box::new(alloc, first.into_tree())?, links.items);
     Ok(Operand { tree, depth })
 }
 
@@ -155,7 +155,7 @@ pub(crate) fn case(
         }
         Some(last) => {
             let depth = deeper(arms.depth.max(last.depth), tokens)?;
-            let tree = Expr::Case(arms.items, Some(Box::new(alloc, last.tree)?));
+            let tree = Expr::Case(arms.items, Some(Box::new(alloc, last.into_tree())?));
             Ok(Operand { tree, depth })
         }
     }
@@ -183,7 +183,7 @@ impl Gathered<Expr> {
         ensures memory { IfErr result (λ e. e ≡ NoMemory) }
     {
         self.depth = self.depth.max(element.depth);
-        self.items.push(element.tree)?;
+        self.items.push(element.into_tree())?;
         Ok(())
     }
 }
@@ -198,8 +198,8 @@ impl Gathered<Arm> {
     {
         self.depth = self.depth.max(condition.depth.max(outcome.depth));
         self.items.push(Arm {
-            condition: condition.tree,
-            outcome: outcome.tree,
+            condition: condition.into_tree(),
+            outcome: outcome.into_tree(),
         })?;
         Ok(())
     }
@@ -220,7 +220,7 @@ impl Gathered<Link> {
         self.depth = self.depth.max(operand.depth);
         self.items.push(Link {
             comparator,
-            operand: operand.tree,
+            operand: operand.into_tree(),
         })?;
         Ok(())
     }

@@ -12,6 +12,7 @@ use crate::building::{binary, comparison, leaf, unary};
 use crate::cursor::Cursor;
 use crate::grammar::Grammar;
 use crate::operands::{Gathered, Operand};
+use crate::operations::chain_after;
 use crate::places::Nested;
 use crate::refusals::Refusal;
 use crate::words::{
@@ -71,16 +72,9 @@ impl<'l, F: Fn(Global, &str, &mut Cursor<'_>, usize, Nested) -> Result<Operand, 
         requires { Nests self.now.levels (F.pre self.now.inner) (F.post self.now.inner) }
         ensures { Reads operand_of (spec.chain_after words.product_operator (spec.signed self.now.line.now self.now.levels (spec.nesting self.now.line.now self.now.levels)) (operand_of first) tokens.old) result tokens.new }
     {
-        let mut left = first;
-        for _turn in 0..tokens.count() {
-            let Some(operator) = tokens.peek().and_then(product_operator) else {
-                return Ok(left);
-            };
-            tokens.skip();
-            let right = self.signed(tokens)?;
-            left = binary(self.alloc, tokens, operator, left, right)?;
-        }
-        Ok(left)
+        chain_after(self.alloc, tokens, first, product_operator, |tokens| {
+            self.signed(tokens)
+        })
     }
 
     /// Operands of `*`, `/` and `%`.
@@ -98,16 +92,9 @@ impl<'l, F: Fn(Global, &str, &mut Cursor<'_>, usize, Nested) -> Result<Operand, 
         requires { Nests self.now.levels (F.pre self.now.inner) (F.post self.now.inner) }
         ensures { Reads operand_of (spec.chain_after words.sum_operator (spec.product self.now.line.now self.now.levels (spec.nesting self.now.line.now self.now.levels)) (operand_of first) tokens.old) result tokens.new }
     {
-        let mut left = first;
-        for _turn in 0..tokens.count() {
-            let Some(operator) = tokens.peek().and_then(sum_operator) else {
-                return Ok(left);
-            };
-            tokens.skip();
-            let right = self.product(tokens)?;
-            left = binary(self.alloc, tokens, operator, left, right)?;
-        }
-        Ok(left)
+        chain_after(self.alloc, tokens, first, sum_operator, |tokens| {
+            self.product(tokens)
+        })
     }
 
     /// Operands of `+` and `-`.
@@ -310,16 +297,9 @@ impl<'l, F: Fn(Global, &str, &mut Cursor<'_>, usize, Nested) -> Result<Operand, 
         requires { Nests self.now.levels (F.pre self.now.inner) (F.post self.now.inner) }
         ensures { Reads operand_of (spec.chain_after chains.conjunction_operator (spec.negation self.now.line.now self.now.levels (spec.nesting self.now.line.now self.now.levels)) (operand_of first) tokens.old) result tokens.new }
     {
-        let mut left = first;
-        for _turn in 0..tokens.count() {
-            let Some(operator) = tokens.peek().and_then(conjunction_operator) else {
-                return Ok(left);
-            };
-            tokens.skip();
-            let right = self.negation(tokens)?;
-            left = binary(self.alloc, tokens, operator, left, right)?;
-        }
-        Ok(left)
+        chain_after(self.alloc, tokens, first, conjunction_operator, |tokens| {
+            self.negation(tokens)
+        })
     }
 
     /// Operands of AND.
@@ -337,16 +317,9 @@ impl<'l, F: Fn(Global, &str, &mut Cursor<'_>, usize, Nested) -> Result<Operand, 
         requires { Nests self.now.levels (F.pre self.now.inner) (F.post self.now.inner) }
         ensures { Reads operand_of (spec.chain_after chains.exclusion_operator (spec.conjunction self.now.line.now self.now.levels (spec.nesting self.now.line.now self.now.levels)) (operand_of first) tokens.old) result tokens.new }
     {
-        let mut left = first;
-        for _turn in 0..tokens.count() {
-            let Some(operator) = tokens.peek().and_then(exclusion_operator) else {
-                return Ok(left);
-            };
-            tokens.skip();
-            let right = self.conjunction(tokens)?;
-            left = binary(self.alloc, tokens, operator, left, right)?;
-        }
-        Ok(left)
+        chain_after(self.alloc, tokens, first, exclusion_operator, |tokens| {
+            self.conjunction(tokens)
+        })
     }
 
     /// Operands of XOR.
@@ -364,16 +337,9 @@ impl<'l, F: Fn(Global, &str, &mut Cursor<'_>, usize, Nested) -> Result<Operand, 
         requires { Nests self.now.levels (F.pre self.now.inner) (F.post self.now.inner) }
         ensures { Reads operand_of (spec.chain_after chains.disjunction_operator (spec.exclusion self.now.line.now self.now.levels (spec.nesting self.now.line.now self.now.levels)) (operand_of first) tokens.old) result tokens.new }
     {
-        let mut left = first;
-        for _turn in 0..tokens.count() {
-            let Some(operator) = tokens.peek().and_then(disjunction_operator) else {
-                return Ok(left);
-            };
-            tokens.skip();
-            let right = self.exclusion(tokens)?;
-            left = binary(self.alloc, tokens, operator, left, right)?;
-        }
-        Ok(left)
+        chain_after(self.alloc, tokens, first, disjunction_operator, |tokens| {
+            self.exclusion(tokens)
+        })
     }
 
     /// A whole expression, from the first operand of AND, XOR and OR on.

@@ -10,6 +10,7 @@ mod lengths;
 mod levels;
 mod nesting;
 mod operands;
+mod operations;
 mod order;
 mod parsing;
 mod patterns;

@@ -1,7 +1,7 @@
 //! The places where an expression stands inside of another.
 
 /// What may stand inside of one more level.
-#[derive(Clone, Copy, Debug, PartialEq, Eq)]
+#[derive(Clone, Copy)]
 pub(crate) enum Nested {
     /// A whole expression.
     Whole,

@@ -8,7 +8,7 @@ use cy_values::Fault;
 use std::alloc::{AllocError, AllocFailed};
 
 /// Why reading stops: with how many tokens left, the faulty one among them. At the end of the text none are left.
-#[derive(Clone, Copy, Debug, PartialEq, Eq)]
+#[derive(Clone, Copy)]
 pub(crate) enum Refusal {
     /// A number that its place can't hold.
     NumberTooLarge(usize),

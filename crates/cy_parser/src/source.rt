@@ -31,7 +31,7 @@ impl<'l> Source<'l> {
     {
         let first = tokens.count();
         match nesting(self.alloc, self.line, tokens, MOST_LEVELS, Nested::Whole) {
-            Ok(found) => Ok(found.tree),
+            Ok(found) => Ok(found.into_tree()),
             Err(Refusal::TooDeep(_)) => Err(Refusal::TooDeep(first)),
             Err(refusal) => Err(refusal),
         }

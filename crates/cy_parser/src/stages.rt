@@ -1,7 +1,7 @@
 //! How clauses begin, and where a statement stands between them.
 
 /// The first word of a clause.
-#[derive(Clone, Copy, Debug, PartialEq, Eq)]
+#[derive(Clone, Copy)]
 pub(crate) enum Opening {
     Match,
     Optional,
@@ -16,7 +16,7 @@ pub(crate) enum Opening {
 }
 
 /// What may follow the clauses before.
-#[derive(Clone, Copy, Debug, PartialEq, Eq)]
+#[derive(Clone, Copy)]
 pub(crate) enum Stage {
     /// Reading clauses, or none, since the beginning or the last WITH: any clause, but no end.
     Reading,

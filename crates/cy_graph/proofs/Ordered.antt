@@ -1,5 +1,5 @@
 -- An ordered map from texts has the entries of a finite map, and is changed as one.
-use Rattle.std.proofs.Common.{◌≡◌, true, cond, not, List, [], ◌∷◌, ℕ, IsTrue, refl, sym, ap, subst, ◌∙◌}
+use Rattle.std.proofs.Common.{◌≡◌, true, cond, not, List, [], ◌∷◌, ℕ, IsTrue, refl, sym, ap, subst}
 use Rattle.std.specs.BTreeMap.{insert_entry, is_at}
 use Rattle.std.specs.List.{AllByRecursion}
 use Rattle.std.specs.List.Sorted.{IsStrictlySortedBy}

@@ -1,9 +1,9 @@
 -- Slots by rising number: the values that stand in them, and what an edit of one does to these.
 use Rattle.std.proofs.Common.{◌≡◌, ℕ, zero, suc, ◌+◌, ◌<◌, ◌≤◌, Bool, true, false, cond, not, eqb, List, [], ◌∷◌, ◌++◌, take, filter, is_some, Option, Some, None, IsSome, IsTrue, inl, inr, refl, sym, ap, subst, ◌∙◌, arith}
-use Rattle.std.specs.Prelude.{slice_get, ◌⊎◌}
-use Rattle.std.specs.List.{AllByRecursion}
+use Rattle.std.specs.Prelude.{slice_get, ◌⊎◌, nat_eq}
+use Rattle.std.specs.List.{AllByRecursion, IsDistinct}
 use Rattle.std.specs.Option.{option_flatten}
-use Rattle.std.specs.Map.{lookup, lookup_key, values_of, set_value}
+use Rattle.std.specs.Map.{lookup, lookup_key, keys_of, values_of, set_value}
 use Rattle.std.proofs.lemmas.Map.Made.{lookup_key_passes}
 use Rattle.std.specs.Ordering.{nat_cmp, is_eq, is_lt, eq_by_cmp}
 use Rattle.std.specs.declared.cmp.Ordering.TheVariants.{Less, Equal, Greater}
@@ -11,6 +11,8 @@ use Rattle.std.specs.FinMap.Entries as entries
 use Rattle.std.proofs.lemmas.Bool.{and_from}
 use Rattle.std.proofs.lemmas.Bool.Decides.{nat_tests}
 use Rattle.indexmap.specs.IndexMap.{set_value_at}
+use Rattle.cy_graph.specs.declared.before_images.Images.TheVariants as images
+use Rattle.cy_graph.specs.internal.Images.{images_of}
 use Rattle.cy_graph.specs.internal.Slots.{RiseFrom, with_slot, live, value_under, slot_at, as_it_was, restored}
 
 -- what the comparison of two numbers answers
@@ -410,3 +412,9 @@ module _ {V : Type 0} where
   slot_set (e ∷ es) (suc i) w id =
       let rest = slot_set es i w id in
       elim (eq_by_cmp nat_cmp id e.0) as (λ b. is_some (cond b (Some e.1) (slot_at id (set_value_at es i w))) ≡ is_some (cond b (Some e.1) (slot_at id es))) [ true ↦ refl | false ↦ rest ]
+
+  -- one value alone is under a number of its own
+  pub distinct_one : (one : Option (ℕ × V)) → IsDistinct nat_eq (keys_of (images_of (images.One one)).entries)
+  unfolding IsDistinct
+  distinct_one None = tt
+  distinct_one (Some e) = (tt, tt)

@@ -1,19 +1,18 @@
 -- What each step of a change does to the two versions that a series stands for.
-use Rattle.std.proofs.Common.{◌≡◌, ℕ, ◌+◌, ◌<◌, ◌≤◌, true, false, List, [], ◌∷◌, ◌++◌, length, length-append, take, filter, is_some, Option, Some, None, Result, Ok, Err, OnOk, OnErr, IsSome, inl, inr, refl, sym, ap, subst, ◌∙◌, arith}
-use Rattle.std.specs.Prelude.{slice_get, ◌⊎◌}
+use Rattle.std.proofs.Common.{◌≡◌, ℕ, ◌+◌, ◌<◌, ◌≤◌, true, false, cond, List, [], ◌∷◌, ◌++◌, length, length-append, take, filter, is_some, Option, Some, None, Result, Ok, Err, OnOk, OnErr, IsSome, inl, inr, refl, sym, ap, subst, ◌∙◌, arith}
+use Rattle.std.specs.Prelude.{slice_get, ◌⊎◌, nat_eq, if◌then◌else◌}
 use Rattle.std.specs.Option.{ForSome, option_map}
+use Rattle.std.specs.Ordering.{nat_cmp, is_eq}
 use Rattle.indexmap.specs.Layout.{length-set_value_at}
 use Rattle.std.proofs.lemmas.List.{take-append-le, take_all}
 use Rattle.indexmap.specs.IndexMap.{set_value_at, insert_entry}
-use Rattle.indexmap.proofs.CallerLemmas.{insert_entry-new}
-use Rattle.std.specs.Prelude.{nat_eq}
 use Rattle.cy_graph.specs.declared.series.Start.{Start}
 use Rattle.cy_graph.specs.Graph.{number_end}
 use Rattle.cy_graph.specs.internal.Series.{numbered_of, slots_before, numbered_before, series_versions, IsKept, IsKeptBefore, Keeps, KeepsNothing, Changes, ChangesNothing}
 use Rattle.cy_graph.specs.internal.Slots.{RiseFrom, live, value_under, slot_at, restored}
 use Rattle.cy_graph.specs.internal.Versions.{with_last, with_edited, without_number, put_under}
 use Rattle.cy_graph.specs.Model.{Numbered, SeriesVersions}
-use Rattle.cy_graph.proofs.Slots.{same_look_up, set_rises, filter_rises, restored_rises, rises_push, take_set, set_back, live_push, live_set, live_clear, find_at, restored_nothing, keeps, kept_last, restored_set, kept_push, slot_within, slot_set}
+use Rattle.cy_graph.proofs.Slots.{same_tests, set_rises, filter_rises, restored_rises, rises_push, take_set, set_back, live_push, live_set, live_clear, find_at, restored_nothing, keeps, kept_last, restored_set, kept_push, slot_within, slot_set}
 
 -- what holds of the one value holds of the value
 pub only : {X : Type 0} (P : X → Type 0) (x : X) → P x → ForSome (Some x) P
@@ -104,11 +103,24 @@ module _ {V : Type 0} where
     was = λ other is. cc;
   }
 
+  -- a new number goes last
+  pub inserted_last : (es : List (ℕ × V)) (number : ℕ) (value : V) → value_under number es ≡ None → insert_entry nat_eq es number value ≡ es ++ (number, value) ∷ []
+  inserted_last [] number value none = refl
+  inserted_last (e ∷ es) number value none =
+      elim (nat_eq number e.0) as (λ b. nat_eq number e.0 ≡ b → (if b then (e.0, value) ∷ es else e ∷ insert_entry nat_eq es number value) ≡ e ∷ (es ++ (number, value) ∷ [])) [
+        | true ↦ λ t.
+            let tie : is_eq (nat_cmp number e.0) ≡ true = sym (same_tests number e.0) ∙ t in
+            let found : Some e.1 ≡ None = sym (ap (λ b. cond b (Some e.1) (value_under number es)) tie) ∙ none in
+            cc
+        | false ↦ λ t.
+            let other : is_eq (nat_cmp number e.0) ≡ false = sym (same_tests number e.0) ∙ t in
+            ap (λ l. e ∷ l) (inserted_last es number value (sym (ap (λ b. cond b (Some e.1) (value_under number es)) other) ∙ none))
+      ] refl
+
   -- a value that is kept for the first time goes last among those that are
   pub kept_first : (slot number : ℕ) (value : V) (old new : Start V) → new ≡ record old { before = new.before } → (slot < old.slots) × (value_under number old.before.entries ≡ None)
-      → new.before.entries ≡ insert_entry nat_eq old.before.entries number value → Keeps slot number value old new
-  kept_first slot number value old new same first inserted =
-      let entries = inserted ∙ insert_entry-new nat_eq old.before number value (same_look_up number old.before.entries ∙ first.1) in
+      → new.before.entries ≡ old.before.entries ++ (number, value) ∷ [] → Keeps slot number value old new
+  kept_first slot number value old new same first entries =
       record {
         same = same;
         entries = inr (first.0, entries);

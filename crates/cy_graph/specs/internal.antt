@@ -3,6 +3,7 @@ pub mod Adjacency
 pub mod BeforeImages
 pub mod Contents
 pub mod Differences
+pub mod Images
 pub mod Place
 pub mod Series
 pub mod Slots

@@ -128,6 +128,14 @@ impl Graph {
         Ok(NodeId(self.nodes.next_number()?))
     }
 
+    /// The numbers that the next node and the next relationship get; 2^40 + 1 where all of a series were given out.
+    pub fn next_numbers(&self) -> (NodeId, RelId)
+        ensures node { result.0.0 ≡ self.now.now.next_node }
+        ensures rel { result.1.0 ≡ self.now.now.next_rel }
+    {
+        (NodeId(self.nodes.next()), RelId(self.rels.next()))
+    }
+
     /// Opens a change, which `commit` or `rollback` ends.
     pub fn begin(&mut self)
         requires { IsNone self.old.was }

@@ -2,6 +2,7 @@
 #![tactic(auto)]
 
 mod adjacency;
+mod before_images;
 mod edits;
 mod faults;
 mod graph;
@@ -9,14 +10,6 @@ mod iterators;
 mod maps;
 mod nodes;
 mod series;
-#[cfg(test)]
-mod test_cases;
-#[cfg(test)]
-mod test_content;
-#[cfg(test)]
-mod test_steps;
-#[cfg(test)]
-mod tests;
 mod touched;
 
 pub use faults::GraphFault;

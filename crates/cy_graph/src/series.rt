@@ -2,7 +2,8 @@
 
 ghost use Rattle.std.specs.Prelude.{◌≡◌, ◌≤◌, ◌<◌, ◌↔◌, ◌++◌, ◌⊎◌, IsTrue, IsSome, IsNone, IfSome, IfOk, IfErr, OnOk, OnErr, IsErrOf, Some, None, Bool, true, not, filter, is_some, map, slice_get, drop, length, nat_eq};
 ghost use Rattle.std.specs.Option.{option_copied, option_map};
-ghost use Rattle.indexmap.specs.IndexMap.{spare, IsUnique};
+ghost use Rattle.std.specs.List.{IsDistinct};
+ghost use Rattle.std.specs.Map.{keys_of};
 ghost use Rattle.cy_graph.specs.Graph.{number_end};
 ghost use Rattle.cy_graph.specs.internal.Differences.{AreDifferences, has_value, changed_of, added_of};
 ghost use Rattle.cy_graph.specs.internal.Series.{Keeps, KeepsNothing, Changes, ChangesNothing};
@@ -10,12 +11,18 @@ ghost use Rattle.cy_graph.specs.internal.Slots.{RiseFrom, value_under, live, res
 ghost use Rattle.cy_graph.specs.internal.Versions.{IsNumbered, empty_from, with_last, with_edited, without_number};
 ghost use Rattle.cy_graph.specs.Model.{SeriesVersions};
 
+use crate::before_images::BeforeImages;
 use crate::faults::GraphFault;
 use crate::iterators::Values;
 use cy_values::{Duplicate, Fault};
 use indexmap::IndexMap;
+use smallvec::SmallVec;
 use std::alloc::Global;
 use std::marker::Model;
+
+/// Numbers whose value is another than when the change began, each with the value that it had. Mostly it is one, which then takes
+/// no memory.
+pub(crate) type Differing<'a, V> = SmallVec<(u64, Option<&'a V>), 1>;
 
 /// The first number that is never given out, 2^40 + 1.
 const NUMBER_END: u64 = (1 << 40) + 1;
@@ -44,7 +51,7 @@ struct Start<V> {
     /// The next number.
     next: u64,
     /// The values of those slots that were changed or removed since, as they were.
-    before: IndexMap<u64, V>,
+    before: BeforeImages<V>,
 }
 
 impl<V: Duplicate + Drop> Start<V> {
@@ -53,7 +60,7 @@ impl<V: Duplicate + Drop> Start<V> {
     fn is_first_change(&self, slot: usize, number: u64) -> bool
         ensures { IsTrue result ↔ ((slot < self.now.slots) × (value_under number self.now.before.entries ≡ None)) }
     {
-        slot < self.slots && !self.before.contains_key(&number)
+        slot < self.slots && !self.before.contains(number)
     }
 
     // Keeps a copy of the value in this slot, if this is its first change.
@@ -63,18 +70,19 @@ impl<V: Duplicate + Drop> Start<V> {
         ensures err { OnErr result (KeepsNothing self.old self.new) }
     {
         if self.is_first_change(slot, number) {
-            self.before.insert(number, value.copy(alloc)?)?;
+            self.before.reserve(alloc)?;
+            self.before.add(number, value.copy(alloc)?);
         }
         Ok(())
     }
 
     // Keeps the value that was taken out of this slot, if this is its first change.
     fn keep_taken(&mut self, slot: usize, number: u64, value: V)
-        requires room { 0 < spare self.old.before }
+        requires room { 0 < self.old.before.spare }
         ensures { Keeps slot number value self.old self.new }
     {
         if self.is_first_change(slot, number) {
-            self.before.insert(number, value).unwrap();
+            self.before.add(number, value);
         }
     }
 }
@@ -147,8 +155,15 @@ impl<V: Duplicate + Drop> Series<V> {
             slots: self.slots.len(),
             empty: self.empty,
             next: self.next,
-            before: IndexMap::new(*self.slots.allocator()),
+            before: BeforeImages::new(),
         });
+    }
+
+    /// The number after the last one that was given out.
+    pub(crate) fn next(&self) -> u64
+        ensures { result ≡ self.now.now.next }
+    {
+        self.next
     }
 
     /// The number that the next value gets. `Full` where number 2^40 was given out.
@@ -258,7 +273,7 @@ impl<V: Duplicate + Drop> Series<V> {
 impl<V: Duplicate + Eq + Drop> Series<V> {
     /// The numbers whose value is another than when the change began, each once, with the value that they had. Fails
     /// only for want of memory.
-    pub(crate) fn differing(&self, alloc: Global) -> Result<Vec<(u64, Option<&V>)>, GraphFault>
+    pub(crate) fn differing(&self, alloc: Global) -> Result<Differing<'_, V>, GraphFault>
         requires open { IsSome self.now.was }
         requires decides { (x y : V) → V.eq x y ≡ true → x ≡ y }
         ensures ok { IfOk result (λ found. IfSome self.now.was (λ before. AreDifferences before self.now.now (map (λ f. (f.0, option_copied f.1)) found.items))) }
@@ -266,7 +281,7 @@ impl<V: Duplicate + Eq + Drop> Series<V> {
         ensures fault { IfErr result (λ fault. fault ≡ GraphFault.NoMemory) }
     {
         let Some(start) = &self.change else {
-            return Ok(Vec::new(alloc));
+            return Ok(SmallVec::new(alloc));
         };
         let mut found = self.changed(alloc, &start.before)?;
         push_added(&mut found, &self.slots, start.slots)?;
@@ -277,16 +292,16 @@ impl<V: Duplicate + Eq + Drop> Series<V> {
     fn changed<'a>(
         &self,
         alloc: Global,
-        kept: &'a IndexMap<u64, V>,
-    ) -> Result<Vec<(u64, Option<&'a V>)>, GraphFault>
-        ensures unique { OnOk result (IsUnique nat_eq kept.now) }
+        kept: &'a BeforeImages<V>,
+    ) -> Result<Differing<'a, V>, GraphFault>
+        ensures distinct { OnOk result (IsDistinct nat_eq (keys_of kept.now.entries)) }
         ensures ok { IfOk result (λ found. map (λ f. (f.0, option_copied f.1)) found.items ≡ changed_of V.eq self.now.now kept.now.entries) }
         ensures fault { IfErr result (λ fault. fault ≡ GraphFault.NoMemory) }
     {
-        let mut found = Vec::new(alloc);
+        let mut found = SmallVec::new(alloc);
         for (number, value) in kept.iter() {
-            if !self.has(*number, value) {
-                found.push((*number, Some(value)))?;
+            if !self.has(number, value) {
+                found.push((number, Some(value)))?;
             }
         }
         Ok(found)
@@ -302,7 +317,7 @@ impl<V: Duplicate + Eq + Drop> Series<V> {
 
 // Adds the values in the slots from a place on, which weren't there before.
 fn push_added<V>(
-    found: &mut Vec<(u64, Option<&V>)>,
+    found: &mut Differing<'_, V>,
     slots: &IndexMap<u64, Option<V>>,
     from: usize,
 ) -> Result<(), GraphFault>
@@ -333,7 +348,7 @@ fn drop_empty<V: Drop>(slots: &mut IndexMap<u64, Option<V>>)
 }
 
 // Puts the values that were kept back into their slots.
-fn put_back<V: Drop>(slots: &mut IndexMap<u64, Option<V>>, mut before: IndexMap<u64, V>)
+fn put_back<V: Drop>(slots: &mut IndexMap<u64, Option<V>>, mut before: BeforeImages<V>)
     requires { RiseFrom 1 number_end slots.old.entries }
     ensures { slots.new.entries ≡ restored before.entries slots.old.entries }
 {
@@ -401,7 +416,7 @@ fn remove_in_change<V: Duplicate + Drop>(
     let Some((slot, _value)) = place_of(slots, number) else {
         return Ok(());
     };
-    start.before.reserve(1)?;
+    start.before.reserve(*slots.allocator())?;
     if let Some(value) = slots[slot].take() {
         start.keep_taken(slot, number, value);
     }

@@ -1,5 +1,5 @@
 -- Values that `=` calls equal are the same, and one that can be stored is equal to itself.
-use Rattle.std.proofs.Common.{◌≡◌, ℕ, suc, Bool, true, false, cond, not, ◌&&◌, List, [], ◌∷◌, length, Option, None, Some, IsTrue, IfSome, refl, sym, ap, subst, ◌∙◌, nat_eq, arith}
+use Rattle.std.proofs.Common.{◌≡◌, ℕ, Bool, true, false, cond, not, ◌&&◌, List, [], ◌∷◌, length, Option, None, Some, IsTrue, IfSome, refl, sym, ap, subst, ◌∙◌, nat_eq, arith}
 use Rattle.std.specs.List.{list_all}
 use Rattle.std.specs.Option.{option_map_or}
 use Rattle.std.specs.Ordering.{is_eq, int_cmp, eq_by_cmp}

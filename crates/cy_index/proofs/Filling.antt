@@ -1,14 +1,12 @@
 -- A new index has the nodes of the graph.
-use Rattle.std.proofs.Common.{◌≡◌, ℕ, ◌+◌, ◌-◌, ◌<◌, Bool, true, false, cond, not, ◌&&◌, ◌||◌, List, [], ◌∷◌, ◌++◌, length, Option, None, Some, is_some, Result, Ok, Err, OnOk, refl, sym, ap, subst, ◌∙◌, arith, nat_eq}
-use Rattle.std.specs.Prelude.{slice_get, is_err, IsNone}
-use Rattle.std.specs.List.{AllByRecursion, list_any}
+use Rattle.std.proofs.Common.{◌≡◌, ℕ, Bool, true, false, cond, ◌&&◌, ◌||◌, List, [], ◌∷◌, ◌++◌, length, Option, None, Some, is_some, Result, Ok, Err, OnOk, refl, sym, ap, subst, ◌∙◌, arith, nat_eq}
+use Rattle.std.specs.Prelude.{is_err, IsNone}
 use Rattle.std.specs.Option.{option_and_then, option_map_or}
-use Rattle.std.specs.FinMap.Entries as entries
 use Rattle.std.proofs.lemmas.Option.{none-some}
 use Rattle.cy_values.specs.declared.numbers.NodeId.{NodeId}
 use Rattle.cy_values.specs.declared.scalars.Value.{Value}
 use Rattle.cy_graph.specs.declared.nodes.Node.{Node}
-use Rattle.cy_graph.specs.Graph.{State, Versions, IsGraph, node_order, node_at}
+use Rattle.cy_graph.specs.Graph.{State, Versions, IsGraph, node_at}
 use Rattle.cy_graph.specs.Maps.{value_at}
 use Rattle.cy_index.specs.declared.keys.Key.{Key}
 use Rattle.cy_index.specs.declared.keys.Key.TheVariants as key
@@ -16,7 +14,7 @@ use Rattle.cy_index.specs.declared.keys.Pair.{Pair}
 use Rattle.cy_index.specs.internal.Indexed.{Fills, IsIndexed, Matches, is_in_index, is_listed, stands_by, value_of}
 use Rattle.cy_index.specs.internal.Postings.{Version, latest, numbers_at, stands, Puts}
 use Rattle.cy_index.specs.internal.Numbers.{is_among}
-use Rattle.cy_index.specs.internal.Under.{same_key, is_same, is_value, by_node, is_key_of, is_label_among, is_pair_at}
+use Rattle.cy_index.specs.internal.Under.{same_key, is_same, by_node, is_key_of, is_label_among, is_pair_at}
 use Rattle.cy_index.proofs.Listed.{Nodes, any_find}
 use Rattle.cy_index.proofs.Places.{pair_push, or_assoc}
 

@@ -1,9 +1,8 @@
 -- What the look-ups find is what the tests of the nodes say.
-use Rattle.std.proofs.Common.{◌≡◌, ℕ, suc, ◌+◌, ◌<◌, ◌≤◌, Bool, true, false, cond, not, ◌&&◌, ◌||◌, List, [], ◌∷◌, length, get_or, map, filter, Option, None, Some, is_some, IsTrue, refl, sym, ap, ◌∙◌, arith, nat_eq, nat_lt}
+use Rattle.std.proofs.Common.{◌≡◌, ℕ, suc, ◌+◌, ◌≤◌, Bool, true, false, cond, not, ◌&&◌, ◌||◌, List, [], ◌∷◌, length, get_or, map, filter, None, Some, is_some, refl, ap, ◌∙◌, arith, nat_lt}
 use Rattle.std.specs.Prelude.{slice_get, position}
 use Rattle.std.specs.List.{AllByRecursion, list_any, position_or_len}
 use Rattle.std.specs.Option.{option_map_or}
-use Rattle.std.specs.Ordering.{nat_cmp, is_eq}
 use Rattle.std.specs.Cmp.Lexicographic.{bytes_decides}
 use Rattle.std.specs.FinMap.Entries as entries
 use Rattle.std.proofs.lemmas.Bool.{and_parts}
@@ -17,20 +16,16 @@ use Rattle.cy_graph.specs.Graph.{Content, State, IsGraph, node_order, node_at}
 use Rattle.cy_graph.specs.Maps.{value_at}
 use Rattle.cy_graph.specs.Stored.{IsStorable}
 use Rattle.cy_index.specs.Index.{has_label, has_value, nodes_where, labelled_nodes, found_nodes, is_pair, has_pair}
-use Rattle.cy_index.specs.declared.keys.Key.{Key}
 use Rattle.cy_index.specs.declared.keys.Key.TheVariants as key
 use Rattle.cy_index.specs.declared.keys.Pair.{Pair}
 use Rattle.cy_index.specs.internal.Under.{is_key_of, is_value, by_node}
 use Rattle.cy_index.proofs.Equal.{stored_value}
 use Rattle.cy_index.proofs.Listed.{Nodes, above}
-use Rattle.cy_index.proofs.Numbers.{itself, other_back}
+use Rattle.cy_index.proofs.Numbers.{itself, other_back, same_tests}
 
 or_none : (b : Bool) → (b || false) ≡ b
 or_none true = refl
 or_none false = refl
-
-same_tests : (m n : ℕ) → is_eq (nat_cmp m n) ≡ nat_eq m n
-same_tests m n = grind (arith, nat_tests)
 
 -- tests that agree on each node
 where_same : (p q : Node → Bool) (nodes : Nodes) → AllByRecursion (λ (e : NodeId × Node). p e.1 ≡ q e.1) nodes → filter (λ (e : NodeId × Node). p e.1) nodes ≡ filter (λ (e : NodeId × Node). q e.1) nodes

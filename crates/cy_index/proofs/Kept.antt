@@ -1,5 +1,5 @@
 -- What is kept for the indexes stands for the graph after a change as well.
-use Rattle.std.proofs.Common.{◌≡◌, ℕ, ◌+◌, ◌-◌, ◌<◌, Bool, true, false, cond, List, [], ◌∷◌, ◌++◌, length, drop, Option, None, Some, IsSome, is_some, Result, Ok, Err, OnOk, OnErr, refl, sym, ap, subst, ◌∙◌, arith, length-append, true≢false, nat_eq}
+use Rattle.std.proofs.Common.{◌≡◌, ℕ, ◌+◌, ◌-◌, ◌<◌, cond, List, [], ◌++◌, length, drop, Option, IsSome, is_some, Result, Ok, Err, OnOk, OnErr, refl, sym, ap, subst, ◌∙◌, arith, length-append, true≢false, nat_eq}
 use Rattle.std.specs.Option.{ForSome}
 use Rattle.std.proofs.lemmas.List.{drop_at, drop-drop}
 use Rattle.cy_graph.specs.declared.faults.GraphFault.{GraphFault}
@@ -12,7 +12,7 @@ use Rattle.cy_index.specs.internal.Indexed.{IsIndexed, Matches, Turns}
 use Rattle.cy_index.specs.internal.Postings.{Version, Goes, Replaces, latest}
 use Rattle.cy_index.specs.internal.Under.{same_key}
 use Rattle.cy_index.proofs.Matching.{matches_changed}
-use Rattle.cy_index.proofs.Steps.{gone_back}
+use Rattle.cy_index.proofs.Versions.{gone_back}
 
 -- later versions leave the oldest one
 oldest : {X : Type 0} (later old new : List X) → new ≡ later ++ old → 0 < length old → drop (length new - 1) new ≡ drop (length old - 1) old
@@ -53,3 +53,9 @@ pub node_settled : {T : Type 0} (done : Result T GraphFault) (chosen : List Pair
     → OnOk done (after ≡ record graph { now = state }) → OnErr done (after ≡ graph) → OnOk done (new ≡ mid) → OnErr done (new ≡ drop (length mid - (mark + 1)) mid) → IsIndexed chosen after new
 node_settled done chosen graph after state kept mid new mark id node leaving coming indexed going goes marked replaces at turns =
     settled done chosen graph after state kept mid new mark indexed going goes marked (matches_changed chosen graph.now state id node (latest kept) (latest mid) leaving coming indexed.now replaces at turns)
+
+-- and where it stays under its keys
+pub node_stays : {T : Type 0} (done : Result T GraphFault) (chosen : List Pair) (graph after : Versions) (state : State) (kept : List (Version Key)) (id : NodeId) (node : Option Node) → IsIndexed chosen graph kept → IsSome graph.was
+    → ((m : ℕ) → node_at (record { 0 = m }) state ≡ cond (nat_eq m id.0) node (node_at (record { 0 = m }) graph.now)) → Turns chosen (node_at id graph.now) node [] [] → OnOk done (after ≡ record graph { now = state }) → OnErr done (after ≡ graph) → IsIndexed chosen after kept
+node_stays done chosen graph after state kept id node indexed going at turns =
+    nodes_stay done chosen graph after state kept indexed going (matches_changed chosen graph.now state id node (latest kept) (latest kept) [] [] indexed.now (λ key m. refl) at turns)

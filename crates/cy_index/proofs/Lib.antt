@@ -1,14 +1,13 @@
+pub mod Entries
 pub mod Equal
 pub mod Filling
 pub mod Found
 pub mod Kept
 pub mod Labels
 pub mod Listed
-pub mod Lists
 pub mod Matching
 pub mod Numbers
 pub mod Places
 pub mod Standing
-pub mod Steps
 pub mod Turning
 pub mod Versions

@@ -1,17 +1,16 @@
 -- The nodes of a graph that pass a test, by rising number.
-use Rattle.std.proofs.Common.{◌≡◌, ℕ, ◌+◌, ◌<◌, ◌≤◌, Bool, true, false, cond, not, ◌&&◌, ◌||◌, List, [], ◌∷◌, map, filter, Option, None, Some, IsTrue, refl, sym, ap, subst, ◌∙◌, arith, nat_eq}
+use Rattle.std.proofs.Common.{◌≡◌, ℕ, ◌+◌, ◌<◌, ◌≤◌, Bool, true, false, cond, ◌&&◌, ◌||◌, List, [], ◌∷◌, map, filter, Some, refl, sym, ap, ◌∙◌, arith, nat_eq}
 use Rattle.std.specs.List.{AllByRecursion, list_any}
 use Rattle.std.specs.Option.{option_map_or}
-use Rattle.std.specs.Ordering.{nat_cmp, is_lt, is_eq}
+use Rattle.std.specs.Ordering.{nat_cmp, is_lt}
 use Rattle.std.specs.declared.cmp.Ordering.{Ordering}
 use Rattle.std.specs.declared.cmp.Ordering.TheVariants.{Less, Equal, Greater}
 use Rattle.std.specs.FinMap.Entries as entries
 use Rattle.std.proofs.lemmas.Bool.{and_parts, eqb-true}
-use Rattle.std.proofs.lemmas.Bool.Decides.{nat_tests}
 use Rattle.std.proofs.lemmas.Cmp.{ranked}
 use Rattle.cy_values.specs.declared.numbers.NodeId.{NodeId}
 use Rattle.cy_graph.specs.declared.nodes.Node.{Node}
-use Rattle.cy_graph.specs.Graph.{State, IsGraph, node_order, node_at}
+use Rattle.cy_graph.specs.Graph.{State, IsGraph, node_order}
 use Rattle.cy_index.specs.Index.{nodes_where}
 use Rattle.cy_index.specs.declared.keys.Key.{Key}
 use Rattle.cy_index.specs.declared.keys.Pair.{Pair}
@@ -19,7 +18,7 @@ use Rattle.cy_index.specs.internal.Indexed.{Matches}
 use Rattle.cy_index.specs.internal.Numbers.{Rises, is_among, ids_of}
 use Rattle.cy_index.specs.internal.Postings.{Version, numbers_at}
 use Rattle.cy_index.specs.internal.Under.{same_key, is_key_of}
-use Rattle.cy_index.proofs.Numbers.{other, other_back, itself, same_numbers}
+use Rattle.cy_index.proofs.Numbers.{other, same_numbers, same_tests}
 
 abbrev pub Nodes : Type 0
 Nodes = List (NodeId × Node)
@@ -27,10 +26,6 @@ Nodes = List (NodeId × Node)
 or_none : (b : Bool) → (b || false) ≡ b
 or_none true = refl
 or_none false = refl
-
--- the two tests of numbers agree
-same_tests : (m n : ℕ) → is_eq (nat_cmp m n) ≡ nat_eq m n
-same_tests m n = grind (arith, nat_tests)
 
 -- in order, each number is below those after it
 less : (m n : ℕ) → is_lt (nat_cmp m n) ≡ true → m < n

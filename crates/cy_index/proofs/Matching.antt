@@ -1,5 +1,5 @@
 -- What a change of one node does to what stands under the keys of the indexes.
-use Rattle.std.proofs.Common.{◌≡◌, ◌≢◌, ℕ, ◌+◌, ◌<◌, ◌≤◌, Bool, true, false, cond, not, ◌&&◌, ◌||◌, List, [], ◌∷◌, ◌++◌, Option, None, Some, IsSome, is_some, IsTrue, refl, sym, ap, subst, ◌∙◌, arith, nat_eq, true≢false}
+use Rattle.std.proofs.Common.{◌≡◌, ℕ, ◌<◌, ◌≤◌, Bool, true, false, cond, not, ◌&&◌, ◌||◌, List, [], ◌∷◌, Option, None, Some, IsSome, is_some, refl, sym, ap, ◌∙◌, arith, nat_eq, true≢false}
 use Rattle.std.specs.Prelude.{slice_get}
 use Rattle.std.specs.List.{AllByRecursion}
 use Rattle.std.specs.Option.{option_map, option_map_or}
@@ -16,19 +16,15 @@ use Rattle.std.proofs.lemmas.Bool.{eqb-true}
 use Rattle.cy_values.specs.declared.numbers.NodeId.{NodeId}
 use Rattle.cy_values.specs.declared.scalars.Value.{Value}
 use Rattle.cy_graph.specs.declared.nodes.Node.{Node}
-use Rattle.cy_graph.specs.Graph.{State, IsGraph, node_order, node_at, with_node, with_node_changed, without_node, set_at, set_or_removed, replaced, with_label, without_label}
+use Rattle.cy_graph.specs.Graph.{State, IsGraph, node_order, node_at, with_node, with_node_changed, without_node, replaced}
 use Rattle.cy_graph.specs.Maps.{text_order, value_at, with_value, without}
 use Rattle.cy_index.specs.declared.keys.Key.{Key}
 use Rattle.cy_index.specs.declared.keys.Key.TheVariants as key
 use Rattle.cy_index.specs.declared.keys.Pair.{Pair}
-use Rattle.cy_index.specs.internal.Indexed.{Matches, stands_at}
+use Rattle.cy_index.specs.internal.Indexed.{Matches}
 use Rattle.cy_index.specs.internal.Postings.{Version, stands, Replaces}
-use Rattle.cy_index.proofs.Numbers.{other_back}
-use Rattle.cy_index.specs.internal.Under.{among, same_key, is_same, is_value, is_pair_at, by_label, by_value, by_node, is_key_of_label, is_key_of_value, is_key_of}
-
--- the two tests of numbers agree
-same_tests : (m n : ℕ) → is_eq (nat_cmp m n) ≡ nat_eq m n
-same_tests m n = grind (arith, nat_tests)
+use Rattle.cy_index.proofs.Numbers.{other_back, same_tests}
+use Rattle.cy_index.specs.internal.Under.{among, same_key, is_value, by_label, by_node, is_key_of_label, is_key_of}
 
 turned_tests : (m n : ℕ) → is_eq (nat_cmp m n) ≡ nat_eq n m
 turned_tests m n = grind (arith, nat_tests)

@@ -1,18 +1,15 @@
--- Lists of numbers that rise: what a binary search finds, what an edit at that place does, and that two of them with the
--- same numbers are the same.
-use Rattle.std.proofs.Common.{◌≡◌, ℕ, zero, suc, ◌+◌, ◌<◌, ◌≤◌, Bool, true, false, cond, not, ◌||◌, ◌&&◌, List, [], ◌∷◌, length, get_or, Result, Ok, Err, IfOk, IfErr, refl, sym, ap, subst, ◌∙◌, arith, nat_eq, true≢false}
-use Rattle.std.specs.List.{insert, remove}
-use Rattle.std.specs.List.Sorted.{IsBinarySearchResult}
-use Rattle.std.specs.Ordering.{nat_cmp}
+-- Lists of numbers that rise: what comes, what goes, and that two of them with the same numbers are the same.
+use Rattle.std.proofs.Common.{◌≡◌, ℕ, ◌+◌, ◌<◌, ◌≤◌, Bool, true, false, cond, not, ◌||◌, ◌&&◌, List, [], ◌∷◌, refl, sym, ap, subst, ◌∙◌, arith, nat_eq, true≢false}
+use Rattle.std.specs.Ordering.{nat_cmp, is_eq}
 use Rattle.std.specs.Cmp.{nat_cmp_is}
 use Rattle.std.specs.declared.cmp.Ordering.{Ordering}
 use Rattle.std.proofs.lemmas.Cmp.{ranked}
 use Rattle.std.specs.declared.cmp.Ordering.TheVariants.{Less, Equal, Greater}
 use Rattle.std.specs.FinMap.Entries.{by_order}
 use Rattle.std.proofs.lemmas.Bool.{eqb-true, eq-eqb}
+use Rattle.std.proofs.lemmas.Bool.Decides.{nat_tests}
 use Rattle.std.proofs.lemmas.Map.Lookups.{exact_unsigned}
-use Rattle.std.proofs.lemmas.List.Sorted.{searched}
-use Rattle.cy_index.specs.internal.Numbers.{Rises, is_among, IsAt, IsGapFor, with_number, without_number}
+use Rattle.cy_index.specs.internal.Numbers.{Rises, is_among, with_number, without_number}
 
 -- tests of truths
 or_twice : (a b : Bool) → (a || (a || b)) ≡ (a || b)
@@ -39,6 +36,10 @@ other n x lt = by (nat_eq n x) refl
 pub itself : (n : ℕ) → nat_eq n n ≡ true
 itself n = eq-eqb n n refl
 
+-- the two tests of numbers agree
+pub same_tests : (m n : ℕ) → is_eq (nat_cmp m n) ≡ nat_eq m n
+same_tests m n = grind (arith, nat_tests)
+
 -- numbers that rise from a number on rise from a smaller one
 pub rises_from : (low more : ℕ) (xs : List ℕ) → low ≤ more → Rises more xs → Rises low xs
 rises_from low more [] le up = tt
@@ -49,74 +50,13 @@ pub below : (n low : ℕ) (xs : List ℕ) → n < low → Rises low xs → is_am
 below n low [] lt up = refl
 below n low (x ∷ xs) lt up = ap (λ b. b || is_among n xs) (other n x (omega (arith, up.0))) ∙ below n (x + 1) xs (omega (arith, up.0)) up.1
 
--- what the places of a search say
-at_place : (n low : ℕ) (xs : List ℕ) (place : ℕ) → Rises low xs → place < length xs → get_or xs place 0 ≡ n → (low ≤ n) × IsAt n xs place
-at_place n low [] place up lt here = absurd (omega arith)
-at_place n low (x ∷ xs) zero up lt here = (omega (arith, up.0, here), here)
-at_place n low (x ∷ xs) (suc place) up lt here =
-    let rest = at_place n (x + 1) xs place up.1 (omega arith) here in
-    (omega (arith, up.0, rest.0), (omega (arith, rest.0), rest.1))
-
-from_here : (n low : ℕ) (xs : List ℕ) → Rises low xs → ((k : ℕ) → 0 ≤ k → k < length xs → n < get_or xs k 0) → Rises (n + 1) xs
-from_here n low [] up greater = tt
-from_here n low (x ∷ xs) up greater = (omega (arith, greater 0 (omega arith) (omega arith)), up.1)
-
-in_gap : (n low : ℕ) (xs : List ℕ) (place : ℕ) → Rises low xs → place ≤ length xs → ((k : ℕ) → k < place → get_or xs k 0 < n) → ((k : ℕ) → place ≤ k → k < length xs → n < get_or xs k 0) → IsGapFor n xs place
-in_gap n low xs zero up le smaller greater = from_here n low xs up greater
-in_gap n low [] (suc place) up le smaller greater = absurd (omega arith)
-in_gap n low (x ∷ xs) (suc place) up le smaller greater = (
-  smaller 0 (omega arith),
-  in_gap n (x + 1) xs place up.1 (omega arith) (λ k lt. smaller (suc k) (omega arith)) (λ k ge lt. greater (suc k) (omega arith) (omega arith)),
-)
-
--- numbers that rise do not fall
-rising_at : (low : ℕ) (xs : List ℕ) → Rises low xs → (i : ℕ) → i < length xs → low ≤ get_or xs i 0
-rising_at low [] up i lt = absurd (omega arith)
-rising_at low (x ∷ xs) up zero lt = up.0
-rising_at low (x ∷ xs) up (suc i) lt = omega (arith, up.0, rising_at (x + 1) xs up.1 i (omega arith))
-
-in_order : (low : ℕ) (xs : List ℕ) → Rises low xs → (i j : ℕ) → i ≤ j → j < length xs → get_or xs i 0 ≤ get_or xs j 0
-in_order low [] up i j le lt = absurd (omega arith)
-in_order low (x ∷ xs) up zero zero le lt = omega arith
-in_order low (x ∷ xs) up zero (suc j) le lt = omega (arith, rising_at (x + 1) xs up.1 j (omega arith))
-in_order low (x ∷ xs) up (suc i) zero le lt = absurd (omega arith)
-in_order low (x ∷ xs) up (suc i) (suc j) le lt = in_order (x + 1) xs up.1 i j (omega arith) (omega arith)
-
--- a binary search ends at the number, or at the gap for it
-pub found : (n : ℕ) (xs : List ℕ) → Rises 0 xs → (r : Result ℕ ℕ) → IsBinarySearchResult (λ y. nat_cmp y n) xs r → record { at : IfOk r (IsAt n xs); gap : IfErr r (IsGapFor n xs) }
-found n xs up (Ok place) result =
-    let says = searched xs n (Ok place) result (in_order 0 xs up) in
-    record { at = (at_place n 0 xs place up says.0 says.1).1; gap = tt }
-found n xs up (Err place) result =
-    let says = searched xs n (Err place) result (in_order 0 xs up) in
-    record { at = tt; gap = in_gap n 0 xs place up says.0 says.1 says.2 }
-
--- the places are within the list
-pub at_within : (n : ℕ) (xs : List ℕ) (place : ℕ) → IsAt n xs place → place < length xs
-at_within n [] place here = absurd here
-at_within n (x ∷ xs) zero here = omega arith
-at_within n (x ∷ xs) (suc place) here = omega (arith, at_within n xs place here.1)
-
-pub gap_within : (n : ℕ) (xs : List ℕ) (place : ℕ) → IsGapFor n xs place → place ≤ length xs
-gap_within n xs zero gap = omega arith
-gap_within n [] (suc place) gap = absurd gap
-gap_within n (x ∷ xs) (suc place) gap = omega (arith, gap_within n xs place gap.1)
-
--- a number that is there stays as it is
-pub with_at : (n : ℕ) (xs : List ℕ) (place : ℕ) → IsAt n xs place → with_number n xs ≡ xs
-with_at n [] place here = absurd here
-with_at n (x ∷ xs) zero here = ap (λ o. by_order o (n ∷ x ∷ xs) (x ∷ xs) (x ∷ with_number n xs)) (sym (nat_cmp_is n x Equal (sym here)))
-with_at n (x ∷ xs) (suc place) here = ap (λ o. by_order o (n ∷ x ∷ xs) (x ∷ xs) (x ∷ with_number n xs)) (sym (nat_cmp_is n x Greater here.0)) ∙ ap (λ l. x ∷ l) (with_at n xs place here.1)
-
--- a number comes into its gap
-pub with_gap : (n : ℕ) (xs : List ℕ) (place : ℕ) → IsGapFor n xs place → insert xs place n ≡ with_number n xs
-with_gap n [] zero gap = refl
-with_gap n (x ∷ xs) zero gap = sym (ap (λ o. by_order o (n ∷ x ∷ xs) (x ∷ xs) (x ∷ with_number n xs)) (sym (nat_cmp_is n x Less (omega (arith, gap.0)))))
-with_gap n [] (suc place) gap = absurd gap
-with_gap n (x ∷ xs) (suc place) gap = ap (λ l. x ∷ l) (with_gap n xs place gap.1) ∙ sym (ap (λ o. by_order o (n ∷ x ∷ xs) (x ∷ xs) (x ∷ with_number n xs)) (sym (nat_cmp_is n x Greater gap.0)))
+-- a number below all comes first
+pub with_below : (n : ℕ) (xs : List ℕ) → Rises (n + 1) xs → with_number n xs ≡ n ∷ xs
+with_below n [] up = refl
+with_below n (x ∷ xs) up = ap (λ o. by_order o (n ∷ x ∷ xs) (x ∷ xs) (x ∷ with_number n xs)) (sym (nat_cmp_is n x Less (omega (arith, up.0))))
 
 -- nothing goes where a number is below all
-without_below : (n low : ℕ) (xs : List ℕ) → n < low → Rises low xs → without_number n xs ≡ xs
+pub without_below : (n low : ℕ) (xs : List ℕ) → n < low → Rises low xs → without_number n xs ≡ xs
 without_below n low [] lt up = refl
 without_below n low (x ∷ xs) lt up = ap (λ b. cond (not b) (x ∷ without_number n xs) (without_number n xs)) (other n x (omega (arith, up.0))) ∙ ap (λ l. x ∷ l) (without_below n (x + 1) xs (omega (arith, up.0)) up.1)
 
@@ -126,38 +66,6 @@ other_back n x lt = by (nat_eq n x) refl
     by : (b : Bool) → nat_eq n x ≡ b → nat_eq n x ≡ false
     by true e = absurd (omega (arith, lt, eqb-true n x e))
     by false e = e
-
--- a number goes from its place
-pub without_at : (n low : ℕ) (xs : List ℕ) (place : ℕ) → Rises low xs → IsAt n xs place → remove xs place ≡ without_number n xs
-without_at n low [] place up here = absurd here
-without_at n low (x ∷ xs) zero up here =
-    sym (ap (λ b. cond (not b) (x ∷ without_number n xs) (without_number n xs)) (eq-eqb n x (sym here)) ∙ without_below n (x + 1) xs (omega (arith, here)) up.1)
-without_at n low (x ∷ xs) (suc place) up here =
-    ap (λ l. x ∷ l) (without_at n (x + 1) xs place up.1 here.1) ∙ sym (ap (λ b. cond (not b) (x ∷ without_number n xs) (without_number n xs)) (other_back n x here.0))
-
--- a number with a gap has nothing to remove
-pub without_gap : (n : ℕ) (xs : List ℕ) (place : ℕ) → IsGapFor n xs place → without_number n xs ≡ xs
-without_gap n xs zero gap = without_below n (n + 1) xs (omega arith) gap
-without_gap n [] (suc place) gap = absurd gap
-without_gap n (x ∷ xs) (suc place) gap = ap (λ b. cond (not b) (x ∷ without_number n xs) (without_number n xs)) (other_back n x gap.0) ∙ ap (λ l. x ∷ l) (without_gap n xs place gap.1)
-
--- the numbers still rise
-pub rises_with : (n low : ℕ) (xs : List ℕ) → low ≤ n → Rises low xs → Rises low (with_number n xs)
-rises_with n low [] le up = (le, tt)
-rises_with n low (x ∷ xs) le up = by (nat_cmp n x) refl (λ lt. rises_with n (x + 1) xs (omega (arith, lt)) up.1)
-  where
-    by : (o : Ordering) → nat_cmp n x ≡ o → (x < n → Rises (x + 1) (with_number n xs)) → Rises low (by_order o (n ∷ x ∷ xs) (x ∷ xs) (x ∷ with_number n xs))
-    by Less e rest = (le, (omega (arith, ranked n x Less (sym e)), up.1))
-    by Equal e rest = up
-    by Greater e rest = (up.0, rest (ranked n x Greater (sym e)))
-
-pub rises_without : (n low : ℕ) (xs : List ℕ) → Rises low xs → Rises low (without_number n xs)
-rises_without n low [] up = tt
-rises_without n low (x ∷ xs) up =
-    elim (nat_eq n x) as (λ b. Rises low (cond (not b) (x ∷ without_number n xs) (without_number n xs))) [
-      | true ↦ rises_from low (x + 1) (without_number n xs) (omega (arith, up.0)) (rises_without n (x + 1) xs up.1)
-      | false ↦ (up.0, rises_without n (x + 1) xs up.1)
-    ]
 
 -- what is among them then
 pub among_with : (m n : ℕ) (xs : List ℕ) → is_among m (with_number n xs) ≡ (nat_eq m n || is_among m xs)

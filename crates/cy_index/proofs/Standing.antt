@@ -1,13 +1,14 @@
 -- What stands under a key once a list is written, or a key comes.
 use Rattle.std.proofs.Common.{◌≡◌, ℕ, zero, suc, ◌+◌, ◌<◌, Bool, true, false, cond, not, ◌||◌, ◌&&◌, List, [], ◌∷◌, ◌++◌, length, filter, Option, None, Some, is_some, refl, sym, ap, subst, ◌∙◌, arith, nat_eq, true≢false}
 use Rattle.std.specs.Prelude.{position}
-use Rattle.std.specs.Global.{Vec}
 use Rattle.std.specs.List.{AllByRecursion, list_any, position_or_len, IsDistinct}
 use Rattle.std.specs.Map.{keys_of, lookup}
 use Rattle.std.specs.Cmp.{IsEquivalence}
+use Rattle.std.specs.Option.{option_map_or}
 use Rattle.std.proofs.lemmas.Map.{NonePasses, none_passes_from_lookup, lookup-none}
-use Rattle.cy_index.specs.internal.Numbers.{is_among, with_number, without_number}
-use Rattle.cy_index.specs.internal.Postings.{Version, version_of, is_nonempty, list_at, with_list, numbers_at, stands, IsSlotOf, IsNew, Puts, Replaces}
+use Rattle.cy_index.specs.internal.Entries.{Entries, present}
+use Rattle.cy_index.specs.internal.Numbers.{is_among, is_nonempty, with_number, without_number}
+use Rattle.cy_index.specs.internal.Postings.{Version, version_of, list_at, with_list, numbers_at, stands, IsSlotOf, IsNew, Puts, Replaces}
 use Rattle.cy_index.proofs.Numbers.{among_with, among_without}
 
 or_none : (b : Bool) → (b || false) ≡ b
@@ -16,11 +17,11 @@ or_none false = refl
 
 module _ {K : Type 0} (eq : K → K → Bool) where
   -- what a search for a key finds
-  here_or_on : (b : Bool) (key : K) (e : K × Vec ℕ) (es : List (K × Vec ℕ)) (p : ℕ) → eq key e.0 ≡ b → (p < length es → IsSlotOf eq key p (version_of es)) → cond (not b) (1 + p) 0 < suc (length es) → IsSlotOf eq key (cond (not b) (1 + p) 0) (version_of (e ∷ es))
+  here_or_on : (b : Bool) (key : K) (e : K × Entries) (es : List (K × Entries)) (p : ℕ) → eq key e.0 ≡ b → (p < length es → IsSlotOf eq key p (version_of es)) → cond (not b) (1 + p) 0 < suc (length es) → IsSlotOf eq key (cond (not b) (1 + p) 0) (version_of (e ∷ es))
   here_or_on true key e es p is rest lt = is
   here_or_on false key e es p is rest lt = subst (λ k. IsSlotOf eq key k (version_of (e ∷ es))) {x = suc p} (omega arith) (is, rest (omega (arith, lt)))
 
-  first : (key : K) (es : List (K × Vec ℕ)) → position_or_len (eq key) (keys_of es) < length es → IsSlotOf eq key (position_or_len (eq key) (keys_of es)) (version_of es)
+  first : (key : K) (es : List (K × Entries)) → position_or_len (eq key) (keys_of es) < length es → IsSlotOf eq key (position_or_len (eq key) (keys_of es)) (version_of es)
   first key [] lt = absurd (omega arith)
   first key (e ∷ es) lt = here_or_on (eq key e.0) key e es (position_or_len (eq key) (keys_of es)) refl (first key es) lt
 
@@ -28,30 +29,30 @@ module _ {K : Type 0} (eq : K → K → Bool) where
   found_at true q i e = cc
   found_at false q i e = cc
 
-  pub slot_found : (key : K) (es : List (K × Vec ℕ)) (i : ℕ) → position (eq key) (keys_of es) ≡ Some i → i < length es → IsSlotOf eq key i (version_of es)
+  pub slot_found : (key : K) (es : List (K × Entries)) (i : ℕ) → position (eq key) (keys_of es) ≡ Some i → i < length es → IsSlotOf eq key i (version_of es)
   slot_found key es i is lt =
       let at = found_at _ (position_or_len (eq key) (keys_of es)) i is in
       subst (λ k. IsSlotOf eq key k (version_of es)) at (first key es (omega (arith, at, lt)))
 
-  new_here : (key : K) (es : List (K × Vec ℕ)) → NonePasses (eq key) es → IsNew eq key (version_of es)
+  new_here : (key : K) (es : List (K × Entries)) → NonePasses (eq key) es → IsNew eq key (version_of es)
   new_here key [] none = tt
   new_here key (e ∷ es) none = (none.0, new_here key es none.1)
 
-  pub key_new : (key : K) (es : List (K × Vec ℕ)) → lookup (eq key) es ≡ None → IsNew eq key (version_of es)
+  pub key_new : (key : K) (es : List (K × Entries)) → lookup (eq key) es ≡ None → IsNew eq key (version_of es)
   key_new key es none = new_here key es (none_passes_from_lookup (eq key) es none)
 
   none_of : {X : Type 0} (o : Option X) → false ≡ is_some o → o ≡ None
   none_of None is = refl
   none_of (Some x) is = absurd (true≢false (sym is))
 
-  pub new_found : (key : K) (es : List (K × Vec ℕ)) → false ≡ is_some (lookup (eq key) es) → IsNew eq key (version_of es)
+  pub new_found : (key : K) (es : List (K × Entries)) → false ≡ is_some (lookup (eq key) es) → IsNew eq key (version_of es)
   new_found key es none = key_new key es (none_of (lookup (eq key) es) none)
 
-  passes_none : (key : K) (es : List (K × Vec ℕ)) → IsNew eq key (version_of es) → NonePasses (eq key) es
+  passes_none : (key : K) (es : List (K × Entries)) → IsNew eq key (version_of es) → NonePasses (eq key) es
   passes_none key [] new = tt
   passes_none key (e ∷ es) new = (new.0, passes_none key es new.1)
 
-  pub new_lookup : (key : K) (es : List (K × Vec ℕ)) → IsNew eq key (version_of es) → lookup (eq key) es ≡ None
+  pub new_lookup : (key : K) (es : List (K × Entries)) → IsNew eq key (version_of es) → lookup (eq key) es ≡ None
   new_lookup key es new = lookup-none (eq key) es (passes_none key es new)
 
   -- the numbers under a key are those in its slot
@@ -180,19 +181,28 @@ module _ {K : Type 0} (eq : K → K → Bool) where
       turned false true = refl
       turned false false = refl
 
-  -- the keys without numbers may go
-  new_of_distinct : (key : K) (es : List (K × List ℕ)) → AllByRecursion (λ y. eq key y ≡ false) (keys_of es) → IsNew eq key es
+  -- the numbers under a key that is looked up
+  pub numbers_looked_up : (key : K) (es : List (K × Entries)) → numbers_at eq key (version_of es) ≡ option_map_or present (lookup (eq key) es) []
+  numbers_looked_up key [] = refl
+  numbers_looked_up key (e ∷ es) =
+      elim (eq key e.0) as (λ b. cond b (present e.1) (numbers_at eq key (version_of es)) ≡ option_map_or present (cond b (Some e.1) (lookup (eq key) es)) []) [
+        | true ↦ refl
+        | false ↦ numbers_looked_up key es
+      ]
+
+  -- the keys without entries may go
+  new_of_distinct : (key : K) (es : List (K × Entries)) → AllByRecursion (λ y. eq key y ≡ false) (keys_of es) → IsNew eq key (version_of es)
   new_of_distinct key [] none = tt
   new_of_distinct key (e ∷ es) none = (none.0, new_of_distinct key es none.1)
 
-  pub numbers_filled : IsEquivalence eq → (k : K) (v : Version K) → IsDistinct eq (keys_of v) → numbers_at eq k (filter (λ (e : K × List ℕ). is_nonempty e.1) v) ≡ numbers_at eq k v
+  pub numbers_filled : IsEquivalence eq → (k : K) (es : List (K × Entries)) → IsDistinct eq (keys_of es) → numbers_at eq k (version_of (filter (λ e. is_nonempty e.1) es)) ≡ numbers_at eq k (version_of es)
   unfolding IsDistinct
   numbers_filled laws k [] apart = refl
   numbers_filled laws k ((key, []) ∷ es) apart =
-      let nothing : eq k key ≡ true → numbers_at eq k es ≡ [] = λ is. numbers_alike laws k key es is ∙ numbers_new key es (new_of_distinct key es apart.0) in
-      numbers_filled laws k es apart.1 ∙ by (eq k key) (numbers_at eq k es) nothing
+      let nothing : eq k key ≡ true → numbers_at eq k (version_of es) ≡ [] = λ is. numbers_alike laws k key (version_of es) is ∙ numbers_new key (version_of es) (new_of_distinct key es apart.0) in
+      numbers_filled laws k es apart.1 ∙ by (eq k key) (numbers_at eq k (version_of es)) nothing
     where
       by : (b : Bool) (xs : List ℕ) → (b ≡ true → xs ≡ []) → xs ≡ cond b [] xs
       by true xs nothing = nothing refl
       by false xs nothing = refl
-  numbers_filled laws k ((key, x ∷ xs) ∷ es) apart = ap (cond (eq k key) (x ∷ xs)) (numbers_filled laws k es apart.1)
+  numbers_filled laws k ((key, x ∷ xs) ∷ es) apart = ap (cond (eq k key) (present (x ∷ xs))) (numbers_filled laws k es apart.1)

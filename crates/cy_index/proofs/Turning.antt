@@ -1,6 +1,7 @@
 -- Which keys a node leaves, and under which it comes, with each change of it.
-use Rattle.std.proofs.Common.{◌≡◌, ℕ, Bool, true, false, cond, not, ◌&&◌, ◌||◌, List, [], ◌∷◌, Option, None, Some, is_some, refl, sym, ap, ◌∙◌}
+use Rattle.std.proofs.Common.{◌≡◌, ℕ, zero, suc, Bool, true, false, cond, not, ◌&&◌, ◌||◌, List, [], ◌∷◌, Option, None, Some, is_some, refl, sym, ap, ◌∙◌, true≢false}
 use Rattle.std.specs.Prelude.{slice_get}
+use Rattle.std.specs.List.{list_any}
 use Rattle.std.specs.Option.{option_map, option_map_or}
 use Rattle.std.specs.Ordering.{eq_by_cmp}
 use Rattle.std.specs.Str.{bytes_eq}
@@ -10,7 +11,7 @@ use Rattle.std.specs.FinMap.Entries as entries
 use Rattle.cy_values.specs.declared.scalars.Value.{Value}
 use Rattle.cy_graph.specs.declared.nodes.Node.{Node}
 use Rattle.cy_graph.specs.Graph.{set_at, set_or_removed, with_label, without_label}
-use Rattle.cy_graph.specs.Maps.{text_order, value_at, with_value, without}
+use Rattle.cy_graph.specs.Maps.{text_order, value_at}
 use Rattle.cy_index.specs.declared.keys.Key.{Key}
 use Rattle.cy_index.specs.declared.keys.Key.TheVariants as key
 use Rattle.cy_index.specs.declared.keys.Pair.{Pair}
@@ -117,3 +118,26 @@ value_kept chosen at v o node leaving coming is same no_leaving no_coming k =
     ap (λ x. stands_by chosen k (option_map (set_at at v) x)) is
     ∙ value_stays chosen node.labels at v node.props same k
     ∙ sym (ap (λ x. among k coming || (not (among k leaving) && stands_by chosen k x)) is ∙ ap (λ ks. among k ks || (not (among k leaving) && is_key_of chosen node.labels node.props k)) no_coming ∙ ap (λ ks. not (among k ks) && is_key_of chosen node.labels node.props k) no_leaving)
+
+-- none of two tests that together fail passes
+neither : (a b : Bool) → (a || b) ≡ false → (a ≡ false) × (b ≡ false)
+neither true b is = absurd (true≢false is)
+neither false b is = (refl, is)
+
+module _ (labels : List (List ℕ × Unit {0})) (at : List ℕ) (v : Option Value) where
+  -- no index is of the values at the key
+  no_place : (chosen : List Pair) (place : ℕ) (value : Value) → list_any (λ pair. bytes_eq pair.key at) chosen ≡ false → option_map_or (by_value labels at v value) (slice_get chosen place) false ≡ false
+  no_place [] place value none = refl
+  no_place (pair ∷ pairs) zero value none = ap (λ b. (b && is_some (value_at pair.label labels)) && is_same value v) (neither _ _ none).0
+  no_place (pair ∷ pairs) (suc place) value none = no_place pairs place value (neither _ _ none).1
+
+  no_key : (chosen : List Pair) → list_any (λ pair. bytes_eq pair.key at) chosen ≡ false → (k : Key) → is_key_of_value chosen labels at v k ≡ false
+  no_key chosen none (key.Label label) = refl
+  no_key chosen none (key.Prop place value) = no_place chosen place value none
+
+-- then a node stays under its keys
+pub value_nowhere : (chosen : List Pair) (at : List ℕ) (v : Option Value) (o : Option Node) → list_any (λ pair. bytes_eq pair.key at) chosen ≡ false → Turns chosen o (option_map (set_at at v) o) [] []
+value_nowhere chosen at v None none k = refl
+value_nowhere chosen at v (Some node) none k =
+    value_changes chosen node.labels at v node.props k
+    ∙ λ i. no_key node.labels at v chosen none k i || (not (no_key node.labels at (value_at at node.props) chosen none k i) && is_key_of chosen node.labels node.props k)

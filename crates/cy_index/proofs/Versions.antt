@@ -1,127 +1,142 @@
--- Versions of numbers under keys: what a step does to the newest, and that it can be taken back.
-use Rattle.std.proofs.Common.{◌≡◌, ℕ, zero, suc, ◌+◌, ◌-◌, ◌<◌, ◌≤◌, List, [], ◌∷◌, ◌++◌, length, refl, sym, ap, subst, ◌∙◌, arith, length-append, length-take}
-use Rattle.std.specs.List.{insert, remove}
-use Rattle.std.proofs.lemmas.List.{take_at}
+-- Versions of numbers under keys: how lists are written, and what a step does to the versions.
+use Rattle.std.proofs.Common.{◌≡◌, ℕ, zero, suc, ◌+◌, ◌-◌, ◌<◌, true, List, [], ◌∷◌, ◌++◌, length, drop, reverse, Result, Ok, Err, OnErr, refl, sym, ap, ◌∙◌, arith, length-append, length-drop, append_assoc}
+use Rattle.std.specs.Prelude.{slice_get, Some, None}
+use Rattle.std.specs.Map.{values_of}
+use Rattle.std.proofs.lemmas.List.{take_at, reverse-append, drop_at, drop-drop}
+use Rattle.indexmap.specs.IndexMap.{set_value_at}
 use Rattle.cy_index.specs.declared.postings.Step.{Step}
 use Rattle.cy_index.specs.declared.postings.Step.TheVariants as step
-use Rattle.cy_index.specs.internal.Numbers.{Rises, IsAt}
-use Rattle.cy_index.specs.internal.Postings.{Version, AllRise, room_at, list_at, with_list, undone, versions, latest, CanUndo, IsUndoable}
+use Rattle.cy_index.specs.internal.Entries.{Entries, present}
+use Rattle.cy_index.specs.internal.Postings.{Version, version_of, list_at, with_list, undone, versions, latest, Goes, Writes, Makes}
 
--- what came at a place goes from it, and the other way round
-remove-insert : (xs : List ℕ) (i n : ℕ) → i ≤ length xs → remove (insert xs i n) i ≡ xs
-remove-insert xs zero n le = refl
-remove-insert [] (suc i) n le = absurd (omega arith)
-remove-insert (x ∷ xs) (suc i) n le = ap (λ l. x ∷ l) (remove-insert xs i n (omega arith))
+-- what holds holds at any answer
+pub on_err : {T E P : Type 0} → (answer : Result T E) → P → OnErr answer P
+on_err (Ok x) here = tt
+on_err (Err e) here = here
 
-insert-remove : (xs : List ℕ) (i n : ℕ) → IsAt n xs i → insert (remove xs i) i n ≡ xs
-insert-remove [] i n at = absurd at
-insert-remove (x ∷ xs) zero n at = ap (λ y. y ∷ xs) (sym at)
-insert-remove (x ∷ xs) (suc i) n at = ap (λ l. x ∷ l) (insert-remove xs i n at.1)
-
-module _ {K : Type 0} where
+module _ {K X : Type 0} where
   -- a list that was written is read
-  pub list_written : (slot : ℕ) (xs : List ℕ) (v : Version K) → slot < length v → list_at slot (with_list slot xs v) ≡ xs
+  list_written : (slot : ℕ) (xs : List X) (es : List (K × List X)) → slot < length es → list_at slot (with_list slot xs es) ≡ xs
   list_written slot xs [] lt = absurd (omega arith)
   list_written zero xs (e ∷ es) lt = refl
   list_written (suc slot) xs (e ∷ es) lt = list_written slot xs es (omega arith)
 
   -- the last of two writes counts
-  pub written_twice : (slot : ℕ) (xs ys : List ℕ) (v : Version K) → with_list slot ys (with_list slot xs v) ≡ with_list slot ys v
+  written_twice : (slot : ℕ) (xs ys : List X) (es : List (K × List X)) → with_list slot ys (with_list slot xs es) ≡ with_list slot ys es
   written_twice slot xs ys [] = refl
   written_twice zero xs ys (e ∷ es) = refl
   written_twice (suc slot) xs ys (e ∷ es) = ap (λ l. e ∷ l) (written_twice slot xs ys es)
 
   -- what is there can be written again
-  pub written_same : (slot : ℕ) (v : Version K) → with_list slot (list_at slot v) v ≡ v
+  pub written_same : (slot : ℕ) (es : List (K × List X)) → with_list slot (list_at slot es) es ≡ es
   written_same slot [] = refl
   written_same zero (e ∷ es) = refl
   written_same (suc slot) (e ∷ es) = ap (λ l. e ∷ l) (written_same slot es)
 
-  pub length_written : (slot : ℕ) (xs : List ℕ) (v : Version K) → length (with_list slot xs v) ≡ length v
-  length_written slot xs [] = refl
-  length_written zero xs (e ∷ es) = refl
-  length_written (suc slot) xs (e ∷ es) = ap suc (length_written slot xs es)
+  -- a write by a function that is undone by another
+  pub written_back : (slot : ℕ) (f : List X → List X) (xs : List X) (es : List (K × List X)) → slot < length es → f xs ≡ list_at slot es → with_list slot (f (list_at slot (with_list slot xs es))) (with_list slot xs es) ≡ es
+  written_back slot f xs es lt back =
+      ap (λ l. with_list slot (f l) (with_list slot xs es)) (list_written slot xs es lt)
+      ∙ written_twice slot xs (f xs) es ∙ ap (λ l. with_list slot l es) back ∙ written_same slot es
 
-  -- one more key at the end leaves the others
-  pub undone_made : (v : Version K) (e : K × List ℕ) → undone step.Made (v ++ e ∷ []) ≡ v
-  undone_made v e = take_at v (e ∷ []) (length (v ++ e ∷ []) - 1) (omega (arith, length-append v (e ∷ [])))
+  -- the value of a map in a slot, and one that is written there
+  pub list_value : (es : List (K × List X)) (slot : ℕ) (xs : List X) → slice_get (values_of es) slot ≡ Some xs → list_at slot es ≡ xs
+  list_value [] slot xs is = cc
+  list_value (e ∷ es) zero xs is = cc
+  list_value (e ∷ es) (suc slot) xs is = list_value es slot xs is
 
-  -- lists that rise
-  pub rises_at : (slot : ℕ) (v : Version K) → AllRise v → Rises 0 (list_at slot v)
-  rises_at slot [] all = tt
-  rises_at zero (e ∷ es) all = all.0
-  rises_at (suc slot) (e ∷ es) all = rises_at slot es all.1
+  pub value_written : (es : List (K × List X)) (slot : ℕ) (xs : List X) → set_value_at es slot xs ≡ with_list slot xs es
+  value_written [] slot xs = refl
+  value_written (e ∷ es) zero xs = refl
+  value_written (e ∷ es) (suc slot) xs = ap (λ l. e ∷ l) (value_written es slot xs)
 
-  pub rises_written : (slot : ℕ) (xs : List ℕ) (v : Version K) → AllRise v → Rises 0 xs → AllRise (with_list slot xs v)
-  rises_written slot xs [] all up = tt
-  rises_written zero xs (e ∷ es) all up = (up, all.1)
-  rises_written (suc slot) xs (e ∷ es) all up = (all.0, rises_written slot xs es all.1 up)
+  -- a list of a map that is changed, and one that isn't there
+  pub value_changed : (f : List X → List X) (es : List (K × List X)) (slot : ℕ) (xs ys : List X) → Some xs ≡ slice_get (values_of es) slot → ys ≡ f xs → set_value_at es slot ys ≡ with_list slot (f (list_at slot es)) es
+  value_changed f es slot xs ys there is = value_written es slot ys ∙ ap (λ l. with_list slot l es) (is ∙ ap f (sym (list_value es slot xs (sym there))))
 
-  pub rises_pushed : (v : Version K) (e : K × List ℕ) → AllRise v → Rises 0 e.1 → AllRise (v ++ e ∷ [])
-  rises_pushed [] e all up = (up, tt)
-  rises_pushed (f ∷ v) e all up = (all.0, rises_pushed v e all.1 up)
+  pub nothing_there : (xs : List X) (es : List (K × List X)) (slot : ℕ) → None ≡ slice_get (values_of es) slot → with_list slot xs es ≡ es
+  nothing_there xs [] slot none = refl
+  nothing_there xs (e ∷ es) zero none = cc
+  nothing_there xs (e ∷ es) (suc slot) none = ap (λ l. e ∷ l) (nothing_there xs es slot none)
 
-  pub undoable_rises : (rooms : List ℕ) (ss : List Step) (v : Version K) → IsUndoable rooms ss v → AllRise v
-  undoable_rises rooms [] v can = can
-  undoable_rises rooms (s ∷ ss) v can = can.0
+module _ {K : Type 0} where
+  -- the version of lists that are written, or get longer
+  pub version_written : (slot : ℕ) (xs : Entries) (es : List (K × Entries)) → version_of (with_list slot xs es) ≡ with_list slot (present xs) (version_of es)
+  version_written slot xs [] = refl
+  version_written zero xs (e ∷ es) = refl
+  version_written (suc slot) xs (e ∷ es) = ap (λ l. (e.0, present e.1) ∷ l) (version_written slot xs es)
 
-  -- a step leaves no more lists
-  shorter : (s : Step) (v : Version K) → length (undone s v) ≤ length v
-  shorter step.Made v = omega (arith, length-take (length v - 1) v)
-  shorter (step.Added s) v = omega (arith, length_written s.slot (remove (list_at s.slot v) s.place) v)
-  shorter (step.Removed s n) v = omega (arith, length_written s.slot (insert (list_at s.slot v) s.place n) v)
+  pub version_list : (slot : ℕ) (es : List (K × Entries)) → list_at slot (version_of es) ≡ present (list_at slot es)
+  version_list slot [] = refl
+  version_list zero (e ∷ es) = refl
+  version_list (suc slot) (e ∷ es) = version_list slot es
 
-  -- with at least as much room the steps can still be taken back
-  pub more_room : (rooms more : List ℕ) (ss : List Step) (v : Version K) → ((slot : ℕ) → slot < length v → room_at slot rooms ≤ room_at slot more) → IsUndoable rooms ss v → IsUndoable more ss v
-  more_room rooms more [] v le can = can
-  more_room rooms more (step.Made ∷ ss) v le can = (can.0, can.1, more_room rooms more ss (undone step.Made v) (λ slot lt. le slot (omega (arith, lt, shorter step.Made v))) can.2)
-  more_room rooms more (step.Added s ∷ ss) v le can = (can.0, can.1, more_room rooms more ss (undone (step.Added s) v) (λ slot lt. le slot (omega (arith, lt, shorter (step.Added s) v))) can.2)
-  more_room rooms more (step.Removed s n ∷ ss) v le can =
-      (can.0, (can.1.0, can.1.1, omega (arith, can.1.2, le s.slot can.1.0)), more_room rooms more ss (undone (step.Removed s n) v) (λ slot lt. le slot (omega (arith, lt, shorter (step.Removed s n) v))) can.2)
+  version_push : (es fs : List (K × Entries)) → version_of (es ++ fs) ≡ version_of es ++ version_of fs
+  version_push [] fs = refl
+  version_push (e ∷ es) fs = ap (λ v. (e.0, present e.1) ∷ v) (version_push es fs)
+
+  -- and of one whose present numbers stay
+  pub version_stays : (es : List (K × Entries)) (slot : ℕ) (xs ys : Entries) → Some xs ≡ slice_get (values_of es) slot → present ys ≡ present xs → version_of (set_value_at es slot ys) ≡ version_of es
+  version_stays es slot xs ys there is =
+      ap version_of (value_written es slot ys) ∙ version_written slot ys es
+      ∙ ap (λ l. with_list slot l (version_of es)) (is ∙ ap present (sym (list_value es slot xs (sym there))) ∙ sym (version_list slot es))
+      ∙ written_same slot (version_of es)
+
+  pub length_version : (es : List (K × Entries)) → length (version_of es) ≡ length es
+  length_version [] = refl
+  length_version (e ∷ es) = ap suc (length_version es)
+
+  -- a key that came last goes again
+  pub made_back : (es : List (K × Entries)) (e : K × Entries) → undone step.Made (es ++ e ∷ []) ≡ es
+  made_back es e = take_at es (e ∷ []) (length (es ++ e ∷ []) - 1) (omega (arith, length-append es (e ∷ [])))
 
   -- the newest of the versions is the one that there is
-  pub latest_is : (ss : List Step) (v : Version K) → latest (versions ss v) ≡ v
-  latest_is [] v = refl
-  latest_is (s ∷ ss) v = refl
+  latest_is : (ss : List Step) (es : List (K × Entries)) → latest (versions ss es) ≡ version_of es
+  latest_is [] es = refl
+  latest_is (s ∷ ss) es = refl
 
-  pub length_versions : (ss : List Step) (v : Version K) → length (versions ss v) ≡ length ss + 1
-  length_versions [] v = refl
-  length_versions (s ∷ ss) v = ap suc (length_versions ss (undone s v)) ∙ omega arith
+  pub newest : (ss : List Step) (es : List (K × Entries)) (now : List (Version K)) → versions ss es ≡ now → latest now ≡ version_of es
+  newest ss es now is = sym (ap latest is) ∙ latest_is ss es
 
-  -- one more step, which leads from the newest version to another
-  pub stepped : (rooms more : List ℕ) (ss : List Step) (s : Step) (v w : Version K) → undone s w ≡ v → AllRise w → CanUndo more w s → ((slot : ℕ) → slot < length v → room_at slot rooms ≤ room_at slot more) → IsUndoable rooms ss v → IsUndoable more (s ∷ ss) w
-  stepped rooms more ss s v w back rise can le old = (rise, can, subst (IsUndoable more ss) (sym back) (more_room rooms more ss v le old))
+  pub length_versions : (ss : List Step) (es : List (K × Entries)) → length (versions ss es) ≡ length ss + 1
+  length_versions [] es = refl
+  length_versions (s ∷ ss) es = ap suc (length_versions ss (undone s es)) ∙ omega arith
 
-  pub stepped_versions : (ss : List Step) (s : Step) (v w : Version K) → undone s w ≡ v → versions (s ∷ ss) w ≡ w ∷ versions ss v
-  stepped_versions ss s v w back = ap (λ u. w ∷ versions ss u) back
+  -- a step more leads to one more version
+  pub stepped : (steps : List Step) (s : Step) (old new : List (K × Entries)) → undone s new ≡ old → versions (reverse (steps ++ s ∷ [])) new ≡ version_of new ∷ versions (reverse steps) old
+  stepped steps s old new back = ap (λ ss. versions ss new) (reverse-append steps (s ∷ [])) ∙ ap (λ es. version_of new ∷ versions (reverse steps) es) back
 
-  -- a number that came into a list leaves it again
-  pub added_back : (slot place n : ℕ) (v : Version K) → slot < length v → place ≤ length (list_at slot v) → undone (step.Added (record { slot = slot; place = place })) (with_list slot (insert (list_at slot v) place n) v) ≡ v
-  added_back slot place n v lt le =
-      let xs = list_at slot v in
-      let w = with_list slot (insert xs place n) v in
-      ap (λ l. with_list slot (remove l place) w) (list_written slot (insert xs place n) v lt)
-      ∙ written_twice slot (insert xs place n) (remove (insert xs place n) place) v
-      ∙ ap (λ l. with_list slot l v) (remove-insert xs place n le)
-      ∙ written_same slot v
+  -- and one step less to the version before
+  pub popped : (steps rest : List Step) (s : Step) (es : List (K × Entries)) → steps ≡ rest ++ s ∷ [] → versions (reverse steps) es ≡ version_of es ∷ versions (reverse rest) (undone s es)
+  popped steps rest s es is = ap (λ ss. versions ss es) (ap reverse is ∙ reverse-append rest (s ∷ []))
 
-  -- a number that left a list comes into it again
-  pub removed_back : (slot place n : ℕ) (v : Version K) → slot < length v → IsAt n (list_at slot v) place → undone (step.Removed (record { slot = slot; place = place }) n) (with_list slot (remove (list_at slot v) place) v) ≡ v
-  removed_back slot place n v lt at =
-      let xs = list_at slot v in
-      let w = with_list slot (remove xs place) v in
-      ap (λ l. with_list slot (insert l place n) w) (list_written slot (remove xs place) v lt)
-      ∙ written_twice slot (remove xs place) (insert (remove xs place) place n) v
-      ∙ ap (λ l. with_list slot l v) (insert-remove xs place n at)
-      ∙ written_same slot v
+  -- a write, as the versions show it
+  pub writes : (now view : List (Version K)) (old new : List (K × Entries)) (slot : ℕ) (f : List ℕ → List ℕ) → latest now ≡ version_of old → view ≡ version_of new ∷ now → version_of new ≡ with_list slot (f (list_at slot (version_of old))) (version_of old) → Writes slot (f (list_at slot (latest now))) now view
+  writes now view old new slot f last shown written =
+      ((version_of new ∷ [], shown), ap latest shown ∙ written ∙ ap (λ v. with_list slot (f (list_at slot v)) v) (sym last))
 
--- the room of the others once a key comes or goes
-pub room_pushed : (slot : ℕ) (rooms more : List ℕ) → room_at slot rooms ≤ room_at slot (rooms ++ more)
-room_pushed slot [] more = omega arith
-room_pushed zero (r ∷ rooms) more = omega arith
-room_pushed (suc slot) (r ∷ rooms) more = room_pushed slot rooms more
+  -- a key that came last, as they show it
+  pub makes : (now view : List (Version K)) (es : List (K × Entries)) (key : K) (n : ℕ) → latest now ≡ version_of es → view ≡ version_of (es ++ (key, (n, true) ∷ []) ∷ []) ∷ now → Makes key n now view
+  makes now view es key n last shown =
+      let more = (key, (n, true) ∷ []) ∷ [] in
+      ((version_of (es ++ more) ∷ [], shown), ap latest shown ∙ version_push es more ∙ ap (λ v. v ++ (key, n ∷ []) ∷ []) (sym last))
 
-pub room_popped : (slot : ℕ) (rooms more : List ℕ) → slot < length rooms → room_at slot (rooms ++ more) ≤ room_at slot rooms
-room_popped slot [] more lt = absurd (omega arith)
-room_popped zero (r ∷ rooms) more lt = omega arith
-room_popped (suc slot) (r ∷ rooms) more lt = room_popped slot rooms more (omega arith)
+  -- what came later goes again
+  pub gone_back : (old mid later : List (Version K)) (mark : ℕ) → mid ≡ later ++ old → mark + 1 ≡ length old → drop (length mid - (mark + 1)) mid ≡ old
+  gone_back old mid later mark is all =
+      ap (λ l. drop (length l - (mark + 1)) l) is
+      ∙ drop_at later old (length (later ++ old) - (mark + 1)) (omega (arith, length-append later old, all))
+
+  -- what goes on from what goes on
+  pub goes_on : (old mid new : List (Version K)) → Goes old mid → Goes mid new → Goes old new
+  goes_on old mid new first then = (then.0 ++ first.0, then.1 ∙ ap (λ l. then.0 ++ l) first.1 ∙ sym (append_assoc then.0 first.0 old))
+
+-- one step less leads to the same version
+pub undone_once : {X : Type 0} (vs ws : List X) (mark : ℕ) → ws ≡ drop 1 vs → mark + 1 < length vs → record { there : mark < length ws; leads : drop (length ws - (mark + 1)) ws ≡ drop (length vs - (mark + 1)) vs }
+undone_once vs ws mark is lt =
+    let shorter = length-drop 1 vs in
+    record {
+      there = omega (arith, ap length is, shorter, lt);
+      leads = ap (λ l. drop (length l - (mark + 1)) l) is ∙ drop-drop (length (drop 1 vs) - (mark + 1)) 1 vs
+          ∙ ap (λ k. drop k vs) {x = 1 + (length (drop 1 vs) - (mark + 1))} (omega (arith, shorter, lt));
+    }

@@ -1,5 +1,5 @@
 -- A store: its graph, the pairs of a label and a key that were chosen for an index, and what its look-ups find (own).
-use Rattle.std.specs.Prelude.{ℕ, Bool, false, ◌&&◌, List, [], ◌∷◌, ◌++◌, map, filter, is_some}
+use Rattle.std.specs.Prelude.{ℕ, Bool, false, ◌&&◌, List, map, filter, is_some}
 use Rattle.std.specs.List.{list_any}
 use Rattle.std.specs.Option.{option_map_or}
 use Rattle.std.specs.Str.{bytes_eq}

@@ -1,4 +1,5 @@
 -- What proofs alone need.
+pub mod Entries
 pub mod Indexed
 pub mod Numbers
 pub mod Postings

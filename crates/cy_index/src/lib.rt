@@ -3,13 +3,10 @@
 
 mod faults;
 mod keys;
+mod posting_list;
 mod postings;
 mod sight;
 mod store;
-#[cfg(test)]
-mod test_steps;
-#[cfg(test)]
-mod tests;
 
 pub use faults::IndexFault;
 pub use keys::Pair;

@@ -1,20 +1,23 @@
 //! Numbers under keys, by rising number, with steps that can be taken back.
 
-ghost use Rattle.std.specs.Prelude.{◌≡◌, ◌+◌, ◌-◌, ◌≤◌, ◌<◌, ℕ, [], ◌∷◌, length, drop, insert, remove, true, false, OnOk, OnErr, IfOk, IfErr, IsOk};
-ghost use Rattle.cy_index.specs.internal.Numbers.{Rises, IsAt, IsGapFor, with_number, without_number};
-ghost use Rattle.cy_index.specs.internal.Postings.{version_of, rooms_of, room_at, list_at, with_list, latest, undone, CanUndo, numbers_at, AllRise, is_nonempty, Goes, Writes, Makes, IsNew, Puts, Replaces};
+ghost use Rattle.std.specs.Prelude.{◌≡◌, ◌+◌, ◌-◌, ◌<◌, [], ◌∷◌, length, drop, true, false, IfOk, OnOk, OnErr};
+ghost use Rattle.cy_index.specs.declared.postings.Step.TheVariants.{Set};
+ghost use Rattle.cy_index.specs.internal.Numbers.{Rises, ids_of, is_nonempty, with_number, without_number};
+ghost use Rattle.cy_index.specs.internal.Postings.{version_of, list_at, with_list, latest, undone, numbers_at, Goes, Writes, Makes, IsNew, Puts, Replaces};
 
-use cy_values::Fault;
+use crate::posting_list::PostingList;
+use cy_values::{Fault, NodeId};
 use indexmap::IndexMap;
 use std::alloc::Global;
 use std::hash::Hash;
 use std::marker::Model;
+use std::mem::replace;
 
-/// Where a number stands, or stood: in which list, and where in it.
+/// A number in the list in a slot.
 #[derive(Clone, Copy, Debug, Drop)]
 pub(crate) struct Spot {
     slot: usize,
-    place: usize,
+    number: u64,
 }
 
 /// What one step did, so that it can be taken back.
@@ -22,17 +25,15 @@ pub(crate) struct Spot {
 pub(crate) enum Step {
     /// A key came last, with one number under it.
     Made,
-    /// A number came into a list.
-    Added(Spot),
-    /// This number left a list.
-    Removed(Spot, u64),
+    /// A number came into a list or left it. Its entry before that is kept.
+    Set(Spot, Option<bool>),
 }
 
 /// Numbers under keys, by rising number. Each change is a step, and the steps since the last `commit` can be taken
 /// back one after the other, which takes no memory.
 #[derive(Drop)]
 pub(crate) struct Postings<K: Eq + Hash> {
-    lists: IndexMap<K, Vec<u64>>,
+    lists: IndexMap<K, PostingList>,
     steps: Vec<Step>,
     /// How many numbers went since the empty lists were dropped. Nothing but the time of that hangs on it.
     removals: usize,
@@ -40,13 +41,11 @@ pub(crate) struct Postings<K: Eq + Hash> {
 
 impl<K: Eq + Hash> Model for Postings<K> {
     ghost use Rattle.std.specs.Prelude.{List, reverse};
-    ghost use Rattle.cy_index.specs.internal.Postings.{Version, version_of, rooms_of, versions, IsUndoable};
+    ghost use Rattle.cy_index.specs.internal.Postings.{Version, versions};
 
     ghost Value = { List (Version K) };
 
-    ghost view = { λ p. versions (reverse p.steps.items) (version_of p.lists.entries) };
-
-    ghost invariant = { λ p. IsUndoable (rooms_of p.lists.entries) (reverse p.steps.items) (version_of p.lists.entries) };
+    ghost view = { λ p. versions (reverse p.steps.items) p.lists.entries };
 }
 
 impl<K: Eq + Hash + Drop> Postings<K> {
@@ -61,14 +60,14 @@ impl<K: Eq + Hash + Drop> Postings<K> {
         }
     }
 
-    /// The numbers under a key, by rising number.
-    pub(crate) fn numbers(&self, key: &K) -> &[u64]
-        ensures numbers { result.now ≡ numbers_at K.eq key.now (latest self.now) }
-        ensures rising { Rises 0 result.now }
+    /// The nodes under a key, by rising number. Fails only for want of memory.
+    pub(crate) fn ids(&self, alloc: Global, key: &K) -> Result<Vec<NodeId>, Fault>
+        ensures ids { IfOk result (λ ids. ids.items ≡ ids_of (numbers_at K.eq key.now (latest self.now))) }
+        ensures rising { Rises 0 (numbers_at K.eq key.now (latest self.now)) }
     {
-        match self.lists.get_index_of(key) {
-            Some(slot) => list_in(&self.lists, slot),
-            None => &[],
+        match self.lists.get(key) {
+            Some(list) => list.ids(alloc),
+            None => Ok(Vec::new(alloc)),
         }
     }
 
@@ -91,7 +90,7 @@ impl<K: Eq + Hash + Drop> Postings<K> {
         ensures err { OnErr result (self.new ≡ self.old) }
     {
         match self.lists.get_index_of(&key) {
-            Some(slot) => self.add_in(slot, number),
+            Some(slot) => self.add_in(Spot { slot, number }),
             None => self.make(key, number),
         }
     }
@@ -102,35 +101,21 @@ impl<K: Eq + Hash + Drop> Postings<K> {
         ensures ok { OnOk result (Makes key number self.old self.new) }
         ensures err { OnErr result (self.new ≡ self.old) }
     {
-        let list = Vec::from_slice(*self.lists.allocator(), &[number])?;
         self.steps.reserve(1)?;
-        self.lists.insert(key, list)?;
+        self.lists.insert(key, PostingList::one(number))?;
         self.steps.push_reserved(Step::Made);
         Ok(())
     }
 
-    // The number comes into a list, if it isn't there.
-    fn add_in(&mut self, slot: usize, number: u64) -> Result<(), Fault>
-        requires { slot < length (latest self.old) }
-        ensures ok { OnOk result (Writes slot (with_number number (list_at slot (latest self.old))) self.old self.new) }
-        ensures err { OnErr result (self.new ≡ self.old) }
-    {
-        match place_in(&self.lists, slot, number) {
-            Ok(_place) => Ok(()),
-            Err(place) => self.add_at(Spot { slot, place }, number),
-        }
-    }
-
-    // The number comes into the gap for it.
-    fn add_at(&mut self, spot: Spot, number: u64) -> Result<(), Fault>
-        requires slot { spot.slot < length (latest self.old) }
-        requires gap { IsGapFor number (list_at spot.slot (latest self.old)) spot.place }
-        ensures ok { OnOk result (Writes spot.slot (with_number number (list_at spot.slot (latest self.old))) self.old self.new) }
+    // The number comes into its list, if it isn't there.
+    fn add_in(&mut self, spot: Spot) -> Result<(), Fault>
+        requires { spot.slot < length (latest self.old) }
+        ensures ok { OnOk result (Writes spot.slot (with_number spot.number (list_at spot.slot (latest self.old))) self.old self.new) }
         ensures err { OnErr result (self.new ≡ self.old) }
     {
         self.steps.reserve(1)?;
-        insert_at(&mut self.lists, spot, number)?;
-        self.steps.push_reserved(Step::Added(spot));
+        let step = add_at(&mut self.lists, spot)?;
+        self.steps.push_reserved(step);
         Ok(())
     }
 
@@ -141,33 +126,20 @@ impl<K: Eq + Hash + Drop> Postings<K> {
         ensures err { OnErr result (self.new ≡ self.old) }
     {
         match self.lists.get_index_of(key) {
-            Some(slot) => self.remove_in(slot, number),
+            Some(slot) => self.remove_in(Spot { slot, number }),
             None => Ok(()),
         }
     }
 
-    // The number goes from a list, if it is there.
-    fn remove_in(&mut self, slot: usize, number: u64) -> Result<(), Fault>
-        requires { slot < length (latest self.old) }
-        ensures ok { OnOk result (Writes slot (without_number number (list_at slot (latest self.old))) self.old self.new) }
-        ensures err { OnErr result (self.new ≡ self.old) }
-    {
-        match place_in(&self.lists, slot, number) {
-            Ok(place) => self.take_from(Spot { slot, place }, number),
-            Err(_place) => Ok(()),
-        }
-    }
-
-    // The number goes from its place.
-    fn take_from(&mut self, spot: Spot, number: u64) -> Result<(), Fault>
-        requires slot { spot.slot < length (latest self.old) }
-        requires at { IsAt number (list_at spot.slot (latest self.old)) spot.place }
-        ensures ok { OnOk result (Writes spot.slot (without_number number (list_at spot.slot (latest self.old))) self.old self.new) }
+    // The number goes from its list, if it is there.
+    fn remove_in(&mut self, spot: Spot) -> Result<(), Fault>
+        requires { spot.slot < length (latest self.old) }
+        ensures ok { OnOk result (Writes spot.slot (without_number spot.number (list_at spot.slot (latest self.old))) self.old self.new) }
         ensures err { OnErr result (self.new ≡ self.old) }
     {
         self.steps.reserve(1)?;
-        remove_at(&mut self.lists, spot);
-        self.steps.push_reserved(Step::Removed(spot, number));
+        let step = leave_at(&mut self.lists, spot);
+        self.steps.push_reserved(step);
         self.removals = self.removals.saturating_add(1);
         Ok(())
     }
@@ -250,7 +222,8 @@ impl<K: Eq + Hash + Drop> Postings<K> {
         ensures one { length self.new ≡ 1 }
         ensures numbers { (key : K) → numbers_at K.eq key (latest self.new) ≡ numbers_at K.eq key (latest self.old) }
     {
-        self.steps = Vec::new(*self.lists.allocator());
+        let none = Vec::new(self.allocator());
+        settle(&mut self.lists, replace(&mut self.steps, none));
         if self.removals > self.lists.len() / 2 {
             drop_empty(&mut self.lists);
             self.removals = 0;
@@ -258,80 +231,79 @@ impl<K: Eq + Hash + Drop> Postings<K> {
     }
 }
 
-// The list in a slot.
-fn list_in<K: Eq + Hash>(lists: &IndexMap<K, Vec<u64>>, slot: usize) -> &[u64]
-    requires { slot < length lists.now.entries }
-    ensures { result.now ≡ list_at slot (version_of lists.now.entries) }
+// Adds a number to its list, if it isn't there. Gives the step that takes it back. Fails only for want of memory.
+fn add_at<K: Eq + Hash>(lists: &mut IndexMap<K, PostingList>, spot: Spot) -> Result<Step, Fault>
+    requires { spot.slot < length lists.old.entries }
+    ensures ok { OnOk result (version_of lists.new.entries ≡ with_list spot.slot (with_number spot.number (list_at spot.slot (version_of lists.old.entries))) (version_of lists.old.entries)) }
+    ensures back { IfOk result (λ step. undone step lists.new.entries ≡ lists.old.entries) }
+    ensures err { OnErr result (lists.new.entries ≡ lists.old.entries) }
 {
-    lists[slot].as_slice()
+    let alloc = *lists.allocator();
+    let before = lists[spot.slot].add(alloc, spot.number)?;
+    Ok(Step::Set(spot, before))
 }
 
-// Where a number is in a list, or where it would go.
-fn place_in<K: Eq + Hash>(
-    lists: &IndexMap<K, Vec<u64>>,
-    slot: usize,
-    number: u64,
-) -> Result<usize, usize>
-    requires slot { slot < length lists.now.entries }
-    requires rising { Rises 0 (list_at slot (version_of lists.now.entries)) }
-    ensures found { IfOk result (IsAt number (list_at slot (version_of lists.now.entries))) }
-    ensures absent { IfErr result (IsGapFor number (list_at slot (version_of lists.now.entries))) }
+// Takes a number from its list, if it is there. Gives the step that takes it back.
+fn leave_at<K: Eq + Hash>(lists: &mut IndexMap<K, PostingList>, spot: Spot) -> Step
+    requires { spot.slot < length lists.old.entries }
+    ensures removed { version_of lists.new.entries ≡ with_list spot.slot (without_number spot.number (list_at spot.slot (version_of lists.old.entries))) (version_of lists.old.entries) }
+    ensures back { undone result lists.new.entries ≡ lists.old.entries }
 {
-    list_in(lists, slot).binary_search(&number)
-}
-
-// Puts a number into a list. Fails only for want of memory.
-fn insert_at<K: Eq + Hash>(
-    lists: &mut IndexMap<K, Vec<u64>>,
-    spot: Spot,
-    number: u64,
-) -> Result<(), Fault>
-    requires slot { spot.slot < length lists.old.entries }
-    requires place { spot.place ≤ length (list_at spot.slot (version_of lists.old.entries)) }
-    ensures ok { OnOk result (version_of lists.new.entries ≡ with_list spot.slot (insert (list_at spot.slot (version_of lists.old.entries)) spot.place number) (version_of lists.old.entries)) }
-    ensures err { OnErr result (version_of lists.new.entries ≡ version_of lists.old.entries) }
-    ensures room { (slot : ℕ) → room_at slot (rooms_of lists.old.entries) ≤ room_at slot (rooms_of lists.new.entries) }
-    ensures kept { OnOk result (length (list_at spot.slot (version_of lists.old.entries)) < room_at spot.slot (rooms_of lists.new.entries)) }
-    ensures succeeds { length (list_at spot.slot (version_of lists.old.entries)) < room_at spot.slot (rooms_of lists.old.entries) → IsOk result }
-{
-    Ok(lists[spot.slot].insert(spot.place, number)?)
-}
-
-// Takes a number out of a list.
-fn remove_at<K: Eq + Hash>(lists: &mut IndexMap<K, Vec<u64>>, spot: Spot)
-    requires slot { spot.slot < length lists.old.entries }
-    requires place { spot.place < length (list_at spot.slot (version_of lists.old.entries)) }
-    ensures removed { version_of lists.new.entries ≡ with_list spot.slot (remove (list_at spot.slot (version_of lists.old.entries)) spot.place) (version_of lists.old.entries) }
-    ensures room { (slot : ℕ) → room_at slot (rooms_of lists.old.entries) ≤ room_at slot (rooms_of lists.new.entries) }
-    ensures fits { length (list_at spot.slot (version_of lists.old.entries)) ≤ room_at spot.slot (rooms_of lists.old.entries) }
-{
-    lists[spot.slot].remove(spot.place);
+    let before = lists[spot.slot].leave(spot.number);
+    Step::Set(spot, before)
 }
 
 // Takes a step back.
-fn take_back<K: Eq + Hash + Drop>(lists: &mut IndexMap<K, Vec<u64>>, step: Step)
-    requires { CanUndo (rooms_of lists.old.entries) (version_of lists.old.entries) step }
-    ensures undone { version_of lists.new.entries ≡ undone step (version_of lists.old.entries) }
-    ensures room { (slot : ℕ) → slot < length (version_of lists.new.entries) → room_at slot (rooms_of lists.old.entries) ≤ room_at slot (rooms_of lists.new.entries) }
+fn take_back<K: Eq + Hash + Drop>(lists: &mut IndexMap<K, PostingList>, step: Step)
+    ensures { lists.new.entries ≡ undone step lists.old.entries }
 {
     match step {
         Step::Made => {
             lists.pop();
         }
-        Step::Added(spot) => remove_at(lists, spot),
-        Step::Removed(spot, number) => insert_at(lists, spot, number).unwrap(),
+        Step::Set(spot, before) => restore_at(lists, spot, before),
+    }
+}
+
+// Gives a number in its list the entry from before a step.
+fn restore_at<K: Eq + Hash>(lists: &mut IndexMap<K, PostingList>, spot: Spot, before: Option<bool>)
+    ensures { lists.new.entries ≡ undone (Set spot before) lists.old.entries }
+{
+    let alloc = *lists.allocator();
+    if let Some(list) = lists.get_index_mut(spot.slot) {
+        list.restore(alloc, spot.number, before);
+    }
+}
+
+// Takes out the entries of the numbers that left by these steps.
+fn settle<K: Eq + Hash>(lists: &mut IndexMap<K, PostingList>, steps: Vec<Step>)
+    ensures { version_of lists.new.entries ≡ version_of lists.old.entries }
+{
+    for step in steps {
+        if let Step::Set(spot, Some(true)) = step {
+            purge_at(lists, spot);
+        }
+    }
+}
+
+// Takes out the entry of a number that left its list.
+fn purge_at<K: Eq + Hash>(lists: &mut IndexMap<K, PostingList>, spot: Spot)
+    ensures { version_of lists.new.entries ≡ version_of lists.old.entries }
+{
+    let alloc = *lists.allocator();
+    if let Some(list) = lists.get_index_mut(spot.slot) {
+        list.purge(alloc, spot.number);
     }
 }
 
 // Drops the keys with no number under them.
-fn drop_empty<K: Eq + Hash + Drop>(lists: &mut IndexMap<K, Vec<u64>>)
-    ensures numbers { (key : K) → numbers_at K.eq key (version_of lists.new.entries) ≡ numbers_at K.eq key (version_of lists.old.entries) }
-    ensures rising { AllRise (version_of lists.old.entries) → AllRise (version_of lists.new.entries) }
+fn drop_empty<K: Eq + Hash + Drop>(lists: &mut IndexMap<K, PostingList>)
+    ensures { (key : K) → numbers_at K.eq key (version_of lists.new.entries) ≡ numbers_at K.eq key (version_of lists.old.entries) }
 {
     let _unique = lists.len();
     lists.retain(
-        |_key: &K, list: &mut Vec<u64>| -> bool
-            ensures { (result ≡ is_nonempty list.old.items) × (list.new ≡ list.old) }
-        { !list.is_empty() },
+        |_key: &K, list: &mut PostingList| -> bool
+            ensures { (result ≡ is_nonempty list.old) × (list.new ≡ list.old) }
+        { list.has_entries() },
     );
 }

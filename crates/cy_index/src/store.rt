@@ -4,9 +4,9 @@ mod changes;
 mod choosing;
 mod lookups;
 
-ghost use Rattle.std.specs.Prelude.{◌≡◌, ◌≤◌, [], IsSome, IsNone, IfSome, IfOk, IfErr, OnOk, IsOk, None, Some, map};
+ghost use Rattle.std.specs.Prelude.{◌≡◌, ◌≤◌, [], IsSome, IsNone, IfSome, IfOk, IfErr, OnOk, IsOk, None, Some, map, slice_get};
 ghost use Rattle.std.specs.Option.{option_copied};
-ghost use Rattle.cy_graph.specs.Graph.{empty_state, node_at, rel_at, rels_from, rels_into, number_end, IsGraph};
+ghost use Rattle.cy_graph.specs.Graph.{empty_state, node_at, rel_at, rels_from, rels_into, rels_with, number_end, IsGraph};
 ghost use Rattle.cy_graph.specs.Touched.{before_image, AreTouched};
 
 use crate::keys::{Key, Pair};
@@ -110,6 +110,21 @@ impl Store {
         ensures { result.now ≡ rels_into id self.now.graph.now.content.rels }
     {
         self.graph.in_rels(id)
+    }
+
+    /// The relationship with the least number at a node, if there is one.
+    pub fn least_rel(&self, id: NodeId) -> Option<RelId>
+        ensures { result ≡ slice_get (rels_with id self.now.graph.now.content.rels) 0 }
+    {
+        self.graph.least_rel(id)
+    }
+
+    /// The numbers that the next node and the next relationship get; 2^40 + 1 where all of a series were given out.
+    pub fn next_numbers(&self) -> (NodeId, RelId)
+        ensures node { result.0.0 ≡ self.now.graph.now.next_node }
+        ensures rel { result.1.0 ≡ self.now.graph.now.next_rel }
+    {
+        self.graph.next_numbers()
     }
 
     /// Opens a change, which `commit` or `rollback` ends.

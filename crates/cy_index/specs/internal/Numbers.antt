@@ -1,5 +1,5 @@
 -- Lists of numbers that strictly rise.
-use Rattle.std.specs.Prelude.{◌≡◌, ℕ, ◌+◌, ◌≤◌, ◌<◌, zero, suc, Bool, not, List, [], ◌∷◌, nat_eq, filter, map}
+use Rattle.std.specs.Prelude.{ℕ, ◌+◌, ◌≤◌, Bool, true, false, not, List, [], ◌∷◌, nat_eq, filter, map}
 use Rattle.std.specs.List.{list_any}
 use Rattle.std.specs.Ordering.{nat_cmp}
 use Rattle.std.specs.FinMap.Entries.{by_order}
@@ -14,18 +14,6 @@ Rises low (x ∷ xs) = (low ≤ x) × Rises (x + 1) xs
 abbrev pub is_among : ℕ → List ℕ → Bool
 is_among n xs = list_any (nat_eq n) xs
 
--- the number is at the place, and smaller ones before it
-abbrev pub IsAt : ℕ → List ℕ → ℕ → Type 0
-IsAt n [] place = ⊥
-IsAt n (x ∷ xs) zero = x ≡ n
-IsAt n (x ∷ xs) (suc place) = (x < n) × IsAt n xs place
-
--- smaller numbers stand before the place, and greater ones from it on
-abbrev pub IsGapFor : ℕ → List ℕ → ℕ → Type 0
-IsGapFor n xs zero = Rises (n + 1) xs
-IsGapFor n [] (suc place) = ⊥
-IsGapFor n (x ∷ xs) (suc place) = (x < n) × IsGapFor n xs place
-
 -- the numbers with this one, once
 abbrev pub with_number : ℕ → List ℕ → List ℕ
 with_number n [] = n ∷ []
@@ -38,3 +26,8 @@ without_number n xs = filter (λ x. not (nat_eq n x)) xs
 -- the nodes with these numbers
 abbrev pub ids_of : List ℕ → List NodeId
 ids_of = map (λ n. record { 0 = n })
+
+-- whether there is anything
+abbrev pub is_nonempty : {X : Type 0} → List X → Bool
+is_nonempty [] = false
+is_nonempty (x ∷ xs) = true

@@ -1,79 +1,48 @@
 -- Numbers under keys, and the versions that the steps of a change go back to.
-use Rattle.std.specs.Prelude.{◌≡◌, ℕ, ◌-◌, ◌<◌, ◌≤◌, zero, suc, Bool, true, false, cond, ◌&&◌, List, [], ◌∷◌, ◌++◌, length, take, insert, remove, map, nat_eq}
+use Rattle.std.specs.Prelude.{◌≡◌, ℕ, ◌-◌, zero, suc, Bool, true, false, cond, ◌&&◌, List, [], ◌∷◌, ◌++◌, length, take, map, nat_eq}
 use Rattle.std.specs.List.{AllByRecursion, list_any}
-use Rattle.std.specs.Global.{Vec}
-use Rattle.std.specs.Prelude.{vec_capacity}
 use Rattle.cy_index.specs.declared.postings.Step.{Step}
 use Rattle.cy_index.specs.declared.postings.Step.TheVariants as step
-use Rattle.cy_index.specs.internal.Numbers.{Rises, is_among}
+use Rattle.cy_index.specs.internal.Entries.{Entries, present, restored}
+use Rattle.cy_index.specs.internal.Numbers.{is_among}
 
 -- lists of numbers, each under its key
 abbrev pub Version : Type 0 → Type 0
 Version K = List (K × List ℕ)
 
 module _ {K : Type 0} where
-  -- the numbers under their keys, as they are kept
-  abbrev pub version_of : List (K × Vec ℕ) → Version K
-  version_of = map (λ e. (e.0, e.1.items))
+  -- the numbers under their keys, of lists of entries
+  abbrev pub version_of : List (K × Entries) → Version K
+  version_of = map (λ e. (e.0, present e.1))
 
-  -- how many numbers each list has room for
-  abbrev pub rooms_of : List (K × Vec ℕ) → List ℕ
-  rooms_of = map (λ e. vec_capacity e.1)
-
--- whether there is a number
-abbrev pub is_nonempty : List ℕ → Bool
-is_nonempty [] = false
-is_nonempty (x ∷ xs) = true
-
--- the room in a slot
-abbrev pub room_at : ℕ → List ℕ → ℕ
-room_at slot [] = 0
-room_at zero (r ∷ rs) = r
-room_at (suc slot) (r ∷ rs) = room_at slot rs
-
-module _ {K : Type 0} where
+module _ {K X : Type 0} where
   -- the list in a slot
-  abbrev pub list_at : ℕ → Version K → List ℕ
+  abbrev pub list_at : ℕ → List (K × List X) → List X
   list_at slot [] = []
   list_at zero (e ∷ es) = e.1
   list_at (suc slot) (e ∷ es) = list_at slot es
 
   -- the lists with another one in a slot
-  abbrev pub with_list : ℕ → List ℕ → Version K → Version K
+  abbrev pub with_list : ℕ → List X → List (K × List X) → List (K × List X)
   with_list slot xs [] = []
   with_list zero xs (e ∷ es) = (e.0, xs) ∷ es
   with_list (suc slot) xs (e ∷ es) = e ∷ with_list slot xs es
 
-  -- the version before a step
-  abbrev pub undone : Step → Version K → Version K
-  undone step.Made v = take (length v - 1) v
-  undone (step.Added s) v = with_list s.slot (remove (list_at s.slot v) s.place) v
-  undone (step.Removed s n) v = with_list s.slot (insert (list_at s.slot v) s.place n) v
+module _ {K : Type 0} where
+  -- the lists before a step
+  abbrev pub undone : Step → List (K × Entries) → List (K × Entries)
+  undone step.Made es = take (length es - 1) es
+  undone (step.Set spot before) es = with_list spot.slot (restored spot.number before (list_at spot.slot es)) es
 
   -- the version after these steps, the newest first, and those before each of them
-  abbrev pub versions : List Step → Version K → List (Version K)
-  versions [] v = v ∷ []
-  versions (s ∷ ss) v = v ∷ versions ss (undone s v)
+  abbrev pub versions : List Step → List (K × Entries) → List (Version K)
+  versions [] es = version_of es ∷ []
+  versions (s ∷ ss) es = version_of es ∷ versions ss (undone s es)
 
   -- the newest version
   abbrev pub latest : List (Version K) → Version K
   latest [] = []
   latest (v ∷ vs) = v
-
-  -- each list rises
-  abbrev pub AllRise : Version K → Type 0
-  AllRise v = AllByRecursion (λ (e : K × List ℕ). Rises 0 e.1) v
-
-  -- a step can be taken back, in the room that there is
-  abbrev pub CanUndo : List ℕ → Version K → Step → Type 0
-  CanUndo rooms v step.Made = 0 < length v
-  CanUndo rooms v (step.Added s) = (s.slot < length v) × (s.place < length (list_at s.slot v))
-  CanUndo rooms v (step.Removed s n) = (s.slot < length v) × (s.place ≤ length (list_at s.slot v)) × (length (list_at s.slot v) < room_at s.slot rooms)
-
-  -- the lists rise, and the steps can be taken back one after the other
-  abbrev pub IsUndoable : List ℕ → List Step → Version K → Type 0
-  IsUndoable rooms [] v = AllRise v
-  IsUndoable rooms (s ∷ ss) v = AllRise v × CanUndo rooms v s × IsUndoable rooms ss (undone s v)
 
   -- the new versions are the old ones with later ones
   abbrev pub Goes : List (Version K) → List (Version K) → Type 0

@@ -92,6 +92,9 @@ impl Store {
         ensures fault { IfErr result (λ fault. fault ≡ GraphFault.NoMemory) }
         ensures err { OnErr result (self.new ≡ self.old) }
     {
+        if !self.has_index_at(key.as_str()) {
+            return self.graph.set_prop(Entity::Node(id), key, value);
+        }
         let (leaving, coming) = self.changed_keys(id, key.as_str(), value.as_ref())?;
         let mark = self.postings.mark();
         self.postings.replace(&leaving, coming, id.0)?;

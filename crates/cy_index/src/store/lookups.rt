@@ -1,10 +1,11 @@
 //! The look-ups of a store.
 
 ghost use Rattle.std.specs.Prelude.{◌≡◌, false, IfOk, position};
+ghost use Rattle.std.specs.List.{list_any};
 ghost use Rattle.std.specs.Option.{option_map_or};
+ghost use Rattle.std.specs.Str.{bytes_eq};
 ghost use Rattle.cy_graph.specs.Graph.{node_at};
 ghost use Rattle.cy_index.specs.Index.{nodes_where, labelled_nodes, found_nodes, has_value, is_pair, has_pair};
-ghost use Rattle.cy_index.specs.internal.Numbers.{ids_of};
 ghost use Rattle.cy_index.specs.internal.Under.{is_key_of};
 
 use crate::keys::Key;
@@ -45,6 +46,13 @@ impl Store {
         self.place_of(label, key).is_some()
     }
 
+    // Whether there is an index of the values at a key, for any label.
+    pub(super) fn has_index_at(&self, key: &str) -> bool
+        ensures { result ≡ list_any (λ pair. bytes_eq pair.key key.now) self.now.chosen }
+    {
+        self.chosen.iter().any(|pair| pair.key.as_str() == key)
+    }
+
     // The place of the index for a label and a key among the chosen ones.
     fn place_of(&self, label: &str, key: &str) -> Option<usize>
         ensures { result ≡ position (is_pair label.now key.now) self.now.chosen }
@@ -57,7 +65,7 @@ impl Store {
         ensures { IfOk result (λ nodes. nodes.items ≡ nodes_where (λ node. is_key_of self.now.chosen node.labels node.props key.now) self.now.graph.now.content) }
     {
         self.graph.laws();
-        ids(alloc, self.postings.numbers(key))
+        self.postings.ids(alloc, key)
     }
 
     // What `find` finds, by reading the nodes with the label.
@@ -88,11 +96,4 @@ impl Store {
             None => false,
         }
     }
-}
-
-// The nodes with these numbers.
-fn ids(alloc: Global, numbers: &[u64]) -> Result<Vec<NodeId>, Fault>
-    ensures { IfOk result (λ ids. ids.items ≡ ids_of numbers.now) }
-{
-    Ok(numbers.iter().map(|number| NodeId(*number)).collect(alloc)?)
 }

@@ -21,7 +21,7 @@ returns-clause-ok g c =
     let gathered = c.in_ok-push_added.ensures.ok ∙ ap (λ (es : List (ℕ × Option g.row.V.Denot)). es ++ added) c.in_ok-found.ensures.ok
     ∙ sym (ap (λ (l : SeriesVersions g.row.V.Denot). changed_of eq l.now start.before.entries ++ added) now) in
     subst (λ (l : SeriesVersions g.row.V.Denot). IfSome l.was (λ before. AreDifferences before l.now list)) now
-    (are_differences slots start inside.next eq c.requires.decides (g.met.V.Eq.laws).refl c.self.invariant.rising (c.self.invariant.was start c.in-Some.is) c.in_ok-found.ensures.unique list gathered)
+    (are_differences slots start inside.next eq c.requires.decides (g.met.V.Eq.laws).refl c.self.invariant.rising (c.self.invariant.was start c.in-Some.is) c.in_ok-found.ensures.distinct list gathered)
 
 pub returns-clause-numbered : goal.returns-clause-numbered
 returns-clause-numbered g c =

@@ -3,7 +3,4 @@ use Rattle.cy_graph.proofs.Steps.{kept_first}
 use Rattle.cy_graph.proofs.series.Start.keep_taken.Goals as goal
 
 pub returns-then-is_first_change : goal.returns-then-is_first_change
-returns-then-is_first_change g c =
-    let first = c.is_first_change.ensures.0 c.if-is_first_change.true in
-    let inserted = rw c.unwrap.ensures at c.insert.ensures.entries in
-    kept_first c.args.slot c.args.number c.args.value c.args.self.now _ refl first inserted
+returns-then-is_first_change g c = kept_first c.args.slot c.args.number c.args.value c.args.self.now _ refl (c.is_first_change.ensures.0 c.if-is_first_change.true) c.add.ensures

@@ -2,7 +2,7 @@ use Rattle.std.proofs.Common.{◌++◌, ◌∷◌, [], true, sym, ap, subst, ◌
 use Rattle.std.proofs.lemmas.List.{nil_from_length}
 use Rattle.cy_index.specs.internal.Postings.{latest, Puts}
 use Rattle.cy_index.proofs.Standing.{puts_before}
-use Rattle.cy_index.proofs.Steps.{goes_on}
+use Rattle.cy_index.proofs.Versions.{goes_on}
 use Rattle.cy_index.proofs.postings.Postings.add_each.Goals as goal
 
 -- one key more

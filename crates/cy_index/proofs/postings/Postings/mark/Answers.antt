@@ -1,6 +1,5 @@
 use Rattle.std.proofs.Common.{length, reverse, ap, arith}
 use Rattle.std.proofs.lemmas.List.{length-reverse}
-use Rattle.cy_index.specs.internal.Postings.{version_of}
 use Rattle.cy_index.proofs.Versions.{length_versions}
 use Rattle.cy_index.proofs.postings.Postings.mark.Goals as goal
 
@@ -8,4 +7,4 @@ use Rattle.cy_index.proofs.postings.Postings.mark.Goals as goal
 pub returns : goal.returns
 returns g c =
     let inside = c.self.inside in
-    omega (arith, c.len.ensures, inside.steps.ok.0, length-reverse inside.steps.items, length_versions (reverse inside.steps.items) (version_of inside.lists.entries), ap length c.self.view_is)
+    omega (arith, c.len.ensures, inside.steps.ok.0, length-reverse inside.steps.items, length_versions (reverse inside.steps.items) inside.lists.entries, ap length c.self.view_is)

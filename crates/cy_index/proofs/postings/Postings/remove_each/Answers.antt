@@ -2,7 +2,7 @@ use Rattle.std.proofs.Common.{◌++◌, ◌∷◌, [], false, take, sym, ap, sub
 use Rattle.std.proofs.lemmas.List.{take_more}
 use Rattle.cy_index.specs.internal.Postings.{latest, Puts}
 use Rattle.cy_index.proofs.Standing.{puts_next}
-use Rattle.cy_index.proofs.Steps.{goes_on}
+use Rattle.cy_index.proofs.Versions.{goes_on}
 use Rattle.cy_index.proofs.postings.Postings.remove_each.Goals as goal
 
 -- one key more

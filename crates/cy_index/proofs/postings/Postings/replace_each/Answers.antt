@@ -1,4 +1,4 @@
-use Rattle.cy_index.proofs.Steps.{goes_on}
+use Rattle.cy_index.proofs.Versions.{goes_on}
 use Rattle.cy_index.proofs.postings.Postings.replace_each.Goals as goal
 
 -- the versions go on twice

@@ -1,5 +1,5 @@
 use Rattle.std.proofs.Common.{arith, ◌∙◌}
-use Rattle.cy_index.proofs.Steps.{undone_once}
+use Rattle.cy_index.proofs.Versions.{undone_once}
 use Rattle.cy_index.proofs.postings.Postings.undo_to.Goals as goal
 
 -- one step less

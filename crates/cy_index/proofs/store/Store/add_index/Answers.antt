@@ -1,6 +1,4 @@
-use Rattle.std.proofs.Common.{◌≡◌, ◌++◌, ◌∷◌, [], length, None, IsNone, sym, ap, subst, ◌∙◌, arith}
-use Rattle.std.specs.declared.option.Option.{Option}
-use Rattle.cy_graph.specs.Graph.{State}
+use Rattle.std.proofs.Common.{◌≡◌, ◌++◌, ◌∷◌, [], length, IsNone, sym, ap, subst, ◌∙◌, arith}
 use Rattle.cy_index.specs.Index.{StoreState}
 use Rattle.cy_index.specs.declared.keys.Pair.{Pair}
 use Rattle.cy_index.specs.internal.Indexed.{IsIndexed}

@@ -1,9 +1,7 @@
-use Rattle.std.proofs.Common.{◌||◌, Some, sym, ap, ◌∙◌}
-use Rattle.cy_index.specs.internal.Indexed.{is_in_index, is_listed}
-use Rattle.cy_index.specs.internal.Postings.{latest, stands}
-use Rattle.cy_index.specs.internal.Under.{same_key}
+use Rattle.std.proofs.Common.{Some, sym, ap, ◌∙◌}
+use Rattle.cy_index.specs.internal.Postings.{latest}
 use Rattle.cy_index.proofs.Filling.{entry_filled}
-use Rattle.cy_index.proofs.Steps.{goes_on}
+use Rattle.cy_index.proofs.Versions.{goes_on}
 use Rattle.cy_index.proofs.store.choosing.fill.Goals as goal
 
 -- one node more

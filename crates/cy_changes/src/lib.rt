@@ -1,0 +1,15 @@
+//! Changes of graphs and of stores, worked out by hand. There is nothing here but tests.
+#![tactic(auto)]
+
+#[cfg(test)]
+mod graph_cases;
+#[cfg(test)]
+mod graph_content;
+#[cfg(test)]
+mod graph_steps;
+#[cfg(test)]
+mod graphs;
+#[cfg(test)]
+mod store_steps;
+#[cfg(test)]
+mod stores;

@@ -66,7 +66,7 @@ impl ScopeFault {
         }
     }
 
-    /// No fault of this kind has a place in the line.
+    /// No fault of a statement has a place in the line.
     pub fn at(&self) -> Option<usize>
         ensures { result ≡ None }
     {
@@ -120,7 +120,7 @@ impl ViewFault {
         }
     }
 
-    /// No fault of this kind has a place in the line.
+    /// No fault of a view's query has a place in the line.
     pub fn at(&self) -> Option<usize>
         ensures { result ≡ None }
     {

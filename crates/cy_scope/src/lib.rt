@@ -33,4 +33,4 @@ pub use kinds::Kind;
 pub use laws::checked_statements;
 pub use repeats::place_of_item;
 pub use statements::check;
-pub use views::{check_view, has_update, is_reading};
+pub use views::{check_view, ends_with_return, has_update, is_reading, is_update};

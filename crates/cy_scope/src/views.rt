@@ -16,7 +16,8 @@ use std::alloc::Global;
 /// The greatest upper bound of a length in a view.
 const GREATEST_LENGTH: u16 = 5;
 
-fn is_update(clause: &Clause) -> bool
+/// Whether a clause updates.
+pub fn is_update(clause: &Clause) -> bool
     ensures { result ≡ spec.is_update (clause_of clause.now) }
 {
     matches!(
@@ -37,7 +38,8 @@ pub fn has_update(clauses: &[Clause]) -> bool
     false
 }
 
-fn ends_with_return(clauses: &[Clause]) -> bool
+/// Whether the last clause is RETURN.
+pub fn ends_with_return(clauses: &[Clause]) -> bool
     ensures { result ≡ spec.ends_with_return (map clause_of clauses.now) }
 {
     match clauses.last() {

@@ -13,10 +13,18 @@ use cy_values::{Cell, Value, View};
 use std::alloc::Global;
 
 /// A cell, lent or made.
-#[derive(Debug, Drop)]
 pub(crate) enum Held<'a> {
     Lent(CellView<'a>),
     Made(Value),
+}
+
+/// By one call from each of the many places where an operand is given up.
+impl Drop for Held<'_> {
+    fn drop(self) {
+        match self {
+            Held::Lent(_) | Held::Made(_) => {}
+        }
+    }
 }
 
 impl<'a> Held<'a> {

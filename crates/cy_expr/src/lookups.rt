@@ -40,7 +40,7 @@ pub trait Lookups {
 }
 
 /// A graph that answers nothing, for expressions that read columns alone.
-#[derive(Clone, Copy, Debug)]
+#[derive(Clone, Copy)]
 pub(crate) struct Empty;
 
 impl Lookups for Empty {

@@ -2,6 +2,7 @@
 
 ghost use Rattle.std.specs.Prelude.{◌≡◌, ◌⊎◌, Result, Err, MatchResult, Ok, IsTrue};
 ghost use Rattle.cy_values.specs.Compare.{lent};
+ghost use Rattle.cy_values.specs.declared.rows.Cell.TheVariants as cell;
 ghost use Rattle.cy_expr.specs.internal.Lent.{lent_cell};
 ghost use Rattle.cy_expr.specs.declared.faults.EvalFault.TheVariants.{NoMemory};
 ghost use Rattle.cy_expr.specs.Operators as spec;
@@ -67,27 +68,22 @@ pub(crate) fn compare(
     match comparator {
         Comparator::Equal => Ok(equal(left, right)),
         Comparator::NotEqual => Ok(unequal(left, right)),
-        Comparator::Less => Ok(value_in(left)?.less(value_in(right)?)),
-        Comparator::LessOrEqual => Ok(less_or_equal(value_in(left)?, value_in(right)?)),
-        Comparator::Greater => greater(left, right),
-        Comparator::GreaterOrEqual => greater_or_equal(left, right),
+        _ => Ok(compare_values(comparator, value_in(left)?, value_in(right)?)),
     }
 }
 
-// `>`, which is `<` turned round; the left operand's fault comes first.
-fn greater(left: CellView<'_>, right: CellView<'_>) -> Result<Truth, EvalFault>
-    ensures { result ≡ spec.compared Comparator.Greater (lent_cell left.entry) (lent_cell right.entry) }
+// The same of two values.
+fn compare_values(comparator: Comparator, left: View<'_>, right: View<'_>) -> Truth
+    ensures { spec.compared comparator (cell.Value (lent left.entry)) (cell.Value (lent right.entry)) ≡ Ok result }
 {
-    let left = value_in(left)?;
-    Ok(value_in(right)?.less(left))
-}
-
-// `>=`, which is `<=` turned round.
-fn greater_or_equal(left: CellView<'_>, right: CellView<'_>) -> Result<Truth, EvalFault>
-    ensures { result ≡ spec.compared Comparator.GreaterOrEqual (lent_cell left.entry) (lent_cell right.entry) }
-{
-    let left = value_in(left)?;
-    Ok(less_or_equal(value_in(right)?, left))
+    match comparator {
+        Comparator::Equal => left.equal(right),
+        Comparator::NotEqual => left.equal(right).not(),
+        Comparator::Less => left.less(right),
+        Comparator::LessOrEqual => less_or_equal(left, right),
+        Comparator::Greater => right.less(left),
+        Comparator::GreaterOrEqual => less_or_equal(right, left),
+    }
 }
 
 /// The value in a cell; an entity and a list of relationships are none.

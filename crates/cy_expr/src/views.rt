@@ -10,7 +10,7 @@ use cy_values::{Cell, Duplicate, NodeId, RelId, Scalar, Sequence, Text, Value, V
 use std::alloc::Global;
 
 /// A cell that is lent: what it holds stays where it is.
-#[derive(Clone, Copy, Debug, Drop)]
+#[derive(Clone, Copy, Drop)]
 pub(crate) enum CellView<'a> {
     Node(NodeId),
     Rel(RelId),

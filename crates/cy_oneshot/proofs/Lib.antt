@@ -86,3 +86,10 @@ mod MatchSteps
 mod GrownColumns
 mod SureKept
 mod ViewQueries
+mod Turned
+mod Equations
+mod Certainties
+mod Narrowing
+mod ChosenPlans
+mod CertainSteps
+mod StartLemmas

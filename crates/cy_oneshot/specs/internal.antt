@@ -8,7 +8,11 @@ pub mod Names
 pub mod Reached
 pub mod Patterns
 pub mod Prepared
+pub mod Chosen
+pub mod Terms
+pub mod Equalities
 pub mod Search
+pub mod Certain
 pub mod Sites
 pub mod Trails
 pub mod Frames

@@ -1,0 +1,47 @@
+-- A statement without an updating clause.
+use Rattle.std.proofs.Common.{◌≡◌, Bool, true, false, cond, ◌||◌, List, [], ◌∷◌, refl, ap, ◌∙◌}
+use Rattle.std.specs.Prelude.{Result, Ok, Err}
+use Rattle.std.specs.List.{list_any}
+use Rattle.cy_values.specs.declared.rows.Cell.{Cell}
+use Rattle.cy_trees.specs.Trees.{Clause, Statement}
+use Rattle.cy_scope.specs.Views.{is_update}
+use Rattle.cy_graph.specs.Graph.{State}
+use Rattle.cy_expr.specs.declared.faults.EvalFault.{EvalFault}
+use Rattle.cy_expr.specs.Faults.{on_one}
+use Rattle.cy_oneshot.specs.Queries.{query_rows, rows_after, rows_after_all}
+use Rattle.cy_updates.specs.declared.faults.UpdateFault.{UpdateFault}
+use Rattle.cy_updates.specs.Faults.{◌>>=◌, each_in_turn, evaluated}
+use Rattle.cy_updates.specs.Statements.{Progress, after_clause, after_reading, after_updating, beginning, outcome_of, query_outcome, statement_outcome}
+
+pub neither : (a b : Bool) → (a || b) ≡ false → (a ≡ false) × (b ≡ false)
+neither true b h = cc
+neither false b h = (refl, h)
+
+-- progress with other rows
+abbrev with_rows : Progress → Result (List (List Cell)) EvalFault → Result Progress UpdateFault
+with_rows so_far r = evaluated r >>= λ rows. Ok (record { graph = so_far.graph; rows = rows; counts = so_far.counts })
+
+module _ (clauses : List Clause) (each : (so_far : Progress) → each_in_turn after_clause clauses so_far ≡ with_rows so_far (rows_after_all so_far.graph.content clauses so_far.rows)) (so_far : Progress) where
+  then_all : (r : Result (List (List Cell)) EvalFault)
+      → (with_rows so_far r >>= λ next. each_in_turn after_clause clauses next) ≡ with_rows so_far (on_one (rows_after_all so_far.graph.content clauses) r)
+  then_all (Ok rows) = each (record { graph = so_far.graph; rows = rows; counts = so_far.counts })
+  then_all (Err fault) = refl
+
+all_read : (clauses : List Clause) → list_any is_update clauses ≡ false → (so_far : Progress)
+    → each_in_turn after_clause clauses so_far ≡ with_rows so_far (rows_after_all so_far.graph.content clauses so_far.rows)
+all_read [] none so_far = refl
+all_read (clause ∷ clauses) none so_far =
+    let parts = neither (is_update clause) (list_any is_update clauses) none in
+    ap (λ b. cond b (after_updating clause so_far) (after_reading clause so_far) >>= λ next. each_in_turn after_clause clauses next) parts.0
+    ∙ then_all clauses (all_read clauses parts.1) so_far (rows_after so_far.graph.content clause so_far.rows)
+
+module _ (graph : State) (statement : Statement) where
+  then_outcome : (r : Result (List (List Cell)) EvalFault) → (with_rows (beginning graph) r >>= λ done. Ok (outcome_of statement done))
+      ≡ (evaluated r >>= λ rows. Ok (outcome_of statement (record (beginning graph) { rows = rows })))
+  then_outcome (Ok rows) = refl
+  then_outcome (Err fault) = refl
+
+  pub only_read : list_any is_update statement.clauses ≡ false
+      → statement_outcome graph statement ≡ query_outcome graph statement
+  only_read none =
+      ap (λ r. r >>= λ done. Ok (outcome_of statement done)) (all_read statement.clauses none (beginning graph)) ∙ then_outcome (query_rows graph.content statement)

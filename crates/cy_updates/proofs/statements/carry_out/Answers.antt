@@ -1,0 +1,50 @@
+use Rattle.std.proofs.Common.{◌≤◌, List, [], sym, refl, ap, subst, arith, map}
+use Rattle.std.specs.Prelude.{Ok}
+use Rattle.std.proofs.lemmas.Result.{err_from_is_err_and}
+use Rattle.cy_trees.specs.declared.clauses.Clause.{Clause}
+use Rattle.cy_trees.specs.Trees.{Statement}
+use Rattle.cy_trees.specs.Views.{clause_of, statement_of}
+use Rattle.cy_updates.specs.Faults.{◌>>=◌}
+use Rattle.cy_updates.specs.Statements.{outcome_of}
+use Rattle.cy_updates.specs.internal.Reached.{IsReached}
+use Rattle.cy_updates.proofs.InTurn.{or_wants}
+use Rattle.cy_updates.proofs.ReachedSteps.{answered}
+use Rattle.cy_updates.proofs.statements.carry_out.Goals as goal
+
+pub each_clause-requires-clause-checked : goal.each_clause-requires-clause-checked
+each_clause-requires-clause-checked c = rw (c.deref.ensures.value, c.statement.ensures.tree) c.statement.ensures.checked
+
+pub each_clause-requires-clause-graph : goal.each_clause-requires-clause-graph
+each_clause-requires-clause-graph c = c.laws.ensures
+
+-- the fault of a clause is that of the statement
+pub returns-in_err-reached-clause-meaning : goal.returns-in_err-reached-clause-meaning
+returns-in_err-reached-clause-meaning c =
+    let p = err_from_is_err_and c.from_residual.result c.from_residual.ensures.1 in
+    let why = c.in_err-reached.field-0.0 in
+    rw (p.1, p.2, sym c.statement.ensures.tree) (or_wants why (ap (λ r. r >>= λ done. Ok (outcome_of (statement_of c.statement.result.now) done))) (rw c.deref.ensures.value at c.in_err-reached.ensures.refused))
+
+pub overflow_sub-made_nodes : goal.overflow_sub-made_nodes
+overflow_sub-made_nodes c =
+    let up : c.args.store.now.graph.now.next_node ≤ c.each_clause.new.store.graph.now.next_node = c.in_ok-reached.ensures.reached.gone.nodes_up in
+    omega (arith, up, c.next_numbers.ensures.node, c.next_numbers-2.ensures.node)
+
+pub overflow_sub-made_rels : goal.overflow_sub-made_rels
+overflow_sub-made_rels c =
+    let up : c.args.store.now.graph.now.next_rel ≤ c.each_clause.new.store.graph.now.next_rel = c.in_ok-reached.ensures.reached.gone.rels_up in
+    omega (arith, up, c.next_numbers.ensures.rel, c.next_numbers-2.ensures.rel)
+
+pub returns-clause-meaning : goal.returns-clause-meaning
+returns-clause-meaning c =
+    let first = c.args.store.now.graph.now in
+    let now = c.each_clause.new.store.graph.now in
+    let statement : Statement = statement_of c.statement.result.now in
+    let after = c.in_ok-reached.reached in
+    let reached : IsReached first now statement after [] =
+    subst (λ (cs : List Clause). IsReached first now (let s : Statement = record { clauses = map clause_of cs } in s) after []) c.deref.ensures.value c.in_ok-reached.ensures.reached in
+    let node_up : first.next_node ≤ now.next_node = reached.gone.nodes_up in
+    let rel_up : first.next_rel ≤ now.next_rel = reached.gone.rels_up in
+    rw (sym c.statement.ensures.tree)
+    (answered first now statement after reached (c.counts_agree.ensures.statements first statement c.laws.ensures) _ refl
+    (omega (arith, node_up, c.next_numbers.ensures.node, c.next_numbers-2.ensures.node)) refl (omega (arith, rel_up, c.next_numbers.ensures.rel, c.next_numbers-2.ensures.rel)) refl
+    (rw c.deref-2.ensures.value at c.answered.ensures.columns) (rw c.deref-2.ensures.value at c.answered.ensures.rows))

@@ -1,0 +1,38 @@
+-- SET and REMOVE: what an item does on one row. (openCypher 9, SET and REMOVE; null as a target, and faults: own)
+use Rattle.std.specs.Prelude.{List, [], ◌∷◌, fold, None, Result, Ok}
+use Rattle.cy_values.specs.declared.numbers.Entity.{Entity}
+use Rattle.cy_values.specs.declared.numbers.Entity.TheVariants as entity
+use Rattle.cy_values.specs.declared.scalars.Value.{Value}
+use Rattle.cy_values.specs.declared.rows.Cell.{Cell}
+use Rattle.cy_trees.specs.Trees.{Name, SetItem, set_property, set_labels, RemoveItem, remove_property, remove_labels}
+use Rattle.cy_graph.specs.Graph.{State, with_label, with_node_changed, with_prop, without_label}
+use Rattle.cy_graph.specs.declared.nodes.Node.{Node}
+use Rattle.cy_updates.specs.declared.faults.UpdateFault.{UpdateFault}
+use Rattle.cy_updates.specs.Faults.{◌>>=◌}
+use Rattle.cy_updates.specs.Values.{named_by, settable, unless_null, value_on}
+
+-- The property of what is named is set; null removes it. Where nothing is named, nothing is stored, and what can't be stored is no
+-- fault.
+abbrev pub with_property : List Entity → Name → Value → State → Result State UpdateFault
+with_property [] key v graph = Ok graph
+with_property (x ∷ xs) key v graph = settable v >>= λ w. with_property xs key v (with_prop x key (unless_null w) graph)
+
+-- a node changes; a relationship has no labels
+abbrev pub with_node_changed_at : (Node → Node) → Entity → State → State
+with_node_changed_at change (entity.Node id) graph = with_node_changed id change graph
+with_node_changed_at change (entity.Rel id) graph = graph
+
+-- each of the labels is put on, or taken off, what is named
+abbrev pub with_labels_changed : (Name → Node → Node) → List Name → List Entity → State → State
+with_labels_changed change labels xs graph =
+    fold (λ changed x. fold (λ so_far label. with_node_changed_at (change label) x so_far) changed labels) graph xs
+
+-- SET: the expression is evaluated, on the graph as it stands, also where its target is null
+abbrev pub set_item : List Cell → SetItem → State → Result State UpdateFault
+set_item row (set_property v key e) graph = value_on graph row e >>= λ value. with_property (named_by v row) key value graph
+set_item row (set_labels v labels) graph = Ok (with_labels_changed with_label labels (named_by v row) graph)
+
+-- REMOVE
+abbrev pub removed_item : List Cell → State → RemoveItem → State
+removed_item row graph (remove_property v key) = fold (λ so_far x. with_prop x key None so_far) graph (named_by v row)
+removed_item row graph (remove_labels v labels) = with_labels_changed without_label labels (named_by v row) graph

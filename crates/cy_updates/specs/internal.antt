@@ -1,0 +1,5 @@
+-- What proofs alone need.
+pub mod Answers
+pub mod Creating
+pub mod Deleting
+pub mod Reached

@@ -1,0 +1,66 @@
+-- How far the clauses of a statement have been carried out.
+use Rattle.std.specs.Prelude.{◌≡◌, ◌⊎◌, ℕ, ◌+◌, ◌≤◌, ◌∷◌, List, length, map, None, IsTrue, Result, Ok, Err, MatchResult}
+use Rattle.std.specs.List.{AllByRecursion}
+use Rattle.cy_values.specs.declared.rows.Cell.{Cell}
+use Rattle.cy_trees.specs.Trees.{Name, Clause, Statement}
+use Rattle.cy_scope.specs.ClauseFaults.{clauses_fault}
+use Rattle.cy_scope.specs.Resolved.{resolved_clauses}
+use Rattle.cy_scope.specs.Rows.{row_fits}
+use Rattle.cy_scope.specs.Scopes.{Scope}
+use Rattle.cy_scope.specs.Views.{ends_with_return}
+use Rattle.cy_graph.specs.Graph.{State}
+use Rattle.cy_oneshot.specs.Queries.{columns_after_all, query_columns}
+use Rattle.cy_oneshot.specs.Reading.{AreInGraph}
+use Rattle.cy_updates.specs.declared.clauses.Updated.{Updated}
+use Rattle.cy_updates.specs.declared.faults.UpdateFault.{UpdateFault}
+use Rattle.cy_updates.specs.declared.faults.UpdateFault.TheVariants.{NoMemory}
+use Rattle.cy_updates.specs.Bags.{IsSameResult}
+use Rattle.cy_updates.specs.Counts.{Counts}
+use Rattle.cy_updates.specs.Faults.{each_in_turn}
+use Rattle.cy_updates.specs.Statements.{Progress, after_clause, beginning}
+
+-- how far a statement has come: a graph, rows, and counts
+abbrev pub progress : State → List (List Cell) → Counts → Progress
+progress graph rows counts = record { graph = graph; rows = rows; counts = counts }
+
+-- the rows fit a scope that has these columns, and in which the clauses have no fault, and the columns of their variables
+pub record AreResolved (columns : List Name) (rows : List (List Cell)) (clauses : List Clause) : Type 0 where
+  pub scope : Scope
+  pub written : List Clause
+  pub good : clauses_fault scope written ≡ None
+  pub are : clauses ≡ resolved_clauses scope written
+  pub names : map (λ v. v.0) scope ≡ columns
+  pub fit : AllByRecursion (λ row. IsTrue (row_fits scope row)) rows
+
+-- the clauses lead on from a graph and a table as all of them do from the beginning
+pub record LeadOn (first graph : State) (rows : List (List Cell)) (clauses : List Clause) (statement : Statement) : Type 0 where
+  pub counts : Counts
+  pub bag : IsSameResult (each_in_turn after_clause clauses (progress graph rows counts)) (each_in_turn after_clause statement.clauses (beginning first))
+  pub ordered : IsTrue (ends_with_return statement.clauses) → each_in_turn after_clause clauses (progress graph rows counts) ≡ each_in_turn after_clause statement.clauses (beginning first)
+  pub returns : IsTrue (ends_with_return statement.clauses) → (c : Clause) (cs : List Clause) → clauses ≡ c ∷ cs → IsTrue (ends_with_return clauses)
+
+-- as many nodes, and relationships, went as were there or took a number and aren't there; and numbers only rise
+pub record AreGone (first graph : State) (nodes rels : ℕ) : Type 0 where
+  pub nodes_gone : nodes + length graph.content.nodes + first.next_node ≡ length first.content.nodes + graph.next_node
+  pub rels_gone : rels + length graph.content.rels + first.next_rel ≡ length first.content.rels + graph.next_rel
+  pub nodes_up : first.next_node ≤ graph.next_node
+  pub rels_up : first.next_rel ≤ graph.next_rel
+
+-- the graph, the table and what went so far, and the clauses that are left
+pub record IsReached (first graph : State) (statement : Statement) (after : Updated) (clauses : List Clause) : Type 0 where
+  pub leads : LeadOn first graph after.table.rows.items clauses statement
+  pub names : columns_after_all after.table.columns.items clauses ≡ query_columns statement
+  pub there : AreInGraph graph.content after.table.rows.items
+  pub resolved : AreResolved after.table.columns.items after.table.rows.items clauses
+  pub gone : AreGone first graph after.gone.nodes after.gone.rels
+
+-- a clause leads from a graph and rows to this graph and rows that are the bag that is meant, or stops at its fault, or no memory was left
+abbrev pub IsNext : Result Updated UpdateFault → State → (Counts → Result Progress UpdateFault) → Type 0
+IsNext result graph meant =
+    MatchResult result (λ after. (some : Counts) → (more : Counts) × IsSameResult (Ok (progress graph after.table.rows.items more)) (meant some))
+    (λ why. (why ≡ NoMemory) ⊎ ((some : Counts) → meant some ≡ Err why))
+
+-- the same with the rows in their order
+abbrev pub IsNextInOrder : Result Updated UpdateFault → State → (Counts → Result Progress UpdateFault) → Type 0
+IsNextInOrder result graph meant =
+    MatchResult result (λ after. (some : Counts) → (more : Counts) × (meant some ≡ Ok (progress graph after.table.rows.items more))) (λ why. Unit {0})

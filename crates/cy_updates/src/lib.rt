@@ -1,0 +1,16 @@
+//! Updating clauses and statements: what each means for a graph and a table, what holds of that, and statements carried out.
+#![tactic(auto)]
+
+mod clauses;
+mod creating;
+mod deleting;
+mod faults;
+pub mod laws;
+mod maps;
+mod naming;
+mod removing;
+mod setting;
+mod statements;
+
+pub use faults::UpdateFault;
+pub use statements::{Outcome, execute};

@@ -2,7 +2,8 @@
 use Rattle.std.proofs.Common.{◌≡◌, ℕ, List, [], ◌∷◌, ◌++◌, map, refl, sym, ap, subst, ◌∙◌, inl}
 use Rattle.cy_graph.specs.Graph.{Content}
 use Rattle.cy_engine.specs.Runs.{Event, Run, Runs, last_entries}
-use Rattle.cy_engine.specs.State.{EngineState, Entries, Machine, View}
+use Rattle.cy_engine.specs.Model.{Machine, state_of}
+use Rattle.cy_engine.specs.State.{EngineState, Entries, View}
 use Rattle.cy_engine.specs.Step.{Answer, AreEntries, Step}
 
 -- where the content stays, no view gets an entry
@@ -24,15 +25,12 @@ last_of entries (d ∷ events) e = last_of d.entries events e
 
 -- a run goes on by one line
 pub runs_more : (old mid new : Machine) (lines : List (List ℕ)) (answers : List Answer) (line : List ℕ) (answer : Answer)
-    → Runs old mid lines answers → Step mid.state line answer new.entries new.state → Runs old new (lines ++ line ∷ []) (answers ++ answer ∷ [])
+    → Runs old mid lines answers → Step (state_of mid) line answer new.entries (state_of new) → Runs old new (lines ++ line ∷ []) (answers ++ answer ∷ [])
 runs_more old mid new lines answers line answer runs step =
     let e : Event = record { line = line; answer = answer; entries = new.entries } in record {
       events = runs.events ++ e ∷ [];
       lines_are = mapped (λ (x : Event). x.line) runs.events e ∙ ap (λ (xs : List (List ℕ)). xs ++ line ∷ []) runs.lines_are;
       answers_are = mapped (λ (x : Event). x.answer) runs.events e ∙ ap (λ (xs : List Answer). xs ++ answer ∷ []) runs.answers_are;
-      run = run_append old.state mid.state new.state runs.events e runs.run step;
+      run = run_append (state_of old) (state_of mid) (state_of new) runs.events e runs.run step;
       entries_are = sym (last_of old.entries runs.events e);
     }
-
-pub runs_none : (old : Machine) → Runs old old [] []
-runs_none old = record { events = []; lines_are = refl; answers_are = refl; run = refl; entries_are = refl }

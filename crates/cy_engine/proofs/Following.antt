@@ -1,16 +1,20 @@
 -- The rows of a view are those that it had when it was made, changed by its later entries.
-use Rattle.std.proofs.Common.{◌≡◌, ◌⊎◌, ℕ, ◌+◌, ◌-◌, cond, List, [], ◌∷◌, find, Option, None, Some, Ok, refl, sym, ap, subst, ◌∙◌, arith, inl, inr}
-use Rattle.std.specs.Prelude.{Contains}
+use Rattle.std.proofs.Common.{◌≡◌, ◌⊎◌, ℕ, ◌+◌, ◌-◌, cond, List, [], ◌∷◌, find, Option, None, Some, Result, Ok, Err, refl, sym, ap, subst, ◌∙◌, arith, inl, inr}
+use Rattle.std.specs.Prelude.{Contains, IsOk}
+use Rattle.std.specs.Result.{result_unwrap_or}
 use Rattle.std.specs.Option.{option_map}
 use Rattle.std.specs.Str.{bytes_eq}
 use Rattle.cy_values.specs.declared.rows.Cell.{Cell}
 use Rattle.cy_values.specs.Bag.{count_of, weight_of}
 use Rattle.cy_graph.specs.Graph.{Content}
+use Rattle.cy_expr.specs.declared.faults.EvalFault.{EvalFault}
+use Rattle.cy_trees.specs.Trees.{Statement}
+use Rattle.cy_scope.specs.Checked.{IsViewQuery}
+use Rattle.cy_oneshot.specs.Queries.{query_columns, query_rows}
 use Rattle.cy_engine.specs.declared.entries.Entry.{Entry}
 use Rattle.cy_engine.specs.declared.replies.Reply.TheVariants as reply
-use Rattle.cy_engine.specs.Meaning.{rows_of}
 use Rattle.cy_engine.specs.Runs.{Event, Run, with_entry, entries_of, followed, counts_in, IsMaintained}
-use Rattle.cy_engine.specs.State.{EngineState, Entries, View, empty_engine, view_at, entry_at}
+use Rattle.cy_engine.specs.State.{EngineState, Entries, View, empty_engine, entry_at, rows_of, view_at}
 use Rattle.cy_engine.specs.Step.{AreEntries, IsEntry}
 use Rattle.cy_engine.proofs.Effects.{Effects, effects, exact}
 use Rattle.cy_engine.proofs.Names.{IsNew, AreNamed, Among, itself, turned, among_from, among_either, other_name, effects_named, effects_among, found}
@@ -76,11 +80,19 @@ run_followed view old new (e ∷ events) (mid, step, run) named here row =
     ∙ then_followed view old mid (entry_at view.name e.entries) (entries_of view.name events)
     (leads_at view old.views old.graph.content mid.graph.content mid.tick e.entries named (exact old e.answer e.entries mid does) here) row
 
+-- the queries of views have rows
+abbrev pub HaveRows : Type 0
+HaveRows = (graph : Content) (query : Statement) → IsViewQuery query → IsOk (query_rows graph query)
+
+has_rows : (r : Result (List (List Cell)) EvalFault) → IsOk r → r ≡ Ok (result_unwrap_or r [])
+has_rows (Ok rows) is = refl
+has_rows (Err why) is = cc
+
 -- a view that stands at the end stood at the beginning, or was made
-pub maintained_or_there : (view : View) (old new : EngineState) (events : List Event) → Run old events new → AreNamed old.views → Among view new.views → Among view old.views ⊎ IsMaintained old new events view
-maintained_or_there view old new [] run named here = inl (subst (λ (s : EngineState). Among view s.views) run here)
-maintained_or_there view old new (e ∷ events) (mid, step, run) named here =
-    from (maintained_or_there view mid new events run (effects_named old e.answer e.entries mid does named) here)
+pub maintained_or_there : HaveRows → (view : View) (old new : EngineState) (events : List Event) → Run old events new → AreNamed old.views → Among view new.views → Among view old.views ⊎ IsMaintained old new events view
+maintained_or_there have view old new [] run named here = inl (subst (λ (s : EngineState). Among view s.views) run here)
+maintained_or_there have view old new (e ∷ events) (mid, step, run) named here =
+    from (maintained_or_there have view mid new events run (effects_named old e.answer e.entries mid does named) here)
   where
     does : Effects old e.answer e.entries mid
     does = effects old e.answer e.entries mid e.line step
@@ -88,16 +100,17 @@ maintained_or_there view old new (e ∷ events) (mid, step, run) named here =
     now_follows : Among view mid.views → (row : List Cell) → counts_in view new row ≡ followed (counts_in view mid) (entries_of view.name events) row
     now_follows there = run_followed view mid new events run (effects_named old e.answer e.entries mid does named) there
 
-    now_made : (made : View) → made ≡ view → Among view mid.views → e.answer ≡ Ok (reply.Made (made.query.column ∷ []) made.made made.name) → IsMaintained old new (e ∷ events) view
-    now_made made is there answered = record {
+    now_made : (made : View) → IsViewQuery made.query → made ≡ view → Among view mid.views → e.answer ≡ Ok (reply.Made (query_columns made.query) made.made made.name) → IsMaintained old new (e ∷ events) view
+    now_made made checked is there answered = record {
       before = [];
       making = e;
       after = events;
       made = mid;
       are = refl;
-      answered = answered ∙ ap (λ (v : View). Ok (reply.Made (v.query.column ∷ []) v.made v.name)) is;
+      answered = answered ∙ ap (λ (v : View). Ok (reply.Made (query_columns v.query) v.made v.name)) is;
       run_to = (mid, step, refl);
       run_from = run;
+      means = has_rows (query_rows new.graph.content view.query) (have new.graph.content view.query (subst (λ (v : View). IsViewQuery v.query) is checked));
       follows = now_follows there;
       shown = λ rows are row. are.bag row ∙ now_follows there row;
     }
@@ -110,7 +123,7 @@ maintained_or_there view old new (e ∷ events) (mid, step, run) named here =
       where
         either : Among view old.views ⊎ (made ≡ view) → Among view old.views ⊎ IsMaintained old new (e ∷ events) view
         either (inl before) = inl before
-        either (inr is) = inr (now_made made is there a.answered)
+        either (inr is) = inr (now_made made free.1 is there a.answered)
 
     from : Among view mid.views ⊎ IsMaintained mid new events view → Among view old.views ⊎ IsMaintained old new (e ∷ events) view
     from (inl there) = stood does there
@@ -123,6 +136,7 @@ maintained_or_there view old new (e ∷ events) (mid, step, run) named here =
       answered = kept.answered;
       run_to = (mid, step, kept.run_to);
       run_from = kept.run_from;
+      means = kept.means;
       follows = kept.follows;
       shown = kept.shown;
     })
@@ -131,11 +145,11 @@ run_named : (old new : EngineState) (events : List Event) → Run old events new
 run_named old new [] run named = subst (λ (s : EngineState). AreNamed s.views) (sym run) named
 run_named old new (e ∷ events) (mid, step, run) named = run_named mid new events run (effects_named old e.answer e.entries mid (effects old e.answer e.entries mid e.line step) named)
 
-pub views_kept : (history : ℕ) (events : List Event) (now : EngineState) (view : View) → Run (empty_engine history) events now → Contains now.views view
+pub views_kept : HaveRows → (history : ℕ) (events : List Event) (now : EngineState) (view : View) → Run (empty_engine history) events now → Contains now.views view
     → (view_at view.name now ≡ Some view) × IsMaintained (empty_engine history) now events view
-views_kept history events now view run here =
+views_kept have history events now view run here =
     let there : Among view now.views = among_from now.views view here.0 here.1 here.2 in
-    (found now.views view (run_named (empty_engine history) now events run tt) there, made (maintained_or_there view (empty_engine history) now events run tt there))
+    (found now.views view (run_named (empty_engine history) now events run tt) there, made (maintained_or_there have view (empty_engine history) now events run tt there))
   where
     made : Among view [] ⊎ IsMaintained (empty_engine history) now events view → IsMaintained (empty_engine history) now events view
     made (inl none) = absurd none

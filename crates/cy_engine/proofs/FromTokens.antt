@@ -1,6 +1,5 @@
 -- From tokens to verdicts.
-use Rattle.std.proofs.Common.{◌≡◌, ◌≢◌, ◌⊎◌, ℕ, List, [], ◌∷◌, ◌++◌, cond, Bool, true, false, Option, Some, None, Result, Ok, Err, length, arith, refl, sym, ap, inl, inr, append_assoc}
-use Rattle.std.specs.Option.{option_map}
+use Rattle.std.proofs.Common.{◌≡◌, ◌≢◌, ◌⊎◌, ℕ, List, [], ◌∷◌, ◌++◌, cond, Bool, true, false, Some, None, Result, Ok, length, refl, ap, inl, inr}
 use Rattle.cy_lexer.specs.declared.symbols.Symbol.{Symbol}
 use Rattle.cy_lexer.specs.declared.symbols.Symbol.TheVariants as sign
 use Rattle.cy_lexer.specs.declared.tokens.Kind.{Kind}
@@ -20,16 +19,12 @@ use Rattle.cy_scope.specs.ClauseFaults.{statement_fault}
 use Rattle.cy_scope.specs.Resolved.{resolved_statement}
 use Rattle.cy_scope.specs.Views.{view_fault}
 use Rattle.cy_trees.specs.Trees.{Statement}
-use Rattle.cy_values.specs.declared.scalars.Value.{Value}
 use Rattle.cy_engine.specs.declared.faults.Fault.{Fault}
 use Rattle.cy_engine.specs.declared.faults.Fault.TheVariants as fault
-use Rattle.cy_engine.specs.declared.forms.Form.{Form}
-use Rattle.cy_engine.specs.declared.forms.Query.{Query}
 use Rattle.cy_engine.specs.Faults.{of_lexer, of_parser, of_scope, of_view}
-use Rattle.cy_engine.specs.Forms.{with_entry, served_statement, served_query}
 use Rattle.cy_engine.specs.internal.Stages.{HasTree, Fails}
-use Rattle.cy_engine.specs.Requests.{is_semicolon, without_end, first_offset}
-use Rattle.cy_engine.specs.Verdicts.{scope_verdict, form_verdict, query_verdict}
+use Rattle.cy_engine.specs.Requests.{is_semicolon, without_end}
+use Rattle.cy_engine.specs.Verdicts.{scope_verdict, query_verdict}
 
 -- ---- the tokens of a command
 
@@ -78,17 +73,6 @@ semicolon_not (kind.Symbol s) other = symbol_not s other
     symbol_not sign.Equal other = refl
     symbol_not sign.Less other = refl
     symbol_not sign.Greater other = refl
-
-pub end_none : (ts : List Token) → length ts ≡ 0 → ts ≡ without_end ts
-end_none [] len = refl
-end_none (u ∷ us) len = absurd (omega (arith, len))
-
--- ---- entries of a map
-
-pub next_literal : (found : List (List ℕ × Value)) (key : List ℕ) (v : Value) (rest : Option (List (List ℕ × Value)))
-    → option_map (λ es. found ++ es) (with_entry key (Some v) rest) ≡ option_map (λ es. (found ++ (key, v) ∷ []) ++ es) rest
-next_literal found key v None = refl
-next_literal found key v (Some es) = ap Some (sym (append_assoc found ((key, v) ∷ []) es))
 
 -- ---- faults of the layers
 
@@ -157,41 +141,23 @@ pub scope_given : (line : List ℕ) (tokens : List Token) (tree resolved : State
     → HasTree line tokens (λ tree. scope_verdict tree ≡ Ok resolved)
 scope_given line tokens tree resolved spelt good is = record { tree = tree; spelt = spelt; that = rw (good, is) refl }
 
--- ---- forms
+-- ---- the query of a view
 
 module _ (line : List ℕ) (tokens : List Token) where
-  abbrev at : ℕ
-  at = first_offset line tokens
-
-  form_after : {A B : Type 0} (first : Statement → Result A Fault) (second : Statement → Result B Fault) (why : Fault)
-      → ((tree : Statement) → first tree ≡ Err why → second tree ≡ Err why) → Fails first line tokens why → Fails second line tokens why
-  form_after first second why goes (inl wants) = inl wants
-  form_after first second why goes (inr (inl unspelt)) = inr (inl unspelt)
-  form_after first second why goes (inr (inr tree)) = inr (inr (record { tree = tree.tree; spelt = tree.spelt; that = goes tree.tree tree.that }))
-
-  pub form_unchecked : (why : Fault) → Fails scope_verdict line tokens why → Fails (λ tree. form_verdict tree at) line tokens why
-  form_unchecked why = form_after scope_verdict (λ tree. form_verdict tree at) why (λ tree is. rw is refl)
-
-  pub query_unchecked : (why : Fault) → Fails scope_verdict line tokens why → Fails (λ tree. query_verdict tree at) line tokens why
-  query_unchecked why = form_after scope_verdict (λ tree. query_verdict tree at) why (λ tree is. rw is refl)
+  -- a statement that isn't checked
+  pub query_unchecked : (why : Fault) → Fails scope_verdict line tokens why → Fails query_verdict line tokens why
+  query_unchecked why (inl wants) = inl wants
+  query_unchecked why (inr (inl unspelt)) = inr (inl unspelt)
+  query_unchecked why (inr (inr tree)) = inr (inr (record { tree = tree.tree; spelt = tree.spelt; that = rw tree.that refl }))
 
   module _ (resolved : Statement) (checked : HasTree line tokens (λ tree. scope_verdict tree ≡ Ok resolved)) where
-    pub form_given : (form : Form) → Some form ≡ served_statement resolved → HasTree line tokens (λ tree. form_verdict tree at ≡ Ok form)
-    form_given form is = record { tree = checked.tree; spelt = checked.spelt; that = rw (checked.that, ← is) refl }
-
-    pub form_unserved : None ≡ served_statement resolved → Fails (λ tree. form_verdict tree at) line tokens (fault.Unexpected at)
-    form_unserved is = inr (inr (record { tree = checked.tree; spelt = checked.spelt; that = rw (checked.that, ← is) refl }))
-
-    pub view_fails : (why : ViewFault) → (why ≡ view.NoMemory) ⊎ (view_fault resolved ≡ Some why) → Fails (λ tree. query_verdict tree at) line tokens (of_view why)
+    pub view_fails : (why : ViewFault) → (why ≡ view.NoMemory) ⊎ (view_fault resolved ≡ Some why) → Fails query_verdict line tokens (of_view why)
     view_fails why said = from (viewed why) said
       where
-        from : ((of_view why ≡ fault.NoMemory) ⊎ ((why ≢ view.NoMemory) × (of_view why ≡ fault.View why))) → (why ≡ view.NoMemory) ⊎ (view_fault resolved ≡ Some why) → Fails (λ tree. query_verdict tree at) line tokens (of_view why)
+        from : ((of_view why ≡ fault.NoMemory) ⊎ ((why ≢ view.NoMemory) × (of_view why ≡ fault.View why))) → (why ≡ view.NoMemory) ⊎ (view_fault resolved ≡ Some why) → Fails query_verdict line tokens (of_view why)
         from (inl is) said = inl is
         from (inr (is_other, is)) (inl wants) = absurd (is_other wants)
         from (inr (is_other, is)) (inr faulty) = inr (inr (record { tree = checked.tree; spelt = checked.spelt; that = rw (checked.that, faulty, is) refl }))
 
-    pub query_given : view_fault resolved ≡ None → (query : Query) → Some query ≡ served_query resolved → HasTree line tokens (λ tree. query_verdict tree at ≡ Ok query)
-    query_given good query is = record { tree = checked.tree; spelt = checked.spelt; that = rw (checked.that, good, ← is) refl }
-
-    pub query_unserved : view_fault resolved ≡ None → None ≡ served_query resolved → Fails (λ tree. query_verdict tree at) line tokens (fault.Unexpected at)
-    query_unserved good is = inr (inr (record { tree = checked.tree; spelt = checked.spelt; that = rw (checked.that, good, ← is) refl }))
+    pub query_given : view_fault resolved ≡ None → (query : Statement) → query ≡ resolved → HasTree line tokens (λ tree. query_verdict tree ≡ Ok query)
+    query_given good query is = record { tree = checked.tree; spelt = checked.spelt; that = rw (checked.that, good, is) refl }

@@ -80,7 +80,7 @@ module _ (old : EngineState) (answer : Answer) (entries : Entries) (new : Engine
   pub effects_named : Effects old answer entries new → AreNamed old.views → AreNamed new.views
   effects_named (inl (left, none)) named = subst (λ (s : EngineState). AreNamed s.views) (sym left) named
   effects_named (inr (inl (carried, a))) named = subst (λ (s : EngineState). AreNamed s.views) (sym a.left) named
-  effects_named (inr (inr (inl (view, free, a)))) named = subst (λ (s : EngineState). AreNamed s.views) (sym a.left) (new_last view.name view old.views refl free named)
+  effects_named (inr (inr (inl (view, free, a)))) named = subst (λ (s : EngineState). AreNamed s.views) (sym a.left) (new_last view.name view old.views refl free.0 named)
   effects_named (inr (inr (inr (pair, a)))) named = subst (λ (s : EngineState). AreNamed s.views) (sym a.left) named
 
   pub effects_among : (view : View) → Effects old answer entries new → Among view old.views → Among view new.views

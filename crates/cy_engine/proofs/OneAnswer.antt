@@ -17,14 +17,12 @@ use Rattle.cy_engine.specs.declared.entries.Change.{Change}
 use Rattle.cy_engine.specs.declared.entries.Entry.{Entry}
 use Rattle.cy_engine.specs.declared.faults.Fault.{Fault}
 use Rattle.cy_engine.specs.declared.faults.Fault.TheVariants as fault
-use Rattle.cy_engine.specs.declared.forms.Query.{Query}
 use Rattle.cy_engine.specs.declared.replies.Reply.{Reply}
 use Rattle.cy_engine.specs.declared.replies.Reply.TheVariants as reply
 use Rattle.cy_engine.specs.Difference.{IsDifference}
-use Rattle.cy_engine.specs.Meaning.{rows_of}
-use Rattle.cy_engine.specs.Requests.{Request, Nothing, StatementOf, ViewOf, RowsOf, IndexOf, Refused, request, first_offset}
+use Rattle.cy_engine.specs.Requests.{Request, Nothing, StatementOf, ViewOf, RowsOf, IndexOf, Refused, request}
 use Rattle.cy_engine.specs.Runs.{is_parsers, Agree, HasRoom}
-use Rattle.cy_engine.specs.State.{EngineState, Entries, View}
+use Rattle.cy_engine.specs.State.{EngineState, Entries, View, rows_of}
 use Rattle.cy_engine.specs.Step.{Answer, AreRows, IsEntry, AreEntries, IsRefused, IsReplied, Carries, Makes, Indexes, Shows, Reads, Answers, Lexed, Step}
 use Rattle.cy_engine.specs.Verdicts.{Carried, statement_verdict, view_verdict, rows_verdict, index_verdict}
 use Rattle.cy_engine.proofs.Surpluses.{same_pairs}
@@ -42,7 +40,7 @@ module _ (total : IsTotalOrder row_cmp) where
       let added : c.added ≡ d.added = surplus_one after before c.added d.added a.added b.added in
       λ i. record { removed = removed i; added = added i }
 
-  entry_one : (query : Query) (before after : Content) (tick : ℕ) (e f : Entry) → IsEntry query before after tick e → IsEntry query before after tick f → e ≡ f
+  entry_one : (query : Statement) (before after : Content) (tick : ℕ) (e f : Entry) → IsEntry query before after tick e → IsEntry query before after tick f → e ≡ f
   entry_one query before after tick e f a b =
       let ticks : e.tick ≡ f.tick = a.tick_is ∙ sym b.tick_is in
       let changes : e.change ≡ f.change = change_one (rows_of query before) (rows_of query after) e.change f.change a.difference b.difference in
@@ -111,9 +109,9 @@ module _ (total : IsTotalOrder row_cmp) where
     answers_one : (line : List ℕ) (asked : Request) → Answers line asked old answer entries new → Answers line asked old again more other → Same
     answers_one line Nothing a b = replied_one reply.Nothing reply.Nothing refl a b
     answers_one line (StatementOf tokens) a b =
-        reads_one line tokens (λ tree. Carries (statement_verdict tree (first_offset line tokens) old)) (λ tree. carries_one (statement_verdict tree (first_offset line tokens) old)) a b
+        reads_one line tokens (λ tree. Carries (statement_verdict tree old)) (λ tree. carries_one (statement_verdict tree old)) a b
     answers_one line (ViewOf name tokens) a b =
-        reads_one line tokens (λ tree. Makes (view_verdict tree name (first_offset line tokens) old)) (λ tree. makes_one (view_verdict tree name (first_offset line tokens) old)) a b
+        reads_one line tokens (λ tree. Makes (view_verdict tree name old)) (λ tree. makes_one (view_verdict tree name old)) a b
     answers_one line (RowsOf name) a b = shows_one name (rows_verdict name old) a b
     answers_one line (IndexOf label key) a b = indexes_one (index_verdict label key old) a b
     answers_one line (Refused why) a b = refused_one why a b

@@ -7,7 +7,7 @@ use Rattle.cy_lexer.specs.Tokens.{tokens_of}
 use Rattle.cy_index.specs.declared.keys.Pair.{Pair}
 use Rattle.cy_engine.specs.declared.faults.Fault.{Fault}
 use Rattle.cy_engine.specs.declared.replies.Reply.{Reply}
-use Rattle.cy_engine.specs.Requests.{Request, Nothing, StatementOf, ViewOf, RowsOf, IndexOf, Refused, request, first_offset}
+use Rattle.cy_engine.specs.Requests.{Request, Nothing, StatementOf, ViewOf, RowsOf, IndexOf, Refused, request}
 use Rattle.cy_engine.specs.Runs.{Event, Run, Agree, HasRoom, IsDetermined, accepted, accepted_before, is_parsers}
 use Rattle.cy_engine.specs.State.{EngineState, Entries, View}
 use Rattle.cy_engine.specs.Step.{Answer, Carries, Makes, Indexes, Shows, Answers, Lexed, Step}
@@ -38,9 +38,9 @@ module _ (old : EngineState) (answer : Answer) (entries : Entries) (new : Engine
 
   answers_left : (line : List ℕ) (asked : Request) → Answers line asked old answer entries new → new ≡ old
   answers_left line Nothing a = a.left
-  answers_left line (StatementOf tokens) (inl (tree, spelt, a)) = carries_left (statement_verdict tree (first_offset line tokens) old) a
+  answers_left line (StatementOf tokens) (inl (tree, spelt, a)) = carries_left (statement_verdict tree old) a
   answers_left line (StatementOf tokens) (inr (parsed, unspelt, a)) = a.left
-  answers_left line (ViewOf name tokens) (inl (tree, spelt, a)) = makes_left (view_verdict tree name (first_offset line tokens) old) a
+  answers_left line (ViewOf name tokens) (inl (tree, spelt, a)) = makes_left (view_verdict tree name old) a
   answers_left line (ViewOf name tokens) (inr (parsed, unspelt, a)) = a.left
   answers_left line (RowsOf name) a = shows_left name (rows_verdict name old) a
   answers_left line (IndexOf label key) a = indexes_left (index_verdict label key old) a

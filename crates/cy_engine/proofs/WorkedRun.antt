@@ -11,7 +11,8 @@ use Rattle.cy_lexer.specs.declared.tokens.Token.{Token}
 use Rattle.cy_lexer.specs.Tokens.{tokens_of}
 use Rattle.cy_parser.specs.Words.{denotes, slice_in}
 use Rattle.cy_scope.specs.declared.faults.ScopeFault.TheVariants as scope
-use Rattle.cy_trees.specs.Trees.{integer, null}
+use Rattle.cy_scope.specs.Resolved.{resolved_statement}
+use Rattle.cy_trees.specs.Trees.{integer, null, Statement}
 use Rattle.cy_values.specs.declared.scalars.Value.{Value}
 use Rattle.cy_values.specs.declared.scalars.Value.TheVariants as value
 use Rattle.cy_values.specs.declared.rows.Cell.{Cell}
@@ -20,7 +21,6 @@ use Rattle.cy_values.specs.Bag.{count_of, IsCanonical}
 use Rattle.cy_values.specs.Order.{row_cmp}
 use Rattle.cy_graph.specs.declared.nodes.Node.{Node}
 use Rattle.cy_engine.specs.declared.faults.Fault.TheVariants as fault
-use Rattle.cy_engine.specs.declared.forms.Query.{Query}
 use Rattle.cy_engine.specs.declared.replies.Reply.TheVariants as reply
 use Rattle.cy_engine.specs.Difference.{IsDifference}
 use Rattle.cy_engine.specs.Requests.{request}
@@ -41,8 +41,9 @@ node v = record { labels = (codes "A", tt) ∷ []; props = (codes "k", v) ∷ []
 abbrev bare : Node
 bare = record { labels = (codes "A", tt) ∷ []; props = [] }
 
-abbrev keys : Query
-keys = record { label = codes "A"; key = codes "k"; column = codes "n.k" }
+-- `MATCH (n:A) RETURN n.k`, with its columns
+abbrev keys : Statement
+keys = resolved_statement query_tree
 
 abbrev view : View
 view = record { name = codes "v"; query = keys; made = 2 }

@@ -1,5 +1,5 @@
 -- The numbers of faults, and where they point (own).
-use Rattle.std.specs.Prelude.{ℕ, Option, Some, None}
+use Rattle.std.specs.Prelude.{ℕ, Option, None}
 use Rattle.cy_lexer.specs.declared.faults.LexFault.{LexFault}
 use Rattle.cy_lexer.specs.declared.faults.LexFault.TheVariants as lex
 use Rattle.cy_lexer.specs.Faults as lexer
@@ -12,19 +12,21 @@ use Rattle.cy_scope.specs.declared.faults.ViewFault.{ViewFault}
 use Rattle.cy_scope.specs.declared.faults.ViewFault.TheVariants as view
 use Rattle.cy_scope.specs.Faults.{scope_code, view_code}
 use Rattle.cy_graph.specs.declared.faults.GraphFault.{GraphFault}
-use Rattle.cy_graph.specs.declared.faults.GraphFault.TheVariants as graph
 use Rattle.cy_index.specs.declared.faults.IndexFault.{IndexFault}
 use Rattle.cy_index.specs.declared.faults.IndexFault.TheVariants as index
+use Rattle.cy_expr.specs.declared.faults.EvalFault.{EvalFault}
+use Rattle.cy_updates.specs.declared.faults.UpdateFault.{UpdateFault}
+use Rattle.cy_updates.specs.declared.faults.UpdateFault.TheVariants as update
+use Rattle.cy_updates.specs.Faults as updates
 use Rattle.cy_engine.specs.declared.faults.Fault.{Fault}
-use Rattle.cy_engine.specs.declared.faults.Fault.TheVariants.{Lex, Parse, Scope, View, Unexpected, StillConnected, Full, ViewNameTaken, NoSuchView, TooManyViews, UnknownCommand, IndexThere, BadArgument, NoMemory}
+use Rattle.cy_engine.specs.declared.faults.Fault.TheVariants.{Lex, Parse, Scope, View, Update, Full, ViewNameTaken, NoSuchView, TooManyViews, UnknownCommand, IndexThere, BadArgument, NoMemory}
 
 abbrev pub code_of : Fault → ℕ
 code_of (Lex fault) = lexer.code_of fault
 code_of (Parse fault) = parser.code_of fault
 code_of (Scope fault) = scope_code fault
 code_of (View fault) = view_code fault
-code_of (Unexpected at) = 20
-code_of (StillConnected rel) = 50
+code_of (Update fault) = updates.code_of fault
 code_of Full = 53
 code_of ViewNameTaken = 60
 code_of NoSuchView = 61
@@ -38,7 +40,6 @@ code_of NoMemory = 90
 abbrev pub offset_of : Fault → Option ℕ
 offset_of (Lex fault) = lexer.at_of fault
 offset_of (Parse fault) = parser.at_of fault
-offset_of (Unexpected at) = Some at
 offset_of _ = None
 
 -- want of memory is one fault, whoever wants it
@@ -58,10 +59,15 @@ abbrev pub of_view : ViewFault → Fault
 of_view view.NoMemory = NoMemory
 of_view fault = View fault
 
+abbrev pub of_update : UpdateFault → Fault
+of_update update.NoMemory = NoMemory
+of_update fault = Update fault
+
+abbrev pub of_evaluation : EvalFault → Fault
+of_evaluation fault = of_update (updates.of_evaluation fault)
+
 abbrev pub of_graph : GraphFault → Fault
-of_graph (graph.StillConnected rel) = StillConnected rel
-of_graph graph.Full = Full
-of_graph graph.NoMemory = NoMemory
+of_graph fault = of_update (updates.of_graph fault)
 
 abbrev pub of_index : IndexFault → Fault
 of_index index.IndexThere = IndexThere

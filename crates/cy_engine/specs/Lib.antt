@@ -1,7 +1,5 @@
 pub mod Difference
 pub mod Faults
-pub mod Forms
-pub mod Meaning
 pub mod Model
 pub mod Requests
 pub mod Runs

@@ -1,5 +1,5 @@
 -- What a line asks for, by its tokens (own).
-use Rattle.std.specs.Prelude.{ℕ, Bool, true, false, ◌&&◌, List, [], ◌∷◌, length, codes, if◌then◌else◌}
+use Rattle.std.specs.Prelude.{ℕ, Bool, true, false, ◌&&◌, List, [], ◌∷◌, codes, if◌then◌else◌}
 use Rattle.cy_lexer.specs.declared.tokens.Kind.{Kind}
 use Rattle.cy_lexer.specs.declared.tokens.Kind.TheVariants as kind
 use Rattle.cy_lexer.specs.declared.tokens.Token.{Token}
@@ -75,8 +75,3 @@ command_request line (word ∷ arguments) =
 abbrev pub request : List ℕ → List Token → Request
 request line [] = Nothing
 request line (t ∷ ts) = if is_colon t.kind then command_request line ts else StatementOf (t ∷ ts)
-
--- where the first of the tokens begins, or where the line ends
-abbrev pub first_offset : List ℕ → List Token → ℕ
-first_offset line [] = length line
-first_offset line (t ∷ ts) = t.start

@@ -3,11 +3,12 @@ use Rattle.std.specs.Prelude.{◌≡◌, ◌≢◌, ◌⊎◌, ℕ, ◌+◌, ◌
 use Rattle.std.specs.List.{AllByRecursion}
 use Rattle.cy_values.specs.declared.rows.Cell.{Cell}
 use Rattle.cy_values.specs.Bag.{count_of, weight_of}
+use Rattle.cy_oneshot.specs.Queries.{query_columns, query_rows}
 use Rattle.cy_engine.specs.declared.entries.Entry.{Entry}
 use Rattle.cy_engine.specs.declared.faults.Fault.TheVariants as fault
 use Rattle.cy_engine.specs.declared.replies.Reply.TheVariants as reply
-use Rattle.cy_engine.specs.Meaning.{rows_of}
-use Rattle.cy_engine.specs.State.{EngineState, Entries, Machine, View, empty_engine, view_at, entry_at}
+use Rattle.cy_engine.specs.Model.{Machine, state_of}
+use Rattle.cy_engine.specs.State.{EngineState, Entries, View, empty_engine, entry_at, rows_of, view_at}
 use Rattle.cy_engine.specs.Step.{Answer, AreEntries, AreRows, Step}
 
 -- a line, its answer and the entries that it made
@@ -31,7 +32,7 @@ pub record Runs (old new : Machine) (lines : List (List ℕ)) (answers : List An
   pub events : List Event
   pub lines_are : map (λ e. e.line) events ≡ lines
   pub answers_are : map (λ e. e.answer) events ≡ answers
-  pub run : Run old.state events new.state
+  pub run : Run (state_of old) events (state_of new)
   pub entries_are : new.entries ≡ last_entries old.entries events
 
 -- ---- what is determined
@@ -98,17 +99,18 @@ followed counts (e ∷ entries) = followed (λ row. (counts row - weight_of row 
 abbrev pub counts_in : View → EngineState → List Cell → ℕ
 counts_in view state row = count_of row (rows_of view.query state.graph.content)
 
--- one of the lines made the view; and what its query means on the graph, and so the rows that are shown of it, is what it meant then,
--- changed by every later entry of its own
+-- one of the lines made the view; its query has rows on the graph, and no fault; and what it means there, and so the rows that are
+-- shown of it, is what it meant then, changed by every later entry of its own
 pub record IsMaintained (start now : EngineState) (events : List Event) (view : View) : Type 0 where
   pub before : List Event
   pub making : Event
   pub after : List Event
   pub made : EngineState
   pub are : events ≡ before ++ making ∷ after
-  pub answered : making.answer ≡ Ok (reply.Made (view.query.column ∷ []) view.made view.name)
+  pub answered : making.answer ≡ Ok (reply.Made (query_columns view.query) view.made view.name)
   pub run_to : Run start (before ++ making ∷ []) made
   pub run_from : Run made after now
+  pub means : query_rows now.graph.content view.query ≡ Ok (rows_of view.query now.graph.content)
   pub follows : (row : List Cell) → counts_in view now row ≡ followed (counts_in view made) (entries_of view.name after) row
   pub shown : (rows : List (List Cell × ℕ)) → AreRows now view rows → (row : List Cell) → weight_of row rows ≡ followed (counts_in view made) (entries_of view.name after) row
 

@@ -1,18 +1,26 @@
--- The state of the engine (own).
+-- The state of the engine, and what its views mean (own).
 use Rattle.std.specs.Prelude.{ℕ, ◌-◌, ◌^◌, List, [], find, Option}
 use Rattle.std.specs.Option.{option_map}
+use Rattle.std.specs.Result.{result_unwrap_or}
 use Rattle.std.specs.Str.{bytes_eq}
-use Rattle.cy_graph.specs.Graph.{State, empty_state}
+use Rattle.cy_trees.specs.Trees.{Statement}
+use Rattle.cy_values.specs.declared.rows.Cell.{Cell}
+use Rattle.cy_graph.specs.Graph.{Content, State, empty_state}
 use Rattle.cy_index.specs.declared.keys.Pair.{Pair}
+use Rattle.cy_oneshot.specs.Queries.{query_rows}
 use Rattle.cy_engine.specs.declared.entries.Entry.{Entry}
-use Rattle.cy_engine.specs.declared.forms.Query.{Query}
 
 -- a view: its name, its query and the tick at which it was made. Its rows are no part of it: they are what its
 -- query means on the graph
 pub record View : Type 0 where
   pub name : List ℕ
-  pub query : Query
+  pub query : Statement
   pub made : ℕ
+
+-- The rows that the query of a view means on a graph, as a bag. Such a query has rows on every graph, and no fault: that is a law
+-- of queries (`view_queries`), and part of the headline.
+abbrev pub rows_of : Statement → Content → List (List Cell)
+rows_of query graph = result_unwrap_or (query_rows graph query) []
 
 -- the graph with its next numbers, the labels and keys that have an index and the views, each in the order in which they were
 -- made, the tick, and how many entries a view's history has
@@ -27,11 +35,6 @@ pub record EngineState : Type 0 where
 abbrev pub Entries : Type 0
 Entries = List (List ℕ × Entry)
 
--- an engine between two lines: its state, and the entries that the last line made
-pub record Machine : Type 0 where
-  pub state : EngineState
-  pub entries : Entries
-
 -- the last tick
 abbrev pub last_tick : ℕ
 last_tick = 2 ^ 62 - 1
@@ -43,9 +46,6 @@ view_limit = 256
 -- an empty graph, no index, no view, tick 0
 abbrev pub empty_engine : ℕ → EngineState
 empty_engine history = record { graph = empty_state 1 1; indexes = []; views = []; tick = 0; history = history }
-
-abbrev pub new_machine : ℕ → Machine
-new_machine history = record { state = empty_engine history; entries = [] }
 
 -- the view of a name
 abbrev pub view_at : List ℕ → EngineState → Option View

@@ -13,16 +13,17 @@ use Rattle.cy_values.specs.declared.rows.Cell.{Cell}
 use Rattle.cy_values.specs.Bag.{IsBagOf, IsCanonical, IsSameBag}
 use Rattle.cy_graph.specs.Graph.{Content}
 use Rattle.cy_index.specs.declared.keys.Pair.{Pair}
+use Rattle.cy_oneshot.specs.Queries.{query_columns}
+use Rattle.cy_updates.specs.Counts.{Counts}
 use Rattle.cy_engine.specs.declared.entries.Entry.{Entry}
 use Rattle.cy_engine.specs.declared.faults.Fault.{Fault}
 use Rattle.cy_engine.specs.declared.faults.Fault.TheVariants as fault
+use Rattle.cy_engine.specs.declared.replies.Changed.{Changed}
 use Rattle.cy_engine.specs.declared.replies.Reply.{Reply}
 use Rattle.cy_engine.specs.declared.replies.Reply.TheVariants as reply
-use Rattle.cy_engine.specs.declared.forms.Query.{Query}
 use Rattle.cy_engine.specs.Difference.{IsDifference}
-use Rattle.cy_engine.specs.Meaning.{rows_of}
-use Rattle.cy_engine.specs.Requests.{Request, Nothing, StatementOf, ViewOf, RowsOf, IndexOf, Refused, request, first_offset}
-use Rattle.cy_engine.specs.State.{EngineState, Entries, View}
+use Rattle.cy_engine.specs.Requests.{Request, Nothing, StatementOf, ViewOf, RowsOf, IndexOf, Refused, request}
+use Rattle.cy_engine.specs.State.{EngineState, Entries, View, rows_of}
 use Rattle.cy_engine.specs.Verdicts.{Carried, statement_verdict, view_verdict, rows_verdict, index_verdict}
 
 -- ---- what is answered
@@ -36,7 +37,7 @@ pub record AreRows (state : EngineState) (view : View) (rows : List (List Cell �
   pub canonical : IsCanonical rows
 
 -- what a line changed in the rows of a query: they are another bag, and the change is the difference
-pub record IsEntry (query : Query) (before after : Content) (tick : ℕ) (entry : Entry) : Type 0 where
+pub record IsEntry (query : Statement) (before after : Content) (tick : ℕ) (entry : Entry) : Type 0 where
   pub differs : ¬ (IsSameBag (rows_of query before) (rows_of query after))
   pub tick_is : entry.tick ≡ tick
   pub difference : IsDifference (rows_of query before) (rows_of query after) entry.change
@@ -63,13 +64,17 @@ pub record IsReplied (reply : Reply) (old : EngineState) (answer : Answer) (entr
   pub no_entries : entries ≡ []
   pub left : new ≡ old
 
+-- how many nodes and relationships were made and removed, as a reply has it
+abbrev pub changed_by : Counts → Changed
+changed_by counts = record { nodes_made = counts.made_nodes; nodes_gone = counts.gone_nodes; rels_made = counts.made_rels; rels_gone = counts.gone_rels }
+
 pub record IsCarried (carried : Carried) (old : EngineState) (answer : Answer) (entries : Entries) (new : EngineState) : Type 0 where
-  pub answered : answer ≡ Ok (reply.Statement carried.outcome.changed carried.outcome.columns carried.outcome.rows)
+  pub answered : answer ≡ Ok (reply.Statement (changed_by carried.outcome.counts) carried.outcome.columns carried.outcome.rows)
   pub entries_are : AreEntries old.views old.graph.content carried.outcome.graph.content carried.tick entries
   pub left : new ≡ record old { graph = carried.outcome.graph; tick = carried.tick }
 
 pub record IsMade (view : View) (old : EngineState) (answer : Answer) (entries : Entries) (new : EngineState) : Type 0 where
-  pub answered : answer ≡ Ok (reply.Made (view.query.column ∷ []) view.made view.name)
+  pub answered : answer ≡ Ok (reply.Made (query_columns view.query) view.made view.name)
   pub no_entries : entries ≡ []
   pub left : new ≡ record old { views = old.views ++ view ∷ []; tick = view.made }
 
@@ -117,8 +122,8 @@ Reads line tokens goes_on old answer entries new =
 -- what a request leads to
 abbrev pub Answers : List ℕ → Request → EngineState → Answer → Entries → EngineState → Type 0
 Answers line Nothing old = IsReplied reply.Nothing old
-Answers line (StatementOf tokens) old = Reads line tokens (λ tree. Carries (statement_verdict tree (first_offset line tokens) old)) old
-Answers line (ViewOf name tokens) old = Reads line tokens (λ tree. Makes (view_verdict tree name (first_offset line tokens) old)) old
+Answers line (StatementOf tokens) old = Reads line tokens (λ tree. Carries (statement_verdict tree old)) old
+Answers line (ViewOf name tokens) old = Reads line tokens (λ tree. Makes (view_verdict tree name old)) old
 Answers line (RowsOf name) old = Shows name (rows_verdict name old) old
 Answers line (IndexOf label key) old = Indexes (index_verdict label key old) old
 Answers line (Refused why) old = IsRefused why old

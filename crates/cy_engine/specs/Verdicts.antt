@@ -3,6 +3,7 @@
 use Rattle.std.specs.Prelude.{ℕ, Bool, true, false, ◌+◌, ◌==◌, ◌&&◌, not, List, length, Option, Some, None, Result, Ok, Err, if◌then◌else◌, nat_lt}
 use Rattle.std.specs.Ordering.{eq_by_cmp}
 use Rattle.std.specs.Cmp.Lexicographic.{pointwise}
+use Rattle.std.specs.Result.{result_map_both}
 use Rattle.std.specs.Str.{bytes_eq}
 use Rattle.cy_trees.specs.Trees.{Statement}
 use Rattle.cy_scope.specs.ClauseFaults.{statement_fault}
@@ -19,16 +20,19 @@ use Rattle.cy_index.specs.Index.{has_pair}
 use Rattle.cy_index.specs.declared.keys.Pair.{Pair}
 use Rattle.cy_engine.specs.declared.faults.Fault.{Fault}
 use Rattle.cy_engine.specs.declared.faults.Fault.TheVariants as fault
-use Rattle.cy_engine.specs.declared.forms.Form.{Form}
-use Rattle.cy_engine.specs.declared.forms.Query.{Query}
-use Rattle.cy_engine.specs.Forms.{served_statement, served_query}
-use Rattle.cy_engine.specs.Meaning.{◌>>=◌, Outcome, carried_out}
+use Rattle.cy_updates.specs.Faults.{◌>>=◌}
+use Rattle.cy_updates.specs.Statements.{Outcome, statement_outcome}
+use Rattle.cy_engine.specs.Faults.{of_update}
 use Rattle.cy_engine.specs.State.{EngineState, View, view_at, last_tick, view_limit}
 
 -- nothing is against it, or this is
 abbrev pub unless : {F : Type 0} → (F → Fault) → Option F → Result (Unit {0}) Fault
 unless why None = Ok tt
 unless why (Some fault) = Err (why fault)
+
+-- what a layer below gives, its fault as one of the engine
+abbrev pub or_fault : {A F : Type 0} → (F → Fault) → Result A F → Result A Fault
+or_fault why result = result_map_both (λ x. x) why result
 
 -- it is there, or this is against it
 abbrev pub there : {A : Type 0} → Fault → Option A → Result A Fault
@@ -81,45 +85,42 @@ tick_after before after tick = if same_content before after then Ok tick else ne
 abbrev pub scope_verdict : Statement → Result Statement Fault
 scope_verdict tree = unless fault.Scope (statement_fault tree) >>= λ _. Ok (resolved_statement tree)
 
--- then, where a statement isn't one that is carried out so far, its first token, which is at the offset
-abbrev pub form_verdict : Statement → ℕ → Result Form Fault
-form_verdict tree at = scope_verdict tree >>= λ resolved. there (fault.Unexpected at) (served_statement resolved)
-
 -- what a statement leaves and says, and the tick after it
 pub record Carried : Type 0 where
   pub outcome : Outcome
   pub tick : ℕ
 
--- what carrying out a form from a graph and a tick gives, or what is against it; then the last tick
-abbrev pub carry_verdict : Form → State → ℕ → Result Carried Fault
-carry_verdict form graph tick =
-    carried_out form graph >>= λ outcome.
+-- what carrying a checked statement out from a graph and a tick gives, or its fault; then the last tick
+abbrev pub carry_verdict : Statement → State → ℕ → Result Carried Fault
+carry_verdict resolved graph tick =
+    or_fault of_update (statement_outcome graph resolved) >>= λ outcome.
     tick_after graph.content outcome.graph.content tick >>= λ after.
     Ok (record { outcome = outcome; tick = after })
 
-abbrev pub statement_verdict : Statement → ℕ → EngineState → Result Carried Fault
-statement_verdict tree at state = form_verdict tree at >>= λ form. carry_verdict form state.graph state.tick
+abbrev pub statement_verdict : Statement → EngineState → Result Carried Fault
+statement_verdict tree state = scope_verdict tree >>= λ resolved. carry_verdict resolved state.graph state.tick
 
 -- ---- views
 
--- the fault of scope, then that of a view's query; then, where the query isn't one that is carried out so far, its first token,
--- which is at the offset
-abbrev pub query_verdict : Statement → ℕ → Result Query Fault
-query_verdict tree at =
+-- the query of a view, with the columns of its variables; or its fault of scope, then that of a view's query
+abbrev pub query_verdict : Statement → Result Statement Fault
+query_verdict tree =
     scope_verdict tree >>= λ resolved.
     unless fault.View (view_fault resolved) >>= λ _.
-    there (fault.Unexpected at) (served_query resolved)
+    Ok resolved
 
--- then, whether a view of the name is there, whether there are too many views, and the last tick
-abbrev pub make_verdict : List ℕ → Query → EngineState → Result View Fault
-make_verdict name query state =
+-- the tick of a view of this name that is made next; or a view of the name is there, or too many views are, or the tick is the last
+abbrev pub making_verdict : List ℕ → EngineState → Result ℕ Fault
+making_verdict name state =
     unless (λ _. fault.ViewNameTaken) (view_at name state) >>= λ _.
     needs (nat_lt (length state.views) view_limit) fault.TooManyViews >>= λ _.
-    next_tick state.tick >>= λ tick.
-    Ok (record { name = name; query = query; made = tick })
+    next_tick state.tick
 
-abbrev pub view_verdict : Statement → List ℕ → ℕ → EngineState → Result View Fault
-view_verdict tree name at state = query_verdict tree at >>= λ query. make_verdict name query state
+abbrev pub view_verdict : Statement → List ℕ → EngineState → Result View Fault
+view_verdict tree name state =
+    query_verdict tree >>= λ query.
+    making_verdict name state >>= λ made.
+    Ok (record { name = name; query = query; made = made })
 
 -- ---- commands
 

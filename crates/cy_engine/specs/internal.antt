@@ -1,8 +1,5 @@
 pub mod Counting
-pub mod Creating
-pub mod Each
-pub mod Literals
+pub mod Network
 pub mod Representation
 pub mod Stages
 pub mod Surplus
-pub mod Touched

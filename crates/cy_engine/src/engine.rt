@@ -1,26 +1,31 @@
 //! The engine: one line at a time.
 
-ghost use Rattle.std.specs.Prelude.{◌≡◌, ◌≤◌, ◌⊎◌, [], map, Some, IfErr, IfOk, IsOk, MatchResult, Ok, Err};
+ghost use Rattle.std.specs.Prelude.{◌≡◌, ◌≤◌, ◌⊎◌, [], IfErr, IfOk, IfSome, IsOk, IsSome, Ok, Err, OnOk, map};
 ghost use Rattle.std.specs.Option.{option_copied};
-ghost use Rattle.cy_engine.specs.internal.Literals.{HasLiterals};
+ghost use Rattle.cy_updates.specs.Answers.{outcome_seen};
+ghost use Rattle.cy_graph.specs.Graph.{State};
+ghost use Rattle.cy_engine.specs.Model.{new_machine, state_of};
 ghost use Rattle.cy_engine.specs.Requests.{StatementOf, ViewOf};
-ghost use Rattle.cy_engine.specs.State.{View, entry_at, last_tick, new_machine};
-ghost use Rattle.cy_engine.specs.Step.{AreRows, Step};
-ghost use Rattle.cy_engine.specs.Verdicts.{carry_verdict, make_verdict, next_tick, rows_verdict};
-ghost use Rattle.cy_engine.specs.internal.Stages.{AddsIndex, AnswersOrWants, Changes, ShowsRows};
-ghost use Rattle.cy_engine.specs.Model.{view_of};
+ghost use Rattle.cy_engine.specs.State.{View, entry_at, last_tick};
+ghost use Rattle.cy_engine.specs.Step.{AreRows, Step, changed_by};
+ghost use Rattle.cy_engine.specs.Verdicts.{making_verdict, next_tick, rows_verdict, tick_after};
+ghost use Rattle.cy_engine.specs.internal.Network.{AllStand, abandoned_one, settled_one};
+ghost use Rattle.cy_engine.specs.internal.Representation.{views_in};
+ghost use Rattle.cy_engine.specs.internal.Stages.{AddsIndex, AnswersOrWants, HasEffect, ShowsRows};
 
+use crate::bags::copied;
 use crate::entries::{Entry, entries_of};
 use crate::faults::Fault;
-use crate::forms::{Form, Query};
-use crate::reading::{read_form, read_query};
+use crate::network::Network;
+use crate::reading::{read_query, read_statement};
 use crate::replies::{Changed, Reply};
 use crate::requests::{Request, read_request};
-use crate::statements::carry_out;
-use crate::views::{Registered, made_reply, register, rows_with_counts};
+use crate::views::{Registered, abandon, made_reply, prepare, register, settle};
 use cy_index::Store;
 use cy_lexer::{Token, lex};
-use cy_values::{Duplicate, Row, Sequence, Text};
+use cy_oneshot::Table;
+use cy_updates::{Outcome, execute};
+use cy_values::{Duplicate, Row, Sequence, Text, row_order_laws};
 use indexmap::IndexMap;
 use std::alloc::Global;
 use std::marker::Model;
@@ -44,20 +49,24 @@ pub struct Engine {
     entries: Sequence<(Text, Entry)>,
 }
 
-// What a statement does: what it says, the tick that follows, and the entries of the views.
+// What a change does to the tick and the views: the tick that follows, and the entries.
 #[derive(Drop)]
 struct Effect {
-    changed: Changed,
     tick: u64,
     entries: Sequence<(Text, Entry)>,
 }
 
 impl Model for Engine {
-    ghost use Rattle.cy_engine.specs.State.{Machine};
-    ghost use Rattle.cy_engine.specs.internal.Representation.{IsAtRest};
-    ghost use Rattle.cy_engine.specs.Model.{machine_of};
+    ghost use Rattle.std.specs.Coded.{codes};
+    ghost use Rattle.cy_trees.specs.contracts.expressions.Expr as expr;
+    ghost use Rattle.cy_engine.specs.Model.{Machine};
 
     ghost Value = { Machine };
+
+    ghost coded = { Prim.hlevel (codes, expr.the_row.coded) };
+
+    ghost use Rattle.cy_engine.specs.internal.Representation.{IsAtRest};
+    ghost use Rattle.cy_engine.specs.Model.{machine_of};
 
     ghost view = { λ e. machine_of e.store e.views.entries e.tick e.history e.entries };
 
@@ -84,12 +93,12 @@ impl Engine {
     /// Answers a line. A refused line leaves the engine as it was.
     ///
     /// The line is made of tokens, or `Lex`. A colon begins a command: `UnknownCommand` or `BadArgument` where it isn't one. A
-    /// statement is, in this order, `Parse`, `Scope`, `Unexpected` where it isn't carried out so far, or `Full` where number 2^40
-    /// of its series was given out, or where it would change the content of the graph and the tick is the last. A view is, in this order,
-    /// `Parse`, `Scope`, `View`, `Unexpected`, `ViewNameTaken`, `TooManyViews`, or `Full` where the last tick was given out. Rows
-    /// are refused as `NoSuchView`, an index as `IndexThere`. `NoMemory` may come of any line that isn't too long.
+    /// statement is, in this order, `Parse`, `Scope`, `Update` where its meaning on the graph is a fault, or `Full` where it would
+    /// change the content of the graph and the tick is the last. A view is, in this order, `Parse`, `Scope`, `View`,
+    /// `ViewNameTaken`, `TooManyViews`, or `Full` where the last tick was given out. Rows are refused as `NoSuchView`, an index as
+    /// `IndexThere`. `NoMemory` may come of any line that isn't too long.
     pub fn line(&mut self, line: &str) -> Result<Reply, Fault>
-        ensures { Step self.old.state line.now result self.new.entries self.new.state }
+        ensures { Step (state_of self.old) line.now result self.new.entries (state_of self.new) }
     {
         let mut entries = Sequence::new(Vec::new(self.alloc));
         let answer = self.answer(line, &mut entries);
@@ -99,7 +108,7 @@ impl Engine {
 
     /// The number of the last line that changed the graph or made a view, 0 before the first.
     pub fn tick(&self) -> u64
-        ensures { result ≡ self.now.state.tick }
+        ensures { result ≡ self.now.tick }
     {
         self.tick
     }
@@ -107,11 +116,11 @@ impl Engine {
     /// The rows of a view with their counts: what its query means on the graph, each row once, in canonical order.
     /// `NoSuchView` where there is no view of this name; else it fails only for want of memory.
     pub fn rows(&self, view: &str) -> Result<Vec<(Row, u64)>, Fault>
-        ensures rows { IfOk result (λ rows. (found : View) × (rows_verdict view.now self.now.state ≡ Ok found) × AreRows self.now.state found rows.items) }
-        ensures refused { IfErr result (λ fault. (rows_verdict view.now self.now.state ≡ Err fault) ⊎ ((fault ≡ Fault.NoMemory) × IsOk (rows_verdict view.now self.now.state))) }
+        ensures rows { IfOk result (λ rows. (found : View) × (rows_verdict view.now (state_of self.now) ≡ Ok found) × AreRows (state_of self.now) found rows.items) }
+        ensures refused { IfErr result (λ fault. (rows_verdict view.now (state_of self.now) ≡ Err fault) ⊎ ((fault ≡ Fault.NoMemory) × IsOk (rows_verdict view.now (state_of self.now)))) }
     {
         match self.views.get(view) {
-            Some(found) => rows_with_counts(self.alloc, &found.query, &self.store),
+            Some(found) => Ok(copied(self.alloc, found.network.rows())?),
             None => Err(Fault::NoSuchView),
         }
     }
@@ -136,7 +145,7 @@ impl Engine {
     // Answers a line. The entries are none so far, and then those that it makes.
     fn answer(&mut self, line: &str, entries: &mut Sequence<(Text, Entry)>) -> Result<Reply, Fault>
         requires none { entries.old ≡ [] }
-        ensures { Step self.old.state line.now result entries.new self.new.state }
+        ensures { Step (state_of self.old) line.now result entries.new (state_of self.new) }
     {
         let tokens = lex(self.alloc, line)?;
         match read_request(self.alloc, tokens.as_slice(), line)? {
@@ -148,7 +157,7 @@ impl Engine {
         }
     }
 
-    // Answers a statement. The entries are none so far, and then those that it makes.
+    // Answers a statement. The entries are none so far, and then those that it makes. All that can fail comes before the change ends.
     fn answer_statement(
         &mut self,
         line: &str,
@@ -156,28 +165,25 @@ impl Engine {
         entries: &mut Sequence<(Text, Entry)>,
     ) -> Result<Reply, Fault>
         requires none { entries.old ≡ [] }
-        ensures { AnswersOrWants line.now (StatementOf tokens.now) self.old.state result entries.new self.new.state }
+        ensures { AnswersOrWants line.now (StatementOf tokens.now) (state_of self.old) result entries.new (state_of self.new) }
     {
-        let form = read_form(self.alloc, line, tokens)?;
-        self.store.begin();
-        match effect_of(self.alloc, &mut self.store, &self.views, form, self.tick) {
+        let checked = read_statement(self.alloc, line, tokens)?;
+        let outcome = execute(self.alloc, &mut self.store, &checked)?;
+        match effect_of(self.alloc, &mut self.store, &mut self.views, self.tick) {
             Ok(
                 Effect {
-                    changed,
                     tick,
                     entries: made,
                 },
             ) => {
                 self.store.commit();
+                settle(&mut self.views);
                 self.tick = tick;
                 *entries = made;
-                Ok(Reply::Statement {
-                    changed,
-                    columns: Sequence::new(Vec::new(self.alloc)),
-                    rows: Sequence::new(Vec::new(self.alloc)),
-                })
+                Ok(statement_reply(outcome))
             }
             Err(fault) => {
+                abandon(&mut self.views);
                 self.store.rollback();
                 Err(fault)
             }
@@ -186,24 +192,25 @@ impl Engine {
 
     // Makes a view.
     fn make_view(&mut self, line: &str, name: &str, tokens: &[Token]) -> Result<Reply, Fault>
-        ensures { AnswersOrWants line.now (ViewOf name.now tokens.now) self.old.state result [] self.new.state }
+        ensures { AnswersOrWants line.now (ViewOf name.now tokens.now) (state_of self.old) result [] (state_of self.new) }
     {
         let query = read_query(self.alloc, line, tokens)?;
-        let made = self.next_view(name, &query)?;
+        let made = self.next_view(name)?;
         let reply = made_reply(self.alloc, &query, made, name)?;
+        let network = Network::build(self.alloc, query, &self.store)?;
         register(
             self.alloc,
             &mut self.views,
             name,
-            Registered { query, made },
+            Registered { network, made },
         )?;
         self.tick = made;
         Ok(reply)
     }
 
-    // The tick of a view that is made now, of this name and query.
-    fn next_view(&self, name: &str, query: &Query) -> Result<u64, Fault>
-        ensures made { MatchResult result (λ made. make_verdict name.now query.now self.now.state ≡ Ok (record { name = name.now; query = query.now; made = made })) (λ fault. make_verdict name.now query.now self.now.state ≡ Err fault) }
+    // The tick of a view of this name that is made now.
+    fn next_view(&self, name: &str) -> Result<u64, Fault>
+        ensures made { result ≡ making_verdict name.now (state_of self.now) }
         ensures in_time { IfOk result (λ made. made ≤ last_tick) }
     {
         if self.views.contains_key(name) {
@@ -217,7 +224,7 @@ impl Engine {
 
     // Adds an index for a label and a key.
     fn add_index(&mut self, label: Text, key: Text) -> Result<Reply, Fault>
-        ensures { AddsIndex label key self.old.state result [] self.new.state }
+        ensures { AddsIndex label key (state_of self.old) result [] (state_of self.new) }
     {
         let reply = Reply::Index {
             label: label.copy(self.alloc)?,
@@ -229,7 +236,7 @@ impl Engine {
 
     // Shows the rows of a view.
     fn show_rows(&self, name: &str) -> Result<Reply, Fault>
-        ensures { ShowsRows self.now.state name.now result }
+        ensures { ShowsRows (state_of self.now) name.now result }
     {
         let rows = self.rows(name)?;
         Ok(Reply::Rows {
@@ -252,36 +259,81 @@ fn next_tick(tick: u64) -> Result<u64, Fault>
     Ok(tick + 1)
 }
 
-// Carries a form out in the open change, and says what that does. After a fault the change is to be rolled back.
+// The answer to a statement that is carried out.
+fn statement_reply(outcome: Outcome) -> Reply
+    ensures { (graph : State) → let seen = outcome_seen graph outcome in result ≡ Reply.Statement (changed_by seen.counts) seen.columns seen.rows }
+{
+    let Outcome {
+        made_nodes,
+        gone_nodes,
+        made_rels,
+        gone_rels,
+        table,
+    } = outcome;
+    let Table { columns, rows } = table;
+    Reply::Statement {
+        changed: Changed {
+            nodes_made: made_nodes,
+            nodes_gone: gone_nodes,
+            rels_made: made_rels,
+            rels_gone: gone_rels,
+        },
+        columns: Sequence::new(columns),
+        rows: Sequence::new(rows),
+    }
+}
+
+// What the open change does to the tick and the views. They are then ready for its end; after a fault the views are to be abandoned,
+// and the change is to be rolled back.
 fn effect_of(
     alloc: Global,
     store: &mut Store,
-    views: &IndexMap<String, Registered>,
-    form: Form,
+    views: &mut IndexMap<String, Registered>,
     tick: u64,
 ) -> Result<Effect, Fault>
-    requires open { store.old.graph.was ≡ Some store.old.graph.now }
-    requires literals { HasLiterals form }
+    requires open { IsSome store.old.graph.was }
+    requires stand { IfSome store.old.graph.was (λ before. AllStand before.content views.old.entries) }
     requires in_time { tick ≤ last_tick }
-    ensures changes { IfOk result (λ effect. Changes form (map view_of views.now.entries) store.old.graph.now tick effect store.new.graph.now) }
-    ensures refused { IfErr result (λ fault. (fault ≡ Fault.NoMemory) ⊎ (carry_verdict form store.old.graph.now tick ≡ Err fault)) }
+    ensures effect { IfOk result (λ effect. IfSome store.old.graph.was (λ before. HasEffect (views_in views.old.entries) before.content store.old.graph.now.content tick effect)) }
+    ensures refused { IfErr result (λ fault. (fault ≡ Fault.NoMemory) ⊎ IfSome store.old.graph.was (λ before. tick_after before.content store.old.graph.now.content tick ≡ Err fault)) }
+    ensures on { OnOk result (AllStand store.old.graph.now.content (map settled_one views.new.entries)) }
+    ensures back { map abandoned_one views.new.entries ≡ views.old.entries }
     ensures in_time { IfOk result (λ effect. effect.tick ≤ last_tick) }
-    ensures open { store.new.graph.was ≡ store.old.graph.was }
-    ensures indexes { store.new.chosen ≡ store.old.chosen }
+    ensures same { store.new ≡ store.old }
 {
-    let changed = carry_out(alloc, store, form)?;
+    let effect = view_effect(alloc, store, views, tick)?;
+    store.prepare()?;
+    Ok(effect)
+}
+
+// The same, while the store isn't prepared.
+fn view_effect(
+    alloc: Global,
+    store: &Store,
+    views: &mut IndexMap<String, Registered>,
+    tick: u64,
+) -> Result<Effect, Fault>
+    requires open { IsSome store.now.graph.was }
+    requires stand { IfSome store.now.graph.was (λ before. AllStand before.content views.old.entries) }
+    requires in_time { tick ≤ last_tick }
+    ensures effect { IfOk result (λ effect. IfSome store.now.graph.was (λ before. HasEffect (views_in views.old.entries) before.content store.now.graph.now.content tick effect)) }
+    ensures refused { IfErr result (λ fault. (fault ≡ Fault.NoMemory) ⊎ IfSome store.now.graph.was (λ before. tick_after before.content store.now.graph.now.content tick ≡ Err fault)) }
+    ensures on { OnOk result (AllStand store.now.graph.now.content (map settled_one views.new.entries)) }
+    ensures back { map abandoned_one views.new.entries ≡ views.old.entries }
+    ensures in_time { IfOk result (λ effect. effect.tick ≤ last_tick) }
+{
     let touched = store.touched(alloc)?;
     if touched.is_empty() {
         return Ok(Effect {
-            changed,
             tick,
             entries: Sequence::new(Vec::new(alloc)),
         });
     }
     let tick = next_tick(tick)?;
-    let entries = entries_of(alloc, views, store, touched.as_slice(), tick)?;
+    prepare(alloc, views, store)?;
+    let entries = entries_of(alloc, views, tick)?;
+    row_order_laws();
     Ok(Effect {
-        changed,
         tick,
         entries: Sequence::new(entries),
     })

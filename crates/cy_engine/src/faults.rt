@@ -1,15 +1,16 @@
 //! Why a line was refused.
 
 ghost use Rattle.std.specs.Prelude.{◌≡◌};
-ghost use Rattle.cy_engine.specs.Faults.{code_of, offset_of, of_graph, of_index, of_lexer, of_parser, of_scope, of_view};
+ghost use Rattle.cy_engine.specs.Faults.{code_of, offset_of, of_evaluation, of_graph, of_index, of_lexer, of_parser, of_scope, of_update, of_view};
 ghost use Rattle.cy_engine.specs.declared.faults.Fault.TheVariants.{NoMemory};
 
+use cy_expr::EvalFault;
 use cy_graph::GraphFault;
 use cy_index::IndexFault;
 use cy_lexer::LexFault;
 use cy_parser::ParseFault;
 use cy_scope::{ScopeFault, ViewFault};
-use cy_values::RelId;
+use cy_updates::UpdateFault;
 use std::alloc::{AllocError, AllocFailed};
 use thiserror::Error;
 
@@ -28,14 +29,11 @@ pub enum Fault {
     /// Its query can't be a view's.
     #[error("{0}")]
     View(ViewFault),
-    /// A statement or a query that isn't carried out so far, by its first token.
-    #[error("not carried out at byte {at}")]
-    Unexpected { at: usize },
-    /// A node that is to go has relationships; this is the one with the least number.
-    #[error("a relationship is still there")]
-    StillConnected(RelId),
-    /// All 2^40 numbers of nodes or of relationships were given out, or the tick is at its end.
-    #[error("no number is left")]
+    /// It can't be carried out on the graph.
+    #[error("{0}")]
+    Update(UpdateFault),
+    /// The tick is the last, 2^62 - 1.
+    #[error("no tick is left")]
     Full,
     #[error("a view has this name")]
     ViewNameTaken,
@@ -68,8 +66,7 @@ impl Fault {
             Fault::Parse(fault) => fault.code(),
             Fault::Scope(fault) => fault.code(),
             Fault::View(fault) => fault.code(),
-            Fault::Unexpected { .. } => 20,
-            Fault::StillConnected(_) => 50,
+            Fault::Update(fault) => fault.code(),
             Fault::Full => 53,
             Fault::ViewNameTaken => 60,
             Fault::NoSuchView => 61,
@@ -88,7 +85,6 @@ impl Fault {
         match self {
             Fault::Lex(fault) => fault.at(),
             Fault::Parse(fault) => fault.at(),
-            Fault::Unexpected { at } => Some(*at),
             _ => None,
         }
     }
@@ -154,15 +150,30 @@ impl From<ViewFault> for Fault {
     }
 }
 
+impl From<UpdateFault> for Fault {
+    ghost from_gives = { λ refused fault. fault ≡ of_update refused };
+
+    fn from(refused: UpdateFault) -> Fault {
+        match refused {
+            UpdateFault::NoMemory => Fault::NoMemory,
+            _ => Fault::Update(refused),
+        }
+    }
+}
+
+impl From<EvalFault> for Fault {
+    ghost from_gives = { λ evaluated fault. fault ≡ of_evaluation evaluated };
+
+    fn from(evaluated: EvalFault) -> Fault {
+        Fault::from(UpdateFault::from(evaluated))
+    }
+}
+
 impl From<GraphFault> for Fault {
     ghost from_gives = { λ refused fault. fault ≡ of_graph refused };
 
     fn from(refused: GraphFault) -> Fault {
-        match refused {
-            GraphFault::StillConnected(rel) => Fault::StillConnected(rel),
-            GraphFault::Full => Fault::Full,
-            GraphFault::NoMemory => Fault::NoMemory,
-        }
+        Fault::from(UpdateFault::from(refused))
     }
 }
 

@@ -1,20 +1,16 @@
 //! The engine: lines in, replies out, and views that follow the graph.
 #![tactic(auto)]
 
-mod creating;
+mod bags;
 mod differences;
 mod engine;
 mod entries;
 mod faults;
-mod forms;
-mod parts;
+mod network;
 mod reading;
-mod removing;
 mod replies;
 mod requests;
 mod runs;
-mod setting;
-mod statements;
 mod views;
 
 pub use engine::Engine;

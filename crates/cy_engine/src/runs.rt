@@ -6,6 +6,7 @@ ghost use Rattle.cy_engine.specs.Runs.{EntriesAreExact, IsDetermined, RefusedLin
 use crate::engine::Engine;
 use crate::faults::Fault;
 use crate::replies::Reply;
+use cy_oneshot::laws::view_queries;
 use cy_parser::trees_and_texts;
 use cy_values::row_order_laws;
 use std::alloc::Global;
@@ -43,10 +44,12 @@ pub fn no_trace()
     determined();
 }
 
-/// The headline. After any list of lines, each view's rows are, as a bag, those that it had when it was made, changed by every
-/// later entry of its own; each entry is the exact difference of the rows before and after its line. What the rows are is said by
+/// The headline. After any list of lines, each view's query has rows on the graph, and no fault, and they are, as a bag, those that it
+/// had when the view was made, changed by every later entry of its own; each entry is the exact difference of the rows before and after its line. What the rows are is said by
 /// `Engine::rows` and `Engine::line`: what the view's query means on the current graph.
 pub fn headline()
     ensures views { ViewsAreMaintained }
     ensures entries { EntriesAreExact }
-{}
+{
+    view_queries();
+}

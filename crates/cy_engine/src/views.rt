@@ -1,25 +1,27 @@
-//! Views: their queries, and the rows that a query has on a graph.
+//! The views, by name and in the order in which they were made.
 
-ghost use Rattle.std.specs.Prelude.{◌≡◌, ◌+◌, [], ◌∷◌, ◌++◌, length, map, None, IfErr, IfOk, OnErr, OnOk, reverse};
-ghost use Rattle.cy_engine.specs.internal.Representation.{named, registered_at};
-ghost use Rattle.cy_engine.specs.Model.{view_of};
-ghost use Rattle.cy_values.specs.Bag.{IsBagOf, IsCanonical};
-ghost use Rattle.cy_engine.specs.internal.Counting.{counted_rows};
-ghost use Rattle.cy_engine.specs.Meaning.{row_of, rows_of};
+ghost use Rattle.std.specs.Prelude.{◌≡◌, ◌+◌, [], ◌∷◌, ◌++◌, IfErr, IfOk, IfSome, IsSome, None, OnErr, OnOk, length, map};
+ghost use Rattle.cy_trees.specs.Views.{statement_of};
+ghost use Rattle.cy_oneshot.specs.Queries.{query_columns};
+ghost use Rattle.cy_graph.specs.Graph.{Content};
+ghost use Rattle.cy_engine.specs.internal.Network.{AllReady, AllStand, StandsFor, abandoned_one, settled_one};
+ghost use Rattle.cy_engine.specs.internal.Representation.{named, registered_at, views_in};
 
 use crate::faults::Fault;
-use crate::forms::Query;
+use crate::network::Network;
 use crate::replies::Reply;
-use cy_graph::Node;
 use cy_index::Store;
-use cy_values::{Cell, Duplicate, Row, Sequence, Text, Value, row_order, row_order_laws};
+use cy_oneshot::names_of;
+use cy_scope::ViewQuery;
+use cy_trees::Clause;
+use cy_values::{Sequence, Text};
 use indexmap::IndexMap;
 use std::alloc::Global;
 
-/// A registered query. Its rows aren't kept: they are computed from the graph.
-#[derive(Debug, Drop)]
+/// What is registered under the name of a view.
+#[derive(Drop)]
 pub(crate) struct Registered {
-    pub(crate) query: Query,
+    pub(crate) network: Network,
     /// The tick at which it was made.
     pub(crate) made: u64,
 }
@@ -27,20 +29,33 @@ pub(crate) struct Registered {
 /// The answer to `:view`, where the view is made.
 pub(crate) fn made_reply(
     alloc: Global,
-    query: &Query,
+    query: &ViewQuery,
     tick: u64,
     name: &str,
 ) -> Result<Reply, Fault>
-    ensures reply { IfOk result (λ reply. reply ≡ Reply.Made (query.now.column ∷ []) tick name.now) }
+    ensures reply { IfOk result (λ reply. reply ≡ Reply.Made (query_columns (statement_of query.now)) tick name.now) }
     ensures memory { IfErr result (λ fault. fault ≡ Fault.NoMemory) }
 {
-    let mut columns = Vec::with_capacity(alloc, 1)?;
-    columns.push(query.column.copy(alloc)?)?;
     Ok(Reply::Made {
-        columns: Sequence::new(columns),
+        columns: Sequence::new(columns_of(alloc, query)?),
         tick,
         view: Text::from_str(alloc, name)?,
     })
+}
+
+// The columns of a view's query, which are those of the RETURN at its end.
+fn columns_of(alloc: Global, query: &ViewQuery) -> Result<Vec<Text>, Fault>
+    ensures columns { IfOk result (λ columns. columns.items ≡ query_columns (statement_of query.now)) }
+    ensures memory { IfErr result (λ fault. fault ≡ Fault.NoMemory) }
+{
+    let statement = query.checked().statement();
+    let Some(last) = statement.clauses.last() else {
+        return Ok(Vec::new(alloc));
+    };
+    match last {
+        Clause::Return(projection) => Ok(names_of(alloc, &projection.items)?),
+        _ => Ok(Vec::new(alloc)),
+    }
 }
 
 /// Adds a view after the others, under a name that none of them has.
@@ -51,8 +66,9 @@ pub(crate) fn register(
     view: Registered,
 ) -> Result<(), Fault>
     requires { registered_at name.now views.old.entries ≡ None }
-    ensures ok { OnOk result (map view_of views.new.entries ≡ map view_of views.old.entries ++ named name.now view ∷ []) }
+    ensures ok { OnOk result (views_in views.new.entries ≡ views_in views.old.entries ++ named name.now view ∷ []) }
     ensures len { OnOk result (length views.new.entries ≡ length views.old.entries + 1) }
+    ensures stand { OnOk result ((graph : Content) → AllStand graph views.old.entries → StandsFor view.network graph → AllStand graph views.new.entries) }
     ensures err { OnErr result (views.new.entries ≡ views.old.entries) }
     ensures memory { IfErr result (λ fault. fault ≡ Fault.NoMemory) }
 {
@@ -60,78 +76,45 @@ pub(crate) fn register(
     Ok(())
 }
 
-/// The rows of a query on a graph, each once with its count, in canonical order.
-pub(crate) fn rows_with_counts(
+/// Makes all views ready for the end of the open change, in the order in which they were made. Fails only for want of memory; the
+/// views are then to be abandoned.
+pub(crate) fn prepare(
     alloc: Global,
-    query: &Query,
+    views: &mut IndexMap<String, Registered>,
     store: &Store,
-) -> Result<Vec<(Row, u64)>, Fault>
-    ensures bag { IfOk result (λ rows. IsBagOf (rows_of query.now store.now.graph.now.content) rows.items) }
-    ensures canonical { IfOk result (λ rows. IsCanonical rows.items) }
+) -> Result<(), Fault>
+    requires open { IsSome store.now.graph.was }
+    requires stand { IfSome store.now.graph.was (λ before. AllStand before.content views.old.entries) }
+    ensures ready { OnOk result (IfSome store.now.graph.was (λ before. AllReady before.content store.now.graph.now.content views.new.entries)) }
+    ensures same { map abandoned_one views.new.entries ≡ map abandoned_one views.old.entries }
     ensures memory { IfErr result (λ fault. fault ≡ Fault.NoMemory) }
 {
-    counted_in_order(alloc, rows_on(alloc, query, store)?)
-}
-
-/// Rows, each once with its count, in canonical order.
-pub(crate) fn counted_in_order(alloc: Global, mut rows: Vec<Row>) -> Result<Vec<(Row, u64)>, Fault>
-    ensures bag { IfOk result (λ pairs. IsBagOf rows.items pairs.items) }
-    ensures canonical { IfOk result (λ pairs. IsCanonical pairs.items) }
-    ensures memory { IfErr result (λ fault. fault ≡ Fault.NoMemory) }
-{
-    rows.sort()?;
-    rows.reverse();
-    row_order_laws();
-    counted(alloc, rows)
-}
-
-// A row for each node with the label, as often as it counts.
-fn rows_on(alloc: Global, query: &Query, store: &Store) -> Result<Vec<Row>, Fault>
-    ensures rows { IfOk result (λ rows. rows.items ≡ rows_of query.now store.now.graph.now.content) }
-    ensures memory { IfErr result (λ fault. fault ≡ Fault.NoMemory) }
-{
-    let mut rows = Vec::new(alloc);
-    for (_, node) in store.nodes() {
-        if node.labels.get(query.label.as_str()).is_some() {
-            rows.push(row(alloc, &query.key, node)?)?;
+    for at in 0..views.len() {
+        if let Some(view) = views.get_index_mut(at) {
+            view.network.prepare(alloc, store)?;
         }
     }
-    Ok(rows)
+    Ok(())
 }
 
-/// The row of a node: its property, null where it isn't there.
-pub(crate) fn row(alloc: Global, key: &Text, node: &Node) -> Result<Row, Fault>
-    ensures row { IfOk result (λ row. row ≡ row_of key.now node.now) }
-    ensures memory { IfErr result (λ fault. fault ≡ Fault.NoMemory) }
+/// The change was committed: all views take over what was prepared for it.
+pub(crate) fn settle(views: &mut IndexMap<String, Registered>)
+    ensures { views.new.entries ≡ map settled_one views.old.entries }
 {
-    let value = match node.props.get(key.as_str()) {
-        Some(value) => value.copy(alloc)?,
-        None => Value::Null,
-    };
-    let mut cells = Vec::with_capacity(alloc, 1)?;
-    cells.push(Cell::Value(value))?;
-    Ok(Sequence::new(cells))
-}
-
-// Rows that stand in order from the end on, each once with how often it stands there.
-fn counted(alloc: Global, mut rows: Vec<Row>) -> Result<Vec<(Row, u64)>, Fault>
-    ensures counts { IfOk result (λ pairs. pairs.items ≡ counted_rows (reverse rows.items)) }
-    ensures memory { IfErr result (λ fault. fault ≡ Fault.NoMemory) }
-{
-    let mut counted = Vec::new(alloc);
-    let Some(mut row) = rows.pop() else {
-        return Ok(counted);
-    };
-    let mut count = 1;
-    while let Some(next) = rows.pop() {
-        if row_order(&next, &row).is_eq() {
-            count += 1;
-        } else {
-            counted.push((row, count))?;
-            count = 1;
+    for at in 0..views.len() {
+        if let Some(view) = views.get_index_mut(at) {
+            view.network.settle();
         }
-        row = next;
     }
-    counted.push((row, count))?;
-    Ok(counted)
+}
+
+/// The change is rolled back: all views drop what was prepared for it.
+pub(crate) fn abandon(views: &mut IndexMap<String, Registered>)
+    ensures { views.new.entries ≡ map abandoned_one views.old.entries }
+{
+    for at in 0..views.len() {
+        if let Some(view) = views.get_index_mut(at) {
+            view.network.abandon();
+        }
+    }
 }

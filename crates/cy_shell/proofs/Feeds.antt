@@ -1,7 +1,8 @@
 -- The entries of a line, printed one after another behind its answer.
 use Rattle.std.proofs.Common.{◌≡◌, ℕ, ◌&&◌, Bool, true, false, List, [], ◌∷◌, ◌++◌, Option, Some, refl, sym, ap, subst, ◌∙◌, append_assoc, inl}
 use Rattle.std.proofs.lemmas.List.{append-nil}
-use Rattle.cy_engine.specs.State.{EngineState, Machine}
+use Rattle.cy_engine.specs.Model.{Machine}
+use Rattle.cy_engine.specs.State.{EngineState}
 use Rattle.cy_engine.specs.declared.entries.Entry.{Entry}
 use Rattle.cy_shell.specs.internal.Feeding.{IsAnswer, WritesFeed, BeginsFeed}
 use Rattle.cy_shell.specs.Printed.{text_of, IsObjectText, IsFeedText, fed}

@@ -2,6 +2,7 @@
 
 ghost use Rattle.std.specs.Prelude.{◌≡◌, ℕ, List};
 ghost use Rattle.cy_lexer.specs.Line.{IsTextOf};
+ghost use Rattle.cy_engine.specs.Model.{state_of};
 ghost use Rattle.cy_shell.specs.internal.Lines.{buffered};
 ghost use Rattle.cy_shell.specs.internal.Printing.{printed_text};
 ghost use Rattle.cy_shell.specs.internal.Feeding.{Answers, IsAnswer};
@@ -27,7 +28,7 @@ pub(crate) fn answer(
     room: &mut Vec<u8>,
 ) -> AnsweredLine
     ensures { (bytes : List ℕ) → line.now ≡ buffered bytes
-        → IsAnswer engine.old.state bytes (printed_text result.printed room.new.items) result.is_carried engine.new }
+        → IsAnswer (state_of engine.old) bytes (printed_text result.printed room.new.items) result.is_carried engine.new }
 {
     match line_text(line) {
         Ok(text) => AnsweredLine {
@@ -43,7 +44,7 @@ pub(crate) fn answer(
 
 // Answers a line that is a text.
 fn answer_text(alloc: Global, engine: &mut Engine, text: &str, room: &mut Vec<u8>) -> Printed
-    ensures { Answers engine.old.state text.now (printed_text result room.new.items) engine.new }
+    ensures { Answers (state_of engine.old) text.now (printed_text result room.new.items) engine.new }
 {
     match engine.line(text) {
         Ok(reply) => print_reply(alloc, room, &reply),

@@ -1,14 +1,13 @@
 -- What the stages of the engine's work on a line promise one another.
-use Rattle.std.specs.Prelude.{◌≡◌, ℕ, ◌⊎◌, List, [], Result, Ok, Err}
+use Rattle.std.specs.Prelude.{◌≡◌, ℕ, ◌⊎◌, List, Result, Ok, Err}
 use Rattle.cy_lexer.specs.declared.tokens.Token.{Token}
 use Rattle.cy_parser.specs.SpellsClauses.{SpellsStatement}
 use Rattle.cy_parser.specs.declared.faults.ParseFault.{ParseFault}
 use Rattle.cy_trees.specs.Trees.{Statement}
-use Rattle.cy_graph.specs.Graph.{State}
+use Rattle.cy_graph.specs.Graph.{Content}
 use Rattle.cy_engine.specs.declared.engine.Effect.{Effect}
 use Rattle.cy_engine.specs.declared.faults.Fault.{Fault}
 use Rattle.cy_engine.specs.declared.faults.Fault.TheVariants as fault
-use Rattle.cy_engine.specs.declared.forms.Form.{Form}
 use Rattle.cy_engine.specs.declared.replies.Reply.{Reply}
 use Rattle.cy_engine.specs.declared.replies.Reply.TheVariants as reply
 use Rattle.cy_engine.specs.declared.requests.Request.{Request as Code}
@@ -16,7 +15,7 @@ use Rattle.cy_engine.specs.declared.requests.Request.TheVariants as code
 use Rattle.cy_engine.specs.Requests.{Request, Nothing, StatementOf, ViewOf, RowsOf, IndexOf}
 use Rattle.cy_engine.specs.State.{EngineState, Entries, View}
 use Rattle.cy_engine.specs.Step.{Answer, Answers, AreEntries, AreRows, Indexes, IsRefused, IsUnspelt}
-use Rattle.cy_engine.specs.Verdicts.{carry_verdict, index_verdict, rows_verdict}
+use Rattle.cy_engine.specs.Verdicts.{index_verdict, rows_verdict, tick_after}
 
 -- the request that the code has
 abbrev pub shown : Code → Request
@@ -51,10 +50,10 @@ abbrev pub AddsIndex : List ℕ → List ℕ → EngineState → Answer → Entr
 AddsIndex label key old answer entries new =
     IsRefused fault.NoMemory old answer entries new ⊎ Indexes (index_verdict label key old) old answer entries new
 
--- what becomes of a form, from a graph, the views and a tick: its effect, and the graph after it
-pub record Changes (form : Form) (views : List View) (old : State) (tick : ℕ) (effect : Effect) (new : State) : Type 0 where
-  pub verdict : carry_verdict form old tick ≡ Ok (record { outcome = record { graph = new; changed = effect.changed; columns = []; rows = [] }; tick = effect.tick })
-  pub entries_are : AreEntries views old.content new.content effect.tick effect.entries
+-- what a change from one content to another does: the tick after it, and the entries of the views
+pub record HasEffect (views : List View) (before after : Content) (tick : ℕ) (effect : Effect) : Type 0 where
+  pub ticks : tick_after before after tick ≡ Ok effect.tick
+  pub entries_are : AreEntries views before after effect.tick effect.entries
 
 -- what is answered to `:rows`
 abbrev pub ShowsRows : EngineState → List ℕ → Result Reply Fault → Type 0

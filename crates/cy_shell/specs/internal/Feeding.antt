@@ -1,7 +1,8 @@
 -- A line is answered, and then its entries are printed.
 use Rattle.std.specs.Prelude.{◌≡◌, ℕ, ◌≤◌, Bool, true, false, List, ◌++◌, length, Option, Result}
 use Rattle.std.specs.Str.{IsUtf8}
-use Rattle.cy_engine.specs.State.{EngineState, Machine}
+use Rattle.cy_engine.specs.Model.{Machine, state_of}
+use Rattle.cy_engine.specs.State.{EngineState}
 use Rattle.cy_engine.specs.Step.{Step}
 use Rattle.cy_engine.specs.declared.entries.Entry.{Entry}
 use Rattle.cy_engine.specs.declared.faults.Fault.{Fault}
@@ -14,7 +15,7 @@ use Rattle.cy_shell.specs.Streams.{appended}
 
 -- the engine answered a text so, and has the entries that it made
 abbrev pub Answers : EngineState → List ℕ → List ℕ → Machine → Type 0
-Answers old line text new = (result : Result Reply Fault) × Step old line result new.entries new.state × IsAnswerText result text
+Answers old line text new = (result : Result Reply Fault) × Step old line result new.entries (state_of new) × IsAnswerText result text
 
 -- the engine answered a line, and has the entries that it made, or the line is none for the engine
 abbrev pub IsAnswer : EngineState → List ℕ → List ℕ → Bool → Machine → Type 0

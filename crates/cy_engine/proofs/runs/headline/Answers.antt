@@ -3,7 +3,7 @@ use Rattle.cy_engine.proofs.Following.{views_kept}
 use Rattle.cy_engine.proofs.runs.headline.Goals as goal
 
 pub returns-clause-views : goal.returns-clause-views
-returns-clause-views c = views_kept
+returns-clause-views c = views_kept c.view_queries.ensures
 
 pub returns-clause-entries : goal.returns-clause-entries
 returns-clause-entries c = λ old new line answer entries step. exact old answer entries new (effects old answer entries new line step)

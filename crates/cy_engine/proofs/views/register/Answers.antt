@@ -1,8 +1,9 @@
-use Rattle.std.proofs.Common.{◌≡◌, ◌∷◌, [], ◌++◌, List, ℕ, length, map, None, subst, sym, ap, ◌∙◌, length-append}
+use Rattle.std.proofs.Common.{◌≡◌, ◌∷◌, [], ◌++◌, List, ℕ, None, length, length-append, subst, sym, ap, ◌∙◌}
 use Rattle.std.specs.String.{string_eq}
 use Rattle.indexmap.proofs.CallerLemmas.{insert_entry-new}
-use Rattle.cy_engine.specs.internal.Representation.{registered_at}
-use Rattle.cy_engine.specs.Model.{view_of}
+use Rattle.cy_engine.specs.internal.Network.{AllStand}
+use Rattle.cy_engine.specs.internal.Representation.{registered_at, views_in}
+use Rattle.cy_engine.proofs.NetworkLemmas.{stand_more}
 use Rattle.cy_engine.proofs.Registry.{push_view}
 use Rattle.cy_engine.proofs.views.register.Goals as goal
 use Rattle.cy_engine.proofs.views.register.Goals.{In_ok-insert}
@@ -16,7 +17,11 @@ pushed c =
 pub returns-clause-ok : goal.returns-clause-ok
 returns-clause-ok c =
     let p = pushed (goal.at.returns-clause-ok c).In_ok-insert in
-    ap (map view_of) p ∙ push_view c.args.name.now c.args.views.now.entries c.in_ok-from_str.field-0 c.args.view c.in_ok-from_str.ensures.ok
+    ap views_in p ∙ push_view c.args.name.now c.args.views.now.entries c.in_ok-from_str.field-0 c.args.view c.in_ok-from_str.ensures.ok
 
 pub returns-clause-len : goal.returns-clause-len
 returns-clause-len c = ap length (pushed (goal.at.returns-clause-len c).In_ok-insert) ∙ length-append c.args.views.now.entries _
+
+pub returns-clause-stand : goal.returns-clause-stand
+returns-clause-stand c = λ graph stand one.
+    subst (AllStand graph) (sym (pushed (goal.at.returns-clause-stand c).In_ok-insert)) (stand_more graph c.args.views.now.entries (c.in_ok-from_str.field-0, c.args.view) stand one)

@@ -3,6 +3,7 @@ use Rattle.std.proofs.lemmas.Result.{err_from_is_err_and}
 use Rattle.cy_lexer.specs.Tokens.{tokens_of}
 use Rattle.cy_engine.specs.internal.Stages.{AnswersOrWants, shown}
 use Rattle.cy_engine.specs.Requests.{Nothing, StatementOf, ViewOf, RowsOf, request}
+use Rattle.cy_engine.specs.Model.{state_of}
 use Rattle.cy_engine.specs.State.{Entries}
 use Rattle.cy_engine.proofs.Lines.{lex_refused, line_step, request_refused, rows_answered, no_error, same_error}
 use Rattle.cy_engine.proofs.engine.Engine.answer.Goals as goal
@@ -10,28 +11,28 @@ use Rattle.cy_engine.proofs.engine.Engine.answer.Goals as goal
 pub returns-in_err-tokens : goal.returns-in_err-tokens
 returns-in_err-tokens c =
     let p = err_from_is_err_and c.from_residual.result c.from_residual.ensures.1 in
-    rw (p.1, p.2) (lex_refused c.args.line.now c.args.self.now.state c.args.entries.now c.args.self.now.state c.in_err-tokens.field-0.0 c.requires.none refl
+    rw (p.1, p.2) (lex_refused c.args.line.now (state_of c.args.self.now) c.args.entries.now (state_of c.args.self.now) c.in_err-tokens.field-0.0 c.requires.none refl
     c.in_err-tokens.ensures.fault (λ long. same_error c.in_err-tokens.field-0.0 _ (c.in_err-tokens.ensures.long long)))
 
 pub returns-in_err-read_request : goal.returns-in_err-read_request
 returns-in_err-read_request c =
     let p = err_from_is_err_and c.from_residual-in_err-read_request.result c.from_residual-in_err-read_request.ensures.1 in
     let made : tokens_of c.args.line.now ≡ Ok c.as_slice.result.now = c.in_ok-tokens.ensures.tokens ∙ ap Ok (sym c.as_slice.ensures.value) in
-    rw (p.1, p.2) (request_refused c.args.line.now c.args.self.now.state c.args.entries.now c.args.self.now.state c.in_err-read_request.field-0.0 c.as_slice.result.now c.requires.none refl made
+    rw (p.1, p.2) (request_refused c.args.line.now (state_of c.args.self.now) c.args.entries.now (state_of c.args.self.now) c.in_err-read_request.field-0.0 c.as_slice.result.now c.requires.none refl made
     (λ long. no_error _ _ (c.in_ok-tokens.ensures.long long)) c.in_err-read_request.ensures)
 
 pub returns-in-Nothing : goal.returns-in-Nothing
 returns-in-Nothing c =
     let made : tokens_of c.args.line.now ≡ Ok c.as_slice.result.now = c.in_ok-tokens.ensures.tokens ∙ ap Ok (sym c.as_slice.ensures.value) in
     let asks : request c.args.line.now c.as_slice.result.now ≡ Nothing = c.in_ok-read_request.ensures ∙ ap shown c.in-Nothing.is in
-    line_step c.args.line.now c.args.self.now.state c.args.entries.now _ _ c.as_slice.result.now Nothing made (λ long. no_error _ _ (c.in_ok-tokens.ensures.long long)) asks
+    line_step c.args.line.now (state_of c.args.self.now) c.args.entries.now _ _ c.as_slice.result.now Nothing made (λ long. no_error _ _ (c.in_ok-tokens.ensures.long long)) asks
     (inr (record { answered = refl; no_entries = c.requires.none; left = refl }))
 
 pub returns-in-Statement : goal.returns-in-Statement
 returns-in-Statement c =
     let made : tokens_of c.args.line.now ≡ Ok c.as_slice.result.now = c.in_ok-tokens.ensures.tokens ∙ ap Ok (sym c.as_slice.ensures.value) in
     let asks : request c.args.line.now c.as_slice.result.now ≡ StatementOf c.in-Statement.tokens.now = c.in_ok-read_request.ensures ∙ ap shown c.in-Statement.is in
-    line_step c.args.line.now c.args.self.now.state _ _ _ c.as_slice.result.now (StatementOf c.in-Statement.tokens.now) made (λ long. no_error _ _ (c.in_ok-tokens.ensures.long long)) asks
+    line_step c.args.line.now (state_of c.args.self.now) _ _ _ c.as_slice.result.now (StatementOf c.in-Statement.tokens.now) made (λ long. no_error _ _ (c.in_ok-tokens.ensures.long long)) asks
     c.answer_statement.ensures
 
 pub returns-in-View : goal.returns-in-View
@@ -39,13 +40,13 @@ returns-in-View c =
     let made : tokens_of c.args.line.now ≡ Ok c.as_slice.result.now = c.in_ok-tokens.ensures.tokens ∙ ap Ok (sym c.as_slice.ensures.value) in
     let asks : request c.args.line.now c.as_slice.result.now ≡ ViewOf c.as_str.result.now c.in-View.query.now =
     c.in_ok-read_request.ensures ∙ ap shown c.in-View.is ∙ ap (λ (n : List ℕ). ViewOf n c.in-View.query.now) (sym c.as_str.ensures) in
-    line_step c.args.line.now c.args.self.now.state _ _ _ c.as_slice.result.now (ViewOf c.as_str.result.now c.in-View.query.now) made (λ long. no_error _ _ (c.in_ok-tokens.ensures.long long)) asks
-    (subst (λ (es : Entries). AnswersOrWants c.args.line.now (ViewOf c.as_str.result.now c.in-View.query.now) c.args.self.now.state c.make_view.result es c.make_view.new.self.state) (sym c.requires.none) c.make_view.ensures)
+    line_step c.args.line.now (state_of c.args.self.now) _ _ _ c.as_slice.result.now (ViewOf c.as_str.result.now c.in-View.query.now) made (λ long. no_error _ _ (c.in_ok-tokens.ensures.long long)) asks
+    (subst (λ (es : Entries). AnswersOrWants c.args.line.now (ViewOf c.as_str.result.now c.in-View.query.now) (state_of c.args.self.now) c.make_view.result es (state_of c.make_view.new.self)) (sym c.requires.none) c.make_view.ensures)
 
 pub returns-in-Rows : goal.returns-in-Rows
 returns-in-Rows c =
     let made : tokens_of c.args.line.now ≡ Ok c.as_slice.result.now = c.in_ok-tokens.ensures.tokens ∙ ap Ok (sym c.as_slice.ensures.value) in
     let asks : request c.args.line.now c.as_slice.result.now ≡ RowsOf c.as_str-in-Rows.result.now =
     c.in_ok-read_request.ensures ∙ ap shown c.in-Rows.is ∙ ap RowsOf (sym c.as_str-in-Rows.ensures) in
-    line_step c.args.line.now c.args.self.now.state c.args.entries.now _ _ c.as_slice.result.now (RowsOf c.as_str-in-Rows.result.now) made (λ long. no_error _ _ (c.in_ok-tokens.ensures.long long)) asks
-    (rows_answered c.args.line.now c.as_str-in-Rows.result.now c.args.self.now.state c.args.entries.now c.show_rows.result c.requires.none c.show_rows.ensures)
+    line_step c.args.line.now (state_of c.args.self.now) c.args.entries.now _ _ c.as_slice.result.now (RowsOf c.as_str-in-Rows.result.now) made (λ long. no_error _ _ (c.in_ok-tokens.ensures.long long)) asks
+    (rows_answered c.args.line.now c.as_str-in-Rows.result.now (state_of c.args.self.now) c.args.entries.now c.show_rows.result c.requires.none c.show_rows.ensures)

@@ -1,0 +1,58 @@
+//! Bags of rows: rows with their counts.
+
+ghost use Rattle.std.specs.Prelude.{◌≡◌, IfErr, IfOk, reverse};
+ghost use Rattle.cy_values.specs.Bag.{IsBagOf, IsCanonical};
+ghost use Rattle.cy_engine.specs.internal.Counting.{counted_rows};
+
+use crate::faults::Fault;
+use cy_values::{Duplicate, Row, row_order, row_order_laws};
+use std::alloc::Global;
+
+/// Rows, each once with its count, in canonical order.
+pub(crate) fn counted_in_order(alloc: Global, mut rows: Vec<Row>) -> Result<Vec<(Row, u64)>, Fault>
+    ensures bag { IfOk result (λ pairs. IsBagOf rows.items pairs.items) }
+    ensures canonical { IfOk result (λ pairs. IsCanonical pairs.items) }
+    ensures memory { IfErr result (λ fault. fault ≡ Fault.NoMemory) }
+{
+    rows.sort()?;
+    rows.reverse();
+    row_order_laws();
+    counted(alloc, rows)
+}
+
+// Rows that stand in order from the end on, each once with how often it stands there.
+fn counted(alloc: Global, mut rows: Vec<Row>) -> Result<Vec<(Row, u64)>, Fault>
+    ensures counts { IfOk result (λ pairs. pairs.items ≡ counted_rows (reverse rows.items)) }
+    ensures memory { IfErr result (λ fault. fault ≡ Fault.NoMemory) }
+{
+    let mut counted = Vec::new(alloc);
+    let Some(mut row) = rows.pop() else {
+        return Ok(counted);
+    };
+    let mut count = 1;
+    while let Some(next) = rows.pop() {
+        if row_order(&next, &row).is_eq() {
+            count += 1;
+        } else {
+            counted.push((row, count))?;
+            count = 1;
+        }
+        row = next;
+    }
+    counted.push((row, count))?;
+    Ok(counted)
+}
+
+/// The same rows with their counts. Fails only for want of memory.
+pub(crate) fn copied(
+    alloc: Global,
+    pairs: &[(Row, u64)],
+) -> Result<Vec<(Row, u64)>, cy_values::Fault>
+    ensures { IfOk result (λ copied. copied.items ≡ pairs.now) }
+{
+    let mut copied = Vec::with_capacity(alloc, pairs.len())?;
+    for (row, count) in pairs.iter() {
+        copied.push((row.copy(alloc)?, *count))?;
+    }
+    Ok(copied)
+}

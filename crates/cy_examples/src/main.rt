@@ -10,8 +10,14 @@ use std::rt::Files;
 use std::{fs, io};
 
 /// The transcripts, and whether entries follow the answers.
-const TRANSCRIPTS: [(&str, bool); 12] = [
+const TRANSCRIPTS: [(&str, bool); 19] = [
+    ("start.session", true),
+    ("commands.session", true),
     ("dashboard.session", true),
+    ("access.session", true),
+    ("dependencies.session", true),
+    ("fraud.session", true),
+    ("language.session", false),
     ("values.session", false),
     ("spellings.session", false),
     ("rows.session", false),
@@ -22,7 +28,8 @@ const TRANSCRIPTS: [(&str, bool); 12] = [
     ("grammar.session", false),
     ("scope.session", false),
     ("views.session", false),
-    ("later.session", false),
+    ("clauses.session", false),
+    ("updates.session", true),
 ];
 
 fn main(rt: HostRuntime) -> io::Result<()> {

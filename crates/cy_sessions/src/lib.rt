@@ -15,7 +15,11 @@ mod lines;
 #[cfg(test)]
 mod options;
 #[cfg(test)]
+mod readings;
+#[cfg(test)]
 mod scopes;
+#[cfg(test)]
+mod searches;
 #[cfg(test)]
 mod stops;
 #[cfg(test)]
@@ -24,5 +28,7 @@ mod streams;
 mod tokens;
 #[cfg(test)]
 mod trees;
+#[cfg(test)]
+mod updates;
 #[cfg(test)]
 mod values;

@@ -1,0 +1,6 @@
+use Rattle.std.proofs.Common.{IsNone}
+use Rattle.cy_sessions.proofs.updates.carried_out.Given as goal
+
+-- no change is open between statements
+abbrev pub invariant-loop-line : goal.invariant-loop-line
+invariant-loop-line l = IsNone l.store.graph.was

@@ -1,116 +1,141 @@
 #!/usr/bin/env python3
 """Counts the instructions of a line on graphs of 10,000 and of 100,000 nodes, by valgrind, and the memory of a node.
 
-Run it at the top of the repository. It builds the program by `rt run` in crates/cypher_live, and prints for each cost
-the count at both sizes and their ratio. A cost that isn't to grow with the graph has the limit behind its ratio. A
-ratio above the limit ends the script with status 1, and so does a line that isn't answered as it should be.
+Run it at the top of the repository. It builds the program by `rt run` in crates/cypher_live, or takes the one that is named
+after it. Each node has five relationships. For each cost the script prints the count at both sizes and their ratio. A cost
+that isn't to grow with the graph has the limit behind its ratio. A ratio, a count or a number of bytes above its limit ends
+the script with status 1, and so does a line that isn't answered as it should be.
 """
 import os
-import re
 import subprocess
 import sys
 
+from session import Session, peak, report
+
 LIMIT = 1.3
 SIZES = (10_000, 100_000)
-# How many nodes have a label of their own, and how many lines ask for such a label.
-MARKED = 50
+# How many nodes a line makes, of which each is joined with five others of them.
+GROUP = 10
+# How many lines are counted for a cost.
+TIMES = 20
+# Labels of some nodes, by how far apart these are. Each has as many nodes as lines are counted.
+MARKS = ("B", "C", "D", "E")
+# How many nodes have the label that a view asks for.
+FEW = 10
+KEYS = ("k", "j", "h", "g")
 CRATE = "crates/cypher_live"
+# Bytes of a node with a label and a property, and instructions of a SET above those of one that finds no node.
+BYTES_LIMIT, SET_LIMIT = 600, 1500
+# Entries of maps in falling order of their keys, and how much more four times as many may take.
+ENTRIES, ENTRIES_LIMIT = (1_000, 4_000), 5
 
 
-def statement(text, made=0, gone=0, rels_made=0, rels_gone=0, changes=True):
-    """A line with its answer, and whether the tick rises with it."""
-    return text, f'{{"changed":[{made},{gone},{rels_made},{rels_gone}],"columns":[],"rows":[]}}', changes
+def statement(text, made=0, gone=0, rels_made=0, rels_gone=0):
+    return text, f'{{"changed":[{made},{gone},{rels_made},{rels_gone}],"columns":[],"rows":[]}}'
 
 
 def index(key):
-    """A line that makes an index, with its answer, and that the tick stays."""
-    return f":index A {key}", f'{{"index":["A","{key}"]}}', False
+    return f":index A {key}", f'{{"index":["A","{key}"]}}'
 
 
-def view(name, label, tick):
-    """A line that makes a view, with its answer, which tells the tick, and that the tick rises with it."""
-    return f":view {name} MATCH (n:{label}) RETURN n.k", f'{{"columns":["n.k"],"tick":{tick},"view":"{name}"}}', True
+def joined():
+    """Pairs of places in a group of ten nodes, so that each of them stands in five pairs."""
+    for place in range(GROUP):
+        yield place, (place + 1) % GROUP
+        yield place, (place + 2) % GROUP
+        if place < GROUP // 2:
+            yield place, place + GROUP // 2
 
 
-def made(size):
-    """Lines that make nodes with one label."""
-    return [statement(f"CREATE (:A {{k: {i}}})", made=1) for i in range(size)]
+def group(first, labels):
+    """A line that makes ten nodes from this number on. All have one value at `j`, and each its own at `k`."""
+    nodes = ",".join(f"(n{i}:A{labels.get(first + i, '')} {{k: {first + i}, j: 0}})" for i in range(GROUP))
+    paths = ",".join(f"(n{a})-[:T]->(n{b})" for a, b in joined())
+    return statement(f"CREATE {nodes},{paths}", made=GROUP, rels_made=5 * GROUP // 2)
 
 
-def made_with_marks(size):
-    """Lines that make nodes with one label, and evenly among them those with a label of their own."""
-    lines, step = made(size), size // MARKED
-    for mark in range(MARKED):
-        lines[mark * step + step // 2] = statement(f"CREATE (:B{mark} {{k: 0}})", made=1)
-    return lines
+def graph(size):
+    """Lines that make a graph of so many nodes. Those with labels of their own stand evenly among the others."""
+    labels = {}
+    for at, mark in enumerate(MARKS):
+        for time in range(TIMES):
+            labels[size // TIMES * time + size // 50 + at * GROUP] = f":{mark}{time}"
+    for time in range(FEW):
+        labels[size // FEW * time + size // 30] = ":Few"
+    return [group(first, labels) for first in range(0, size, GROUP)]
 
 
-def joined(size):
-    """Lines that make two nodes each, with a relationship between them."""
-    return [statement(f"CREATE (:A {{k: {i}}})-[:T]->(:A {{k: 0}})", made=2, rels_made=1) for i in range(size // 2)]
-
-
-def removals(letter, found):
-    return [statement(f"MATCH (n:{letter}{i}) DETACH DELETE n", gone=found, changes=found) for i in range(MARKED)]
-
-
-def settings(letter, found):
-    return [statement(f"MATCH (n:{letter}{i}) SET n.k = 1", changes=found) for i in range(MARKED)]
-
-
-def instructions(program, lines):
-    """How many instructions the program takes for the lines, and one behind them whose answer tells how many of them
-    changed something."""
-    lines = lines + [view("end", "A", 1 + sum(changes for _, _, changes in lines))]
-    words = ["valgrind", "--tool=callgrind", "--callgrind-out-file=/dev/null", program]
-    text = "".join(f"{line}\n" for line, _, _ in lines)
-    run = subprocess.run(words, input=text, capture_output=True, check=True, text=True)
-    for (line, answer, _), found in zip(lines, run.stdout.splitlines(), strict=True):
-        if found != answer:
-            sys.exit(f"{line!r}: {found!r} in place of {answer!r}")
-    return int(re.search(r"Collected : (\d+)", run.stderr).group(1))
+def times(text, **changed):
+    """The statement, with each of the numbers below `TIMES` for its `@`."""
+    return [statement(text.replace("@", str(i)), **changed) for i in range(TIMES)]
 
 
 def costs(program, size):
     """Names of costs on a graph of so many nodes, each with its count, and whether the limit is for its ratio."""
+    with Session(program) as session:
+        session.give(graph(size))
+        yield "CREATE", session.count(times("CREATE (:A {k: -1, j: 0})", made=1)), True
+        yield "CREATE of a path", session.count(times("CREATE (:A)-[:T]->(:A)", made=2, rels_made=1)), True
+        yield "SET of no node", session.count(times("MATCH (n:Q@) SET n.k = -1")), True
+        yield "SET of one node", session.count(times("MATCH (n:B@) SET n.k = -1")), True
+        yield "SET to the value that is there", session.count(times("MATCH (n:B@) SET n.k = -1")), True
+        delete = times("MATCH (n:B@) DETACH DELETE n", gone=1, rels_gone=5)
+        yield "DETACH DELETE of a node with five relationships", session.count(delete), True
+        session.give([index(key) for key in KEYS])
+        yield "CREATE, with four indexes", session.count(times("CREATE (:A {k: -1, j: 0})", made=1)), True
+        yield "SET of a value of its own, with four indexes", session.count(times("MATCH (n:C@) SET n.k = -1")), True
+        yield "SET of a value that all nodes have", session.count(times("MATCH (n:C@) SET n.j = 1")), True
+        yield "SET back to it", session.count(times("MATCH (n:C@) SET n.j = 0")), True
+        yield "SET of a property that no node had", session.count(times("MATCH (n:C@) SET n.h = 0")), True
+        delete = times("MATCH (n:D@) DETACH DELETE n", gone=1, rels_gone=5)
+        yield "DETACH DELETE, with four indexes", session.count(delete), True
+        view = [(":view few MATCH (n:Few) RETURN n.j", '{"columns":["n.j"],"tick":')]
+        yield "a view of ten nodes", session.count(view), True
+        yield "CREATE, with a view that it doesn't fit", session.count(times("CREATE (:A {k: -1, j: 0})", made=1)), True
+        yield "CREATE, with a view that it fits", session.count(times("CREATE (:Few {j: 0})", made=1)), True
+    with Session(program) as session:
+        session.give(graph(size))
+        yield "SET of all nodes, a node", session.count([statement("MATCH (n:A) SET n.k = -2")]) / size, True
+        delete = [statement("MATCH (n:A) DETACH DELETE n", gone=size, rels_gone=5 * size // 2)]
+        yield "DETACH DELETE of all nodes, a node", session.count(delete) / size, True
 
-    def count(*parts):
-        return instructions(program, [line for part in parts for line in part])
 
-    nothing, graph, marked = count(), made(size), made_with_marks(size)
-    plain, base = count(graph), count(marked)
-    yield "CREATE", (plain - nothing) / size, True
-    for name, label in (("a view that it doesn't fit", "Z"), ("a view that it fits", "A")):
-        registered = [view("v", label, 1)]
-        yield f"CREATE, with {name}", (count(registered, graph) - count(registered)) / size, True
-    chosen = [index("k")]
-    yield "CREATE, with an index", (count(chosen, graph) - count(chosen)) / size, True
-    yield "CREATE of a relationship and its ends", (count(joined(size)) - nothing) / (size // 2), True
-    for name, lines in (("SET", settings), ("DETACH DELETE", removals)):
-        no_nodes, one_node_each = lines("Q", 0), lines("B", 1)
-        missed, found = count(marked, no_nodes), count(marked, one_node_each)
-        yield f"{name} of no node", (missed - base) / MARKED, True
-        yield f"{name} of one node", (found - base) / MARKED, True
-    whole = [statement("MATCH (n:A) SET n.k = -1")]
-    yield "SET of all nodes, a node", (count(graph, whole) - plain) / size, True
-    whole = [statement("MATCH (n:A) DETACH DELETE n", gone=size)]
-    yield "DETACH DELETE of all nodes, a node", (count(graph, whole) - plain) / size, True
-    whole = [statement("MATCH (n:A) DETACH DELETE n", gone=size, rels_gone=size // 2)]
-    yield "the same, each with a relationship", (count(joined(size), whole) - count(joined(size))) / size, True
+def falling_keys(count):
+    """A line that makes a node with so many properties, in falling order of their keys."""
+    entries = ",".join(f"k{i:04}:0" for i in reversed(range(count)))
+    return [statement(f"CREATE ({{{entries}}})", made=1)]
 
 
-def peak(program, lines):
-    """The most memory, in bytes, that was resident while the program took the lines, each once the one before it was
-    answered. With no line the program might not have begun."""
-    with subprocess.Popen([program], stdin=subprocess.PIPE, stdout=subprocess.PIPE, text=True) as run:
-        for line, _, _ in lines:
-            run.stdin.write(f"{line}\n")
-            run.stdin.flush()
-            run.stdout.readline()
-        with open(f"/proc/{run.pid}/status") as it:
-            kilobytes = re.search(r"VmHWM:\s+(\d+) kB", it.read()).group(1)
-        run.stdin.close()
-    return int(kilobytes) * 1024
+def is_within(name, count, limit):
+    print(f"{name:56} {count:12,.0f}  of at most {limit:,}", flush=True)
+    return 0 < count <= limit
+
+
+def has_set_cost(program):
+    with Session(program) as session:
+        session.give(graph(SIZES[0]))
+        missed = session.count(times("MATCH (n:Q@) SET n.k = -1"))
+        return is_within("SET of one node, above that of none", session.count(times("MATCH (n:B@) SET n.k = -1")) - missed, SET_LIMIT)
+
+
+def has_map_cost(program):
+    with Session(program) as session:
+        # Valgrind can be told nothing before the program has begun.
+        session.give([statement("CREATE ()", made=1)])
+        small, large = (session.count(falling_keys(count)) for count in ENTRIES)
+        print(f"{'a map with falling keys, 1,000 and 4,000':56} {small:12,.0f} {large:12,.0f} {large / small:6.2f}  of at most {ENTRIES_LIMIT}")
+        return large <= ENTRIES_LIMIT * small
+
+
+def has_memory(program):
+    size = SIZES[-1]
+    alone = [statement(f"CREATE (:A {{k: {i}}})", made=1) for i in range(size)]
+    least = peak([program], alone[:1])
+    node = (peak([program], alone) - least) / (size - 1)
+    bare = [(line.split(",(n0)-")[0], "") for line, _ in graph(size)]
+    rel = (peak([program], graph(size)) - peak([program], bare)) / (5 * size // 2)
+    print(f"{'bytes of a relationship without properties':56} {rel:12,.0f}")
+    return is_within("bytes of a node with a label and a property", node, BYTES_LIMIT)
 
 
 def built():
@@ -122,16 +147,10 @@ def built():
 
 
 def main():
-    program = built()
-    worst = 0.0
-    for (name, small, limited), (_, large, _) in zip(*(costs(program, size) for size in SIZES), strict=True):
-        worst = max(worst, large / small) if limited else worst
-        limit = f"  of at most {LIMIT}" if limited else ""
-        print(f"{name:44} {small:14.1f} {large:14.1f} {large / small:6.2f}{limit}", flush=True)
-    size = SIZES[-1]
-    bytes_a_node = (peak(program, made(size)) - peak(program, made(1))) / (size - 1)
-    print(f"{bytes_a_node:.0f} bytes a node at {size} nodes")
-    return 0 if worst <= LIMIT else 1
+    program = sys.argv[1] if len(sys.argv) > 1 else built()
+    held = [has_set_cost(program), has_map_cost(program), has_memory(program)]
+    held.append(report(lambda size: costs(program, size), *SIZES, LIMIT))
+    return 0 if all(held) else 1
 
 
 if __name__ == "__main__":

@@ -1,0 +1,96 @@
+#!/usr/bin/env python3
+"""Counts the instructions of queries on graphs of 10,000 and of 100,000 nodes, by valgrind.
+
+Run it at the top of the repository. It builds the program by `rt run` in crates/cypher_live, or takes the one that is named
+after it. Each node has five relationships, and a value of its own at `k`, which has an index. For each cost the script
+prints the count at both sizes and their ratio, of which each has a limit. A ratio above it ends the script with status 1,
+and so does a query that isn't answered as it should be.
+"""
+import sys
+
+from graph_cost import GROUP, SIZES, built, graph, index, joined
+from session import Session, report
+
+LIMIT = 1.3
+# For ten times the rows, n log n takes less than this many times a row.
+SORT_LIMIT = 1.4
+# How many lines are counted for a cost.
+TIMES = 20
+
+
+def answer(text, columns, *rows):
+    """A query with the one line that answers it."""
+    names = ",".join(f'"{it}"' for it in columns)
+    cells = ",".join(f"[{','.join(map(str, row))}]" for row in rows)
+    return text, f'{{"changed":[0,0,0,0],"columns":[{names}],"rows":[{cells}]}}'
+
+
+def walks(place, length):
+    """How many paths of so many different relationships, in either direction, begin at a place of a group of nodes."""
+    pairs = list(joined())
+
+    def further(at, left, used):
+        if not left:
+            return 1
+        ends = ((i, b if a == at else a) for i, (a, b) in enumerate(pairs) if at in (a, b) and i not in used)
+        return sum(further(end, left - 1, used | {i}) for i, end in ends)
+
+    return further(place, length, frozenset())
+
+
+def followers(place):
+    return sum(source == place for source, _ in joined())
+
+
+def from_one(size):
+    """Names of costs from a node that an index finds, each with the query for a node of this number, and what it counts."""
+    two = walks(0, 2)
+    yield "two hops from a node that an index finds", "MATCH (a:A {k: @})-[:T]-()-[:T]-(c) RETURN count(*) AS n", two
+    yield "the same, with that node last", "MATCH (c)-[:T]-()-[:T]-(a:A {k: @}) RETURN count(*) AS n", two
+    yield "the same, with that node between", "MATCH (c)-[:T]-(a:A {k: @})-[:T]-(b) RETURN count(*) AS n", 20
+    yield "two hops from a node bound by WITH", "MATCH (a:A {k: @}) WITH a MATCH (a)-[:T]-()-[:T]-(c) RETURN count(*) AS n", two
+    yield "the same, with that node last", "MATCH (a:A {k: @}) WITH a MATCH (c)-[:T]-()-[:T]-(a) RETURN count(*) AS n", two
+    yield "paths of one to three", "MATCH (a:A {k: @})-[:T*1..3]-(c) RETURN count(*) AS n", sum(walks(0, it) for it in (1, 2, 3))
+    yield "OPTIONAL MATCH from one row", "MATCH (a:A {k: @}) OPTIONAL MATCH (a)-[:T]->(b) RETURN count(b) AS n", followers(0)
+
+
+def of_all(size):
+    """Names of costs over all nodes, each with its query, what it answers, and the limit of the ratio for a node."""
+    yield "a count of all nodes of a label, a node", "MATCH (n:A) RETURN count(*) AS n", size, LIMIT
+    yield "OPTIONAL MATCH from all rows, a row", "MATCH (n:A) OPTIONAL MATCH (n)-[:T]->(m) RETURN count(m) AS n", 5 * size // 2, LIMIT
+    yield "groups, one a row, a row", "MATCH (n:A) WITH n.k AS k, count(*) AS c RETURN sum(c) AS n", size, SORT_LIMIT
+    yield "ten groups, a row", "MATCH (n:A) WITH n.k % 10 AS k, count(*) AS c RETURN count(*) AS n", 10, SORT_LIMIT
+    yield "DISTINCT, a row", "MATCH (n:A) WITH DISTINCT n.k AS k RETURN count(*) AS n", size, SORT_LIMIT
+    yield "ORDER BY, a row", "MATCH (n:A) WITH n.k AS k ORDER BY k DESC LIMIT 1 RETURN k AS n", size - 1, SORT_LIMIT
+
+
+def costs(program, size):
+    """Names of costs on a graph of so many nodes, each with its count, and whether the limit is for its ratio."""
+    some = [size // TIMES * time // GROUP * GROUP for time in range(TIMES)]
+    with Session(program) as session:
+        session.give(graph(size))
+        session.give([index("k")])
+        for name, text, count in from_one(size):
+            yield name, session.count([answer(text.replace("@", str(k)), ["n"], [count]) for k in some]), True
+        pairs = [
+            answer(f"MATCH (a:A {{k: {k}}}), (b:A {{k: {k + 1}}}) RETURN a.k AS a, b.k AS b", ["a", "b"], [k, k + 1]) for k in some
+        ]
+        yield "two nodes that an index finds", session.count(pairs), True
+
+
+def row_costs(program, size):
+    with Session(program) as session:
+        session.give(graph(size))
+        for name, text, count, _ in of_all(size):
+            yield name, session.count([answer(text, ["n"], [count])]) / size, True
+
+
+def main():
+    program = sys.argv[1] if len(sys.argv) > 1 else built()
+    is_flat = report(lambda size: costs(program, size), *SIZES, LIMIT)
+    is_sorted = report(lambda size: row_costs(program, size), *SIZES, SORT_LIMIT)
+    return 0 if is_flat and is_sorted else 1
+
+
+if __name__ == "__main__":
+    sys.exit(main())

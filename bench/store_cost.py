@@ -1,0 +1,306 @@
+#!/usr/bin/env python3
+"""Counts the instructions of changes and look-ups of a store that lines can't ask for yet, by valgrind.
+
+Run it at the top of the repository. It builds a program over a copy of the crates in a temporary folder, with what their
+folders `out/` have, if they are there. The program has a store, and reads lines that each name a step, or a look-up. The
+store has 10,000 or 100,000 nodes, and a hub with a relationship to each of them. For each cost the script prints the count at
+both sizes and their ratio. A ratio above 1.3 ends it with status 1, and so does a removal at the hub that takes more than
+one instruction for each number that it moves, a property whose change takes more than its limit above one that finds no node, or
+a line that isn't answered as it should be. What a change touched is asked for before it ends, as the engine does.
+"""
+import os
+import shutil
+import sys
+import tempfile
+
+from lexer_cost import built
+from session import Session, report
+
+LIMIT = 1.3
+SIZES = (10_000, 100_000)
+# How many lines are counted for a cost, and how many nodes a look-up is to find.
+TIMES, FEW = 20, 10
+# Instructions of a property that is set, above those of one that is to be set where no node is.
+SET_LIMIT = 1500
+# The crates that are copied, with what each stands on.
+CRATES = {
+    "cy_values": "thiserror",
+    "cy_graph": "cy_values indexmap smallvec thiserror",
+    "cy_index": "cy_graph cy_values indexmap thiserror",
+}
+LIBRARIES = "cy_graph cy_index cy_values"
+# Each line is a step after `keep` or `undo`, which says how its change ends, or a look-up. It is answered by the number of what
+# was found, by 0 after a step, or by a fault's number.
+PROGRAM = """#![tactic(auto)]
+
+ghost use Rattle.std.specs.Prelude.{◌≡◌, true, IfOk, IsNone, IsSome, IsTrue};
+ghost use Rattle.cy_graph.specs.Stored.{is_storable, IsStorable};
+
+use cy_graph::{GraphFault, Labels, Props, TextMap};
+use cy_index::Store;
+use cy_values::{Entity, Fault, NodeId, RelId, Text, Value};
+use std::alloc::Global;
+use std::io::{self, BufRead, BufReader};
+
+fn labels_of(alloc: Global, label: &str) -> Result<Labels, Fault> {
+    let mut labels = TextMap::new(alloc);
+    labels.insert(Text::from_str(alloc, label)?, ())?;
+    Ok(labels)
+}
+
+fn props_of(alloc: Global, number: i64) -> Result<Props, Fault>
+    ensures { IfOk result (λ props. IsStorable props) }
+{
+    let mut props = TextMap::new(alloc);
+    props.insert(Text::from_str(alloc, "k")?, Value::Int(number))?;
+    Ok(props)
+}
+
+fn add_node(alloc: Global, store: &mut Store, label: &str, number: i64) -> Result<(), GraphFault>
+    requires { IsSome store.old.graph.was }
+    ensures { IsSome store.new.graph.was }
+{
+    let labels = labels_of(alloc, label)?;
+    let props = props_of(alloc, number)?;
+    store.add_node(labels, props)?;
+    Ok(())
+}
+
+fn add_rel(alloc: Global, store: &mut Store, source: NodeId, target: NodeId) -> Result<(), GraphFault>
+    requires { IsSome store.old.graph.was }
+    ensures { IsSome store.new.graph.was }
+{
+    if store.node(source).is_none() || store.node(target).is_none() {
+        return Ok(());
+    }
+    let kind = Text::from_str(alloc, "T")?;
+    store.add_rel(source, target, kind, TextMap::new(alloc))?;
+    Ok(())
+}
+
+fn set(alloc: Global, store: &mut Store, id: NodeId, number: i64) -> Result<(), GraphFault>
+    requires { IsSome store.old.graph.was }
+    ensures { IsSome store.new.graph.was }
+{
+    if store.node(id).is_none() {
+        return Ok(());
+    }
+    store.set_prop(Entity::Node(id), Text::from_str(alloc, "k")?, Some(Value::Int(number)))
+}
+
+fn remove_rel(store: &mut Store, id: RelId) -> Result<(), GraphFault>
+    requires { IsSome store.old.graph.was }
+    ensures { IsSome store.new.graph.was }
+{
+    if store.rel(id).is_none() {
+        return Ok(());
+    }
+    store.remove_rel(id)
+}
+
+fn number(word: &str) -> u64 {
+    word.parse::<u64>().unwrap_or(0)
+}
+
+fn take(alloc: Global, store: &mut Store, words: &[&str]) -> Result<(), GraphFault>
+    requires { IsSome store.old.graph.was }
+    ensures { IsSome store.new.graph.was }
+{
+    match *words {
+        ["node", label, value] => add_node(alloc, store, label, (number(value) % 1000) as i64),
+        ["rel", source, target] => add_rel(alloc, store, NodeId(number(source)), NodeId(number(target))),
+        ["set", id, value] => set(alloc, store, NodeId(number(id)), (number(value) % 1000) as i64),
+        ["remove", id] => remove_rel(store, RelId(number(id))),
+        _ => Ok(()),
+    }
+}
+
+fn change(alloc: Global, store: &mut Store, words: &[&str]) -> Result<(), GraphFault>
+    requires { IsSome store.old.graph.was }
+    ensures { IsSome store.new.graph.was }
+{
+    take(alloc, store, words)?;
+    store.touched(alloc)?;
+    Ok(())
+}
+
+fn keep(alloc: Global, store: &mut Store, words: &[&str]) -> Result<usize, u16>
+    requires { IsNone store.old.graph.was }
+    ensures { IsNone store.new.graph.was }
+{
+    store.begin();
+    let done = change(alloc, store, words);
+    store.commit();
+    match done {
+        Ok(()) => Ok(0),
+        Err(fault) => Err(fault.code()),
+    }
+}
+
+fn undo(alloc: Global, store: &mut Store, words: &[&str]) -> Result<usize, u16>
+    requires { IsNone store.old.graph.was }
+    ensures { IsNone store.new.graph.was }
+{
+    store.begin();
+    let done = change(alloc, store, words);
+    store.rollback();
+    match done {
+        Ok(()) => Ok(0),
+        Err(fault) => Err(fault.code()),
+    }
+}
+
+fn add_index(alloc: Global, store: &mut Store, label: &str) -> Result<usize, u16>
+    requires { IsNone store.old.graph.was }
+    ensures { IsNone store.new.graph.was }
+{
+    let (Ok(label), Ok(key)) = (Text::from_str(alloc, label), Text::from_str(alloc, "k")) else {
+        return Err(90);
+    };
+    match store.add_index(label, key) {
+        Ok(()) => Ok(0),
+        Err(fault) => Err(fault.code()),
+    }
+}
+
+fn labelled(alloc: Global, store: &Store, label: &str) -> Result<usize, u16> {
+    match store.labelled(alloc, label) {
+        Ok(found) => Ok(found.len()),
+        Err(_) => Err(90),
+    }
+}
+
+fn find(alloc: Global, store: &Store, label: &str, value: &str) -> Result<usize, u16> {
+    match store.find(alloc, label, "k", &Value::Int((number(value) % 1000) as i64)) {
+        Ok(found) => Ok(found.len()),
+        Err(_) => Err(90),
+    }
+}
+
+fn answer_words(alloc: Global, store: &mut Store, words: &[&str]) -> Result<usize, u16>
+    requires { IsNone store.old.graph.was }
+    ensures { IsNone store.new.graph.was }
+{
+    match *words {
+        ["keep", step, one] => keep(alloc, store, &[step, one]),
+        ["keep", step, one, two] => keep(alloc, store, &[step, one, two]),
+        ["undo", step, one] => undo(alloc, store, &[step, one]),
+        ["undo", step, one, two] => undo(alloc, store, &[step, one, two]),
+        ["index", label] => add_index(alloc, store, label),
+        ["labelled", label] => labelled(alloc, store, label),
+        ["find", label, value] => find(alloc, store, label, value),
+        _ => Err(20),
+    }
+}
+
+fn answer(alloc: Global, store: &mut Store, line: &str) -> Result<usize, u16>
+    requires { IsNone store.old.graph.was }
+    ensures { IsNone store.new.graph.was }
+{
+    let words: Vec<&str> = match line.split_whitespace().collect(alloc) {
+        Ok(words) => words,
+        Err(_) => return Err(90),
+    };
+    answer_words(alloc, store, words.as_slice())
+}
+
+fn serve(rt: &HostRuntime, store: &mut Store) -> io::Result<()>
+    requires { IsNone store.old.graph.was }
+{
+    let alloc = rt.alloc();
+    for line in BufReader::new(alloc, rt.reader())?.lines(alloc) {
+        let line = line?;
+        match answer(alloc, store, line.as_str()) {
+            Ok(count) => println!(rt; "{count}")?,
+            Err(code) => println!(rt; "fault {code}")?,
+        }
+    }
+    Ok(())
+}
+
+fn main(rt: HostRuntime) -> io::Result<()> {
+    let mut store = Store::new(rt.alloc());
+    serve(&rt, &mut store)
+}
+"""
+# No change is open between the lines.
+INVARIANT = """use Rattle.std.proofs.Common.{IsNone}
+use Rattle.store_cost.proofs.serve.Given as goal
+
+abbrev pub invariant-loop-line : goal.invariant-loop-line
+invariant-loop-line l = IsNone l.store.graph.was
+"""
+
+
+def steps(*texts):
+    return [(text, "0") for text in texts]
+
+
+def store(size):
+    """Lines that make a store: the hub, so many nodes, some of which have a label or a value of their own, and a relationship
+    from the hub to each of them. All but those have one value."""
+    yield "keep node Hub 1", "0"
+    for i in range(size):
+        is_few = i % (size // FEW) == size // FEW // 2
+        is_rare = i % (size // FEW) == size // FEW // 3
+        yield f"keep node {'Few' if is_few else 'A'} {5 if is_rare else 7}", "0"
+    for i in range(size):
+        yield f"keep rel 1 {i + 2}", "0"
+
+
+def costs(program, size):
+    """Names of costs on a store of so many nodes, each with its count, and whether the limit is for its ratio."""
+    some = [size // TIMES * time + size // 40 for time in range(TIMES)]
+    with Session(program) as session:
+        session.give(list(store(size)))
+        yield "a value of no node", session.count(steps(*(f"keep set {size + i} 8" for i in some))), True
+        yield "a value set to another, without an index", session.count(steps(*(f"keep set {i + 2} 9" for i in some))), True
+        session.give(steps(*(f"keep set {i + 2} 7" for i in some), "index A"))
+        yield "labelled, for ten nodes", session.count([("labelled Few", str(FEW))] * TIMES), True
+        yield "find with an index, for ten nodes", session.count([("find A 5", str(FEW))] * TIMES), True
+        yield "a node", session.count(steps(*("keep node A 7" for _ in some))), True
+        yield "a relationship at the hub", session.count(steps(*(f"keep rel 1 {i + 2}" for i in some))), True
+        yield "the same, taken back", session.count(steps(*(f"undo rel 1 {i + 2}" for i in some))), True
+        yield "a value that all nodes have, set to another", session.count(steps(*(f"keep set {i + 2} 8" for i in some))), True
+        yield "the same value again", session.count(steps(*(f"keep set {i + 2} 8" for i in some))), True
+        yield "another value, taken back", session.count(steps(*(f"undo set {i + 3} 8" for i in some))), True
+        yield "a relationship removed at the hub", session.count(steps(*(f"keep remove {i + 1}" for i in some))), False
+        yield "a removal at the hub, taken back", session.count(steps(*(f"undo remove {i + 2}" for i in some))), False
+
+
+def set_is_cheap(found):
+    """Whether a property that is set takes at most so many instructions above one of no node."""
+    costs = {name: count for name, count, _ in found}
+    above = costs["a value set to another, without an index"] - costs["a value of no node"]
+    print(f"{'a value set to another, above one of no node':56} {above:12,.0f}  of at most {SET_LIMIT:,}", flush=True)
+    return 0 < above <= SET_LIMIT
+
+
+def moves_a_tail(small, large):
+    """Whether a removal at the hub takes at most one instruction more for each number that it moves. What is taken back moves them
+    once more."""
+    held = True
+    for (name, few, limited), (_, many, _) in zip(small, large, strict=True):
+        moves = 0 if limited else 2 if name.endswith("taken back") else 1
+        held = held and (limited or many - few <= moves * SIZES[1])
+    return held
+
+
+def main():
+    with tempfile.TemporaryDirectory() as folder:
+        for name, libraries in CRATES.items():
+            shutil.copytree(f"crates/{name}", f"{folder}/crates/{name}", symlinks=True)
+            with open(f"{folder}/crates.txt", "a") as it:
+                it.write(f"{name}: {libraries}\n")
+        os.makedirs(f"{folder}/crates/store_cost/proofs/serve")
+        with open(f"{folder}/crates/store_cost/proofs/serve/Invariants.antt", "w") as it:
+            it.write(INVARIANT)
+        program = built(folder, "store_cost", PROGRAM, LIBRARIES)
+        found = {size: list(costs(program, size)) for size in SIZES}
+    is_within = report(found.get, *SIZES, LIMIT)
+    held = [is_within, moves_a_tail(*found.values()), set_is_cheap(found[SIZES[0]])]
+    return 0 if all(held) else 1
+
+
+if __name__ == "__main__":
+    sys.exit(main())

@@ -15,7 +15,7 @@ use Rattle.cy_expr.specs.Evaluation.{cell_of}
 use Rattle.cy_expr.specs.Faults.{on_one}
 use Rattle.cy_expr.specs.Graphs.{lookups}
 use Rattle.cy_oneshot.specs.Groups.{aggregate_if, last_or_null, over_rows, taken}
-use Rattle.cy_oneshot.specs.Outcomes.{gathered}
+use Rattle.cy_patterns.specs.Outcomes.{gathered}
 
 one_argument : (arguments : List Expr) (argument : Expr) → length arguments ≡ 1 → argument ≡ get_or arguments 0 argument → arguments ≡ argument ∷ []
 one_argument [] argument one is = absurd (omega arith)

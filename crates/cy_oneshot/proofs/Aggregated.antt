@@ -11,15 +11,16 @@ use Rattle.cy_trees.specs.Trees.{Expression, Item}
 use Rattle.cy_graph.specs.Graph.{Content}
 use Rattle.cy_expr.specs.declared.faults.EvalFault.{EvalFault}
 use Rattle.cy_oneshot.specs.Groups.{Grouped, aggregated, and_also, group_cells, group_keys, group_rows, grouped, grouping, rows_of_group, values_among}
-use Rattle.cy_oneshot.specs.Order.{each_once}
-use Rattle.cy_oneshot.specs.Outcomes.{gathered, smaller}
-use Rattle.cy_oneshot.specs.internal.Answers.{outcome_of, sifted, with_fault}
+use Rattle.cy_matching.specs.Order.{each_once}
+use Rattle.cy_patterns.specs.Outcomes.{gathered, smaller}
+use Rattle.cy_matching.specs.internal.Answers.{outcome_of, sifted, with_fault}
 use Rattle.cy_oneshot.specs.internal.Grouping.{AreGroups, Gathering, grouped_by, with_key}
-use Rattle.cy_oneshot.specs.internal.Permuted.{Alike}
-use Rattle.cy_oneshot.proofs.Each.{each_made, each_value}
+use Rattle.cy_matching.specs.internal.Permuted.{Alike}
+use Rattle.cy_matching.proofs.Each.{each_made}
+use Rattle.cy_oneshot.proofs.EachValue.{each_value}
 use Rattle.cy_oneshot.proofs.GroupLemmas.{alike_groups}
-use Rattle.cy_oneshot.proofs.Joined.{alike_itself}
-use Rattle.cy_oneshot.proofs.Permuted.{turned}
+use Rattle.cy_matching.proofs.Joined.{alike_itself}
+use Rattle.cy_matching.proofs.Permuted.{turned}
 use Rattle.cy_oneshot.proofs.SeenRows.{cells_are, expressions}
 use Rattle.cy_oneshot.proofs.Sifted.{and_also_is, sifted_gathered, sifted_values}
 

@@ -9,12 +9,12 @@ use Rattle.cy_trees.specs.Trees.{Clause, «match», unwind, «with», «return»
 use Rattle.cy_graph.specs.Graph.{Content}
 use Rattle.cy_expr.specs.declared.faults.EvalFault.{EvalFault}
 use Rattle.cy_expr.specs.Faults.{on_one}
-use Rattle.cy_oneshot.specs.Matching.{matched, optionally_matched, unwound, selected}
-use Rattle.cy_oneshot.specs.Outcomes.{joined, IsSameOutcome}
+use Rattle.cy_patterns.specs.Matching.{matched, optionally_matched, unwound, selected}
+use Rattle.cy_patterns.specs.Outcomes.{joined, IsSameOutcome}
 use Rattle.cy_oneshot.specs.Projection.{projection_rows}
 use Rattle.cy_oneshot.specs.Queries.{rows_after, rows_after_all}
-use Rattle.cy_oneshot.proofs.BagLemmas.{permuted_bag, one_by_one}
-use Rattle.cy_oneshot.proofs.BagOutcomes.{same_itself}
+use Rattle.cy_matching.proofs.BagLemmas.{permuted_bag, one_by_one}
+use Rattle.cy_matching.proofs.BagOutcomes.{same_itself}
 use Rattle.cy_oneshot.proofs.ProjectionLemmas.{same_projection}
 
 module _ (total : IsTotalOrder row_cmp) (graph : Content) (rows others : List (List Cell)) (same : IsSameBag rows others) where

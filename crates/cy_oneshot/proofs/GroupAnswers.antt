@@ -17,13 +17,13 @@ use Rattle.cy_expr.specs.declared.faults.EvalFault.{EvalFault}
 use Rattle.cy_expr.specs.declared.faults.EvalFault.TheVariants.{NoMemory}
 use Rattle.cy_expr.specs.Evaluation.{as_cell}
 use Rattle.cy_oneshot.specs.Groups.{Grouped, group_cells, group_rows, grouping, over_rows}
-use Rattle.cy_oneshot.specs.Outcomes.{gathered, together}
-use Rattle.cy_oneshot.specs.internal.Answers.{IsAnswer, sifted, with_fault}
+use Rattle.cy_patterns.specs.Outcomes.{gathered, together}
+use Rattle.cy_matching.specs.internal.Answers.{IsAnswer, sifted, with_fault}
 use Rattle.cy_oneshot.specs.internal.Grouping.{AreGroupsOf, Gathering, grouped_by, groups_from, item_cell, kept_of}
-use Rattle.cy_oneshot.specs.internal.Permuted.{Alike, IsAlikeAnswer}
+use Rattle.cy_matching.specs.internal.Permuted.{Alike, IsAlikeAnswer}
 use Rattle.cy_oneshot.proofs.Aggregated.{many_alike, one_alike, row_of}
 use Rattle.cy_oneshot.proofs.SeenRows.{expressions}
-use Rattle.cy_oneshot.proofs.Together.{single, together_three}
+use Rattle.cy_matching.proofs.Together.{single, together_three}
 
 -- ---- a fault of a grouping item, and what the groups make
 

@@ -17,16 +17,16 @@ use Rattle.cy_expr.specs.Comparison.{is_null_cell}
 use Rattle.cy_expr.specs.Evaluation.{as_cell, cell_of}
 use Rattle.cy_expr.specs.Faults.{on_one}
 use Rattle.cy_oneshot.specs.Groups.{taken, aggregate_if, over_rows, grouping, Grouped, grouped, group_keys, rows_of_group, group_cells, group_rows, values_among, and_also, aggregated}
-use Rattle.cy_oneshot.specs.Order.{in_order}
-use Rattle.cy_oneshot.specs.Outcomes.{smaller, gathered}
+use Rattle.cy_matching.specs.Order.{in_order}
+use Rattle.cy_patterns.specs.Outcomes.{smaller, gathered}
 use Rattle.cy_expr.specs.Graphs.{lookups}
-use Rattle.cy_oneshot.proofs.BagLemmas.{identity, same_cell}
-use Rattle.cy_oneshot.proofs.InOrder.{same_in_order}
-use Rattle.cy_oneshot.proofs.Joined.{Alike, gathered_each}
-use Rattle.cy_oneshot.proofs.KeyOrders.{cells_total}
-use Rattle.cy_oneshot.proofs.Once.{permuted_filter, permuted_once, same_length, tied_either_way}
-use Rattle.cy_oneshot.proofs.Permuted as permuted
-use Rattle.cy_oneshot.proofs.Permuted.{Permuted, permuted_itself, permuted_map}
+use Rattle.cy_matching.proofs.BagLemmas.{identity, same_cell}
+use Rattle.cy_matching.proofs.InOrder.{same_in_order}
+use Rattle.cy_matching.proofs.Joined.{Alike, gathered_each}
+use Rattle.cy_matching.proofs.KeyOrders.{cells_total}
+use Rattle.cy_matching.proofs.Once.{permuted_filter, permuted_once, same_length, tied_either_way}
+use Rattle.cy_matching.proofs.Permuted as permuted
+use Rattle.cy_matching.proofs.Permuted.{Permuted, permuted_itself, permuted_map}
 
 -- what is done with lists that are the same but for the order, and gives the same
 pub same_after : {A B : Type 0} (f : List A → Result B EvalFault) → ((xs ys : List A) → Permuted xs ys → f xs ≡ f ys)

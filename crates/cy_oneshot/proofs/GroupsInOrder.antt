@@ -11,12 +11,12 @@ use Rattle.std.proofs.lemmas.Cmp.{tied_itself}
 use Rattle.cy_values.specs.declared.rows.Cell.{Cell}
 use Rattle.cy_values.specs.Order.{row_cmp}
 use Rattle.cy_oneshot.specs.Groups.{Grouped, rows_of_group}
-use Rattle.cy_oneshot.specs.Order.{each_once}
+use Rattle.cy_matching.specs.Order.{each_once}
 use Rattle.cy_oneshot.specs.internal.Grouping.{Gathering, groups_from, groups_of}
-use Rattle.cy_oneshot.proofs.BagLemmas.{identity}
-use Rattle.cy_oneshot.proofs.Each.{each_map, each_of_once, each_filter}
-use Rattle.cy_oneshot.proofs.Once.{tied_either_way}
-use Rattle.cy_oneshot.proofs.Sorting.{Ordered, before_all, none_dropped, dropped_twice, strictly}
+use Rattle.cy_matching.proofs.BagLemmas.{identity}
+use Rattle.cy_matching.proofs.Each.{each_map, each_of_once, each_filter}
+use Rattle.cy_matching.proofs.Once.{tied_either_way}
+use Rattle.cy_matching.proofs.Sorting.{Ordered, before_all, none_dropped, dropped_twice, strictly}
 
 -- rows by their keys
 abbrev pub by_keys : Grouped → Grouped → Ordering

@@ -12,13 +12,13 @@ use Rattle.cy_expr.specs.declared.faults.EvalFault.{EvalFault}
 use Rattle.cy_expr.specs.Faults.{on_one}
 use Rattle.cy_oneshot.specs.declared.order.Keyed as coded_keyed
 use Rattle.cy_oneshot.specs.Groups.{aggregated}
-use Rattle.cy_oneshot.specs.Order.{each_once, in_order, keyed_order}
-use Rattle.cy_oneshot.specs.Outcomes.{gathered}
+use Rattle.cy_matching.specs.Order.{each_once, in_order, keyed_order}
+use Rattle.cy_patterns.specs.Outcomes.{gathered}
 use Rattle.cy_oneshot.specs.Projection.{Projected, cut, item_rows, limited, project, projected, skipped, with_columns_alone}
-use Rattle.cy_oneshot.specs.internal.Answers.{IsAnswer, on_value}
+use Rattle.cy_matching.specs.internal.Answers.{IsAnswer, on_value}
 use Rattle.cy_oneshot.specs.internal.Keys.{keyed_of, projected_of, seen_by}
-use Rattle.cy_oneshot.specs.internal.Permuted.{Alike, IsAlikeAnswer}
-use Rattle.cy_oneshot.proofs.Joined.{alike_itself}
+use Rattle.cy_matching.specs.internal.Permuted.{Alike, IsAlikeAnswer}
+use Rattle.cy_matching.proofs.Joined.{alike_itself}
 use Rattle.cy_oneshot.proofs.Projections.{distinct_seen, groups_seen, rows_seen}
 use Rattle.cy_oneshot.proofs.SeenRows.{expressions, projects_are}
 

@@ -10,16 +10,16 @@ use Rattle.cy_scope.specs.Aggregates.{has_aggregates}
 use Rattle.cy_expr.specs.declared.faults.EvalFault.{EvalFault}
 use Rattle.cy_expr.specs.Faults.{on_one}
 use Rattle.cy_oneshot.specs.Groups.{aggregated}
-use Rattle.cy_oneshot.specs.Order.{Keyed, keyed_order}
-use Rattle.cy_oneshot.specs.Outcomes.{gathered}
+use Rattle.cy_matching.specs.Order.{Keyed, keyed_order}
+use Rattle.cy_patterns.specs.Outcomes.{gathered}
 use Rattle.cy_oneshot.specs.Projection.{Projected, with_columns_alone, project, distinct_rows, item_rows, projected, keyed, limited, skipped, cut, projection_rows}
-use Rattle.cy_oneshot.proofs.BagLemmas.{identity}
+use Rattle.cy_matching.proofs.BagLemmas.{identity}
 use Rattle.cy_oneshot.proofs.GroupLemmas.{alike_aggregated, same_after}
-use Rattle.cy_oneshot.proofs.InOrder.{same_in_order}
-use Rattle.cy_oneshot.proofs.Joined.{Alike, gathered_each}
-use Rattle.cy_oneshot.proofs.KeyOrders.{keyed_total, tied_rows}
-use Rattle.cy_oneshot.proofs.Once.{permuted_once, tied_either_way}
-use Rattle.cy_oneshot.proofs.Permuted.{Permuted, permuted_map}
+use Rattle.cy_matching.proofs.InOrder.{same_in_order}
+use Rattle.cy_matching.proofs.Joined.{Alike, gathered_each}
+use Rattle.cy_matching.proofs.KeyOrders.{keyed_total, tied_rows}
+use Rattle.cy_matching.proofs.Once.{permuted_once, tied_either_way}
+use Rattle.cy_matching.proofs.Permuted.{Permuted, permuted_map}
 
 pub alike_after : {A B : Type 0} (f : List A → List B) → ((xs ys : List A) → Permuted xs ys → Permuted (f xs) (f ys))
     → (r s : Result (List A) EvalFault) → Alike r s → Alike (on_one (λ xs. Ok (f xs)) r) (on_one (λ xs. Ok (f xs)) s)

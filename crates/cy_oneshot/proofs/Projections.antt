@@ -12,18 +12,18 @@ use Rattle.cy_graph.specs.Graph.{Content}
 use Rattle.cy_expr.specs.declared.faults.EvalFault.{EvalFault}
 use Rattle.cy_expr.specs.Faults.{on_one}
 use Rattle.cy_oneshot.specs.Groups.{aggregated}
-use Rattle.cy_oneshot.specs.Outcomes.{gathered}
-use Rattle.cy_oneshot.specs.Order.{each_once, in_order}
+use Rattle.cy_patterns.specs.Outcomes.{gathered}
+use Rattle.cy_matching.specs.Order.{each_once, in_order}
 use Rattle.cy_oneshot.specs.Projection.{Projected, cut, distinct_rows, item_of_key, item_rows, keyed, project, projected, projection_rows, with_columns_alone}
-use Rattle.cy_oneshot.specs.internal.Answers.{on_value}
+use Rattle.cy_matching.specs.internal.Answers.{on_value}
 use Rattle.cy_oneshot.specs.internal.Keys.{keyed_by, projected_of, seen_by}
-use Rattle.cy_oneshot.specs.internal.Permuted.{Alike, Permuted, and_then}
+use Rattle.cy_matching.specs.internal.Permuted.{Alike, Permuted, and_then}
 use Rattle.cy_oneshot.proofs.GroupLemmas.{same_after}
-use Rattle.cy_oneshot.proofs.Each.{each_any, each_map, each_of_once}
-use Rattle.cy_oneshot.proofs.EachRow.{item_rows_each}
-use Rattle.cy_oneshot.proofs.OnceCounts.{permuted_in_order}
+use Rattle.cy_matching.proofs.Each.{each_any, each_map, each_of_once}
+use Rattle.cy_oneshot.proofs.EachProjected.{item_rows_each}
+use Rattle.cy_matching.proofs.OnceCounts.{permuted_in_order}
 use Rattle.cy_oneshot.proofs.ProjectionLemmas.{distinct_if, same_rows_of}
-use Rattle.cy_oneshot.proofs.Permuted.{permuted_map}
+use Rattle.cy_matching.proofs.Permuted.{permuted_map}
 use Rattle.cy_oneshot.proofs.SeenRows.{aggregated_length, alone, cells_length, each_permuted, expressions, keyed_is, projects_are}
 
 module _ (total : IsTotalOrder row_cmp) (graph : Content) (p : Projection) where

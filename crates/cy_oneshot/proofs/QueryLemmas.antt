@@ -13,10 +13,10 @@ use Rattle.cy_graph.specs.Graph.{Content}
 use Rattle.cy_expr.specs.declared.faults.EvalFault.{EvalFault}
 use Rattle.cy_expr.specs.Faults.{on_one}
 use Rattle.cy_values.specs.Bag.{IsSameBag}
-use Rattle.cy_oneshot.specs.Outcomes.{IsSameOutcome}
+use Rattle.cy_patterns.specs.Outcomes.{IsSameOutcome}
 use Rattle.cy_oneshot.specs.Queries.{rows_after, rows_after_all}
-use Rattle.cy_oneshot.proofs.BagLemmas.{permuted_bag}
-use Rattle.cy_oneshot.proofs.BagOutcomes.{same_both}
+use Rattle.cy_matching.proofs.BagLemmas.{permuted_bag}
+use Rattle.cy_matching.proofs.BagOutcomes.{same_both}
 use Rattle.cy_oneshot.proofs.ClauseLemmas.{same_clause, same_clauses, same_rows_of}
 use Rattle.cy_oneshot.proofs.SeenRows.{each_permuted}
 

@@ -8,11 +8,11 @@ use Rattle.cy_values.specs.Order.{row_cmp}
 use Rattle.cy_trees.specs.Trees.{Name, Clause, Statement}
 use Rattle.cy_scope.specs.Views.{ends_with_return, is_return, is_update}
 use Rattle.cy_graph.specs.Graph.{Content}
-use Rattle.cy_oneshot.specs.Outcomes.{IsSameOutcome}
+use Rattle.cy_patterns.specs.Outcomes.{IsSameOutcome}
 use Rattle.cy_oneshot.specs.Queries.{columns_after, columns_after_all, query_rows, rows_after}
-use Rattle.cy_oneshot.specs.Reading.{IsInGraph}
+use Rattle.cy_matching.specs.Reading.{IsInGraph}
 use Rattle.cy_oneshot.specs.internal.Reached.{IsReached}
-use Rattle.cy_oneshot.proofs.InGraphLemmas.{clause_there}
+use Rattle.cy_oneshot.proofs.InGraphClauses.{clause_there}
 use Rattle.cy_oneshot.proofs.QueryLemmas.{each_of_bag, last_later, ordered_more, rows_more}
 use Rattle.cy_oneshot.proofs.Widths.{clause_wide}
 

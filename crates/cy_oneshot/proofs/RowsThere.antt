@@ -11,16 +11,18 @@ use Rattle.cy_expr.specs.declared.faults.EvalFault.{EvalFault}
 use Rattle.cy_expr.specs.Evaluation.{cell_of}
 use Rattle.cy_expr.specs.Graphs.{lookups}
 use Rattle.cy_oneshot.specs.Groups.{Grouped, aggregated, rows_of_group}
-use Rattle.cy_oneshot.specs.Order.{each_once, in_order}
-use Rattle.cy_oneshot.specs.Outcomes.{gathered}
-use Rattle.cy_oneshot.specs.Reading.{AreInGraph, IsInGraph}
-use Rattle.cy_oneshot.specs.internal.Answers.{IsAnswer, sifted}
+use Rattle.cy_matching.specs.Order.{each_once, in_order}
+use Rattle.cy_patterns.specs.Outcomes.{gathered}
+use Rattle.cy_matching.specs.Reading.{AreInGraph, IsInGraph}
+use Rattle.cy_matching.specs.internal.Answers.{IsAnswer, sifted}
 use Rattle.cy_oneshot.specs.internal.Grouping.{AreGroupsOf, Gathering, grouped_by}
 use Rattle.cy_oneshot.specs.internal.Keys.{cells_by, seen_by}
-use Rattle.cy_oneshot.specs.internal.Permuted.{Alike, IsAlikeAnswer}
-use Rattle.cy_oneshot.proofs.Each.{each_append, each_filter, each_gathered, each_in_order, each_made, each_map, each_of_once, each_take, each_value, if_ok_any, if_ok_then}
-use Rattle.cy_oneshot.proofs.InGraphLemmas.{aggregated_there, cell_there}
-use Rattle.cy_oneshot.proofs.Permuted.{turned}
+use Rattle.cy_matching.specs.internal.Permuted.{Alike, IsAlikeAnswer}
+use Rattle.cy_matching.proofs.Each.{each_append, each_filter, each_gathered, each_in_order, each_made, each_map, each_of_once, each_take, if_ok_any, if_ok_then}
+use Rattle.cy_oneshot.proofs.EachValue.{each_value}
+use Rattle.cy_matching.proofs.InGraphLemmas.{cell_there}
+use Rattle.cy_oneshot.proofs.InGraphClauses.{aggregated_there}
+use Rattle.cy_matching.proofs.Permuted.{turned}
 use Rattle.cy_oneshot.proofs.SeenRows.{each_permuted}
 use Rattle.cy_oneshot.proofs.Sifted.{sifted_values}
 

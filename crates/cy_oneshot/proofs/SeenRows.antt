@@ -13,14 +13,15 @@ use Rattle.cy_expr.specs.Evaluation.{as_cell, cell_of}
 use Rattle.cy_expr.specs.Faults.{on_one}
 use Rattle.cy_expr.specs.Graphs.{lookups}
 use Rattle.cy_oneshot.specs.Groups.{Grouped, aggregated, cells_on, group_cells, group_keys, group_rows, grouped, grouping, over_rows, rows_of_group, values_among}
-use Rattle.cy_oneshot.specs.Outcomes.{together, gathered}
-use Rattle.cy_oneshot.specs.Order.{Keyed}
+use Rattle.cy_patterns.specs.Outcomes.{together, gathered}
+use Rattle.cy_matching.specs.Order.{Keyed}
 use Rattle.cy_oneshot.specs.Projection.{Projected, item_of_key, key_cell, keyed, project, with_columns_alone}
-use Rattle.cy_oneshot.specs.internal.Answers.{on_value}
+use Rattle.cy_matching.specs.internal.Answers.{on_value}
 use Rattle.cy_oneshot.specs.internal.Keys.{cells_by, keyed_by, projected_of, seen_by}
-use Rattle.cy_oneshot.specs.internal.Permuted.{Permuted, nothing, more, exchanged, and_then}
-use Rattle.cy_oneshot.proofs.Each.{each_gathered, each_made, second_of_both}
-use Rattle.cy_oneshot.proofs.Together.{single}
+use Rattle.cy_matching.specs.internal.Permuted.{Permuted, nothing, more, exchanged, and_then}
+use Rattle.cy_matching.proofs.Each.{each_gathered, each_made}
+use Rattle.cy_oneshot.proofs.EachValue.{second_of_both}
+use Rattle.cy_matching.proofs.Together.{single}
 
 -- ---- outcomes
 

@@ -3,9 +3,9 @@ use Rattle.std.proofs.Common.{◌≡◌, List, [], ◌∷◌, ◌++◌, append_a
 use Rattle.std.specs.Prelude.{Option, None, Some, Result, Ok, Err}
 use Rattle.cy_expr.specs.declared.faults.EvalFault.{EvalFault}
 use Rattle.cy_oneshot.specs.Groups.{values_among, and_also}
-use Rattle.cy_oneshot.specs.Outcomes.{together, gathered}
-use Rattle.cy_oneshot.specs.internal.Answers.{least, outcome_of, sifted, with_fault}
-use Rattle.cy_oneshot.proofs.Together.{together_first, together_three}
+use Rattle.cy_patterns.specs.Outcomes.{together, gathered}
+use Rattle.cy_matching.specs.internal.Answers.{least, outcome_of, sifted, with_fault}
+use Rattle.cy_matching.proofs.Together.{together_first, together_three}
 
 pub sifted_values : {A : Type 0} (values : List A) (fault : Option EvalFault) (os : List (Result A EvalFault)) → (sifted values fault os).0 ≡ values ++ values_among os
 sifted_values values fault [] = sym (append-nil values)

@@ -4,7 +4,7 @@ use Rattle.std.specs.declared.cmp.Ordering.{Ordering}
 use Rattle.std.specs.Ordering.{eq_by_cmp, is_eq}
 use Rattle.cy_values.specs.declared.rows.Cell.{Cell}
 use Rattle.cy_values.specs.Order.{cell_order, row_cmp}
-use Rattle.cy_oneshot.proofs.BagLemmas.{identity, same_cell}
+use Rattle.cy_matching.proofs.BagLemmas.{identity, same_cell}
 
 pub same_orders : {A : Type 0} (R S : A → A → Ordering) → ((x y : A) → R x y ≡ S x y) → R ≡ S
 same_orders R S alike = λ i x y. alike x y i

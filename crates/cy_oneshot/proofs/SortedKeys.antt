@@ -13,16 +13,16 @@ use Rattle.cy_values.specs.Order.{row_cmp}
 use Rattle.cy_oneshot.specs.declared.order.Keyed as coded_keyed
 use Rattle.cy_oneshot.specs.declared.groups.Grouped as coded_grouped
 use Rattle.cy_oneshot.specs.Groups.{Grouped}
-use Rattle.cy_oneshot.specs.Order.{Keyed, in_order, keyed_order}
+use Rattle.cy_matching.specs.Order.{Keyed, in_order, keyed_order}
 use Rattle.cy_oneshot.specs.internal.Grouping.{AreGroups, Gathering, groups_of}
 use Rattle.cy_oneshot.specs.internal.Keys.{grouped_of, keyed_of}
-use Rattle.cy_oneshot.proofs.BagLemmas.{identity}
-use Rattle.cy_oneshot.proofs.Each.{each_map}
+use Rattle.cy_matching.proofs.BagLemmas.{identity}
+use Rattle.cy_matching.proofs.Each.{each_map}
 use Rattle.cy_oneshot.proofs.GroupsInOrder.{by_keys, groups_of_ordered}
-use Rattle.cy_oneshot.proofs.InOrder.{same_in_order}
-use Rattle.cy_oneshot.proofs.KeyOrders.{keyed_total, tied_rows}
-use Rattle.cy_oneshot.proofs.Permuted.{Permuted}
-use Rattle.cy_oneshot.proofs.Sorting.{Ordered, ordered_from_sorted, permuted_from_sort, stays}
+use Rattle.cy_matching.proofs.InOrder.{same_in_order}
+use Rattle.cy_matching.proofs.KeyOrders.{keyed_total, tied_rows}
+use Rattle.cy_matching.proofs.Permuted.{Permuted}
+use Rattle.cy_matching.proofs.Sorting.{Ordered, ordered_from_sorted, permuted_from_sort, stays}
 
 -- what stands in order by what a function gives, and what the function gives
 ordered_map : {A B : Type 0} (R : B → B → Ordering) (f : A → B) (xs : List A) → Ordered (λ x y. R (f x) (f y)) xs → Ordered R (map f xs)

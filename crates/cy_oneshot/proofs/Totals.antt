@@ -9,7 +9,7 @@ use Rattle.cy_expr.specs.declared.faults.EvalFault.{EvalFault}
 use Rattle.cy_expr.specs.declared.faults.EvalFault.TheVariants.{WrongType}
 use Rattle.cy_expr.specs.Faults.{on_one}
 use Rattle.cy_oneshot.specs.Groups.{total, values_in}
-use Rattle.cy_oneshot.specs.Outcomes.{smaller, together}
+use Rattle.cy_patterns.specs.Outcomes.{smaller, together}
 
 -- a wrong type is the only fault
 abbrev IsWrongType : {A : Type 0} → Result A EvalFault → Type 0

@@ -19,8 +19,8 @@ use Rattle.cy_expr.specs.Evaluation.{as_cell, cell_of}
 use Rattle.cy_expr.specs.Faults.{on_one}
 use Rattle.cy_expr.specs.Lists.{list_of}
 use Rattle.cy_expr.specs.Operators.{value_in_cell}
-use Rattle.cy_oneshot.specs.Order.{in_order, each_once}
-use Rattle.cy_oneshot.specs.Outcomes.{smaller, gathered}
+use Rattle.cy_matching.specs.Order.{in_order, each_once}
+use Rattle.cy_patterns.specs.Outcomes.{smaller, gathered}
 use Rattle.cy_expr.specs.Graphs.{lookups}
 
 abbrev pub without_nulls : List Cell → List Cell

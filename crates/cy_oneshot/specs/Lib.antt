@@ -1,9 +1,3 @@
-pub mod Reading
-pub mod Outcomes
-pub mod Places
-pub mod Fits
-pub mod Matching
-pub mod Order
 pub mod Groups
 pub mod Projection
 pub mod Queries

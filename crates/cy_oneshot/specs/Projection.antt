@@ -14,8 +14,8 @@ use Rattle.cy_expr.specs.declared.faults.EvalFault.{EvalFault}
 use Rattle.cy_expr.specs.Evaluation.{cell_of}
 use Rattle.cy_expr.specs.Faults.{on_one}
 use Rattle.cy_oneshot.specs.Groups.{cells_on, aggregated}
-use Rattle.cy_oneshot.specs.Order.{Keyed, each_once, in_order, keyed_order}
-use Rattle.cy_oneshot.specs.Outcomes.{gathered}
+use Rattle.cy_matching.specs.Order.{Keyed, each_once, in_order, keyed_order}
+use Rattle.cy_patterns.specs.Outcomes.{gathered}
 use Rattle.cy_expr.specs.Graphs.{lookups}
 
 -- a projected row, and what its keys see: its columns and, after them, the row before, unless DISTINCT or an aggregate hides it

@@ -7,10 +7,10 @@ use Rattle.cy_trees.specs.Trees.{Name, Clause, «match», unwind, «with», «re
 use Rattle.cy_graph.specs.Graph.{Content}
 use Rattle.cy_expr.specs.declared.faults.EvalFault.{EvalFault}
 use Rattle.cy_expr.specs.Faults.{on_one}
-use Rattle.cy_oneshot.specs.Fits.{is_new}
-use Rattle.cy_oneshot.specs.Matching.{matched, optionally_matched, unwound, selected}
-use Rattle.cy_oneshot.specs.Outcomes.{joined}
-use Rattle.cy_oneshot.specs.Places.{Place, places, variable_at}
+use Rattle.cy_patterns.specs.Fits.{is_new}
+use Rattle.cy_patterns.specs.Matching.{matched, optionally_matched, unwound, selected}
+use Rattle.cy_patterns.specs.Outcomes.{joined}
+use Rattle.cy_patterns.specs.Places.{Place, places, variable_at}
 use Rattle.cy_oneshot.specs.Projection.{projection_rows}
 
 -- The rows after a reading clause, or its fault. They are a bag, but for those after RETURN, which stand in their order. An

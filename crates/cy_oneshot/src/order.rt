@@ -1,12 +1,13 @@
 //! Things in order, and each once (openCypher 9, ORDER BY and DISTINCT; ties: own).
 
-ghost use Rattle.std.specs.Prelude.{◌≡◌, IsTrue, map, if◌then◌else◌};
-ghost use Rattle.std.specs.Ordering.{eq_by_cmp, ordering_reverse};
+ghost use Rattle.std.specs.Prelude.{◌≡◌, map, if◌then◌else◌};
+ghost use Rattle.std.specs.Ordering.{ordering_reverse};
 ghost use Rattle.cy_values.specs.Order as values;
 ghost use Rattle.cy_values.specs.Order.{row_cmp};
-ghost use Rattle.cy_oneshot.specs.Order as spec;
+ghost use Rattle.cy_matching.specs.Order as spec;
 ghost use Rattle.cy_oneshot.specs.internal.Keys.{keyed_of};
 
+use cy_matching::{cell_order, sort_all, sort_once};
 use cy_values::{Cell, Row, row_order, row_order_laws};
 use std::cmp::Ordering;
 
@@ -15,30 +16,6 @@ use std::cmp::Ordering;
 pub(crate) struct Keyed {
     pub(crate) row: Row,
     pub(crate) keys: Row,
-}
-
-/// The canonical order of two cells.
-pub(crate) fn cell_order(left: &Cell, right: &Cell) -> Ordering
-    ensures { result ≡ values.cell_order left.now right.now }
-{
-    left.cmp(right)
-}
-
-/// Puts things in order, where those that tie are the same.
-fn sort_all<T: Ord>(things: &mut Vec<T>)
-    requires { (x y : T) → IsTrue (eq_by_cmp T.cmp x y) → x ≡ y }
-    ensures { things.new.items ≡ spec.in_order T.cmp things.old.items }
-{
-    things.sort_unstable();
-}
-
-/// The same, each once.
-pub(crate) fn sort_once<T: Ord + Drop>(things: &mut Vec<T>)
-    requires { (x y : T) → IsTrue (eq_by_cmp T.cmp x y) → x ≡ y }
-    ensures { things.new.items ≡ spec.in_order T.cmp (spec.each_once T.cmp things.old.items) }
-{
-    things.sort_unstable();
-    things.dedup();
 }
 
 /// Puts cells in canonical order.

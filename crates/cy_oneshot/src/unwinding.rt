@@ -4,15 +4,14 @@ ghost use Rattle.std.specs.Prelude.{◌≡◌, [], ◌∷◌, ◌++◌, IfOk, ma
 ghost use Rattle.cy_values.specs.declared.rows.Cell.TheVariants as cell;
 ghost use Rattle.cy_values.specs.Compare.{value_in};
 ghost use Rattle.cy_trees.specs.Views.{expression_of};
-ghost use Rattle.cy_oneshot.specs.Matching as spec;
-ghost use Rattle.cy_oneshot.specs.Outcomes.{joined};
-ghost use Rattle.cy_oneshot.specs.Reading.{AreInGraph};
-ghost use Rattle.cy_oneshot.specs.internal.Answers.{IsAnswer, IsRowThere};
+ghost use Rattle.cy_patterns.specs.Matching as spec;
+ghost use Rattle.cy_patterns.specs.Outcomes.{joined};
+ghost use Rattle.cy_matching.specs.Reading.{AreInGraph};
+ghost use Rattle.cy_matching.specs.internal.Answers.{IsAnswer, IsRowThere};
 
-use crate::evaluation::value_on;
-use crate::outcomes::Gathered;
 use cy_expr::EvalFault;
 use cy_index::Store;
+use cy_matching::{Gathered, value_on};
 use cy_trees::Expr;
 use cy_values::{Cell, Duplicate, Fault, Row, Scalar, Sequence, Value};
 use std::alloc::Global;

@@ -9,8 +9,8 @@ use Rattle.cy_values.specs.declared.rows.Cell.TheVariants as cell
 use Rattle.cy_trees.specs.Trees.{Name}
 use Rattle.cy_graph.specs.Graph.{State, node_at}
 use Rattle.cy_graph.specs.declared.nodes.Node.{Node}
-use Rattle.cy_oneshot.specs.Fits.{entities_of}
-use Rattle.cy_oneshot.specs.Reading.{IsInGraph}
+use Rattle.cy_patterns.specs.Fits.{entities_of}
+use Rattle.cy_matching.specs.Reading.{IsInGraph}
 use Rattle.cy_updates.specs.Creating.{node_in_cell}
 use Rattle.cy_updates.specs.Setting.{with_labels_changed}
 

@@ -8,9 +8,9 @@ use Rattle.cy_values.specs.declared.rows.Cell.TheVariants as cell
 use Rattle.cy_trees.specs.declared.expressions.Variable.{Variable}
 use Rattle.cy_graph.specs.Graph.{Content}
 use Rattle.cy_expr.specs.Evaluation.{column_value}
-use Rattle.cy_oneshot.specs.Fits.{entities_of}
-use Rattle.cy_oneshot.specs.Reading.{IsInGraph}
-use Rattle.cy_oneshot.specs.internal.Answers.{IsRowThere}
+use Rattle.cy_patterns.specs.Fits.{entities_of}
+use Rattle.cy_matching.specs.Reading.{IsInGraph}
+use Rattle.cy_matching.specs.internal.Answers.{IsRowThere}
 use Rattle.cy_updates.specs.Values.{named_by}
 use Rattle.cy_updates.proofs.Created.{bound_at}
 

@@ -15,7 +15,7 @@ use Rattle.cy_graph.specs.Graph.{State, set_or_removed}
 use Rattle.cy_graph.specs.Maps.{rises, text_order, with_value, without}
 use Rattle.cy_graph.specs.Stored.{is_storable, IsStorable}
 use Rattle.cy_graph.proofs.Places.{rises-with_value, rises-without}
-use Rattle.cy_oneshot.specs.Places.{entries_if}
+use Rattle.cy_patterns.specs.Places.{entries_if}
 use Rattle.cy_updates.specs.declared.faults.UpdateFault.{UpdateFault}
 use Rattle.cy_updates.specs.declared.faults.UpdateFault.TheVariants.{NotStorable}
 use Rattle.cy_updates.specs.Faults.{◌>>=◌}

@@ -15,7 +15,7 @@ use Rattle.cy_trees.specs.declared.expressions.Variable.{Variable}
 use Rattle.cy_trees.specs.Trees.{Name, NodePattern, RelationshipPattern, Step, Path}
 use Rattle.cy_graph.specs.Graph.{State, number_end, with_node, with_rel}
 use Rattle.cy_graph.specs.declared.nodes.Rel.{Rel}
-use Rattle.cy_oneshot.specs.Places.{node, column_at}
+use Rattle.cy_patterns.specs.Places.{node, column_at}
 use Rattle.cy_updates.specs.declared.faults.UpdateFault.{UpdateFault}
 use Rattle.cy_updates.specs.declared.faults.UpdateFault.TheVariants.{NullEndpoint, Full}
 use Rattle.cy_updates.specs.Faults.{◌>>=◌, each_in_turn}

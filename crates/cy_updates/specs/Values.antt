@@ -14,8 +14,8 @@ use Rattle.cy_graph.specs.Stored.{is_storable}
 use Rattle.cy_expr.specs.Evaluation.{cell_of, column_value}
 use Rattle.cy_expr.specs.Faults.{on_one}
 use Rattle.cy_expr.specs.Operators.{value_in_cell}
-use Rattle.cy_oneshot.specs.Fits.{entities_of}
-use Rattle.cy_oneshot.specs.Places.{entries_if}
+use Rattle.cy_patterns.specs.Fits.{entities_of}
+use Rattle.cy_patterns.specs.Places.{entries_if}
 use Rattle.cy_expr.specs.Graphs.{lookups}
 use Rattle.cy_updates.specs.declared.faults.UpdateFault.{UpdateFault}
 use Rattle.cy_updates.specs.declared.faults.UpdateFault.TheVariants.{NotStorable}

@@ -5,7 +5,7 @@ ghost use Rattle.cy_trees.specs.Trees as trees;
 ghost use Rattle.cy_trees.specs.Views.{clause_of, path_of, remove_item_of, set_item_of};
 ghost use Rattle.cy_scope.specs.Views.{is_update};
 ghost use Rattle.cy_oneshot.specs.Queries.{columns_after};
-ghost use Rattle.cy_oneshot.specs.Reading.{AreInGraph};
+ghost use Rattle.cy_matching.specs.Reading.{AreInGraph};
 ghost use Rattle.cy_updates.specs.Statements.{rows_taken, updated};
 ghost use Rattle.cy_updates.specs.internal.Answers.{IsAnswer, graph_table};
 ghost use Rattle.cy_updates.specs.internal.Reached.{AreGone};

@@ -4,7 +4,7 @@ ghost use Rattle.std.specs.Prelude.{◌≡◌, ◌+◌, ◌++◌, ◌∷◌, ◌
 ghost use Rattle.cy_values.specs.declared.numbers.NodeId.{NodeId};
 ghost use Rattle.cy_values.specs.declared.numbers.RelId.{RelId};
 ghost use Rattle.cy_graph.specs.Graph.{rels_from, rels_into, rels_with};
-ghost use Rattle.cy_oneshot.specs.Fits.{entities_of};
+ghost use Rattle.cy_patterns.specs.Fits.{entities_of};
 ghost use Rattle.cy_updates.specs.declared.faults.UpdateFault.TheVariants.{NoMemory};
 ghost use Rattle.cy_updates.specs.Deleting.{deleted};
 ghost use Rattle.cy_updates.specs.Deleting as spec;

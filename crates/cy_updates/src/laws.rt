@@ -12,7 +12,7 @@ ghost use Rattle.cy_scope.specs.Scopes.{Scope};
 ghost use Rattle.cy_scope.specs.Views.{is_update};
 ghost use Rattle.cy_graph.specs.Graph.{State, IsGraph};
 ghost use Rattle.cy_values.specs.Bag.{IsSameBag};
-ghost use Rattle.cy_oneshot.specs.Reading.{AreInGraph};
+ghost use Rattle.cy_matching.specs.Reading.{AreInGraph};
 ghost use Rattle.cy_updates.specs.Bags.{IsSameProgress, IsSameResult};
 ghost use Rattle.cy_updates.specs.Counts.{AgreeWith, counts_between};
 ghost use Rattle.cy_updates.specs.Faults.{each_in_turn};

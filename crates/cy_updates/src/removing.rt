@@ -4,9 +4,9 @@ ghost use Rattle.std.specs.Prelude.{◌≡◌, [], ◌∷◌, IfErr, IsSome, Non
 ghost use Rattle.std.specs.List.{AllByRecursion};
 ghost use Rattle.cy_graph.specs.Graph.{IsThere, node_at, rel_at, with_prop, without_label};
 ghost use Rattle.cy_trees.specs.Views.{remove_item_of};
-ghost use Rattle.cy_oneshot.specs.Fits.{entities_of};
-ghost use Rattle.cy_oneshot.specs.Reading.{AreInGraph, IsInGraph};
-ghost use Rattle.cy_oneshot.specs.internal.Answers.{IsRowThere};
+ghost use Rattle.cy_patterns.specs.Fits.{entities_of};
+ghost use Rattle.cy_matching.specs.Reading.{AreInGraph, IsInGraph};
+ghost use Rattle.cy_matching.specs.internal.Answers.{IsRowThere};
 ghost use Rattle.cy_updates.specs.declared.faults.UpdateFault.TheVariants.{NoMemory};
 ghost use Rattle.cy_updates.specs.Setting.{removed_item, with_labels_changed};
 ghost use Rattle.cy_updates.specs.Statements as statements;

@@ -4,9 +4,9 @@ ghost use Rattle.std.specs.Prelude.{◌≡◌, [], ◌∷◌, IfErr, IsSome, OnO
 ghost use Rattle.std.specs.List.{AllByRecursion};
 ghost use Rattle.cy_graph.specs.Graph.{IsThere, node_at, rel_at, with_label};
 ghost use Rattle.cy_trees.specs.Views.{set_item_of};
-ghost use Rattle.cy_oneshot.specs.Fits.{entities_of};
-ghost use Rattle.cy_oneshot.specs.Reading.{AreInGraph, IsInGraph};
-ghost use Rattle.cy_oneshot.specs.internal.Answers.{IsRowThere};
+ghost use Rattle.cy_patterns.specs.Fits.{entities_of};
+ghost use Rattle.cy_matching.specs.Reading.{AreInGraph, IsInGraph};
+ghost use Rattle.cy_matching.specs.internal.Answers.{IsRowThere};
 ghost use Rattle.cy_updates.specs.Faults.{each_in_turn};
 ghost use Rattle.cy_updates.specs.declared.faults.UpdateFault.TheVariants.{NoMemory};
 ghost use Rattle.cy_updates.specs.Setting as spec;

@@ -7,7 +7,7 @@ ghost use Rattle.cy_graph.specs.Graph.{IsGraph};
 ghost use Rattle.cy_scope.specs.Checked.{IsChecked};
 ghost use Rattle.cy_scope.specs.Views as scopes;
 ghost use Rattle.cy_oneshot.specs.Queries.{columns_after};
-ghost use Rattle.cy_oneshot.specs.Reading.{AreInGraph};
+ghost use Rattle.cy_matching.specs.Reading.{AreInGraph};
 ghost use Rattle.cy_updates.specs.declared.faults.UpdateFault.TheVariants.{NoMemory};
 ghost use Rattle.cy_updates.specs.Faults.{each_in_turn};
 ghost use Rattle.cy_updates.specs.Statements as spec;

@@ -10,9 +10,9 @@ use Rattle.cy_expr.specs.Evaluation.{as_cell, cell_of}
 use Rattle.cy_expr.specs.Faults.{on_one}
 use Rattle.cy_expr.specs.Graphs.{lookups}
 use Rattle.cy_oneshot.specs.Groups.{Grouped, over_rows, rows_of_group}
-use Rattle.cy_oneshot.specs.Order.{each_once}
-use Rattle.cy_oneshot.specs.Outcomes.{gathered}
-use Rattle.cy_oneshot.specs.internal.Permuted.{Permuted}
+use Rattle.cy_matching.specs.Order.{each_once}
+use Rattle.cy_patterns.specs.Outcomes.{gathered}
+use Rattle.cy_matching.specs.internal.Permuted.{Permuted}
 
 -- a key with the rows that have it
 pub record Gathering : Type 0 where

@@ -9,8 +9,8 @@ use Rattle.cy_expr.specs.Evaluation.{cell_of}
 use Rattle.cy_expr.specs.Faults.{on_one}
 use Rattle.cy_expr.specs.Graphs.{lookups}
 use Rattle.cy_oneshot.specs.Groups.{Grouped}
-use Rattle.cy_oneshot.specs.Order.{Keyed}
-use Rattle.cy_oneshot.specs.Outcomes.{gathered}
+use Rattle.cy_matching.specs.Order.{Keyed}
+use Rattle.cy_patterns.specs.Outcomes.{gathered}
 use Rattle.cy_oneshot.specs.Projection.{Projected, key_cell}
 use Rattle.cy_oneshot.specs.internal.Grouping.{Gathering}
 use Rattle.cy_oneshot.specs.declared.order.Keyed as coded_keyed

@@ -10,7 +10,7 @@ use Rattle.cy_scope.specs.Scopes.{Scope}
 use Rattle.cy_scope.specs.Views.{ends_with_return}
 use Rattle.cy_graph.specs.Graph.{State}
 use Rattle.cy_oneshot.specs.Queries.{columns_after_all, query_columns}
-use Rattle.cy_oneshot.specs.Reading.{AreInGraph}
+use Rattle.cy_matching.specs.Reading.{AreInGraph}
 use Rattle.cy_updates.specs.declared.clauses.Updated.{Updated}
 use Rattle.cy_updates.specs.declared.faults.UpdateFault.{UpdateFault}
 use Rattle.cy_updates.specs.declared.faults.UpdateFault.TheVariants.{NoMemory}

@@ -4,9 +4,10 @@ use Rattle.cy_values.specs.declared.rows.Cell.{Cell}
 use Rattle.cy_trees.specs.Views.{expression_of}
 use Rattle.cy_expr.specs.Evaluation.{cell_of}
 use Rattle.cy_expr.specs.Graphs.{lookups}
-use Rattle.cy_oneshot.specs.Outcomes.{together, gathered}
-use Rattle.cy_oneshot.specs.Reading.{AreInGraph}
-use Rattle.cy_oneshot.proofs.Together.{finished, goes_on, goes_through, next_of, single, single_settled, together_first}
+use Rattle.cy_patterns.specs.Outcomes.{together, gathered}
+use Rattle.cy_matching.specs.Reading.{AreInGraph}
+use Rattle.cy_patterns.proofs.SliceReads.{next_of}
+use Rattle.cy_matching.proofs.Together.{finished, goes_on, goes_through, single, single_settled, together_first}
 use Rattle.cy_oneshot.proofs.aggregates.on_each.Goals as goal
 
 pub loop-row-init : goal.loop-row-init

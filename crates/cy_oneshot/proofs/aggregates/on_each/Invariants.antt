@@ -2,8 +2,8 @@ use Rattle.std.proofs.Common.{◌≡◌, drop, map}
 use Rattle.cy_trees.specs.Views.{expression_of}
 use Rattle.cy_expr.specs.Evaluation.{cell_of}
 use Rattle.cy_expr.specs.Graphs.{lookups}
-use Rattle.cy_oneshot.specs.Outcomes.{together, gathered}
-use Rattle.cy_oneshot.specs.Reading.{AreInGraph}
+use Rattle.cy_patterns.specs.Outcomes.{together, gathered}
+use Rattle.cy_matching.specs.Reading.{AreInGraph}
 use Rattle.cy_oneshot.proofs.aggregates.on_each.Given as goal
 
 -- the cells so far, and those of the rows that are left

@@ -9,7 +9,7 @@ use Rattle.cy_expr.specs.Arithmetic.{integer}
 use Rattle.cy_expr.specs.Faults.{on_one}
 use Rattle.cy_oneshot.proofs.AggregateAnswers.{failed}
 use Rattle.cy_oneshot.proofs.SumLemmas.{first_total, next_total, no_total, whole_total}
-use Rattle.cy_oneshot.proofs.Together.{next_of}
+use Rattle.cy_patterns.proofs.SliceReads.{next_of}
 use Rattle.cy_oneshot.proofs.Totals.{total_in}
 use Rattle.cy_oneshot.proofs.aggregates.sum.Goals as goal
 

@@ -3,8 +3,8 @@ use Rattle.std.specs.Vec.Iter.{into_iter_items}
 use Rattle.std.proofs.lemmas.List.{nil_from_length}
 use Rattle.cy_expr.specs.Operators.{value_in_cell}
 use Rattle.cy_oneshot.specs.Groups.{values_in}
-use Rattle.cy_oneshot.specs.Outcomes.{together}
-use Rattle.cy_oneshot.proofs.Together.{finished, goes_on, goes_through, single, together_first}
+use Rattle.cy_patterns.specs.Outcomes.{together}
+use Rattle.cy_matching.proofs.Together.{finished, goes_on, goes_through, single, together_first}
 use Rattle.cy_oneshot.proofs.aggregates.values_in.Goals as goal
 
 pub loop-cell-init : goal.loop-cell-init

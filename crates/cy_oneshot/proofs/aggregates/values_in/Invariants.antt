@@ -1,7 +1,7 @@
 use Rattle.std.proofs.Common.{◌≡◌}
 use Rattle.std.specs.Vec.Iter.{into_iter_items}
 use Rattle.cy_oneshot.specs.Groups.{values_in}
-use Rattle.cy_oneshot.specs.Outcomes.{together}
+use Rattle.cy_patterns.specs.Outcomes.{together}
 use Rattle.cy_oneshot.proofs.aggregates.values_in.Given as goal
 
 -- the values so far, and those in the cells that are left

@@ -5,12 +5,12 @@ use Rattle.std.proofs.lemmas.List.{nil_from_length}
 use Rattle.cy_trees.specs.Trees.{Expression}
 use Rattle.cy_trees.specs.Views.{expression_of, item_of}
 use Rattle.cy_oneshot.specs.Groups.{grouping}
-use Rattle.cy_oneshot.specs.Outcomes.{gathered}
-use Rattle.cy_oneshot.specs.internal.Answers.{sifted}
+use Rattle.cy_patterns.specs.Outcomes.{gathered}
+use Rattle.cy_matching.specs.internal.Answers.{sifted}
 use Rattle.cy_oneshot.specs.internal.Grouping.{grouped_by}
 use Rattle.cy_oneshot.specs.internal.Keys.{group_of, grouped_of}
 use Rattle.cy_oneshot.proofs.Aggregated.{aggregated_is, row_of}
-use Rattle.cy_oneshot.proofs.Each.{each_before}
+use Rattle.cy_matching.proofs.Each.{each_before}
 use Rattle.cy_oneshot.proofs.GroupAnswers.{and_also_answers, groups_alike, no_grouping, some_grouping}
 use Rattle.cy_oneshot.proofs.RowsThere.{GroupThere, grouped_there, groups_there}
 use Rattle.cy_oneshot.proofs.SeenRows.{expressions}

@@ -3,9 +3,10 @@ use Rattle.std.proofs.lemmas.List.{drop_all}
 use Rattle.cy_trees.specs.Views.{expression_of}
 use Rattle.cy_expr.specs.Evaluation.{cell_of}
 use Rattle.cy_expr.specs.Graphs.{lookups}
-use Rattle.cy_oneshot.specs.Outcomes.{together}
+use Rattle.cy_patterns.specs.Outcomes.{together}
 use Rattle.cy_oneshot.specs.internal.Keys.{cells_by}
-use Rattle.cy_oneshot.proofs.Together.{finished, goes_on, goes_through, next_of, single, single_settled, together_first}
+use Rattle.cy_patterns.proofs.SliceReads.{next_of}
+use Rattle.cy_matching.proofs.Together.{finished, goes_on, goes_through, single, single_settled, together_first}
 use Rattle.cy_oneshot.proofs.groups.cells_on.Goals as goal
 
 pub loop-expression-init : goal.loop-expression-init

@@ -1,6 +1,6 @@
 use Rattle.std.proofs.Common.{◌≡◌, drop, map}
 use Rattle.cy_trees.specs.Views.{expression_of}
-use Rattle.cy_oneshot.specs.Outcomes.{together}
+use Rattle.cy_patterns.specs.Outcomes.{together}
 use Rattle.cy_oneshot.specs.internal.Keys.{cells_by}
 use Rattle.cy_oneshot.proofs.groups.cells_on.Given as goal
 

@@ -6,9 +6,10 @@ use Rattle.std.proofs.lemmas.Result.{err_from_is_err_and}
 use Rattle.cy_trees.specs.declared.clauses.Item.{Item}
 use Rattle.cy_trees.specs.Views.{item_of}
 use Rattle.cy_oneshot.specs.Groups.{group_cells}
-use Rattle.cy_oneshot.specs.Outcomes.{gathered, together}
+use Rattle.cy_patterns.specs.Outcomes.{gathered, together}
 use Rattle.cy_oneshot.proofs.GroupAnswers.{cells_more}
-use Rattle.cy_oneshot.proofs.Together.{next_of, settled, together_first, together_last}
+use Rattle.cy_patterns.proofs.SliceReads.{next_of}
+use Rattle.cy_matching.proofs.Together.{settled, together_first, together_last}
 use Rattle.cy_oneshot.proofs.groups.group_row.Goals as goal
 
 pub loop-item-preserved : goal.loop-item-preserved

@@ -2,7 +2,7 @@ use Rattle.std.proofs.Common.{◌≡◌, drop, map}
 use Rattle.std.specs.Vec.Iter.{into_iter_items}
 use Rattle.cy_trees.specs.Views.{item_of}
 use Rattle.cy_oneshot.specs.Groups.{group_cells}
-use Rattle.cy_oneshot.specs.Outcomes.{together, gathered}
+use Rattle.cy_patterns.specs.Outcomes.{together, gathered}
 use Rattle.cy_oneshot.proofs.groups.group_row.Given as goal
 
 -- the cells so far, and those of the items that are left

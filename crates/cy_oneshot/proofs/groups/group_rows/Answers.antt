@@ -3,12 +3,12 @@ use Rattle.std.specs.List.{AllByRecursion}
 use Rattle.std.specs.Vec.Iter.{into_iter_items}
 use Rattle.std.proofs.lemmas.List.{nil_from_length}
 use Rattle.cy_trees.specs.Views.{item_of}
-use Rattle.cy_oneshot.specs.Outcomes.{together, gathered}
-use Rattle.cy_oneshot.specs.Reading.{AreInGraph}
+use Rattle.cy_patterns.specs.Outcomes.{together, gathered}
+use Rattle.cy_matching.specs.Reading.{AreInGraph}
 use Rattle.cy_oneshot.specs.declared.groups.Group.{Group}
 use Rattle.cy_oneshot.specs.internal.Keys.{group_of}
 use Rattle.cy_oneshot.proofs.Aggregated.{row_of}
-use Rattle.cy_oneshot.proofs.Together.{answered_same, finished, goes_on, goes_through, single, together_first}
+use Rattle.cy_matching.proofs.Together.{answered_same, finished, goes_on, goes_through, single, together_first}
 use Rattle.cy_oneshot.proofs.groups.group_rows.Goals as goal
 
 pub loop-group-init : goal.loop-group-init

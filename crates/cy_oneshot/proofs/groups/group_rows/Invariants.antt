@@ -3,8 +3,8 @@ use Rattle.std.specs.List.{AllByRecursion}
 use Rattle.std.specs.Vec.Iter.{into_iter_items}
 use Rattle.cy_trees.specs.Views.{item_of}
 use Rattle.cy_oneshot.specs.Groups.{group_cells}
-use Rattle.cy_oneshot.specs.Outcomes.{together, gathered}
-use Rattle.cy_oneshot.specs.Reading.{AreInGraph}
+use Rattle.cy_patterns.specs.Outcomes.{together, gathered}
+use Rattle.cy_matching.specs.Reading.{AreInGraph}
 use Rattle.cy_oneshot.specs.internal.Keys.{group_of}
 use Rattle.cy_oneshot.proofs.groups.group_rows.Given as goal
 

@@ -5,11 +5,11 @@ use Rattle.std.proofs.lemmas.List.{nil_from_length}
 use Rattle.cy_values.specs.declared.rows.Cell.{Cell}
 use Rattle.cy_trees.specs.Views.{expression_of}
 use Rattle.cy_expr.specs.declared.faults.EvalFault.{EvalFault}
-use Rattle.cy_oneshot.specs.Reading.{AreInGraph}
-use Rattle.cy_oneshot.specs.internal.Answers.{sifted}
+use Rattle.cy_matching.specs.Reading.{AreInGraph}
+use Rattle.cy_matching.specs.internal.Answers.{sifted}
 use Rattle.cy_oneshot.specs.internal.Grouping.{grouped_by, with_key}
 use Rattle.cy_oneshot.specs.internal.Keys.{grouped_of}
-use Rattle.cy_oneshot.proofs.Together.{answered}
+use Rattle.cy_matching.proofs.Together.{answered}
 use Rattle.cy_oneshot.proofs.groups.grouped_rows.Goals as goal
 
 pub loop-row-init : goal.loop-row-init

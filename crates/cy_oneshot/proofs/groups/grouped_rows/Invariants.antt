@@ -1,8 +1,8 @@
 use Rattle.std.proofs.Common.{◌≡◌, [], None, map}
 use Rattle.std.specs.Vec.Iter.{into_iter_items}
 use Rattle.cy_trees.specs.Views.{expression_of}
-use Rattle.cy_oneshot.specs.Reading.{AreInGraph}
-use Rattle.cy_oneshot.specs.internal.Answers.{sifted}
+use Rattle.cy_matching.specs.Reading.{AreInGraph}
+use Rattle.cy_matching.specs.internal.Answers.{sifted}
 use Rattle.cy_oneshot.specs.internal.Grouping.{grouped_by}
 use Rattle.cy_oneshot.specs.internal.Keys.{grouped_of}
 use Rattle.cy_oneshot.proofs.groups.grouped_rows.Given as goal

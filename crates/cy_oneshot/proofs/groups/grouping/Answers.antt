@@ -1,7 +1,7 @@
 use Rattle.std.proofs.Common.{◌+◌, drop, map, ap}
 use Rattle.cy_trees.specs.Views.{expression_of, item_of}
 use Rattle.cy_oneshot.proofs.GroupAnswers.{grouping_more}
-use Rattle.cy_oneshot.proofs.Together.{next_of}
+use Rattle.cy_patterns.proofs.SliceReads.{next_of}
 use Rattle.cy_oneshot.proofs.groups.grouping.Goals as goal
 
 pub loop-item-preserved : goal.loop-item-preserved

@@ -2,7 +2,7 @@ use Rattle.std.proofs.Common.{◌≡◌, ℕ, ◌<◌, ◌≤◌, Bool, false, L
 use Rattle.std.specs.declared.cmp.Ordering.TheVariants.{Less, Equal, Greater}
 use Rattle.std.proofs.lemmas.List.{drop_all, drop_more}
 use Rattle.cy_values.specs.declared.rows.Cell.{Cell}
-use Rattle.cy_oneshot.specs.Order.{keys_order}
+use Rattle.cy_matching.specs.Order.{keys_order}
 use Rattle.cy_oneshot.proofs.order.compare_keys.Goals as goal
 
 -- where no key is left, in both or in one

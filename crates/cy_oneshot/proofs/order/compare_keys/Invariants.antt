@@ -1,5 +1,5 @@
 use Rattle.std.proofs.Common.{◌≡◌, drop}
-use Rattle.cy_oneshot.specs.Order.{keys_order}
+use Rattle.cy_matching.specs.Order.{keys_order}
 use Rattle.cy_oneshot.proofs.order.compare_keys.Given as goal
 
 -- the keys that are left decide

@@ -3,9 +3,9 @@ use Rattle.std.specs.Ordering.{is_lt}
 use Rattle.std.proofs.lemmas.Fn.{always_returns_same}
 use Rattle.std.proofs.lemmas.List.Sorted.{ranks_by}
 use Rattle.cy_oneshot.specs.declared.order.Keyed.{Keyed}
-use Rattle.cy_oneshot.specs.Order.{keyed_order}
+use Rattle.cy_matching.specs.Order.{keyed_order}
 use Rattle.cy_oneshot.specs.internal.Keys.{keyed_of}
-use Rattle.cy_oneshot.proofs.KeyOrders.{keyed_total}
+use Rattle.cy_matching.proofs.KeyOrders.{keyed_total}
 use Rattle.cy_oneshot.proofs.SortedKeys.{keyed_sorted}
 use Rattle.cy_oneshot.proofs.order.sort_keyed.Goals as goal
 

@@ -1,7 +1,7 @@
 use Rattle.std.proofs.Common.{ap, ◌∙◌}
 use Rattle.cy_values.specs.Order.{row_cmp}
 use Rattle.cy_values.proofs.Orders.{rows_alike}
-use Rattle.cy_oneshot.specs.Order.{in_order, each_once}
+use Rattle.cy_matching.specs.Order.{in_order, each_once}
 use Rattle.cy_oneshot.proofs.SortedAlike.{same_orders, tied_rows}
 use Rattle.cy_oneshot.proofs.order.sort_rows_once.Goals as goal
 

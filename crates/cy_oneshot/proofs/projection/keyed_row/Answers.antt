@@ -6,12 +6,13 @@ use Rattle.cy_values.specs.declared.rows.Cell.{Cell}
 use Rattle.cy_expr.specs.declared.faults.EvalFault.{EvalFault}
 use Rattle.cy_expr.specs.Faults.{on_one}
 use Rattle.cy_oneshot.specs.declared.projection.SortKey.{SortKey}
-use Rattle.cy_oneshot.specs.Order.{Keyed}
-use Rattle.cy_oneshot.specs.Outcomes.{together, gathered}
+use Rattle.cy_matching.specs.Order.{Keyed}
+use Rattle.cy_patterns.specs.Outcomes.{together, gathered}
 use Rattle.cy_oneshot.specs.Projection.{key_cell}
 use Rattle.cy_oneshot.specs.internal.Keys.{projected_of, sort_key_of}
 use Rattle.cy_oneshot.proofs.Failing.{fault_of_part}
-use Rattle.cy_oneshot.proofs.Together.{goes_on, goes_through, next_of, single, single_settled, together_first}
+use Rattle.cy_patterns.proofs.SliceReads.{next_of}
+use Rattle.cy_matching.proofs.Together.{goes_on, goes_through, single, single_settled, together_first}
 use Rattle.cy_oneshot.proofs.projection.keyed_row.Goals as goal
 
 pub loop-key-init : goal.loop-key-init

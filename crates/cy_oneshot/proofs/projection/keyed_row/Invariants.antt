@@ -1,5 +1,5 @@
 use Rattle.std.proofs.Common.{◌≡◌, drop, map}
-use Rattle.cy_oneshot.specs.Outcomes.{together, gathered}
+use Rattle.cy_patterns.specs.Outcomes.{together, gathered}
 use Rattle.cy_oneshot.specs.Projection.{key_cell}
 use Rattle.cy_oneshot.specs.internal.Keys.{projected_of, sort_key_of}
 use Rattle.cy_oneshot.proofs.projection.keyed_row.Given as goal

@@ -2,11 +2,11 @@ use Rattle.std.proofs.Common.{refl, List, map, sym, subst, ◌∙◌, ap}
 use Rattle.std.specs.Vec.Iter.{into_iter_items}
 use Rattle.std.proofs.lemmas.List.{nil_from_length}
 use Rattle.cy_values.specs.declared.rows.Cell.{Cell}
-use Rattle.cy_oneshot.specs.Outcomes.{together, gathered}
-use Rattle.cy_oneshot.specs.Reading.{AreInGraph}
-use Rattle.cy_oneshot.specs.internal.Answers.{on_value}
+use Rattle.cy_patterns.specs.Outcomes.{together, gathered}
+use Rattle.cy_matching.specs.Reading.{AreInGraph}
+use Rattle.cy_matching.specs.internal.Answers.{on_value}
 use Rattle.cy_oneshot.specs.internal.Keys.{keyed_by, keyed_of, projected_of, sort_key_of}
-use Rattle.cy_oneshot.proofs.Together.{answered, finished_as, goes_on, goes_through, made_single, made_together, single, together_first}
+use Rattle.cy_matching.proofs.Together.{answered, finished_as, goes_on, goes_through, made_single, made_together, single, together_first}
 use Rattle.cy_oneshot.proofs.projection.keyed_rows.Goals as goal
 
 pub loop-seen-init : goal.loop-seen-init

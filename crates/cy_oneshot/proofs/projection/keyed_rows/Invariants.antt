@@ -1,8 +1,8 @@
 use Rattle.std.proofs.Common.{◌≡◌, map}
 use Rattle.std.specs.Vec.Iter.{into_iter_items}
-use Rattle.cy_oneshot.specs.Outcomes.{together, gathered}
-use Rattle.cy_oneshot.specs.Reading.{AreInGraph}
-use Rattle.cy_oneshot.specs.internal.Answers.{on_value}
+use Rattle.cy_patterns.specs.Outcomes.{together, gathered}
+use Rattle.cy_matching.specs.Reading.{AreInGraph}
+use Rattle.cy_matching.specs.internal.Answers.{on_value}
 use Rattle.cy_oneshot.specs.internal.Keys.{keyed_by, keyed_of, projected_of, sort_key_of}
 use Rattle.cy_oneshot.proofs.projection.keyed_rows.Given as goal
 

@@ -4,12 +4,12 @@ use Rattle.std.proofs.lemmas.List.{nil_from_length}
 use Rattle.cy_values.specs.declared.rows.Cell.{Cell}
 use Rattle.cy_trees.specs.Trees.{Expression}
 use Rattle.cy_trees.specs.Views.{expression_of}
-use Rattle.cy_oneshot.specs.Outcomes.{together, gathered}
-use Rattle.cy_oneshot.specs.Reading.{AreInGraph}
-use Rattle.cy_oneshot.specs.internal.Answers.{IsAnswer}
+use Rattle.cy_patterns.specs.Outcomes.{together, gathered}
+use Rattle.cy_matching.specs.Reading.{AreInGraph}
+use Rattle.cy_matching.specs.internal.Answers.{IsAnswer}
 use Rattle.cy_oneshot.specs.internal.Keys.{seen_by}
 use Rattle.cy_oneshot.proofs.RowsThere.{seen_answer_there}
-use Rattle.cy_oneshot.proofs.Together.{answered_same, finished, goes_on, goes_through, single, together_first}
+use Rattle.cy_matching.proofs.Together.{answered_same, finished, goes_on, goes_through, single, together_first}
 use Rattle.cy_oneshot.proofs.projection.project_each.Goals as goal
 
 pub loop-row-init : goal.loop-row-init

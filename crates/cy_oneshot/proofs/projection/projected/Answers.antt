@@ -3,8 +3,8 @@ use Rattle.std.proofs.lemmas.List.{length-map}
 use Rattle.cy_values.specs.declared.rows.Cell.{Cell}
 use Rattle.cy_values.specs.Order.{row_cmp}
 use Rattle.cy_trees.specs.Views.{item_of, projection_of}
-use Rattle.cy_oneshot.specs.Order.{each_once, in_order}
-use Rattle.cy_oneshot.specs.Reading.{AreInGraph}
+use Rattle.cy_matching.specs.Order.{each_once, in_order}
+use Rattle.cy_matching.specs.Reading.{AreInGraph}
 use Rattle.cy_oneshot.specs.internal.Keys.{projected_of}
 use Rattle.cy_oneshot.proofs.ProjectionAnswers.{distinct_answer}
 use Rattle.cy_oneshot.proofs.Projections.{plain_seen}

@@ -6,8 +6,8 @@ use Rattle.cy_trees.specs.Trees.{Key}
 use Rattle.cy_trees.specs.Views.{key_of, projection_of}
 use Rattle.cy_expr.specs.declared.faults.EvalFault.{EvalFault}
 use Rattle.cy_expr.specs.Faults.{on_one}
-use Rattle.cy_oneshot.specs.Order.{Keyed}
-use Rattle.cy_oneshot.specs.Outcomes.{gathered}
+use Rattle.cy_matching.specs.Order.{Keyed}
+use Rattle.cy_patterns.specs.Outcomes.{gathered}
 use Rattle.cy_oneshot.specs.Projection.{Projected, cut, keyed, projected}
 use Rattle.cy_oneshot.specs.internal.Keys.{keyed_by, projected_of, sort_key_of}
 use Rattle.cy_oneshot.proofs.Failing.{fault_of_part}

@@ -3,10 +3,10 @@ use Rattle.std.specs.Vec.Iter.{into_iter_items}
 use Rattle.std.proofs.lemmas.List.{nil_from_length}
 use Rattle.cy_values.specs.declared.rows.Cell.{Cell}
 use Rattle.cy_trees.specs.Views.{expression_of}
-use Rattle.cy_oneshot.specs.Matching.{unwound}
-use Rattle.cy_oneshot.specs.Outcomes.{together, joined}
-use Rattle.cy_oneshot.specs.Reading.{AreInGraph}
-use Rattle.cy_oneshot.proofs.Together.{answered, finished, goes_on, goes_through, together_first}
+use Rattle.cy_patterns.specs.Matching.{unwound}
+use Rattle.cy_patterns.specs.Outcomes.{together, joined}
+use Rattle.cy_matching.specs.Reading.{AreInGraph}
+use Rattle.cy_matching.proofs.Together.{answered, finished, goes_on, goes_through, together_first}
 use Rattle.cy_oneshot.proofs.unwinding.unwound.Goals as goal
 
 pub loop-row-init : goal.loop-row-init

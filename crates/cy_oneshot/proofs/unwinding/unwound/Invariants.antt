@@ -1,9 +1,9 @@
 use Rattle.std.proofs.Common.{◌≡◌, map}
 use Rattle.std.specs.Vec.Iter.{into_iter_items}
 use Rattle.cy_trees.specs.Views.{expression_of}
-use Rattle.cy_oneshot.specs.Matching.{unwound}
-use Rattle.cy_oneshot.specs.Outcomes.{together, joined}
-use Rattle.cy_oneshot.specs.Reading.{AreInGraph}
+use Rattle.cy_patterns.specs.Matching.{unwound}
+use Rattle.cy_patterns.specs.Outcomes.{together, joined}
+use Rattle.cy_matching.specs.Reading.{AreInGraph}
 use Rattle.cy_oneshot.proofs.unwinding.unwound.Given as goal
 
 -- the rows so far, and those that are left

@@ -17,7 +17,7 @@ use Rattle.cy_scope.specs.Scopes.{Scope, find_kind, is_bound, kind_in}
 use Rattle.cy_scope.specs.ExpressionKinds.{kind_of, are_flags, gives_flags, is_flag_otherwise, function_kind, call_kind}
 use Rattle.cy_scope.specs.ExpressionFaults.{takes_unary, compares, are_compared, are_values, have_values, is_value_otherwise, are_taken, call_fault, star_fault, expression_fault, expressions_fault, links_fault, arms_fault, otherwise_fault, value_fault}
 use Rattle.cy_scope.specs.Faults.{first, unless}
-use Rattle.cy_scope.specs.Resolved.{resolved, resolved_expressions, resolved_links, resolved_arms, resolved_otherwise}
+use Rattle.cy_scope.specs.ResolvedExpressions.{resolved, resolved_expressions, resolved_links, resolved_arms, resolved_otherwise}
 use Rattle.cy_scope.specs.Kinded.{HasKind, HaveKinds, AreComparable, ArmsHaveKinds, LastHasKind, is_call_of}
 use Rattle.cy_scope.specs.Checked.{GivesValue}
 use Rattle.cy_scope.proofs.Columns.{Reads}

@@ -4,8 +4,8 @@ use Rattle.cy_trees.specs.declared.expressions.Comparator.{Comparator}
 use Rattle.cy_trees.specs.Trees.{Expression, Expressions, more, Links, link, Arms, arm}
 use Rattle.cy_trees.specs.Views.{expressions_from, links_from, arms_from}
 use Rattle.cy_scope.specs.Scopes.{Scope}
-use Rattle.cy_scope.specs.Resolved.{resolved, resolved_expressions, resolved_links, resolved_arms}
-use Rattle.cy_scope.specs.internal.Trees.{resolved_link, resolved_arm}
+use Rattle.cy_scope.specs.ResolvedExpressions.{resolved, resolved_expressions, resolved_links, resolved_arms}
+use Rattle.cy_scope.specs.internal.ExpressionTrees.{resolved_link, resolved_arm}
 
 pub resolved_list : (scope : Scope) (es : List Expression) → resolved_expressions scope (expressions_from es) ≡ expressions_from (map (resolved scope) es)
 resolved_list scope [] = refl

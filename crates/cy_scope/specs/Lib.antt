@@ -12,6 +12,7 @@ pub mod Sure
 pub mod Views
 pub mod ProjectionFaults
 pub mod ClauseFaults
+pub mod ResolvedExpressions
 pub mod Resolved
 pub mod Rows
 pub mod Kinded

@@ -1,4 +1,5 @@
 pub mod Answers
 pub mod Maps
+pub mod ExpressionTrees
 pub mod Trees
 pub mod TreeWords

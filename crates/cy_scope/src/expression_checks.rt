@@ -8,7 +8,7 @@ ghost use Rattle.cy_scope.specs.Functions.{function_named};
 ghost use Rattle.cy_scope.specs.Faults.{first, unless};
 ghost use Rattle.cy_scope.specs.ExpressionKinds.{kind_of, call_kind, are_flags, gives_flags, is_flag_otherwise};
 ghost use Rattle.cy_scope.specs.internal.Answers.{Fault};
-ghost use Rattle.cy_scope.specs.internal.Trees.{otherwise_of};
+ghost use Rattle.cy_scope.specs.internal.ExpressionTrees.{otherwise_of};
 ghost use Rattle.cy_scope.specs.ExpressionFaults as spec;
 
 use crate::expression_kinds::{binary_kind, call_kind, unary_kind};

@@ -3,8 +3,8 @@
 ghost use Rattle.std.specs.Prelude.{◌≡◌, ◌++◌, map};
 ghost use Rattle.cy_trees.specs.Views.{expression_of, expressions_from, links_from, link_of, arms_from, arm_of};
 ghost use Rattle.cy_scope.specs.Scopes.{find_column};
-ghost use Rattle.cy_scope.specs.internal.Trees.{otherwise_of};
-ghost use Rattle.cy_scope.specs.Resolved as spec;
+ghost use Rattle.cy_scope.specs.internal.ExpressionTrees.{otherwise_of};
+ghost use Rattle.cy_scope.specs.ResolvedExpressions as spec;
 
 use crate::scopes::Scope;
 use cy_trees::{Arm, Expr, Link, Variable};

@@ -2,7 +2,7 @@
 
 ghost use Rattle.std.specs.Prelude.{◌≡◌, map, IfOk, OnOk};
 ghost use Rattle.cy_trees.specs.Views.{expression_of, expressions_from, links_from, link_of, arms_from, arm_of};
-ghost use Rattle.cy_scope.specs.internal.Trees.{otherwise_of};
+ghost use Rattle.cy_scope.specs.internal.ExpressionTrees.{otherwise_of};
 ghost use Rattle.cy_scope.specs.internal.TreeWords as spec;
 
 use cy_trees::{Arm, BinaryOperator, Comparator, Expr, Link, UnaryOperator};

@@ -5,8 +5,8 @@ use Rattle.cy_trees.specs.declared.expressions.Expr.{Case}
 use Rattle.cy_trees.specs.Trees.{Expression, Arms, case, otherwise}
 use Rattle.cy_trees.specs.Views.{expression_of, expressions_from, links_from, link_of, arms_from, arm_of, arms_of}
 use Rattle.cy_trees.proofs.ViewsLemmas.{case_otherwise}
-use Rattle.cy_scope.specs.Resolved.{resolved, resolved_arms}
-use Rattle.cy_scope.specs.internal.Trees.{resolved_link, resolved_arm}
+use Rattle.cy_scope.specs.ResolvedExpressions.{resolved, resolved_arms}
+use Rattle.cy_scope.specs.internal.ExpressionTrees.{resolved_link, resolved_arm}
 use Rattle.cy_scope.proofs.ResolvedLemmas.{resolved_list, resolved_links_list, resolved_arms_list}
 use Rattle.cy_scope.proofs.resolving.+resolving.Goals as goal
 

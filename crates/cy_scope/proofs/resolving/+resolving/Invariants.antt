@@ -1,8 +1,8 @@
 -- What is done, and what the others are to become.
 use Rattle.std.proofs.Common.{◌≡◌, ◌++◌, map}
 use Rattle.cy_trees.specs.Views.{expression_of, link_of, arm_of}
-use Rattle.cy_scope.specs.Resolved.{resolved}
-use Rattle.cy_scope.specs.internal.Trees.{resolved_link, resolved_arm}
+use Rattle.cy_scope.specs.ResolvedExpressions.{resolved}
+use Rattle.cy_scope.specs.internal.ExpressionTrees.{resolved_link, resolved_arm}
 use Rattle.cy_scope.proofs.ResolvedLemmas.{mixed}
 use Rattle.cy_scope.proofs.resolving.+resolving.Given as goal
 

@@ -10,12 +10,12 @@ use Rattle.cy_trees.specs.declared.clauses.Clause.TheVariants as coded_clause
 use Rattle.cy_trees.specs.declared.clauses.Projection as coded_projection
 use Rattle.cy_trees.specs.Trees.{Clause, Name, Item, Projection, «return», Statement}
 use Rattle.cy_trees.specs.Views.{clause_of}
-use Rattle.cy_scope.specs.declared.faults.ScopeFault.{ScopeFault}
-use Rattle.cy_scope.specs.declared.faults.ViewFault.{ViewFault}
+use Rattle.cy_kinds.specs.declared.faults.ScopeFault.{ScopeFault}
+use Rattle.cy_kinds.specs.declared.faults.ViewFault.{ViewFault}
 use Rattle.cy_scope.specs.Checked.{IsChecked, IsViewQuery}
 use Rattle.cy_scope.specs.ClauseFaults.{statement_fault}
 use Rattle.cy_scope.specs.Resolved.{resolved_statement}
-use Rattle.cy_scope.specs.declared.faults.ViewFault.TheVariants.{AggregateInView, MayFail, NotAReading, OrderInView, Unbounded}
+use Rattle.cy_kinds.specs.declared.faults.ViewFault.TheVariants.{AggregateInView, MayFail, NotAReading, OrderInView, Unbounded}
 use Rattle.cy_scope.specs.Views.{are_sure_clauses, ends_with_return, has_aggregate, is_ordered, is_return, is_unbounded, is_update, view_fault}
 use Rattle.cy_oneshot.specs.Queries.{columns_after, columns_after_all}
 use Rattle.cy_updates.specs.Faults.{◌>>=◌}

@@ -8,8 +8,8 @@ use Rattle.cy_lexer.specs.declared.symbols.Symbol.TheVariants as sign
 use Rattle.cy_lexer.specs.declared.tokens.Kind.TheVariants as kind
 use Rattle.cy_lexer.specs.declared.tokens.Token.{Token}
 use Rattle.cy_parser.specs.Words.{denotes, slice_in}
-use Rattle.cy_scope.specs.declared.faults.ScopeFault.TheVariants as scope
-use Rattle.cy_scope.specs.declared.faults.ViewFault.TheVariants as view_fault
+use Rattle.cy_kinds.specs.declared.faults.ScopeFault.TheVariants as scope
+use Rattle.cy_kinds.specs.declared.faults.ViewFault.TheVariants as view_fault
 use Rattle.cy_scope.specs.Resolved.{resolved_statement}
 use Rattle.cy_trees.specs.Trees.{integer, Statement}
 use Rattle.cy_trees.specs.Views.{statement_of}

@@ -6,11 +6,11 @@ use Rattle.cy_lexer.specs.Faults as lexer
 use Rattle.cy_parser.specs.declared.faults.ParseFault.{ParseFault}
 use Rattle.cy_parser.specs.declared.faults.ParseFault.TheVariants as parse
 use Rattle.cy_parser.specs.Faults as parser
-use Rattle.cy_scope.specs.declared.faults.ScopeFault.{ScopeFault}
-use Rattle.cy_scope.specs.declared.faults.ScopeFault.TheVariants as scope
-use Rattle.cy_scope.specs.declared.faults.ViewFault.{ViewFault}
-use Rattle.cy_scope.specs.declared.faults.ViewFault.TheVariants as view
-use Rattle.cy_scope.specs.Faults.{scope_code, view_code}
+use Rattle.cy_kinds.specs.declared.faults.ScopeFault.{ScopeFault}
+use Rattle.cy_kinds.specs.declared.faults.ScopeFault.TheVariants as scope
+use Rattle.cy_kinds.specs.declared.faults.ViewFault.{ViewFault}
+use Rattle.cy_kinds.specs.declared.faults.ViewFault.TheVariants as view
+use Rattle.cy_kinds.specs.Faults.{scope_code, view_code}
 use Rattle.cy_graph.specs.declared.faults.GraphFault.{GraphFault}
 use Rattle.cy_index.specs.declared.faults.IndexFault.{IndexFault}
 use Rattle.cy_index.specs.declared.faults.IndexFault.TheVariants as index

@@ -10,7 +10,7 @@ use Rattle.cy_trees.specs.declared.expressions.UnaryOperator.TheVariants.{Not}
 use Rattle.cy_trees.specs.declared.expressions.BinaryOperator.TheVariants.{And, In, Add, Divide}
 use Rattle.cy_trees.specs.declared.expressions.Comparator.TheVariants.{Less, Greater}
 use Rattle.cy_trees.specs.Trees.{Expression, null, boolean, integer, text, variable, property, has_labels, unary, binary, comparison, list, case, call, Expressions, no_more, more, no_links, link, no_arms, arm, otherwise}
-use Rattle.cy_scope.specs.Functions.{function_named}
+use Rattle.cy_kinds.specs.Functions.{function_named}
 use Rattle.cy_expr.specs.declared.faults.EvalFault.{EvalFault}
 use Rattle.cy_expr.specs.declared.faults.EvalFault.TheVariants.{WrongType, DivisionByZero, NestedList}
 use Rattle.cy_expr.specs.Lookups.{Lookups}

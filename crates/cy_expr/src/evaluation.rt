@@ -23,7 +23,7 @@ use crate::lists::{equals_also, list_of};
 use crate::logic::value_of;
 use crate::lookups::Lookups;
 use crate::views::{CellView, view_of};
-use cy_scope::Function;
+use cy_kinds::Function;
 use cy_trees::{Arm, BinaryOperator, Expr, Link};
 use cy_values::{Cell, Truth, View};
 use std::alloc::Global;

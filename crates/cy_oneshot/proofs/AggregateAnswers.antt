@@ -7,8 +7,8 @@ use Rattle.cy_trees.specs.declared.expressions.Expr.{Expr}
 use Rattle.cy_trees.specs.Trees.{Name, call}
 use Rattle.cy_trees.specs.Views.{expression_of, expressions_from}
 use Rattle.cy_graph.specs.Graph.{Content}
-use Rattle.cy_scope.specs.declared.functions.Function.{Function}
-use Rattle.cy_scope.specs.Functions.{function_named}
+use Rattle.cy_kinds.specs.declared.functions.Function.{Function}
+use Rattle.cy_kinds.specs.Functions.{function_named}
 use Rattle.cy_expr.specs.declared.faults.EvalFault.{EvalFault}
 use Rattle.cy_expr.specs.declared.faults.EvalFault.TheVariants.{NoMemory, WrongType}
 use Rattle.cy_expr.specs.Evaluation.{cell_of}

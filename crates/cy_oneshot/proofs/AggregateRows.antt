@@ -6,7 +6,7 @@ use Rattle.cy_values.specs.declared.scalars.Value.TheVariants as value
 use Rattle.cy_values.specs.declared.rows.Cell.TheVariants as cell
 use Rattle.cy_trees.specs.declared.expressions.BinaryOperator.TheVariants.{And, Divide}
 use Rattle.cy_trees.specs.Trees.{Expression, null, boolean, integer, text, binary, list, no_more, more}
-use Rattle.cy_scope.specs.Functions.{function_named}
+use Rattle.cy_kinds.specs.Functions.{function_named}
 use Rattle.cy_expr.specs.declared.faults.EvalFault.TheVariants.{NotBoolean, WrongType, Overflow, NestedList}
 use Rattle.cy_oneshot.proofs.ExampleGraphs.{empty}
 use Rattle.cy_oneshot.proofs.ExampleTrees.{answer, var, int, property_of, two, apply, apply_distinct, count_star, node_named, single, matching, optional, unwinding, item, column, returning, number_cell, text_cell, null_cell, a, b, c, d, e, n, s, x}

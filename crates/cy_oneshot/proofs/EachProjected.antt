@@ -7,7 +7,7 @@ use Rattle.cy_values.specs.declared.rows.Cell.{Cell}
 use Rattle.cy_values.specs.Order.{row_cmp}
 use Rattle.cy_trees.specs.Trees.{Projection}
 use Rattle.cy_graph.specs.Graph.{Content}
-use Rattle.cy_scope.specs.Aggregates.{has_aggregates}
+use Rattle.cy_kinds.specs.Aggregates.{has_aggregates}
 use Rattle.cy_expr.specs.Faults.{on_one}
 use Rattle.cy_oneshot.specs.Groups.{aggregated, cells_on}
 use Rattle.cy_matching.specs.Order.{Keyed, each_once, in_order, keyed_order}

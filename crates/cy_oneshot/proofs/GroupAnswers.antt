@@ -11,7 +11,7 @@ use Rattle.std.specs.Cmp.{IsTotalOrder}
 use Rattle.cy_values.specs.declared.rows.Cell.{Cell}
 use Rattle.cy_values.specs.Order.{row_cmp}
 use Rattle.cy_trees.specs.Trees.{Expression, Item}
-use Rattle.cy_scope.specs.Aggregates.{is_aggregate_call}
+use Rattle.cy_kinds.specs.Aggregates.{is_aggregate_call}
 use Rattle.cy_graph.specs.Graph.{Content}
 use Rattle.cy_expr.specs.declared.faults.EvalFault.{EvalFault}
 use Rattle.cy_expr.specs.declared.faults.EvalFault.TheVariants.{NoMemory}

@@ -10,8 +10,8 @@ use Rattle.cy_values.specs.Order.{cell_order, row_cmp}
 use Rattle.cy_values.proofs.Identity.{same_cells}
 use Rattle.cy_trees.specs.Trees.{Expression, null, boolean, integer, text, variable, property, has_labels, unary, binary, comparison, list, case, call, call_star, no_more, more, Item}
 use Rattle.cy_graph.specs.Graph.{Content}
-use Rattle.cy_scope.specs.Aggregates.{is_aggregate_call}
-use Rattle.cy_scope.specs.Functions.{function_named}
+use Rattle.cy_kinds.specs.Aggregates.{is_aggregate_call}
+use Rattle.cy_kinds.specs.Functions.{function_named}
 use Rattle.cy_expr.specs.declared.faults.EvalFault.{EvalFault}
 use Rattle.cy_expr.specs.Comparison.{is_null_cell}
 use Rattle.cy_expr.specs.Evaluation.{as_cell, cell_of}

@@ -6,7 +6,7 @@ use Rattle.cy_values.specs.declared.rows.Cell.{Cell}
 use Rattle.cy_values.specs.Order.{row_cmp}
 use Rattle.cy_trees.specs.Trees.{Item, Projection, Clause, «match», unwind, «with», «return», create, set, remove, delete}
 use Rattle.cy_graph.specs.Graph.{Content}
-use Rattle.cy_scope.specs.Aggregates.{is_aggregate_call}
+use Rattle.cy_kinds.specs.Aggregates.{is_aggregate_call}
 use Rattle.cy_expr.specs.Evaluation.{as_cell, cell_of}
 use Rattle.cy_oneshot.specs.Groups.{cells_on, grouping, Grouped, grouped, group_cells, group_keys, group_rows, over_rows, rows_of_group, values_among, aggregated}
 use Rattle.cy_patterns.specs.Matching.{selected, matched, optionally_matched, unwound}

@@ -6,7 +6,7 @@ use Rattle.cy_values.specs.declared.rows.Cell.TheVariants as cell
 use Rattle.cy_trees.specs.declared.clauses.Direction.TheVariants.{Right, Either}
 use Rattle.cy_trees.specs.declared.expressions.Comparator.TheVariants.{Equal}
 use Rattle.cy_trees.specs.Trees.{comparison, no_links, link as and_link}
-use Rattle.cy_scope.specs.Functions.{function_named}
+use Rattle.cy_kinds.specs.Functions.{function_named}
 use Rattle.cy_oneshot.proofs.ExampleGraphs.{A, empty, loop, both_ways, both_ways_of_an_a}
 use Rattle.cy_oneshot.proofs.ExampleTrees.{answer, int, id_of, size_of, some_node, node_named, node_with_label, link, path, lengths, matching, matching_where, item, column, returning, number_cell, node_cell, rel_cell, a, b, n, r, s, x, y}
 

@@ -5,7 +5,7 @@ use Rattle.cy_trees.specs.declared.clauses.Direction.TheVariants.{Right, Left, E
 use Rattle.cy_trees.specs.declared.expressions.BinaryOperator.TheVariants.{And, Divide}
 use Rattle.cy_trees.specs.declared.expressions.Comparator.TheVariants.{Equal}
 use Rattle.cy_trees.specs.Trees.{Name, Expression, null, binary, comparison, no_links, link as and_link, Path}
-use Rattle.cy_scope.specs.Functions.{function_named}
+use Rattle.cy_kinds.specs.Functions.{function_named}
 use Rattle.cy_expr.specs.declared.faults.EvalFault.TheVariants.{DivisionByZero}
 use Rattle.cy_oneshot.proofs.ExampleGraphs.{A, B, T, empty, loop, both_ways, three, keyed, one_with_x, two_apart}
 use Rattle.cy_oneshot.proofs.ExampleTrees.{answer, int, id_of, property_of, apply, var, some_node, node_named, node_with_label, node_with_entry, link, single, path, matching, matching_where, optional, item, column, returning, number_cell, text_cell, node_cell, rel_cell, a, b, c, d, n, r, s, x, y}

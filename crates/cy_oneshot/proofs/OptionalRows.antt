@@ -4,7 +4,7 @@ use Rattle.std.specs.Prelude.{Ok}
 use Rattle.cy_trees.specs.declared.clauses.Direction.TheVariants.{Right}
 use Rattle.cy_trees.specs.declared.expressions.Comparator.TheVariants.{Equal}
 use Rattle.cy_trees.specs.Trees.{comparison, no_links, link as and_link, Clause, «match»}
-use Rattle.cy_scope.specs.Functions.{function_named}
+use Rattle.cy_kinds.specs.Functions.{function_named}
 use Rattle.cy_oneshot.proofs.ExampleGraphs.{A, B, T, empty, one_a, a_to_b, to_another_b}
 use Rattle.cy_oneshot.proofs.ExampleTrees.{answer, int, id_of, some_node, node_named, node_with_label, link, single, path, matching, optional, column, returning, null_cell, node_cell, a, b, n}
 

@@ -6,7 +6,7 @@ use Rattle.cy_values.specs.declared.rows.Cell.{Cell}
 use Rattle.cy_values.specs.Order.{row_cmp}
 use Rattle.cy_trees.specs.Trees.{Projection}
 use Rattle.cy_graph.specs.Graph.{Content}
-use Rattle.cy_scope.specs.Aggregates.{has_aggregates}
+use Rattle.cy_kinds.specs.Aggregates.{has_aggregates}
 use Rattle.cy_expr.specs.declared.faults.EvalFault.{EvalFault}
 use Rattle.cy_expr.specs.Faults.{on_one}
 use Rattle.cy_oneshot.specs.Groups.{aggregated}

@@ -6,7 +6,7 @@ use Rattle.std.proofs.lemmas.List.{length-map, take_at, take_all}
 use Rattle.std.proofs.lemmas.Simd.{map-map}
 use Rattle.cy_values.specs.declared.rows.Cell.{Cell}
 use Rattle.cy_trees.specs.Trees.{Expression, Item, Key, Projection}
-use Rattle.cy_scope.specs.Aggregates.{is_aggregate_call}
+use Rattle.cy_kinds.specs.Aggregates.{is_aggregate_call}
 use Rattle.cy_graph.specs.Graph.{Content}
 use Rattle.cy_expr.specs.declared.faults.EvalFault.{EvalFault}
 use Rattle.cy_expr.specs.Evaluation.{as_cell, cell_of}

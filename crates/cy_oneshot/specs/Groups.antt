@@ -7,10 +7,10 @@ use Rattle.cy_values.specs.declared.rows.Cell.{Cell}
 use Rattle.cy_values.specs.Order.{cell_order, row_cmp}
 use Rattle.cy_trees.specs.Trees.{Expression, no_more, more, call, call_star, Item}
 use Rattle.cy_graph.specs.Graph.{Content}
-use Rattle.cy_scope.specs.declared.functions.Function.{Function}
-use Rattle.cy_scope.specs.declared.functions.Function.TheVariants.{Count, Sum, Min, Max, Collect}
-use Rattle.cy_scope.specs.Aggregates.{is_aggregate_call}
-use Rattle.cy_scope.specs.Functions.{function_named}
+use Rattle.cy_kinds.specs.declared.functions.Function.{Function}
+use Rattle.cy_kinds.specs.declared.functions.Function.TheVariants.{Count, Sum, Min, Max, Collect}
+use Rattle.cy_kinds.specs.Aggregates.{is_aggregate_call}
+use Rattle.cy_kinds.specs.Functions.{function_named}
 use Rattle.cy_expr.specs.declared.faults.EvalFault.{EvalFault}
 use Rattle.cy_expr.specs.declared.faults.EvalFault.TheVariants.{WrongType}
 use Rattle.cy_expr.specs.Arithmetic.{integer}

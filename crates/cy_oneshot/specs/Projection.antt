@@ -8,8 +8,8 @@ use Rattle.cy_values.specs.declared.rows.Cell.TheVariants as cell
 use Rattle.cy_values.specs.Order.{row_cmp}
 use Rattle.cy_trees.specs.Trees.{Expression, Item, Key, Projection}
 use Rattle.cy_graph.specs.Graph.{Content}
-use Rattle.cy_scope.specs.Aggregates.{has_aggregates}
-use Rattle.cy_scope.specs.Same.{same}
+use Rattle.cy_kinds.specs.Aggregates.{has_aggregates}
+use Rattle.cy_kinds.specs.Same.{same}
 use Rattle.cy_expr.specs.declared.faults.EvalFault.{EvalFault}
 use Rattle.cy_expr.specs.Evaluation.{cell_of}
 use Rattle.cy_expr.specs.Faults.{on_one}

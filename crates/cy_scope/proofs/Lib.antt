@@ -1,11 +1,9 @@
-pub mod ScopesLemmas
-pub mod ResolvedLemmas
-pub mod Columns
-pub mod RowsLemmas
-pub mod TreeWordsLemmas
+mod Columns
+mod RowsLemmas
+mod TreeWordsLemmas
 pub mod KindsKept
-pub mod SameTrees
+mod SameTrees
 pub mod KindedExpressions
-pub mod KindedPatterns
-pub mod KindedClauses
-pub mod WorkedRows
+mod KindedPatterns
+mod KindedClauses
+mod WorkedRows

@@ -3,7 +3,7 @@ use Rattle.std.proofs.Common.{◌≡◌, ℕ, List, [], ◌∷◌, Option, Some,
 use Rattle.std.specs.Prelude.{codes}
 use Rattle.std.specs.Option.{option_map}
 use Rattle.cy_trees.specs.Trees.{Name, Expression, integer, variable, Path, Item, Projection, Clause, «with», «return», create}
-use Rattle.cy_scope.specs.Faults.{scope_code}
+use Rattle.cy_kinds.specs.Faults.{scope_code}
 use Rattle.cy_scope.specs.ClauseFaults.{statement_fault}
 
 abbrev node : Name → Path

@@ -2,16 +2,16 @@
 use Rattle.std.specs.Prelude.{true, false, not, List, [], ◌∷◌, Option, Some, None}
 use Rattle.cy_trees.specs.declared.expressions.Variable.{Variable}
 use Rattle.cy_trees.specs.Trees.{Expression, SetItem, set_property, set_labels, RemoveItem, remove_property, remove_labels, Clause, «match», unwind, «with», «return», create, set, remove, delete, Statement}
-use Rattle.cy_scope.specs.declared.kinds.Kind.{Kind}
-use Rattle.cy_scope.specs.declared.faults.ScopeFault.{ScopeFault}
-use Rattle.cy_scope.specs.declared.faults.ScopeFault.TheVariants.{UnknownVariable, AlreadyBound, WrongKind}
-use Rattle.cy_scope.specs.Kinds.{is_node, is_entity}
-use Rattle.cy_scope.specs.Scopes.{Scope, find_kind, is_bound, with_paths}
+use Rattle.cy_kinds.specs.declared.kinds.Kind.{Kind}
+use Rattle.cy_kinds.specs.declared.faults.ScopeFault.{ScopeFault}
+use Rattle.cy_kinds.specs.declared.faults.ScopeFault.TheVariants.{UnknownVariable, AlreadyBound, WrongKind}
+use Rattle.cy_kinds.specs.Kinds.{is_node, is_entity}
+use Rattle.cy_kinds.specs.Scopes.{Scope, find_kind, is_bound, with_paths}
 use Rattle.cy_scope.specs.ClauseScopes.{columns_of, scope_after}
-use Rattle.cy_scope.specs.ExpressionFaults.{value_fault}
+use Rattle.cy_kinds.specs.ExpressionFaults.{value_fault}
 use Rattle.cy_scope.specs.PatternFaults.{paths_fault}
 use Rattle.cy_scope.specs.ProjectionFaults.{projection_fault}
-use Rattle.cy_scope.specs.Faults.{first, first_fault, unless}
+use Rattle.cy_kinds.specs.Faults.{first, first_fault, unless}
 
 -- what stands after WHERE is a value
 abbrev pub where_fault : Scope → Option Expression → Option ScopeFault

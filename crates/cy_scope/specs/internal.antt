@@ -1,5 +1,1 @@
-pub mod Answers
-pub mod Maps
-pub mod ExpressionTrees
 pub mod Trees
-pub mod TreeWords

@@ -2,18 +2,15 @@
 
 ghost use Rattle.std.specs.Prelude.{◌≡◌, ◌⊎◌, [], map, None, Some, MatchResult};
 ghost use Rattle.cy_trees.specs.Views.{filter_of, set_item_of, remove_item_of, clause_of};
-ghost use Rattle.cy_scope.specs.Scopes.{find_kind};
+ghost use Rattle.cy_kinds.specs.Scopes.{find_kind};
 ghost use Rattle.cy_scope.specs.ClauseScopes.{scope_after};
-ghost use Rattle.cy_scope.specs.internal.Answers.{Fault, MayFault, GoesOn};
+ghost use Rattle.cy_kinds.specs.internal.Answers.{Fault, MayFault, GoesOn};
 ghost use Rattle.cy_scope.specs.internal.Trees.{unwind_of, match_of, with_of};
 ghost use Rattle.cy_scope.specs.ClauseFaults as spec;
 
-use crate::expression_checks::{check_value, demand};
-use crate::faults::ScopeFault;
-use crate::kinds::Kind;
 use crate::pattern_checks::check_paths;
 use crate::projection_checks::check_projection;
-use crate::scopes::Scope;
+use cy_kinds::{Kind, Scope, ScopeFault, check_value, demand};
 use cy_trees::{Clause, Expr, Match, RemoveItem, SetItem, Unwind, Variable, With};
 use std::alloc::Global;
 

@@ -4,19 +4,17 @@ ghost use Rattle.std.specs.Prelude.{◌≡◌, ◌++◌, [], map, IfOk, OnOk};
 ghost use Rattle.cy_trees.specs.Views.{expression_of, item_of, key_of, projection_of, set_item_of, remove_item_of, clause_of};
 ghost use Rattle.cy_scope.specs.ClauseScopes.{scope_after, columns_of};
 ghost use Rattle.cy_scope.specs.ProjectionFaults.{seen_by_keys};
-ghost use Rattle.cy_scope.specs.internal.TreeWords.{ArePlaced};
+ghost use Rattle.cy_kinds.specs.internal.TreeWords.{ArePlaced};
 ghost use Rattle.cy_scope.specs.internal.Trees.{unwind_of, match_of, with_of};
 ghost use Rattle.cy_scope.specs.Resolved as spec;
 
 use crate::clause_scopes::columns_of;
-use crate::kinds::Kind;
 use crate::pattern_columns::{
     resolve, resolve_paths, resolved_expression, resolved_in, resolved_where,
 };
 use crate::projection_checks::seen_by_keys;
 use crate::repeats::{Places, places_of, repeats};
-use crate::resolving::resolved;
-use crate::scopes::Scope;
+use cy_kinds::{Kind, Scope, resolved};
 use cy_trees::{
     Clause, Expr, Item, Key, Match, Projection, RemoveItem, SetItem, Unwind, Variable, With,
 };

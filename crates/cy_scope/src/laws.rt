@@ -3,10 +3,10 @@
 ghost use Rattle.std.specs.Prelude.{◌≡◌, ℕ, IsTrue, List, [], Some, slice_get};
 ghost use Rattle.cy_trees.specs.Trees.{Name, Statement};
 ghost use Rattle.cy_values.specs.declared.rows.Cell.{Cell};
-ghost use Rattle.cy_scope.specs.declared.kinds.Kind.{Kind};
-ghost use Rattle.cy_scope.specs.Scopes.{Scope};
+ghost use Rattle.cy_kinds.specs.declared.kinds.Kind.{Kind};
+ghost use Rattle.cy_kinds.specs.Scopes.{Scope};
 ghost use Rattle.cy_scope.specs.Checked.{IsChecked, ClausesAreKinded};
-ghost use Rattle.cy_scope.specs.Rows.{row_fits, is_cell_of};
+ghost use Rattle.cy_kinds.specs.Rows.{row_fits, is_cell_of};
 
 /// In a checked statement each variable that is read is a column of its name, and each expression is of a kind that its place
 /// takes, in the scope of its place. And a row that fits a scope has in each column a cell of the kind of its variable (own).

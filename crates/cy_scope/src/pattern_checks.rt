@@ -2,15 +2,12 @@
 
 ghost use Rattle.std.specs.Prelude.{◌≡◌, ◌⊎◌, ◌++◌, [], ◌∷◌, map, None, Some, OnOk, MatchResult};
 ghost use Rattle.cy_trees.specs.Views.{properties_of, node_of, relationship_of, step_of, path_of, entry_of};
-ghost use Rattle.cy_scope.specs.declared.kinds.Kind.TheVariants as kinds;
-ghost use Rattle.cy_scope.specs.Scopes.{added_name, added, relationship_kind, with_step, with_path};
-ghost use Rattle.cy_scope.specs.internal.Answers.{Fault, MayFault, GoesOn};
+ghost use Rattle.cy_kinds.specs.declared.kinds.Kind.TheVariants as kinds;
+ghost use Rattle.cy_kinds.specs.Scopes.{added_name, added, relationship_kind, with_step, with_path};
+ghost use Rattle.cy_kinds.specs.internal.Answers.{Fault, MayFault, GoesOn};
 ghost use Rattle.cy_scope.specs.PatternFaults as spec;
 
-use crate::expression_checks::{check_value, demand, find_kind};
-use crate::faults::ScopeFault;
-use crate::kinds::Kind;
-use crate::scopes::{Scope, relationship_kind};
+use cy_kinds::{Kind, Scope, ScopeFault, check_value, demand, find_kind, relationship_kind};
 use cy_trees::{Direction, MapEntry, NodePattern, Path, RelationshipPattern, Step, Variable};
 use cy_values::Text;
 use std::alloc::{AllocError, Global};

@@ -4,8 +4,7 @@ ghost use Rattle.std.specs.Prelude.{◌≡◌, map};
 ghost use Rattle.cy_trees.specs.Views.{expression_of, entry_of, properties_of, node_of, relationship_of, step_of, path_of, filter_of};
 ghost use Rattle.cy_scope.specs.Resolved as spec;
 
-use crate::resolving::{resolved, resolved_variable};
-use crate::scopes::Scope;
+use cy_kinds::{Scope, resolved, resolved_variable};
 use cy_trees::{Expr, MapEntry, NodePattern, Path, RelationshipPattern, Step, Variable};
 use std::alloc::Global;
 use std::mem;

@@ -2,14 +2,14 @@
 
 ghost use Rattle.std.specs.Prelude.{◌≡◌, ◌⊎◌, None, Some, IfOk, MatchResult};
 ghost use Rattle.cy_trees.specs.Views.{statement_of};
-ghost use Rattle.cy_scope.specs.declared.faults.ScopeFault.TheVariants.{NoMemory};
+ghost use Rattle.cy_kinds.specs.declared.faults.ScopeFault.TheVariants.{NoMemory};
 ghost use Rattle.cy_scope.specs.ClauseFaults.{statement_fault};
 ghost use Rattle.cy_scope.specs.Resolved.{resolved_statement};
 
 use crate::checked::Checked;
 use crate::clause_checks::check_clauses;
 use crate::clause_columns::resolve_clauses;
-use crate::faults::ScopeFault;
+use cy_kinds::ScopeFault;
 use cy_trees::Statement;
 use std::alloc::{AllocError, Global};
 

@@ -5,8 +5,7 @@ ghost use Rattle.cy_trees.specs.Views.{properties_of, filter_of, clause_of, item
 ghost use Rattle.cy_scope.specs.Views as spec;
 
 use crate::clause_scopes::go_on;
-use crate::scopes::Scope;
-use crate::sure::{is_sure, is_sure_flag};
+use cy_kinds::{Scope, is_sure, is_sure_flag};
 use cy_trees::{Clause, Expr, Item, MapEntry, Path, Step};
 use std::alloc::{AllocError, Global};
 

@@ -3,13 +3,12 @@
 ghost use Rattle.std.specs.Prelude.{◌≡◌, ◌⊎◌, map, None, Some, Ok, Err, MatchResult, IfOk};
 ghost use Rattle.std.specs.List.{list_any};
 ghost use Rattle.cy_trees.specs.Views.{clause_of, statement_of, path_of, projection_of};
-ghost use Rattle.cy_scope.specs.declared.faults.ViewFault.TheVariants.{NoMemory};
+ghost use Rattle.cy_kinds.specs.declared.faults.ViewFault.TheVariants.{NoMemory};
 ghost use Rattle.cy_scope.specs.Views as spec;
 
-use crate::aggregates::has_aggregates;
 use crate::checked::{Checked, ViewQuery};
-use crate::faults::ViewFault;
 use crate::sureness::are_sure_clauses;
+use cy_kinds::{ViewFault, has_aggregates};
 use cy_trees::{Clause, Length, Path, Projection, Statement};
 use std::alloc::Global;
 

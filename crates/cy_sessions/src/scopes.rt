@@ -1,9 +1,10 @@
 //! Statements and queries that the rules of names and kinds accept, and the columns of their variables. What they refuse
 //! stands in transcripts.
 
+use cy_kinds::ScopeFault;
 use cy_lexer::lex;
 use cy_parser::{Clause, Expr, Projection, parse};
-use cy_scope::{Checked, ScopeFault, check, check_view};
+use cy_scope::{Checked, check, check_view};
 use std::alloc::{AllocError, Global};
 use std::test::Fail;
 

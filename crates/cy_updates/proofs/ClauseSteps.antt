@@ -11,12 +11,12 @@ use Rattle.cy_values.specs.declared.rows.Cell.{Cell}
 use Rattle.cy_values.specs.Bag.{IsSameBag}
 use Rattle.cy_values.specs.Order.{row_cmp}
 use Rattle.cy_trees.specs.Trees.{Name, Clause, «match», unwind, «with», «return», create, set, remove, delete, Projection}
-use Rattle.cy_scope.specs.declared.kinds.Kind.{Kind}
+use Rattle.cy_kinds.specs.declared.kinds.Kind.{Kind}
 use Rattle.cy_scope.specs.ClauseFaults.{clause_fault, clauses_fault}
 use Rattle.cy_scope.specs.ClauseScopes.{scope_after}
 use Rattle.cy_scope.specs.Resolved.{resolved_clause, resolved_clauses}
-use Rattle.cy_scope.specs.Rows.{row_fits}
-use Rattle.cy_scope.specs.Scopes.{Scope}
+use Rattle.cy_kinds.specs.Rows.{row_fits}
+use Rattle.cy_kinds.specs.Scopes.{Scope}
 use Rattle.cy_scope.specs.Views.{ends_with_return, is_return, is_update}
 use Rattle.cy_scope.proofs.KindedExpressions.{first_none}
 use Rattle.cy_graph.specs.declared.nodes.Node.{Node}

@@ -11,8 +11,8 @@ use Rattle.cy_scope.specs.Checked.{IsChecked}
 use Rattle.cy_scope.specs.ClauseFaults.{clause_fault}
 use Rattle.cy_scope.specs.ClauseScopes.{scope_after}
 use Rattle.cy_scope.specs.Resolved.{resolved_clause}
-use Rattle.cy_scope.specs.Rows.{row_fits}
-use Rattle.cy_scope.specs.Scopes.{Scope}
+use Rattle.cy_kinds.specs.Rows.{row_fits}
+use Rattle.cy_kinds.specs.Scopes.{Scope}
 use Rattle.cy_scope.specs.Views.{ends_with_return, is_return, is_update}
 use Rattle.cy_graph.specs.Graph.{Content, State, IsGraph}
 use Rattle.cy_expr.specs.declared.faults.EvalFault.{EvalFault}

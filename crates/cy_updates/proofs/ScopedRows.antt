@@ -11,16 +11,16 @@ use Rattle.cy_values.specs.Order.{row_cmp}
 use Rattle.cy_trees.specs.declared.clauses.Length.{Length}
 use Rattle.cy_trees.specs.declared.expressions.Variable.{Variable}
 use Rattle.cy_trees.specs.Trees.{Name, MapEntry, NodePattern, RelationshipPattern, Step, Path, Clause, «match», unwind, «with», «return», create, set, remove, delete}
-use Rattle.cy_scope.specs.declared.faults.ScopeFault.TheVariants.{AlreadyBound, BadCreate}
-use Rattle.cy_scope.specs.declared.kinds.Kind.{Kind}
-use Rattle.cy_scope.specs.declared.kinds.Kind.TheVariants as kind
+use Rattle.cy_kinds.specs.declared.faults.ScopeFault.TheVariants.{AlreadyBound, BadCreate}
+use Rattle.cy_kinds.specs.declared.kinds.Kind.{Kind}
+use Rattle.cy_kinds.specs.declared.kinds.Kind.TheVariants as kind
 use Rattle.cy_scope.specs.ClauseFaults.{clause_fault}
 use Rattle.cy_scope.specs.ClauseScopes.{scope_after}
-use Rattle.cy_scope.specs.Faults.{first, unless}
+use Rattle.cy_kinds.specs.Faults.{first, unless}
 use Rattle.cy_scope.specs.PatternFaults.{can_be_made, has_steps, is_directed, is_one_type, map_fault, node_fault, path_fault, paths_fault, relationship_fault, relationship_name_fault, step_fault, steps_fault}
 use Rattle.cy_scope.specs.Resolved.{resolved_clause, resolved_map, resolved_name, resolved_node, resolved_path, resolved_step, resolved_variable}
-use Rattle.cy_scope.specs.Rows.{is_cell_of, row_fits}
-use Rattle.cy_scope.specs.Scopes.{Scope, added, find_column, find_kind, is_bound, relationship_kind, with_path, with_paths, with_step, with_steps}
+use Rattle.cy_kinds.specs.Rows.{is_cell_of, row_fits}
+use Rattle.cy_kinds.specs.Scopes.{Scope, added, find_column, find_kind, is_bound, relationship_kind, with_path, with_paths, with_step, with_steps}
 use Rattle.cy_scope.specs.Views.{is_update}
 use Rattle.cy_scope.proofs.KindedExpressions.{first_none, unless_none}
 use Rattle.cy_graph.specs.Graph.{State, with_node, with_rel}

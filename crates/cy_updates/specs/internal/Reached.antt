@@ -5,8 +5,8 @@ use Rattle.cy_values.specs.declared.rows.Cell.{Cell}
 use Rattle.cy_trees.specs.Trees.{Name, Clause, Statement}
 use Rattle.cy_scope.specs.ClauseFaults.{clauses_fault}
 use Rattle.cy_scope.specs.Resolved.{resolved_clauses}
-use Rattle.cy_scope.specs.Rows.{row_fits}
-use Rattle.cy_scope.specs.Scopes.{Scope}
+use Rattle.cy_kinds.specs.Rows.{row_fits}
+use Rattle.cy_kinds.specs.Scopes.{Scope}
 use Rattle.cy_scope.specs.Views.{ends_with_return}
 use Rattle.cy_graph.specs.Graph.{State}
 use Rattle.cy_oneshot.specs.Queries.{columns_after_all, query_columns}

@@ -1,7 +1,7 @@
 use Rattle.std.proofs.Common.{inl, sym, ap, ◌∙◌, arith}
 use Rattle.std.proofs.lemmas.Bool.Decides.{nat_tests}
 use Rattle.std.proofs.lemmas.Result.{err_from_is_err_and}
-use Rattle.cy_scope.specs.Functions.{function_named}
+use Rattle.cy_kinds.specs.Functions.{function_named}
 use Rattle.cy_oneshot.proofs.AggregateAnswers.{answers_one, fails_one, of_others}
 use Rattle.cy_oneshot.proofs.aggregates.over_call.Goals as goal
 

@@ -1,0 +1,13 @@
+pub mod Kinds
+pub mod Functions
+pub mod Aggregates
+pub mod Faults
+pub mod Scopes
+pub mod ExpressionKinds
+pub mod ExpressionFaults
+pub mod Same
+pub mod Sure
+pub mod ResolvedExpressions
+pub mod Rows
+pub mod Kinded
+pub mod internal

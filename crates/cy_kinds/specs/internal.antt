@@ -1,0 +1,4 @@
+pub mod Answers
+pub mod Maps
+pub mod ExpressionTrees
+pub mod TreeWords

@@ -101,7 +101,7 @@ impl Engine {
         ensures { Step (state_of self.old) line.now result self.new.entries (state_of self.new) }
     {
         let mut entries = Sequence::new(Vec::new(self.alloc));
-        let answer = self.answer(line, &mut entries);
+        let answer = self.reply_to(line, &mut entries);
         self.entries = entries;
         answer
     }
@@ -143,7 +143,11 @@ impl Engine {
     }
 
     // Answers a line. The entries are none so far, and then those that it makes.
-    fn answer(&mut self, line: &str, entries: &mut Sequence<(Text, Entry)>) -> Result<Reply, Fault>
+    fn reply_to(
+        &mut self,
+        line: &str,
+        entries: &mut Sequence<(Text, Entry)>,
+    ) -> Result<Reply, Fault>
         requires none { entries.old ≡ [] }
         ensures { Step (state_of self.old) line.now result entries.new (state_of self.new) }
     {

@@ -21,7 +21,7 @@ pub(crate) struct AnsweredLine {
 }
 
 /// Answers a line, whose text is made in a room.
-pub(crate) fn answer(
+pub(crate) fn print_answer(
     alloc: Global,
     engine: &mut Engine,
     line: &LineBuffer,

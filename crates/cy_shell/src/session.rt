@@ -7,7 +7,7 @@ ghost use Rattle.cy_shell.specs.Printed.{fed};
 ghost use Rattle.cy_shell.specs.Runs.{WritesRun, WritesBeginning, beginning};
 ghost use Rattle.cy_shell.specs.internal.Serving.{serving};
 
-use crate::answers::answer;
+use crate::answers::print_answer;
 use crate::buffer::LineBuffer;
 use crate::feeding::write_feed;
 use crate::streams::{Failed, Sink};
@@ -94,7 +94,7 @@ impl Session {
             → WritesBeginning (serving self.old.engine self.old.feed) (line ∷ []) (W.written sink.old) (W.written sink.new)) }
         ensures fails { OnErr result (W.has_failed sink.new ≡ true) }
     {
-        let answered = answer(self.alloc, &mut self.engine, &self.line, &mut self.room);
+        let answered = print_answer(self.alloc, &mut self.engine, &self.line, &mut self.room);
         self.line.clear();
         write_text(sink, answered.printed.bytes(self.room.as_slice()))?;
         let entries = fed_entries(&self.engine, self.feed, answered.is_carried);

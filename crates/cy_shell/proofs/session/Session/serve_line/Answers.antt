@@ -10,19 +10,19 @@ use Rattle.cy_shell.proofs.session.Session.serve_line.Goals as goal
 -- the answer broke off
 pub returns-in_err-write_text-clause-broken_off : goal.returns-in_err-write_text-clause-broken_off
 returns-in_err-write_text-clause-broken_off g c =
-    on_err c.from_residual.result (λ line keeps. line_begun _ line _ _ _ c.args.self.now.feed _ _ (c.answer-answered.ensures line keeps) (subst (AppendsFront _ _) (c.bytes.ensures ∙ ap (printed_text c.answer-answered.result.printed) c.as_slice.ensures.value) c.in_err-write_text.ensures.front))
+    on_err c.from_residual.result (λ line keeps. line_begun _ line _ _ _ c.args.self.now.feed _ _ (c.print_answer-answered.ensures line keeps) (subst (AppendsFront _ _) (c.bytes.ensures ∙ ap (printed_text c.print_answer-answered.result.printed) c.as_slice.ensures.value) c.in_err-write_text.ensures.front))
 
 pub returns-clause-served : goal.returns-clause-served
 returns-clause-served g c =
     on_ok_weaker c.write_feed.result
-    (λ written line keeps. line_served _ line _ _ _ c.args.self.now.feed _ _ _ (c.answer-answered.ensures line keeps)
-    (c.in_ok-write_text.ensures.written ∙ ap (appended _) (c.bytes.ensures ∙ ap (printed_text c.answer-answered.result.printed) c.as_slice.ensures.value)) c.fed_entries-entries.result.now c.fed_entries-entries.ensures written)
+    (λ written line keeps. line_served _ line _ _ _ c.args.self.now.feed _ _ _ (c.print_answer-answered.ensures line keeps)
+    (c.in_ok-write_text.ensures.written ∙ ap (appended _) (c.bytes.ensures ∙ ap (printed_text c.print_answer-answered.result.printed) c.as_slice.ensures.value)) c.fed_entries-entries.result.now c.fed_entries-entries.ensures written)
     c.write_feed.ensures.written
 
 -- the entries behind it broke off
 pub returns-clause-broken_off : goal.returns-clause-broken_off
 returns-clause-broken_off g c =
     on_err_weaker c.write_feed.result
-    (λ begun line keeps. line_feeding _ line _ _ _ c.args.self.now.feed _ _ _ (c.answer-answered.ensures line keeps)
-    (c.in_ok-write_text.ensures.written ∙ ap (appended _) (c.bytes.ensures ∙ ap (printed_text c.answer-answered.result.printed) c.as_slice.ensures.value)) c.fed_entries-entries.result.now c.fed_entries-entries.ensures begun)
+    (λ begun line keeps. line_feeding _ line _ _ _ c.args.self.now.feed _ _ _ (c.print_answer-answered.ensures line keeps)
+    (c.in_ok-write_text.ensures.written ∙ ap (appended _) (c.bytes.ensures ∙ ap (printed_text c.print_answer-answered.result.printed) c.as_slice.ensures.value)) c.fed_entries-entries.result.now c.fed_entries-entries.ensures begun)
     c.write_feed.ensures.begun

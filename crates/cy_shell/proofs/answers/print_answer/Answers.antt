@@ -1,5 +1,5 @@
 use Rattle.cy_shell.proofs.LineTexts.{carried, not_carried}
-use Rattle.cy_shell.proofs.answers.answer.Goals as goal
+use Rattle.cy_shell.proofs.answers.print_answer.Goals as goal
 
 pub returns-in-Ok : goal.returns-in-Ok
 returns-in-Ok c = λ bytes is. carried _ bytes _ c.in-Ok.text _ (c.in-Ok.ensures bytes is) c.answer_text.ensures

@@ -6,7 +6,7 @@ use Rattle.cy_engine.specs.Requests.{Nothing, StatementOf, ViewOf, RowsOf, reque
 use Rattle.cy_engine.specs.Model.{state_of}
 use Rattle.cy_engine.specs.State.{Entries}
 use Rattle.cy_engine.proofs.Lines.{lex_refused, line_step, request_refused, rows_answered, no_error, same_error}
-use Rattle.cy_engine.proofs.engine.Engine.answer.Goals as goal
+use Rattle.cy_engine.proofs.engine.Engine.reply_to.Goals as goal
 
 pub returns-in_err-tokens : goal.returns-in_err-tokens
 returns-in_err-tokens c =

@@ -23,7 +23,7 @@ mod Projections
 mod SortedKeys
 mod EachRow
 mod EachProjected
-mod InGraphClauses
+pub mod InGraphClauses
 pub mod ScopePlaces
 mod ScopeItems
 pub mod ScopeClauses

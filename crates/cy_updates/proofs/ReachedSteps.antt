@@ -20,7 +20,7 @@ use Rattle.cy_oneshot.specs.declared.table.Table.{Table}
 use Rattle.cy_oneshot.specs.Projection.{projection_rows}
 use Rattle.cy_oneshot.specs.Queries.{columns_after, columns_after_all, rows_after}
 use Rattle.cy_matching.specs.Reading.{AreInGraph, IsInGraph}
-use Rattle.cy_matching.proofs.InGraphLemmas.{clause_there}
+use Rattle.cy_oneshot.proofs.InGraphClauses.{clause_there}
 use Rattle.cy_oneshot.proofs.QueryLemmas.{last_later}
 use Rattle.cy_oneshot.proofs.ScopeClauses as reading
 use Rattle.cy_oneshot.proofs.ScopeColumns.{clause_columns}

@@ -2,7 +2,7 @@ use Rattle.std.proofs.Common.{◌+◌, ◌++◌, List, drop, sym, ap, ◌∙◌}
 use Rattle.std.specs.Prelude.{flat_map}
 use Rattle.std.proofs.lemmas.List.{append-nil, drop_all}
 use Rattle.cy_values.specs.declared.rows.Cell.{Cell}
-use Rattle.cy_matching.proofs.Together.{next_of}
+use Rattle.cy_patterns.proofs.SliceReads.{next_of}
 use Rattle.cy_updates.specs.Deleting.{named}
 use Rattle.cy_updates.specs.Values.{named_by}
 use Rattle.cy_updates.specs.internal.Deleting.{nodes_among, rels_among}

@@ -2,7 +2,7 @@ use Rattle.std.proofs.Common.{◌+◌, ◌++◌, List, drop, sym, ap, ◌∙◌}
 use Rattle.std.specs.Prelude.{flat_map}
 use Rattle.std.proofs.lemmas.List.{append-nil, drop_all}
 use Rattle.cy_trees.specs.declared.expressions.Variable.{Variable}
-use Rattle.cy_matching.proofs.Together.{next_of}
+use Rattle.cy_patterns.proofs.SliceReads.{next_of}
 use Rattle.cy_updates.specs.Values.{named_by}
 use Rattle.cy_updates.specs.internal.Deleting.{nodes_among, rels_among}
 use Rattle.cy_updates.proofs.DeletedSets.{nodes_pushed, rels_pushed}

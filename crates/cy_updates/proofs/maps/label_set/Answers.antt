@@ -3,7 +3,7 @@ use Rattle.std.specs.Prelude.{⊤}
 use Rattle.cy_trees.specs.Trees.{Name}
 use Rattle.cy_graph.specs.Maps.{with_value}
 use Rattle.cy_graph.proofs.Ordered.{entry_added}
-use Rattle.cy_matching.proofs.Together.{next_of}
+use Rattle.cy_patterns.proofs.SliceReads.{next_of}
 use Rattle.cy_updates.proofs.InTurn.{next_folds}
 use Rattle.cy_updates.proofs.maps.label_set.Goals as goal
 

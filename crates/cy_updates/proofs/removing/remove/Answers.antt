@@ -3,7 +3,7 @@ use Rattle.std.proofs.lemmas.List.{drop_all}
 use Rattle.cy_graph.specs.Graph.{State}
 use Rattle.cy_trees.specs.Views.{remove_item_of}
 use Rattle.cy_matching.specs.internal.Answers.{IsRowThere}
-use Rattle.cy_matching.proofs.Together.{next_of}
+use Rattle.cy_patterns.proofs.SliceReads.{next_of}
 use Rattle.cy_updates.specs.Statements.{remove_row}
 use Rattle.cy_updates.proofs.Graphs.{Kept, node_kept, rel_kept}
 use Rattle.cy_updates.proofs.Grown.{rows_still}

@@ -2,7 +2,7 @@ use Rattle.std.proofs.Common.{◌+◌, ◌≡◌, IsSome, List, ℕ, sym, ap, su
 use Rattle.std.proofs.lemmas.List.{drop_all}
 use Rattle.cy_graph.specs.Graph.{with_label, with_node_changed}
 use Rattle.cy_index.specs.Index.{StoreState}
-use Rattle.cy_matching.proofs.Together.{next_of}
+use Rattle.cy_patterns.proofs.SliceReads.{next_of}
 use Rattle.cy_updates.proofs.Graphs.{Kept, label_kept, node_kept}
 use Rattle.cy_updates.proofs.InTurn.{all_folded, next_folds}
 use Rattle.cy_updates.proofs.setting.add_each.Goals as goal

@@ -1,6 +1,6 @@
 use Rattle.cy_engine.proofs.Effects.{effects, exact}
 use Rattle.cy_engine.proofs.Following.{views_kept}
-use Rattle.cy_engine.proofs.runs.headline.Goals as goal
+use Rattle.cy_engine.proofs.laws.headline.Goals as goal
 
 pub returns-clause-views : goal.returns-clause-views
 returns-clause-views c = views_kept c.view_queries.ensures

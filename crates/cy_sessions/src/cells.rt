@@ -1,6 +1,6 @@
 //! Cells as text.
 
-use cy_values::{Cell, Scalar, Value};
+use cy_values::{Cell, RelId, Scalar, Value};
 use std::alloc::AllocError;
 use std::fmt::Write;
 
@@ -29,6 +29,19 @@ fn add_scalars(text: &mut String, scalars: &[Scalar]) -> Result<(), AllocError> 
     text.push_str("]")
 }
 
+// Adds the relationships of a list.
+fn add_rels(text: &mut String, ids: &[RelId]) -> Result<(), AllocError> {
+    text.push_str("[")?;
+    for (place, id) in ids.iter().enumerate() {
+        if place > 0 {
+            text.push_str(",")?;
+        }
+        let id = id.0;
+        write!(text, "rel{id}")?;
+    }
+    text.push_str("]")
+}
+
 /// Adds a cell.
 pub(crate) fn add_cell(text: &mut String, cell: &Cell) -> Result<(), AllocError> {
     match cell {
@@ -40,7 +53,7 @@ pub(crate) fn add_cell(text: &mut String, cell: &Cell) -> Result<(), AllocError>
             let id = id.0;
             write!(text, "rel{id}")
         }
-        Cell::Rels(_) => text.push_str("rels"),
+        Cell::Rels(ids) => add_rels(text, ids.as_slice()),
         Cell::Value(Value::List(elements)) => add_scalars(text, elements.as_slice()),
         Cell::Value(Value::Text(value)) => {
             let value = value.as_str();

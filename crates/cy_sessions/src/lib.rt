@@ -21,6 +21,8 @@ mod scopes;
 #[cfg(test)]
 mod searches;
 #[cfg(test)]
+mod small_graphs;
+#[cfg(test)]
 mod stops;
 #[cfg(test)]
 mod streams;

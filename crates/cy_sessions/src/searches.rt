@@ -40,7 +40,7 @@ A A B | 1T3 2T3 | MATCH (n:A {k: 2})-->(m) RETURN id(n) AS n, id(m) AS m => n m 
 A A B | 1T3 2T3 | MATCH (m)<--(n:A {k: null}) RETURN id(m) AS m => m
 A B - | 1T2 3U2 2T1 | MATCH (a:A) MATCH (a)-[r]->(b) RETURN id(a) AS a, id(r) AS r, id(b) AS b => a r b [1,1,2]
 A B - | 1T2 3U2 2T1 | MATCH (a:A) MATCH (b:B) MATCH (a)-[r]-(b) RETURN id(r) AS r => r [1] [3]
-A B - | 1T2 3U2 2T1 | MATCH (a:A)-[r]->(b) MATCH (c)-[r]->(d) RETURN id(c) AS c, id(d) AS d => c d [1,2]
+A B - | 1T2 3U2 2T1 | MATCH (a:A)-[r]->(b) MATCH (c)-[s]->(d) WHERE r = s RETURN id(c) AS c, id(d) AS d => c d [1,2]
 A B - | 1T2 3U2 2T1 | MATCH (a), (b) RETURN count(*) AS c => c [9]
 A B - | 1T2 3U2 2T1 | MATCH (a)-->(b), (c)-->(d) RETURN count(*) AS c => c [6]
 A B - | 1T2 3U2 2T1 | MATCH (a)-->(b), (a)<--(b) RETURN id(a) AS a, id(b) AS b => a b [1,2] [2,1]

@@ -13,7 +13,8 @@ use std::fmt::Write;
 use std::test::Fail;
 
 // The next numbers; statements, one after another; and what the last of them answers, or the number of its fault, and the graph after
-// it. A `.` stands for the next numbers 1 and 1.
+// it. A `.` stands for the next numbers 1 and 1. The last rows come in pairs: a statement is refused at a later row than its first, and so is it before
+// a good one, which finds the graph, the labels and the next numbers as they were.
 const UPDATES: &str = r#". | CREATE () => 1,0,0,0 | (1)
 . | CREATE (:B:A {k: 7, j: null, k: 'x'}) => 1,0,0,0 | (1:A:B{k:'x'})
 . | CREATE (a)-[:T]->(a) => 1,0,1,0 | (1) [1 1T1]
@@ -23,6 +24,8 @@ const UPDATES: &str = r#". | CREATE () => 1,0,0,0 | (1)
 . | CREATE ({x: [null], x: 2}) => !52 |
 . | CREATE ()-[:T {x: [null]}]->({x: 1 / 0}) => !52 |
 . | OPTIONAL MATCH (n) CREATE (n)-[:T]->() => !51 |
+. | OPTIONAL MATCH (n:Z) CREATE (n)-[:T]->() => !51 |
+. | CREATE (:A {l: [1, null]}) => !52 |
 . | OPTIONAL MATCH (n) CREATE ()-[:T {x: 1 / 0}]->(n) => !43 |
 . | UNWIND [1, 0] AS x CREATE ({x: 1 / x}) => !43 |
 1099511627776 1 | CREATE () => 1,0,0,0 | (1099511627776)
@@ -57,7 +60,31 @@ const UPDATES: &str = r#". | CREATE () => 1,0,0,0 | (1)
 . | CREATE (:A) ; CREATE (a:A) WITH a MATCH (n:A) RETURN n => 1,0,0,0 n [node1] [node2] | (1:A) (2:A)
 . | CREATE (:A), (:A) ; MATCH (n:A) CREATE (n)-[:T]->(:B) => 2,0,2,0 | (1:A) (2:A) (3:B) (4:B) [1 1T3] [2 2T4]
 . | CREATE (:A) ; MATCH (n:A) CREATE ({x: 1 / 0}) DELETE n => !43 | (1:A)
-. | CREATE (:A) ; MATCH (n:A) SET n.x = 1 WITH n WHERE 1 / 0 = n.x RETURN n => !43 | (1:A)"#;
+. | CREATE (:A) ; MATCH (n:A) SET n.x = 1 WITH n WHERE 1 / 0 = n.x RETURN n => !43 | (1:A)
+. | UNWIND [0, 1] AS x CREATE ({x: 1 / (x - 1)}) => !43 |
+. | UNWIND [0, 1] AS x CREATE ({x: 1 / (x - 1)}) ; CREATE (n) RETURN n => 1,0,0,0 n [node1] | (1)
+. | UNWIND [2, 1, 0] AS x CREATE ()-[:T {w: 6 / (x - 2)}]->() => !43 |
+. | UNWIND [2, 1, 0] AS x CREATE ()-[:T {w: 6 / (x - 2)}]->() ; CREATE (a)-[r:T]->(b) RETURN a, r, b => 2,0,1,0 a r b [node1,rel1,node2] | (1) (2) [1 1T2]
+. | CREATE (:A {k: 1}), (:A {k: 2}), (:A {k: 3}) ; MATCH (a:A) OPTIONAL MATCH (b:A) WHERE b.k = a.k + 1 CREATE (a)-[:T]->(b) => !51 | (1:A{k:1}) (2:A{k:2}) (3:A{k:3})
+. | CREATE (:A {k: 1}), (:A {k: 2}), (:A {k: 3}) ; MATCH (a:A) OPTIONAL MATCH (b:A) WHERE b.k = a.k + 1 CREATE (a)-[:T]->(b) ; MATCH (a:A {k: 1}), (b:A {k: 2}) CREATE (a)-[r:T]->(b) RETURN r => 0,0,1,0 r [rel1] | (1:A{k:1}) (2:A{k:2}) (3:A{k:3}) [1 1T2]
+. | CREATE (:A {k: 1}), (:A {k: 2}) ; MATCH (n:A) CREATE ({x: CASE WHEN n.k = 2 THEN [null] ELSE 9 END}) => !52 | (1:A{k:1}) (2:A{k:2})
+. | CREATE (:A {k: 1}), (:A {k: 2}) ; MATCH (n:A) CREATE ({x: CASE WHEN n.k = 2 THEN [null] ELSE 9 END}) ; CREATE (n) RETURN n => 1,0,0,0 n [node3] | (1:A{k:1}) (2:A{k:2}) (3)
+1099511627776 1 | UNWIND [1, 2] AS x CREATE () => !53 |
+1099511627776 1 | UNWIND [1, 2] AS x CREATE () ; CREATE (n) RETURN n => 1,0,0,0 n [node1099511627776] | (1099511627776)
+1 1099511627776 | UNWIND [1, 2] AS x CREATE ()-[:T]->() => !53 |
+1 1099511627776 | UNWIND [1, 2] AS x CREATE ()-[:T]->() ; CREATE (a)-[r:T]->(b) RETURN a, r, b => 2,0,1,0 a r b [node1,rel1099511627776,node2] | (1) (2) [1099511627776 1T2]
+. | CREATE (:A {k: 1}), (:A {k: 2}) ; MATCH (n:A) SET n:B, n.x = 1 / (n.k - 2) => !43 | (1:A{k:1}) (2:A{k:2})
+. | CREATE (:A {k: 1}), (:A {k: 2}) ; MATCH (n:A) SET n:B, n.x = 1 / (n.k - 2) ; MATCH (n:B) RETURN count(*) AS c => 0,0,0,0 c [0] | (1:A{k:1}) (2:A{k:2})
+. | CREATE (:A {k: 1}), (:A {k: 2}), (:A {k: 3}) ; MATCH (n:A) SET n.k = CASE WHEN n.k = 3 THEN [null] ELSE 9 END => !52 | (1:A{k:1}) (2:A{k:2}) (3:A{k:3})
+. | CREATE (:A {k: 1}), (:A {k: 2}), (:A {k: 3}) ; MATCH (n:A) SET n.k = CASE WHEN n.k = 3 THEN [null] ELSE 9 END ; MATCH (n:A {k: 3}) CREATE (m) RETURN n, m => 1,0,0,0 n m [node3,node4] | (1:A{k:1}) (2:A{k:2}) (3:A{k:3}) (4)
+. | CREATE (:A {k: 1}), (:A {k: 2}) ; MATCH (n:A) REMOVE n:A, n.k SET n.x = 1 / (id(n) - 2) => !43 | (1:A{k:1}) (2:A{k:2})
+. | CREATE (:A {k: 1}), (:A {k: 2}) ; MATCH (n:A) REMOVE n:A, n.k SET n.x = 1 / (id(n) - 2) ; MATCH (n:A {k: 2}) CREATE (m) RETURN n, m => 1,0,0,0 n m [node2,node3] | (1:A{k:1}) (2:A{k:2}) (3)
+. | CREATE (:A), (:A)-[:T]->(:B) ; MATCH (n:A) DELETE n => !50 | (1:A) (2:A) (3:B) [1 2T3]
+. | CREATE (:A), (:A)-[:T]->(:B) ; MATCH (n:A) DELETE n ; CREATE (n) RETURN n => 1,0,0,0 n [node4] | (1:A) (2:A) (3:B) (4) [1 2T3]
+. | CREATE (:A), (:A)-[:T]->(:B) ; MATCH (n:A) CREATE (n)-[:U]->(:C) WITH n MATCH (n)-[r:U]->(c) DELETE r, c, n => !50 | (1:A) (2:A) (3:B) [1 2T3]
+. | CREATE (:A), (:A)-[:T]->(:B) ; MATCH (n:A) CREATE (n)-[:U]->(:C) WITH n MATCH (n)-[r:U]->(c) DELETE r, c, n ; CREATE (a)-[r:T]->(b) RETURN a, r, b => 2,0,1,0 a r b [node4,rel2,node5] | (1:A) (2:A) (3:B) (4) (5) [1 2T3] [2 4T5]
+. | CREATE (:A {k: 1}), (:A {k: 2}) ; MATCH (n:A) CREATE (m:B) SET m.k = n.k WITH n, m WHERE 1 / (n.k - 2) = 1 RETURN m => !43 | (1:A{k:1}) (2:A{k:2})
+. | CREATE (:A {k: 1}), (:A {k: 2}) ; MATCH (n:A) CREATE (m:B) SET m.k = n.k WITH n, m WHERE 1 / (n.k - 2) = 1 RETURN m ; MATCH (n:A) CREATE (m) RETURN n, m => 2,0,0,0 n m [node1,node3] [node2,node4] | (1:A{k:1}) (2:A{k:2}) (3) (4)"#;
 
 // Adds the elements of a list.
 fn add_list(text: &mut String, elements: &[Scalar]) -> Result<(), AllocError> {
@@ -146,7 +173,7 @@ fn outcome_text(alloc: Global, outcome: &Outcome) -> Result<String, AllocError> 
 }
 
 // Carries a statement out, and says what it answers.
-fn updated(alloc: Global, store: &mut Store, line: &str) -> Result<String, Fail>
+pub(crate) fn updated(alloc: Global, store: &mut Store, line: &str) -> Result<String, Fail>
     requires { IsNone store.old.graph.was }
     ensures { IfOk result (λ _. IsNone store.new.graph.was) }
 {

@@ -1,0 +1,115 @@
+//! The views of a session beside their queries: after each line, the query of each view is sent as a statement.
+
+use crate::transcript::Session;
+use cy_engine::{Engine, Reply};
+use cy_values::{Row, Text};
+use std::alloc::Global;
+use std::io::{self, ErrorKind};
+
+// A view that stands, and its query as it was sent.
+#[derive(Drop)]
+struct View<'a> {
+    name: Text,
+    query: &'a str,
+}
+
+/// How many views a session makes, and the first line after which the rows of one of them aren't those of its query.
+pub(crate) fn compared<'a>(
+    alloc: Global,
+    session: &Session<'a>,
+) -> io::Result<(usize, Option<&'a str>)> {
+    let mut views = Vec::new(alloc);
+    let line = first_difference(alloc, session, &mut views)?;
+    Ok((views.len(), line))
+}
+
+fn first_difference<'a>(
+    alloc: Global,
+    session: &Session<'a>,
+    views: &mut Vec<View<'a>>,
+) -> io::Result<Option<&'a str>> {
+    let mut engine = Engine::new(alloc, 64);
+    differing_line(&mut engine, session, views)
+}
+
+// Sends the lines. The engine is lent, since the proof of each way out of a function that owns one takes minutes.
+fn differing_line<'a>(
+    engine: &mut Engine,
+    session: &Session<'a>,
+    views: &mut Vec<View<'a>>,
+) -> io::Result<Option<&'a str>> {
+    for exchange in &session.exchanges {
+        if let Some(view) = view_made(engine, exchange.line)? {
+            views.push(view)?;
+        }
+        if !are_as_queried(engine, views)? {
+            return Ok(Some(exchange.line));
+        }
+    }
+    Ok(None)
+}
+
+// Sends a line: the view that it makes, if it makes one.
+fn view_made<'a>(engine: &mut Engine, line: &'a str) -> io::Result<Option<View<'a>>> {
+    let Ok(reply) = engine.line(line) else {
+        return Ok(None);
+    };
+    match reply {
+        Reply::Made { view, .. } => Ok(Some(View {
+            name: view,
+            query: query_of(line)?,
+        })),
+        _ => Ok(None),
+    }
+}
+
+// The query of a line that makes a view: what stands after the command and the name.
+fn query_of(line: &str) -> io::Result<&str> {
+    let (_, named) = line.split_once(' ').ok_or(ErrorKind::InvalidData)?;
+    let (_, query) = named.split_once(' ').ok_or(ErrorKind::InvalidData)?;
+    Ok(query)
+}
+
+// Whether each view has the rows of its query.
+fn are_as_queried(engine: &mut Engine, views: &[View<'_>]) -> io::Result<bool> {
+    for view in views {
+        if !is_as_queried(engine, view)? {
+            return Ok(false);
+        }
+    }
+    Ok(true)
+}
+
+fn is_as_queried(engine: &mut Engine, view: &View<'_>) -> io::Result<bool> {
+    let counted = engine
+        .rows(view.name.as_str())
+        .map_err(|_| io::Error::from(ErrorKind::Other))?;
+    match engine.line(view.query) {
+        Ok(Reply::Statement { rows, .. }) => Ok(are_same(&counted, rows.as_slice())),
+        _ => Ok(false),
+    }
+}
+
+// Whether rows with their counts are those of a list, as a bag.
+fn are_same(counted: &[(Row, u64)], listed: &[Row]) -> bool {
+    let mut total = 0usize;
+    for (row, count) in counted {
+        let found = count_of(row, listed);
+        if found == 0 || u64::try_from(found).ok() != Some(*count) {
+            return false;
+        }
+        total = total.saturating_add(found);
+    }
+    total == listed.len()
+}
+
+// How often a row stands in a list.
+fn count_of(row: &Row, listed: &[Row]) -> usize {
+    let mut count = 0usize;
+    for other in listed {
+        if other == row {
+            count = count.saturating_add(1);
+        }
+    }
+    count
+}

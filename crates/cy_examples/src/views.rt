@@ -2,6 +2,7 @@
 
 use crate::transcript::Session;
 use cy_engine::{Engine, Reply};
+use cy_lexer::lex;
 use cy_values::{Row, Text};
 use std::alloc::Global;
 use std::io::{self, ErrorKind};
@@ -29,17 +30,18 @@ fn first_difference<'a>(
     views: &mut Vec<View<'a>>,
 ) -> io::Result<Option<&'a str>> {
     let mut engine = Engine::new(alloc, 64);
-    differing_line(&mut engine, session, views)
+    differing_line(alloc, &mut engine, session, views)
 }
 
 // Sends the lines. The engine is lent, since the proof of each way out of a function that owns one takes minutes.
 fn differing_line<'a>(
+    alloc: Global,
     engine: &mut Engine,
     session: &Session<'a>,
     views: &mut Vec<View<'a>>,
 ) -> io::Result<Option<&'a str>> {
     for exchange in &session.exchanges {
-        if let Some(view) = view_made(engine, exchange.line)? {
+        if let Some(view) = view_made(alloc, engine, exchange.line)? {
             views.push(view)?;
         }
         if !are_as_queried(engine, views)? {
@@ -50,23 +52,30 @@ fn differing_line<'a>(
 }
 
 // Sends a line: the view that it makes, if it makes one.
-fn view_made<'a>(engine: &mut Engine, line: &'a str) -> io::Result<Option<View<'a>>> {
+fn view_made<'a>(
+    alloc: Global,
+    engine: &mut Engine,
+    line: &'a str,
+) -> io::Result<Option<View<'a>>> {
     let Ok(reply) = engine.line(line) else {
         return Ok(None);
     };
     match reply {
         Reply::Made { view, .. } => Ok(Some(View {
             name: view,
-            query: query_of(line)?,
+            query: query_of(alloc, line)?,
         })),
         _ => Ok(None),
     }
 }
 
-// The query of a line that makes a view: what stands after the command and the name.
-fn query_of(line: &str) -> io::Result<&str> {
-    let (_, named) = line.split_once(' ').ok_or(ErrorKind::InvalidData)?;
-    let (_, query) = named.split_once(' ').ok_or(ErrorKind::InvalidData)?;
+// The query of a line that makes a view: it begins with the fourth token, after the colon, the word and the name.
+fn query_of(alloc: Global, line: &str) -> io::Result<&str> {
+    let tokens = lex(alloc, line).map_err(|_| io::Error::from(ErrorKind::InvalidData))?;
+    let first = tokens.as_slice().get(3).ok_or(ErrorKind::InvalidData)?;
+    let query = line
+        .get(first.start..line.len())
+        .ok_or(ErrorKind::InvalidData)?;
     Ok(query)
 }
 

@@ -9,7 +9,7 @@ use Rattle.cy_graph.specs.declared.adjacency.Adjacency.{Adjacency}
 use Rattle.cy_graph.specs.declared.adjacency.Step.{Step}
 use Rattle.cy_graph.specs.declared.adjacency.Step.TheVariants.{Linked, Unlinked}
 use Rattle.cy_graph.specs.declared.nodes.Rel.{Rel}
-use Rattle.cy_graph.specs.internal.Adjacency.{IsRising, with_id, without_id, ids_at, room_at, before_step, undone, IsUndoable}
+use Rattle.cy_graph.specs.internal.Adjacency.{IsRising, with_id, without_id, ids_at, room_at, before_step, undone, IsUndoable, KeepsRoomAt}
 use Rattle.cy_graph.specs.internal.Contents.{ids_by, IsJoined}
 use Rattle.cy_graph.specs.internal.Slots.{RiseFrom, value_under}
 use Rattle.cy_graph.specs.internal.Versions.{IsNumbered, with_last, without_number}
@@ -17,7 +17,7 @@ use Rattle.cy_graph.specs.Model.{Numbered, SeriesVersions}
 use Rattle.cy_graph.proofs.Joining.{ids_rising}
 use Rattle.cy_graph.proofs.Joined.{linked_now, linked_before, unlinked_now, unlinked_before, length_with, length_without}
 use Rattle.cy_graph.proofs.Slots.{rises_push, weaker}
-use Rattle.cy_graph.proofs.Undoing.{undone_same, undoable_same, latest}
+use Rattle.cy_graph.proofs.Undoing.{undone_same, undoable_same, latest, room_fits}
 
 pub same_node : (m n : ℕ) → eqb m n ≡ true → m ≡ n
 same_node m n e = grind (arith, nat_tests)
@@ -188,10 +188,10 @@ joined_begun end rels adjacency none joined =
 
 -- once a change is over the lists are as the steps left them
 pub joined_closed : (end : Rel → ℕ) (now : Numbered Rel) (old new : Adjacency) → ((m : ℕ) → ids_at m old.lists ≡ ids_by end m now.entries) → ((m : ℕ) → length (ids_at m old.lists) ≤ room_at m old.lists)
-    → ((m : ℕ) → ids_at m new.lists ≡ ids_at m old.lists) → ((m : ℕ) → room_at m new.lists ≡ room_at m old.lists) → new.steps.items ≡ [] → IsJoined end (record { now = now; was = None }) new
+    → ((m : ℕ) → ids_at m new.lists ≡ ids_at m old.lists) → ((m : ℕ) → KeepsRoomAt m old.lists new.lists) → new.steps.items ≡ [] → IsJoined end (record { now = now; was = None }) new
 joined_closed end now old new ids fits same_ids same_room none = record {
   now = λ m. same_ids m ∙ ids m;
-  fits = λ m. omega (arith, ap length (same_ids m), fits m, same_room m);
+  fits = λ m. room_fits m old.lists new.lists (omega (arith, ap length (same_ids m), fits m)) (same_room m);
   undoable = subst (λ (steps : List Step). IsUndoable (reverse steps) (λ m. ids_at m new.lists) (λ m. room_at m new.lists)) (sym none) tt;
   closed = λ over. none;
   was = λ before is. cc;

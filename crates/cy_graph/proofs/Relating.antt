@@ -13,7 +13,7 @@ use Rattle.cy_graph.specs.declared.adjacency.Step.TheVariants.{Linked, Unlinked}
 use Rattle.cy_graph.specs.declared.nodes.Node.{Node}
 use Rattle.cy_graph.specs.declared.nodes.Rel.{Rel}
 use Rattle.cy_graph.specs.Graph.{State}
-use Rattle.cy_graph.specs.internal.Adjacency.{IsRising, with_id, without_id, ids_at, room_at, before_step, undone, CanUndo, IsUndoable}
+use Rattle.cy_graph.specs.internal.Adjacency.{IsRising, with_id, without_id, ids_at, room_at, before_step, undone, CanUndo, IsUndoable, KeepsRoomAt}
 use Rattle.cy_graph.specs.internal.Contents.{ids_by, IsRel, AreVersions, IsJoined}
 use Rattle.cy_graph.specs.internal.Slots.{RiseFrom, value_under}
 use Rattle.cy_graph.specs.internal.Versions.{IsNumbered, with_last, with_edited, without_number, put_under}
@@ -23,7 +23,7 @@ use Rattle.cy_graph.proofs.Joining.{ids_rising}
 use Rattle.cy_graph.proofs.Joined.{length_with, length_without}
 use Rattle.cy_graph.proofs.Kept.{same_node}
 use Rattle.cy_graph.proofs.Slots.{all_push, all_where, same_number}
-use Rattle.cy_graph.proofs.Undoing.{undone_same, undoable_same}
+use Rattle.cy_graph.proofs.Undoing.{undone_same, undoable_same, room_fits}
 
 -- ---- the lists at one end
 
@@ -130,7 +130,7 @@ module _ (nodes : SeriesVersions Node) (rels : SeriesVersions Rel) (outgoing inc
 -- what the rollback of an adjacency leaves
 pub record IsUndone (old new : Adjacency) : Type 0 where
   pub ids : (m : ℕ) → ids_at m new.lists ≡ undone (reverse old.steps.items) (λ n. ids_at n old.lists) m
-  pub room : (m : ℕ) → room_at m new.lists ≡ room_at m old.lists
+  pub room : (m : ℕ) → KeepsRoomAt m old.lists new.lists
   pub steps : new.steps.items ≡ []
 
 step_fits : (s : Step) (ids : ℕ → List RelId) (room : ℕ → ℕ) → ((m : ℕ) → length (ids m) ≤ room m) → CanUndo s ids room → (m : ℕ) → length (before_step s ids m) ≤ room m
@@ -154,7 +154,9 @@ undone_fits (s ∷ steps) ids room fits can m = undone_fits steps (before_step s
 pub joined_undone : (end : Rel → ℕ) (rels : SeriesVersions Rel) (before : Numbered Rel) (old new : Adjacency) → rels.was ≡ Some before → IsJoined end rels old → IsUndone old new → IsJoined end (record { now = before; was = None }) new
 joined_undone end rels before old new is joined undo = record {
   now = λ m. undo.ids m ∙ joined.was before is m;
-  fits = λ m. omega (arith, ap length (undo.ids m), undone_fits (reverse old.steps.items) (λ n. ids_at n old.lists) (λ n. room_at n old.lists) joined.fits joined.undoable m, undo.room m);
+  fits = λ m.
+      let fitted = undone_fits (reverse old.steps.items) (λ n. ids_at n old.lists) (λ n. room_at n old.lists) joined.fits joined.undoable m in
+      room_fits m old.lists new.lists (omega (arith, ap length (undo.ids m), fitted)) (undo.room m);
   undoable = subst (λ (steps : List Step). IsUndoable (reverse steps) (λ m. ids_at m new.lists) (λ m. room_at m new.lists)) (sym undo.steps) tt;
   closed = λ over. undo.steps;
   was = λ other none. cc;

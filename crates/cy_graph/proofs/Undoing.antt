@@ -1,10 +1,12 @@
--- What is undone hangs on the numbers at each node, and on nothing else.
-use Rattle.std.proofs.Common.{◌≡◌, ℕ, ◌≤◌, ◌++◌, eqb, List, [], ◌∷◌, length, reverse, if◌then◌else◌, sym, ap, subst, ◌∙◌, arith}
+-- What is undone hangs on the numbers at each node, and on nothing else; once a change is over, empty lists go.
+use Rattle.std.proofs.Common.{◌≡◌, ℕ, ◌≤◌, ◌++◌, eqb, List, [], ◌∷◌, length, reverse, if◌then◌else◌, inl, inr, sym, ap, subst, ◌∙◌, arith}
+use Rattle.indexmap.specs.IndexMap.{IndexMap}
+use Rattle.smallvec.specs.SmallVec.{SmallVec}
 use Rattle.std.proofs.lemmas.List.{reverse-append}
 use Rattle.cy_values.specs.declared.numbers.RelId.{RelId}
 use Rattle.cy_graph.specs.declared.adjacency.Step.{Step}
 use Rattle.cy_graph.specs.declared.adjacency.Step.TheVariants.{Linked, Unlinked}
-use Rattle.cy_graph.specs.internal.Adjacency.{IsRising, with_id, without_id, before_step, undone, CanUndo, IsUndoable}
+use Rattle.cy_graph.specs.internal.Adjacency.{IsRising, with_id, without_id, ids_at, room_at, before_step, undone, CanUndo, IsUndoable, KeepsRoomAt}
 
 abbrev Ids : Type 0
 Ids = ℕ → List RelId
@@ -40,3 +42,13 @@ one_undone steps earlier s a b whole ra rb popped undo room can same =
       left = undoable_same (reverse earlier) (before_step s a) b ra rb (λ m. sym (undo m)) (λ m. omega (arith, room m)) can_last.1;
       same = λ m. undone_same (reverse earlier) b (before_step s a) undo m ∙ sym (ap (λ l. undone l a m) last) ∙ same m;
     }
+
+-- a list has its room, or is empty
+pub room_kept_on : {S : Type 0} (m : ℕ) (old mid new : IndexMap ℕ (SmallVec RelId) S) → ids_at m new ≡ ids_at m mid → KeepsRoomAt m old mid → KeepsRoomAt m mid new → KeepsRoomAt m old new
+room_kept_on m old mid new same (inl was) (inl is) = inl (is ∙ was)
+room_kept_on m old mid new same (inr none) (inl is) = inr (same ∙ none)
+room_kept_on m old mid new same was (inr none) = inr none
+
+pub room_fits : {S : Type 0} (m : ℕ) (old new : IndexMap ℕ (SmallVec RelId) S) → length (ids_at m new) ≤ room_at m old → KeepsRoomAt m old new → length (ids_at m new) ≤ room_at m new
+room_fits m old new fits (inl is) = omega (arith, is, fits)
+room_fits m old new fits (inr none) = omega (arith, ap length none)

@@ -3,7 +3,7 @@
 ghost use Rattle.std.specs.Prelude.{◌≡◌, ◌<◌, ◌≤◌, ◌++◌, ◌∷◌, ℕ, List, [], length, reverse, eqb, if◌then◌else◌, vec_len, IfErr, OnOk};
 ghost use Rattle.std.specs.Vec.{vec_capacity};
 ghost use Rattle.smallvec.specs.SmallVec.{HasRoomFor};
-ghost use Rattle.cy_graph.specs.internal.Adjacency.{IsRising, with_id, without_id, ids_at, room_at, before_step, undone, CanUndo, IsUndoable};
+ghost use Rattle.cy_graph.specs.internal.Adjacency.{IsRising, with_id, without_id, ids_at, room_at, before_step, undone, CanUndo, IsUndoable, KeepsRoomAt};
 ghost use Rattle.cy_graph.specs.declared.adjacency.Step.TheVariants.{Linked, Unlinked};
 
 use crate::faults::GraphFault;
@@ -20,7 +20,8 @@ enum Step {
 }
 
 /// The relationships of which each node is one end, by rising number, with what the open change did to them. One that is
-/// taken out leaves its room, so that it can be put back without memory.
+/// taken out leaves its room, so that it can be put back without memory. Once the change is over, the lists that it left
+/// empty go.
 #[derive(Drop)]
 pub(crate) struct Adjacency {
     lists: IndexMap<u64, SmallVec<RelId, 2>>,
@@ -101,22 +102,37 @@ impl Adjacency {
     /// Ends the change: what it did stays.
     pub(crate) fn commit(&mut self)
         ensures ids { (m : ℕ) → ids_at m self.new.lists ≡ ids_at m self.old.lists }
-        ensures room { (m : ℕ) → room_at m self.new.lists ≡ room_at m self.old.lists }
+        ensures room { (m : ℕ) → KeepsRoomAt m self.old.lists self.new.lists }
         ensures steps { self.new.steps.items ≡ [] }
     {
-        self.steps.clear();
+        while let Some(step) = self.steps.pop() {
+            let (Step::Linked(node, _) | Step::Unlinked(node, _)) = step;
+            drop_if_empty(&mut self.lists, node);
+        }
     }
 
     /// Ends the change: what it did is undone, the latest first.
     pub(crate) fn rollback(&mut self)
         requires { IsUndoable (reverse self.old.steps.items) (λ m. ids_at m self.old.lists) (λ m. room_at m self.old.lists) }
         ensures ids { (m : ℕ) → ids_at m self.new.lists ≡ undone (reverse self.old.steps.items) (λ m. ids_at m self.old.lists) m }
-        ensures room { (m : ℕ) → room_at m self.new.lists ≡ room_at m self.old.lists }
+        ensures room { (m : ℕ) → KeepsRoomAt m self.old.lists self.new.lists }
         ensures steps { self.new.steps.items ≡ [] }
     {
-        while let Some(step) = self.steps.pop() {
-            undo(&mut self.lists, step);
-        }
+        undo_each(&mut self.lists, self.steps.as_slice());
+        self.commit();
+    }
+}
+
+// Undoes steps, the latest first.
+fn undo_each(lists: &mut IndexMap<u64, SmallVec<RelId, 2>>, steps: &[Step])
+    requires { IsUndoable (reverse steps.now) (λ m. ids_at m lists.old) (λ m. room_at m lists.old) }
+    ensures ids { (m : ℕ) → ids_at m lists.new ≡ undone (reverse steps.now) (λ m. ids_at m lists.old) m }
+    ensures room { (m : ℕ) → room_at m lists.new ≡ room_at m lists.old }
+{
+    let mut left = steps;
+    while let Some((step, earlier)) = left.split_last() {
+        undo(lists, *step);
+        left = earlier;
     }
 }
 
@@ -156,6 +172,18 @@ fn link_in(lists: &mut IndexMap<u64, SmallVec<RelId, 2>>, node: u64, rel: RelId)
 {
     if let Some(list) = lists.get_mut(&node) {
         insert_rel(list, rel);
+    }
+}
+
+// Drops the list of a node where it is empty.
+fn drop_if_empty(lists: &mut IndexMap<u64, SmallVec<RelId, 2>>, node: u64)
+    ensures ids { (m : ℕ) → ids_at m lists.new ≡ ids_at m lists.old }
+    ensures room { (m : ℕ) → KeepsRoomAt m lists.old lists.new }
+{
+    if let Some(list) = lists.get(&node) {
+        if list.is_empty() {
+            lists.swap_remove(&node);
+        }
     }
 }
 

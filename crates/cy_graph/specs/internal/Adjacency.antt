@@ -1,5 +1,5 @@
 -- The relationships at a node, by rising number.
-use Rattle.std.specs.Prelude.{ℕ, ◌<◌, eqb, cond, if◌then◌else◌, length, List, [], ◌∷◌, Option, None, Some, nat_eq}
+use Rattle.std.specs.Prelude.{◌≡◌, ◌⊎◌, ℕ, ◌<◌, eqb, cond, if◌then◌else◌, length, List, [], ◌∷◌, Option, None, Some, nat_eq}
 use Rattle.std.specs.List.{AllByRecursion}
 use Rattle.std.specs.Ordering.{nat_cmp}
 use Rattle.std.specs.FinMap.Entries as entries
@@ -39,6 +39,10 @@ module _ {S : Type 0} (node : ℕ) (lists : IndexMap ℕ (SmallVec RelId) S) whe
 
   abbrev pub room_at : ℕ
   room_at = room_in (get nat_eq lists node)
+
+-- a list has the room that it had, or there is none and it has no number
+abbrev pub KeepsRoomAt : {S : Type 0} → ℕ → IndexMap ℕ (SmallVec RelId) S → IndexMap ℕ (SmallVec RelId) S → Type 0
+KeepsRoomAt node old new = (room_at node new ≡ room_at node old) ⊎ (ids_at node new ≡ [])
 
 -- the numbers at each node before a step
 abbrev pub before_step : Step → (ℕ → List RelId) → ℕ → List RelId

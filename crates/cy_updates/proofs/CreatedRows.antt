@@ -20,7 +20,7 @@ use Rattle.cy_matching.specs.internal.Answers.{IsRowThere}
 use Rattle.cy_updates.specs.declared.creating.Made.{Made}
 use Rattle.cy_updates.specs.declared.faults.UpdateFault.{UpdateFault}
 use Rattle.cy_updates.specs.declared.faults.UpdateFault.TheVariants.{Full, NoMemory}
-use Rattle.cy_updates.specs.Creating.{Creation, bound_to, created, joined, new_relationship, next_node, next_relationship, node_at_place, node_in_cell, unless_full, with_column, with_new_node, with_node_if, with_node_place, with_path, with_relationship_column, with_step}
+use Rattle.cy_updates.specs.Creating.{Creation, bound_to, created, with_relationship, new_relationship, next_node, next_relationship, node_at_place, node_in_cell, unless_full, with_column, with_new_node, with_node_if, with_node_place, with_path, with_relationship_column, with_step}
 use Rattle.cy_updates.specs.Faults.{◌>>=◌, each_in_turn, of_graph}
 use Rattle.cy_updates.specs.Statements.{create_row}
 use Rattle.cy_updates.specs.Values.{label_set, map_properties}
@@ -121,7 +121,7 @@ module _ (before : List Cell) (s : Step) (c now : Creation) (is : now ≡ with_r
   then_place made = with_node_place before s.node now >>= λ next. Ok (record next { graph = with_rel made next.graph })
 
   unfolded : with_step before s c ≡ (new_relationship before s.relationship right now >>= then_place)
-  unfolded = ap (joined before s) (sym is) ∙ (λ i. new_relationship before s.relationship (sym at i) now >>= then_place)
+  unfolded = ap (with_relationship before s) (sym is) ∙ (λ i. new_relationship before s.relationship (sym at i) now >>= then_place)
 
   pub step_at_rel : (why : UpdateFault) → new_relationship before s.relationship right now ≡ Err why → with_step before s c ≡ Err why
   step_at_rel why stops = unfolded ∙ ap (λ r. r >>= then_place) stops

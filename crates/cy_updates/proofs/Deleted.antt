@@ -17,7 +17,7 @@ use Rattle.cy_graph.specs.Stored.{IsStorable}
 use Rattle.cy_graph.specs.declared.nodes.Node.{Node}
 use Rattle.cy_graph.specs.declared.nodes.Rel.{Rel}
 use Rattle.cy_matching.proofs.Each.{each_filter}
-use Rattle.cy_updates.specs.Deleting.{deleted, goes, is_left_over, is_node_of, lies_at, named, unless_left_over, without_set}
+use Rattle.cy_updates.specs.Deleting.{deleted, is_going, is_left_over, is_node_of, lies_at, named, unless_left_over, without_set}
 use Rattle.cy_updates.proofs.Entries.{sorted_filter}
 use Rattle.cy_updates.proofs.Graphs.{node_number, rel_number}
 use Rattle.cy_updates.proofs.ReadingStatements.{neither}
@@ -55,7 +55,7 @@ module _ (detach : Bool) (set : List Entity) (graph : State) (is : IsGraph graph
   stays e = not (is_node_of set e.0)
 
   abbrev remains : RelId × Rel → Bool
-  remains e = not (goes detach set e)
+  remains e = not (is_going detach set e)
 
   abbrev left : State
   left = without_set detach set graph
@@ -76,7 +76,7 @@ module _ (detach : Bool) (set : List Entity) (graph : State) (is : IsGraph graph
   ends_stay [] none there = tt
   ends_stay (e ∷ es) none there = (
     λ kept.
-        let apart = neither (is_node_of set e.1.source) (is_node_of set e.1.target) (remaining (lies_at set e) (goes detach set e) none.0 kept) in
+        let apart = neither (is_node_of set e.1.source) (is_node_of set e.1.target) (remaining (lies_at set e) (is_going detach set e) none.0 kept) in
         (node_stays e.1.source apart.0 there.0.0, node_stays e.1.target apart.1 there.0.1),
     ends_stay es none.1 there.1,
   )

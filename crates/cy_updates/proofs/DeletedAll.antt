@@ -17,7 +17,7 @@ use Rattle.cy_graph.specs.Graph.{State, IsGraph, rels_from, rels_into, rels_with
 use Rattle.cy_graph.specs.declared.nodes.Node.{Node}
 use Rattle.cy_graph.specs.declared.nodes.Rel.{Rel}
 use Rattle.cy_updates.specs.declared.faults.UpdateFault.TheVariants.{StillConnected}
-use Rattle.cy_updates.specs.Deleting.{deleted, goes, is_left_over, is_node_of, lies_at, named, unless_left_over, without_set}
+use Rattle.cy_updates.specs.Deleting.{deleted, is_going, is_left_over, is_node_of, lies_at, named, unless_left_over, without_set}
 use Rattle.cy_updates.specs.internal.Deleting.{AreAmong, is_node_among, is_rel_among, lesser_of, lies_among, nodes_among, rels_among, rels_at, without_nodes, without_rels}
 use Rattle.cy_updates.proofs.Deleted.{none_pass}
 use Rattle.cy_updates.proofs.DeletedSets.{each_is, filter_alike, filter_both, lies_at_set, node_of_set, or_last, rel_of_set, shuffled}
@@ -138,12 +138,12 @@ named_alone named nodes rels = each_is (λ (e : Entry). is_rel_among named e.0 �
 -- without the relationships that go, the others are left
 pub remaining : (graph : State) (detach : Bool) (set : List Entity) (named : List RelId) → named ≡ rels_among set → (nodes : List NodeId) → nodes ≡ nodes_among set → (going : List RelId)
     → AreAmong (λ e. is_rel_among named e.0 || (detach && lies_among nodes e)) going graph.content.rels
-    → (after : State) → after ≡ without_rels going graph → after ≡ with_rels (filter (λ e. not (goes detach set e)) graph.content.rels) graph
+    → (after : State) → after ≡ without_rels going graph → after ≡ with_rels (filter (λ e. not (is_going detach set e)) graph.content.rels) graph
 remaining graph detach set named named_are nodes nodes_are going are after gone =
     gone
     ∙ ap (λ (es : List Entry). with_rels es graph)
-    (filter_alike (λ e. not (is_rel_among going e.0)) (λ e. not (goes detach set e)) graph.content.rels
-    (zipped (λ (e : Entry). is_rel_among going e.0 ≡ (is_rel_among named e.0 || (detach && lies_among nodes e))) (λ e. Unit {0}) (λ e. not (is_rel_among going e.0) ≡ not (goes detach set e))
+    (filter_alike (λ e. not (is_rel_among going e.0)) (λ e. not (is_going detach set e)) graph.content.rels
+    (zipped (λ (e : Entry). is_rel_among going e.0 ≡ (is_rel_among named e.0 || (detach && lies_among nodes e))) (λ e. Unit {0}) (λ e. not (is_rel_among going e.0) ≡ not (is_going detach set e))
     (λ e is none. ap not (is ∙ (λ i. is_rel_among (named_are i) e.0 || (detach && lies_among (nodes_are i) e)) ∙ (λ i. sym (rel_of_set set e.0) i || (detach && sym (lies_at_set set e) i))))
     graph.content.rels are (each_is (λ (e : Entry). Unit {0}) (λ e. tt) graph.content.rels)))
 
@@ -155,12 +155,12 @@ swapped false false = refl
 
 -- those of them that remain at a node of the set are left over
 left_over : (rels : List Entry) (detach : Bool) (set : List Entity) (nodes : List NodeId) → ((e : Entry) → lies_among nodes e ≡ lies_at set e)
-    → filter (lies_among nodes) (filter (λ e. not (goes detach set e)) rels) ≡ filter (is_left_over detach set) rels
+    → filter (lies_among nodes) (filter (λ e. not (is_going detach set e)) rels) ≡ filter (is_left_over detach set) rels
 left_over rels detach set nodes are =
-    filter_both (lies_among nodes) (λ e. not (goes detach set e)) rels
-    ∙ filter_alike (λ e. not (goes detach set e) && lies_among nodes e) (is_left_over detach set) rels
-    (each_is (λ (e : Entry). (not (goes detach set e) && lies_among nodes e) ≡ is_left_over detach set e)
-    (λ e. ap (λ b. not (goes detach set e) && b) (are e) ∙ swapped (lies_at set e) (not (goes detach set e))) rels)
+    filter_both (lies_among nodes) (λ e. not (is_going detach set e)) rels
+    ∙ filter_alike (λ e. not (is_going detach set e) && lies_among nodes e) (is_left_over detach set) rels
+    (each_is (λ (e : Entry). (not (is_going detach set e) && lies_among nodes e) ≡ is_left_over detach set e)
+    (λ e. ap (λ b. not (is_going detach set e) && b) (are e) ∙ swapped (lies_at set e) (not (is_going detach set e))) rels)
 
 -- ---- the whole
 
@@ -178,7 +178,7 @@ none_first [] is = refl
 none_first (e ∷ es) is = absurd (none-some e.0 (sym is))
 
 module _ (graph : State) (detach : Bool) (variables : List Variable) (rows : List (List Cell)) (nodes : List NodeId) (nodes_are : (id : NodeId) → is_node_among nodes id ≡ is_node_of (named variables rows) id)
-    (after : State) (gone : after ≡ with_rels (filter (λ e. not (goes detach (named variables rows) e)) graph.content.rels) graph) where
+    (after : State) (gone : after ≡ with_rels (filter (λ e. not (is_going detach (named variables rows) e)) graph.content.rels) graph) where
   abbrev set : List Entity
   set = named variables rows
 
@@ -196,7 +196,7 @@ module _ (graph : State) (detach : Bool) (variables : List Variable) (rows : Lis
   same_left : without_nodes nodes after ≡ without_set detach set graph
   same_left =
       ap (without_nodes nodes) gone
-      ∙ ap (λ (es : List (NodeId × Node)). with_rels (filter (λ e. not (goes detach set e)) graph.content.rels) (with_nodes es graph))
+      ∙ ap (λ (es : List (NodeId × Node)). with_rels (filter (λ e. not (is_going detach set e)) graph.content.rels) (with_nodes es graph))
       (filter_alike (λ (e : NodeId × Node). not (is_node_among nodes e.0)) (λ (e : NodeId × Node). not (is_node_of set e.0)) graph.content.nodes
       (each_is (λ (e : NodeId × Node). not (is_node_among nodes e.0) ≡ not (is_node_of set e.0)) (λ e. ap not (nodes_are e.0)) graph.content.nodes))
 

@@ -10,7 +10,7 @@ use Rattle.cy_expr.specs.declared.faults.EvalFault.TheVariants as eval
 use Rattle.cy_updates.specs.declared.faults.UpdateFault.{UpdateFault}
 use Rattle.cy_updates.specs.declared.faults.UpdateFault.TheVariants.{NoMemory}
 use Rattle.cy_updates.specs.Faults.{◌>>=◌, evaluated, of_evaluation}
-use Rattle.cy_updates.specs.Values.{entry_values, set_all, set_one, settable, value_on}
+use Rattle.cy_updates.specs.Values.{entry_values, set_all, with_entry, settable, value_on}
 
 -- what an expression gives, as a part of a statement
 pub value_is : (meant : Result Value EvalFault) (v : Value) → (Ok v ≡ meant) ⊎ (Ok v ≡ Err eval.NoMemory) → evaluated meant ≡ Ok v
@@ -45,10 +45,10 @@ module _ (graph : State) (row : List Cell) where
       pub entry_refused : (why : UpdateFault) → settable v ≡ Err why → all ≡ Err why
       entry_refused why stops = sym first ∙ with_value ∙ ap (λ r. (r >>= others) >>= λ values. Ok (set_all props values)) stops
 
-      by : (r : Result (List (Name × Value)) UpdateFault) → ((r >>= λ values. Ok ((e.key, v) ∷ values)) >>= λ values. Ok (set_all props values)) ≡ (r >>= λ values. Ok (set_all (set_one e.key v props) values))
+      by : (r : Result (List (Name × Value)) UpdateFault) → ((r >>= λ values. Ok ((e.key, v) ∷ values)) >>= λ values. Ok (set_all props values)) ≡ (r >>= λ values. Ok (set_all (with_entry e.key v props) values))
       by (Ok values) = refl
       by (Err why) = refl
 
       -- it is set
-      pub entry_next : settable v ≡ Ok v → set_from (set_one e.key v props) entries ≡ all
+      pub entry_next : settable v ≡ Ok v → set_from (with_entry e.key v props) entries ≡ all
       entry_next stored = sym (with_value ∙ ap (λ r. (r >>= others) >>= λ values. Ok (set_all props values)) stored ∙ by (entry_values graph row entries)) ∙ first

@@ -19,7 +19,7 @@ use Rattle.cy_patterns.specs.Places.{entries_if}
 use Rattle.cy_updates.specs.declared.faults.UpdateFault.{UpdateFault}
 use Rattle.cy_updates.specs.declared.faults.UpdateFault.TheVariants.{NotStorable}
 use Rattle.cy_updates.specs.Faults.{◌>>=◌}
-use Rattle.cy_updates.specs.Values.{entry_values, label_set, map_properties, set_all, set_one, settable, unless_null, value_on}
+use Rattle.cy_updates.specs.Values.{entry_values, label_set, map_properties, set_all, with_entry, settable, unless_null, value_on}
 use Rattle.cy_updates.proofs.Entries.{both}
 
 -- what follows an outcome that has a value
@@ -90,7 +90,7 @@ set_properties key (Some v) props is all = (rises-with_value key v props all.0, 
 
 all_set : (values : List (Name × Value)) → AreSettable values → (props : List (Name × Value)) → AreProperties props → AreProperties (set_all props values)
 all_set [] each props all = all
-all_set (e ∷ es) each props all = all_set es each.1 (set_one e.0 e.1 props) (set_properties e.0 (unless_null e.1) props (storable_if e.1 each.0) all)
+all_set (e ∷ es) each props all = all_set es each.1 (with_entry e.0 e.1 props) (set_properties e.0 (unless_null e.1) props (storable_if e.1 each.0) all)
 
 -- ---- maps
 

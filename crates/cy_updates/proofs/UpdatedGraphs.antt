@@ -18,7 +18,7 @@ use Rattle.cy_matching.proofs.Each.{each_in_order}
 use Rattle.cy_expr.specs.declared.faults.EvalFault.{EvalFault}
 use Rattle.cy_updates.specs.Counts.{AgreeWith, Counts, counts_between, plus}
 use Rattle.cy_updates.specs.Faults.{◌>>=◌, each_in_turn, evaluated}
-use Rattle.cy_updates.specs.Deleting.{deleted, goes, is_node_of, without_set}
+use Rattle.cy_updates.specs.Deleting.{deleted, is_going, is_node_of, without_set}
 use Rattle.cy_updates.specs.Statements.{GraphTable, Outcome, Progress, after_clause, after_reading, after_updating, beginning, create_row, outcome_of, remove_row, rows_taken, set_row, statement_outcome, updated}
 use Rattle.cy_updates.proofs.Created.{GoodTable, rows_good}
 use Rattle.cy_updates.proofs.Deleted.{Left, delete_left}
@@ -65,7 +65,7 @@ counted_left old new is left =
     subst (Counted old) (sym left.left)
     (by_series old (without_set left.detach left.set old)
     (agrees_left node_number (λ (e : NodeId × Node). not (is_node_of left.set e.0)) old.content.nodes old.next_node is.rising)
-    (agrees_left rel_number (λ (e : RelId × Rel). not (goes left.detach left.set e)) old.content.rels old.next_rel is.rels_rising))
+    (agrees_left rel_number (λ (e : RelId × Rel). not (is_going left.detach left.set e)) old.content.rels old.next_rel is.rels_rising))
 
 -- ---- clauses
 

@@ -112,14 +112,14 @@ abbrev pub with_relationship_column : RelationshipPattern → Creation → Creat
 with_relationship_column r so_far = record so_far { row = with_column r.variable (cell.Rel (next_relationship so_far.graph)) so_far.row }
 
 -- a relationship and the node after it
-abbrev pub joined : List Cell → Step → Creation → Result Creation UpdateFault
-joined before s so_far =
+abbrev pub with_relationship : List Cell → Step → Creation → Result Creation UpdateFault
+with_relationship before s so_far =
     new_relationship before s.relationship (node_at_place s.node so_far) so_far >>= λ made.
     with_node_place before s.node so_far >>= λ next.
     Ok (record next { graph = with_rel made next.graph })
 
 abbrev pub with_step : List Cell → Step → Creation → Result Creation UpdateFault
-with_step before s so_far = joined before s (with_relationship_column s.relationship so_far)
+with_step before s so_far = with_relationship before s (with_relationship_column s.relationship so_far)
 
 -- a path from left to right, and the paths of a clause from left to right
 abbrev pub with_path : List Cell → Path → Creation → Result Creation UpdateFault

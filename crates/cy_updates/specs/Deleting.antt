@@ -34,17 +34,17 @@ abbrev pub lies_at : List Entity → RelId × Rel → Bool
 lies_at set e = is_node_of set e.1.source || is_node_of set e.1.target
 
 -- it goes: it is of the set, or, with DETACH, lies at a node of it
-abbrev pub goes : Bool → List Entity → RelId × Rel → Bool
-goes detach set e = is_relationship_of set e.0 || (detach && lies_at set e)
+abbrev pub is_going : Bool → List Entity → RelId × Rel → Bool
+is_going detach set e = is_relationship_of set e.0 || (detach && lies_at set e)
 
 -- it remains at a node that goes
 abbrev pub is_left_over : Bool → List Entity → RelId × Rel → Bool
-is_left_over detach set e = lies_at set e && not (goes detach set e)
+is_left_over detach set e = lies_at set e && not (is_going detach set e)
 
 -- the graph without the set, and without the relationships that go; their numbers stay given out
 abbrev pub without_set : Bool → List Entity → State → State
 without_set detach set graph =
-    with_rels (filter (λ e. not (goes detach set e)) graph.content.rels)
+    with_rels (filter (λ e. not (is_going detach set e)) graph.content.rels)
     (with_nodes (filter (λ e. not (is_node_of set e.0)) graph.content.nodes) graph)
 
 -- by the relationships that are left over: the first, which is that with the least number, is reported

@@ -42,13 +42,13 @@ unless_null (value.Bool truth) = Some (value.Bool truth)
 unless_null (value.Int number) = Some (value.Int number)
 
 -- a property set to a value, null removing it
-abbrev pub set_one : Name → Value → List (Name × Value) → List (Name × Value)
-set_one key v props = set_or_removed key (unless_null v) props
+abbrev pub with_entry : Name → Value → List (Name × Value) → List (Name × Value)
+with_entry key v props = set_or_removed key (unless_null v) props
 
 -- the properties after the entries are set from the left: of two with one key the later counts
 abbrev pub set_all : List (Name × Value) → List (Name × Value) → List (Name × Value)
 set_all props [] = props
-set_all props (e ∷ es) = set_all (set_one e.0 e.1 props) es
+set_all props (e ∷ es) = set_all (with_entry e.0 e.1 props) es
 
 -- the values of a map's entries from the left. Each entry answers with its value's fault, or as one that can't be stored, before
 -- the next one, also where a later entry has its key.

@@ -3,7 +3,7 @@
 
 Run it at the top of the repository. It builds the program by `rt run` in crates/cypher_live, or takes the one that is named
 after it. Each node has five relationships. For each cost the script prints the count at both sizes and their ratio. A cost
-that isn't to grow with the graph has the limit behind its ratio. A ratio, a count or a number of bytes above its limit ends
+that isn't to grow with the graph has the limit after its ratio. A ratio, a count or a number of bytes above its limit ends
 the script with status 1, and so does a line that isn't answered as it should be.
 """
 import os

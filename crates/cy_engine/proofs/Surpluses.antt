@@ -16,7 +16,7 @@ use Rattle.cy_engine.specs.internal.Surplus.{IsCountedSurplus, surplus_of}
 abbrev Pairs : Type 0
 Pairs = List (List Cell × ℕ)
 
--- all these rows come behind a row
+-- all these rows come after a row
 abbrev Above : List Cell → Pairs → Type 0
 Above row [] = Unit {0}
 Above row (p ∷ ps) = (row_cmp row p.0 ≡ Less) × Above row ps
@@ -39,7 +39,7 @@ below a b h = grind (arith, nat_tests)
 not_below : (a b : ℕ) → nat_lt a b ≡ false → b ≤ a
 not_below a b h = grind (arith, nat_tests)
 
--- a row weighs nothing among those behind it
+-- a row weighs nothing among those after it
 weight_above : (row : List Cell) (ps : Pairs) → Above row ps → weight_of row ps ≡ 0
 weight_above row [] above = refl
 weight_above row (p ∷ ps) above =

@@ -24,7 +24,7 @@ use crate::views::{Registered, abandon, made_reply, prepare, register, settle};
 use cy_index::Store;
 use cy_lexer::{Token, lex};
 use cy_oneshot::Table;
-use cy_updates::{Outcome, execute};
+use cy_updates::{StatementAnswer, execute};
 use cy_values::{Duplicate, Row, Sequence, Text, row_order_laws};
 use indexmap::IndexMap;
 use std::alloc::Global;
@@ -264,10 +264,10 @@ fn next_tick(tick: u64) -> Result<u64, Fault>
 }
 
 // The answer to a statement that is carried out.
-fn statement_reply(outcome: Outcome) -> Reply
+fn statement_reply(outcome: StatementAnswer) -> Reply
     ensures { (graph : State) → let seen = outcome_seen graph outcome in result ≡ Reply.Statement (changed_by seen.counts) seen.columns seen.rows }
 {
-    let Outcome {
+    let StatementAnswer {
         made_nodes,
         gone_nodes,
         made_rels,

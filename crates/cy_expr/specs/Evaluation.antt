@@ -82,7 +82,7 @@ abbrev mutual
   values_of graph row no_more = Ok []
   values_of graph row (more e es) = on_two (λ v vs. Ok (v ∷ vs)) (on_one value_in_cell (cell_of graph row e)) (values_of graph row es)
 
-  -- a chain of comparisons behind an operand: the AND of its neighbours, each operand evaluated once
+  -- a chain of comparisons after an operand: the AND of its neighbours, each operand evaluated once
   pub chain : Lookups → List Cell → Cell → Links → Result Truth EvalFault
   chain graph row c no_links = Ok Yes
   chain graph row c (link comparator e links) =

@@ -89,7 +89,7 @@ fn column<'a>(column: Option<usize>, row: &'a [Cell]) -> CellView<'a>
     }
 }
 
-/// An operator behind its left operand. Of an `IN` with a list that is written out no list is made.
+/// An operator after its left operand. Of an `IN` with a list that is written out no list is made.
 #[cycle(evaluation)]
 fn evaluate_binary<'a, G: Lookups>(
     alloc: Global,
@@ -131,7 +131,7 @@ fn evaluate_membership<'a, G: Lookups>(
     Ok(Held::Made(value_of(any?)))
 }
 
-/// A chain of comparisons behind its first operand.
+/// A chain of comparisons after its first operand.
 #[cycle(evaluation)]
 #[tactic(auto, using(crate::proofs::Rules::chain_steps))]
 fn evaluate_links<'a, G: Lookups>(
@@ -173,7 +173,7 @@ fn evaluate_list<'a, G: Lookups>(
     Ok(Held::Made(list_of(alloc, values)?))
 }
 
-/// The result of the first condition that is true, if one is; what stands behind it isn't evaluated.
+/// The result of the first condition that is true, if one is; what stands after it isn't evaluated.
 #[cycle(evaluation)]
 fn evaluate_arms<'a, G: Lookups>(
     alloc: Global,
@@ -215,7 +215,7 @@ fn evaluate_call<'a, G: Lookups>(
     }
 }
 
-/// The first of the values that isn't null, else null; what stands behind it isn't evaluated.
+/// The first of the values that isn't null, else null; what stands after it isn't evaluated.
 #[cycle(evaluation)]
 fn evaluate_first<'a, G: Lookups>(
     alloc: Global,

@@ -24,7 +24,7 @@ offset-chars total bs u = ap (λ (x : List ℕ). total - length x) (encodes-char
 pub offset_of_text : (total c : ℕ) (bs cs : List ℕ) → IsUtf8 bs → chars bs ≡ c ∷ cs → offset total (c ∷ cs) ≡ total - length bs
 offset_of_text total c bs cs u e = ap (λ (x : List ℕ). offset total x) (sym e) ∙ offset-chars total bs u
 
--- behind one character more
+-- after one character more
 pub drop-past : (i : ℕ) (xs whole cs : List ℕ) (c : ℕ) → whole ≡ c ∷ cs → whole ≡ drop i xs → cs ≡ drop (i + 1) xs
 drop-past i xs whole cs c e at = ap (λ (x : List ℕ). drop 1 x) (sym e ∙ at) ∙ simp drop-drop
 

@@ -57,7 +57,7 @@ abbrev BlockShape : List ℕ → ℕ → Type 0
 BlockShape cs n =
     (inside : List ℕ) × (rest : List ℕ) × IsFalse (has_comment_end inside) × (n ≡ length inside + 2) × (cs ≡ inside ++ 42 ∷ 47 ∷ rest)
 
--- a `*` behind the text brings it no `/` in front
+-- a `*` after the text brings it no `/` in front
 begins-slash : (inside rest : List ℕ) → begins_with 47 inside ≡ begins_with 47 (inside ++ 42 ∷ rest)
 begins-slash [] rest = refl
 begins-slash (c ∷ inside) rest = refl
@@ -92,7 +92,7 @@ block_shape : (cs : List ℕ) (n : ℕ) → block_len cs ≡ Some n → BlockSha
 block_shape [] n e = absurd cc
 block_shape (c ∷ cs) n e = by_comment_end c n cs ((c == 42) && begins_with 47 cs) refl (block_shape cs) e
 
--- What a piece that is no token takes of the characters behind its first one: it is a gap in front of each gap, or, as a
+-- What a piece that is no token takes of the characters after its first one: it is a gap in front of each gap, or, as a
 -- comment of one line, in front of each LF and a gap.
 abbrev GapShape : ℕ → List ℕ → ℕ → Type 0
 GapShape c cs n =
@@ -273,7 +273,7 @@ by_gap fuel total c cs n ts below less fits (inside, rest, split, taken, lifts) 
           (sym (tokens_from-line_end total more) ∙ ap (λ (x : List ℕ). tokens_from (offset total) 0 x) (sym ends) ∙ read)
     ]
 
--- behind the token's first character the others are passed
+-- after the token's first character the others are passed
 by_word : (fuel total c : ℕ) (cs : List ℕ) (k : Kind) (n : ℕ) (ts : List Token) → LeavesGapsBelow fuel total → length cs ≤ fuel → length (encode_utf8_all (c ∷ cs)) ≤ total → tokens_from (offset total) 0 (drop n cs) ≡ Ok ts → LeavesGaps (offset total (c ∷ cs)) (c ∷ cs) (with_token (offset total) (c ∷ cs) (Some k, n) ts)
 by_word fuel total c cs k n ts below less fits e =
     let split : c ∷ cs ≡ (c ∷ take n cs) ++ drop n cs = ap (λ (x : List ℕ). c ∷ x) (sym (take-append-drop n cs)) in

@@ -185,7 +185,7 @@ IsPlaced whole t =
     × (t.start ≡ length (encode_utf8_all front)) × (t.end ≡ t.start + length (encode_utf8_all (c ∷ more)))
     × IsMeant t.kind (denoted t.kind (c ∷ more))
 
--- and each behind the one before it
+-- and each after the one before it
 abbrev ArePlaced : List ℕ → ℕ → List Token → Type 0
 ArePlaced whole from [] = ⊤
 ArePlaced whole from (t ∷ ts) = (from ≤ t.start) × IsPlaced whole t × ArePlaced whole t.end ts
@@ -259,7 +259,7 @@ by_characters : (bs cs : List ℕ) → 0 < length bs → all_scalars cs ≡ true
 by_characters bs [] some are e = absurd (omega (arith, some, ap length e))
 by_characters bs (c ∷ cs) some are e = (c, cs, refl, are)
 
--- between two boundaries, one behind the other
+-- between two boundaries, one after the other
 pub stretch : (line : List ℕ) (from to : ℕ) → IsUtf8 line → from < to → IsCharBoundary line from → IsCharBoundary line to → IsStretch line from to
 stretch line from to u rises first last =
     let text : IsUtf8 (slice_range line from to) = IsUtf8-between line from to u (omega (arith, rises)) first last in
@@ -335,7 +335,7 @@ tokens_of-placed line ts u e =
 pub tokens_of-lexed : (line : List ℕ) (ts : List Token) → IsUtf8 line → tokens_of line ≡ Ok ts → Every (IsLexed line) ts
 tokens_of-lexed line ts u e = placed_every line (chars line) 0 ts (encodes-chars line u) (scalars-chars line u) (tokens_of-placed line ts u e)
 
--- each stands behind the one before it
+-- each stands after the one before it
 pub tokens_of-spans : (line : List ℕ) (ts : List Token) → IsUtf8 line → tokens_of line ≡ Ok ts → AreSpansOf line 0 ts (length line)
 tokens_of-spans line ts u e = placed_spans line (chars line) 0 ts (encodes-chars line u) (scalars-chars line u) (omega arith) (tokens_of-placed line ts u e)
 
@@ -359,7 +359,7 @@ pub AreSpansOf-back : (line : List ℕ) (from to : ℕ) (front back : List Token
 AreSpansOf-back line from to [] back spans = (from, spans)
 AreSpansOf-back line from to (t ∷ ts) back spans = AreSpansOf-back line t.end to ts back spans.2
 
--- the token u stands behind a place
+-- the token u stands after a place
 spans_later : (line : List ℕ) (from to : ℕ) (mid after : List Token) (u : Token) → AreSpansOf line from (mid ++ (u ∷ after)) to → (from ≤ u.start) × IsSpanOf line u
 spans_later line from to [] after u spans = (spans.0, spans.1)
 spans_later line from to (x ∷ mid) after u spans =

@@ -98,6 +98,6 @@ tokens_from-places f g zero (c ∷ cs) agree =
     ap (λ (read : Result Piece LexFault). read >>= λ p. (tokens_from f p.1 cs >>= λ ts. Ok (with_token f (c ∷ cs) p ts))) (piece-places f g c cs agree)
     ∙ by_piece f g c cs (piece g c cs) agree (λ skip. tokens_from-places f g skip cs (behind f g c cs agree))
 
--- the tokens of a line, by what stands before each place in it and by what is left behind it
+-- the tokens of a line, by what stands before each place in it and by what is left after it
 pub tokens_from-end : (line : List ℕ) → IsUtf8 line → tokens_from (offset_in (chars line)) 0 (chars line) ≡ tokens_from (offset (length line)) 0 (chars line)
 tokens_from-end line u = tokens_from-places (offset_in (chars line)) (offset (length line)) 0 (chars line) (λ n. offset_in-offset line n u)

@@ -19,7 +19,7 @@ hexadecimal-step high n m c digit whole cs e more is small =
     let fits : digit_value c < 16 = rw (← is) small in
     rw (e, more, is) (rw (lt-ltb _ _ fits) refl)
 
--- behind one character more
+-- after one character more
 left_one_more : (c : ℕ) (cs : List ℕ) (r : Result ℕ LexFault) → map_ok (λ n. drop n (c ∷ cs)) (one_more r) ≡ map_ok (λ n. drop n cs) r
 left_one_more c cs (Ok n) = refl
 left_one_more c cs (Err e) = refl
@@ -98,7 +98,7 @@ unquoted_character quote d cs left None e = absurd cc
 unquoted-step : (quote c d : ℕ) (whole cs left : List ℕ) → whole ≡ c ∷ cs → false ≡ closes quote c cs → Some (d, left) ≡ option_map (taken cs) (character quote c cs) → unquoted quote 0 whole ≡ d ∷ unquoted quote 0 left
 unquoted-step quote c d whole cs left e inside took = rw (e, ← inside) (unquoted_character quote d cs left (character quote c cs) took)
 
--- a character is written behind what was written before, and the rest behind it
+-- a character is written after what was written before, and the rest after it
 pub written-step : (quote c d : ℕ) (old new whole cs left all : List ℕ) → whole ≡ c ∷ cs → false ≡ closes quote c cs → Some (d, left) ≡ option_map (taken cs) (character quote c cs) → new ≡ old ++ encode_utf8 d → old ++ encode_utf8_all (unquoted quote 0 whole) ≡ all → new ++ encode_utf8_all (unquoted quote 0 left) ≡ all
 written-step quote c d old new whole cs left all e inside took more known =
     ap (λ (x : List ℕ). x ++ encode_utf8_all (unquoted quote 0 left)) more ∙ append_assoc old (encode_utf8 d) (encode_utf8_all (unquoted quote 0 left)) ∙ ap (λ (x : List ℕ). old ++ encode_utf8_all x) (sym (unquoted-step quote c d whole cs left e inside took)) ∙ known

@@ -93,7 +93,7 @@ boundary-of_rest : (line rest : List ℕ) → IsUtf8 rest → rest ≡ drop (len
 boundary-of_rest line rest u e =
     IsCharBoundary-from_drop line (length line - length rest) (omega arith) (rw (← e) u)
 
--- spans with one more behind them, or with room behind them
+-- spans with one more after them, or with room after them
 AreSpansOf-push : (line : List ℕ) (from to : ℕ) (ts : List Token) (t : Token) → AreSpansOf line from ts to → to ≤ t.start → IsSpanOf line t → AreSpansOf line from (ts ++ t ∷ []) t.end
 AreSpansOf-push line from to [] t s behind span = (omega (arith, s), span, omega arith)
 AreSpansOf-push line from to (x ∷ ts) t s behind span = (s.0, s.1, AreSpansOf-push line x.end to ts t s.2 behind span)
@@ -108,7 +108,7 @@ abbrev pub IsRead : List ℕ → List ℕ → List Token → Type 0
 IsRead line rest ts =
     (map_ok (λ more. ts ++ more) (tokens_from (offset (length line)) 0 (chars rest)) ≡ tokens_from (offset (length line)) 0 (chars line)) × (length rest ≤ length line) × (rest ≡ drop (length line - length rest) line) × AreSpansOf line 0 ts (length line - length rest)
 
--- a token is read, and put behind those before it
+-- a token is read, and put after those before it
 pub IsRead-token : (line rest left : List ℕ) (c : ℕ) (cs : List ℕ) (read : Option Kind) (k : Kind) (old new : List Token) → IsUtf8 rest → IsUtf8 left → chars rest ≡ c ∷ cs → Ok (read, chars left) ≡ map_ok (taken cs) (piece (offset (length line)) c cs) → read ≡ Some k → length left < length rest → new ≡ old ++ record { kind = k; start = length line - length rest; end = length line - length left } ∷ [] → IsRead line rest old → IsRead line left new
 IsRead-token line rest left c cs read k old new u v split value some shorter pushed known =
     let total = length line in

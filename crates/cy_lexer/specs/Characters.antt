@@ -7,7 +7,7 @@ use Rattle.unicode_ident.specs.Ident.{is_xid_start, is_xid_continue}
 use Rattle.cy_lexer.specs.declared.characters.Run.{Run}
 use Rattle.cy_lexer.specs.declared.characters.Run.TheVariants.{Name, Digits, Line, Quoted}
 
--- the byte offset at which the characters that are left of a line begin: behind the bytes of those that stand before them
+-- the byte offset at which the characters that are left of a line begin: after the bytes of those that stand before them
 abbrev pub offset_in : List ℕ → List ℕ → ℕ
 offset_in line left = length (encode_utf8_all (take (length line - length left) line))
 

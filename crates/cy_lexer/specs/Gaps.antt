@@ -16,7 +16,7 @@ abbrev pub has_comment_end : List ℕ → Bool
 has_comment_end [] = false
 has_comment_end (c ∷ cs) = ((c == 42) && begins_with 47 cs) || has_comment_end cs
 
--- White space and comments, one behind the other. A comment of one line goes on to the next LF, which stands behind it.
+-- White space and comments, one after the other. A comment of one line goes on to the next LF, which stands after it.
 -- The other comment goes on to the next `*/`, and has no such end inside.
 pub data IsGap : List ℕ → Type 0 where
   nothing : IsGap []
@@ -27,7 +27,7 @@ pub data IsGap : List ℕ → Type 0 where
       → IsGap (47 ∷ 42 ∷ (inside ++ 42 ∷ 47 ∷ gap))
 
 -- The characters cs, which begin at a byte offset, are a gap, the characters of the first token, a gap, those of the
--- next one, and so on, and each span is where its token's characters stand. What stands behind the last token is a gap
+-- next one, and so on, and each span is where its token's characters stand. What stands after the last token is a gap
 -- once a LF ends the line, so a comment of one line may go on to the end.
 abbrev pub LeavesGaps : ℕ → List ℕ → List Token → Type 0
 LeavesGaps at cs [] = IsGap (cs ++ 10 ∷ [])

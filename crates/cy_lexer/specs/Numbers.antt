@@ -3,7 +3,7 @@ use Rattle.std.specs.Prelude.{ℕ, ◌+◌, ◌-◌, ◌*◌, Bool, false, ◌&&
 use Rattle.std.specs.Char.{is_ascii_digit}
 use Rattle.unicode_ident.specs.Ident.{is_xid_continue}
 
--- the number that decimal digits write, behind digits that write `high`
+-- the number that decimal digits write, after digits that write `high`
 abbrev pub number_of : ℕ → List ℕ → ℕ
 number_of high [] = high
 number_of high (d ∷ ds) = number_of (high * 10 + (d - 48)) ds
@@ -23,6 +23,6 @@ spoils_number [] = false
 spoils_number (c ∷ cs) = is_xid_continue c || ((c == 46) && begins_with_digit cs)
 
 -- A number is written badly where a `0` stands before another digit, or where something that may not follow it does.
--- first is its first digit, after is what stands behind that digit, and left is what stands behind the last one.
+-- first is its first digit, after is what stands after that digit, and left is what stands after the last one.
 abbrev pub is_bad_number : ℕ → List ℕ → List ℕ → Bool
 is_bad_number first after left = ((first == 48) && begins_with_digit after) || spoils_number left

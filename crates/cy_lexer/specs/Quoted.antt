@@ -6,7 +6,7 @@ use Rattle.cy_lexer.specs.declared.faults.LexFault.{LexFault}
 use Rattle.cy_lexer.specs.declared.faults.LexFault.TheVariants.{BadEscape}
 use Rattle.cy_lexer.specs.Characters.{begins_with}
 
--- the number that so many hexadecimal digits at the front write, behind digits that write `high`; none where one is missing
+-- the number that so many hexadecimal digits at the front write, after digits that write `high`; none where one is missing
 abbrev pub hexadecimal : ℕ → ℕ → List ℕ → Option ℕ
 hexadecimal high zero cs = Some high
 hexadecimal high (suc n) [] = None
@@ -16,7 +16,7 @@ hexadecimal high (suc n) (c ∷ cs) = if nat_lt (digit_value c) 16 then hexadeci
 abbrev pub is_character : ℕ → Bool
 is_character code = nat_lt code 0xD800 || (nat_le 0xE000 code && nat_lt code 0x11_0000)
 
--- what one character behind a backslash stands for: `\\ \' \"` for themselves, `\b \f \n \r \t` for 8, 12, 10, 13 and 9
+-- what one character after a backslash stands for: `\\ \' \"` for themselves, `\b \f \n \r \t` for 8, 12, 10, 13 and 9
 abbrev pub plain_escape : ℕ → Option ℕ
 plain_escape c =
     if (c == 92) || ((c == 39) || (c == 34)) then Some c else
@@ -34,7 +34,7 @@ coded_escape digits cs = option_and_then (λ code. if is_character code then Som
 abbrev pub and_one : ℕ × ℕ → ℕ × ℕ
 and_one p = (p.0, suc p.1)
 
--- The escape behind a backslash: the character that it stands for, and how many characters it takes; none where it is bad.
+-- The escape after a backslash: the character that it stands for, and how many characters it takes; none where it is bad.
 -- 117 is `u`, with four digits, and 85 is `U`, with eight.
 abbrev pub escape : List ℕ → Option (ℕ × ℕ)
 escape [] = None
@@ -43,11 +43,11 @@ escape (c ∷ cs) =
     if c == 85 then option_map and_one (coded_escape 8 cs) else
     option_map (λ d. (d, 1)) (plain_escape c)
 
--- the character c, with cs behind it, closes what the quote opened; a doubled backtick doesn't
+-- the character c, with cs after it, closes what the quote opened; a doubled backtick doesn't
 abbrev pub closes : ℕ → ℕ → List ℕ → Bool
 closes quote c cs = (c == quote) && not ((quote == 96) && begins_with 96 cs)
 
--- The character that c, with cs behind it, stands for inside of the quotes, and how many characters of cs it takes.
+-- The character that c, with cs after it, stands for inside of the quotes, and how many characters of cs it takes.
 -- A doubled backtick stands for one. In a text a backslash begins an escape; in a quoted name it doesn't.
 abbrev pub character : ℕ → ℕ → List ℕ → Option (ℕ × ℕ)
 character quote c cs =
@@ -59,7 +59,7 @@ abbrev pub one_more : {E : Type 0} → Result ℕ E → Result ℕ E
 one_more (Ok n) = Ok (suc n)
 one_more (Err e) = Err e
 
--- How many characters stand behind an opening quote, the closing one counted, or the fault that reading from the left
+-- How many characters stand after an opening quote, the closing one counted, or the fault that reading from the left
 -- meets: a bad escape at its backslash, or unclosed at the end. The first skip characters belong to the character before
 -- them, and place has the offset at which the characters that are left begin.
 abbrev pub quoted_len : (List ℕ → ℕ) → LexFault → ℕ → ℕ → List ℕ → Result ℕ LexFault
@@ -72,7 +72,7 @@ quoted_len place unclosed quote zero (c ∷ cs) =
       | None ↦ Err (BadEscape (place (c ∷ cs)))
     ]
 
--- the characters that stand behind an opening quote, up to the closing one, each escape and each doubled backtick as
+-- the characters that stand after an opening quote, up to the closing one, each escape and each doubled backtick as
 -- what it stands for; the first skip characters belong to the character before them
 abbrev pub unquoted : ℕ → ℕ → List ℕ → List ℕ
 unquoted quote skip [] = []

@@ -10,7 +10,7 @@ IsSpanOf line token = (token.start < token.end) × IsCharBoundary line token.sta
 abbrev pub slice_of : List ℕ → Token → List ℕ
 slice_of line token = slice_range line token.start token.end
 
--- the tokens' spans lie in the line between two places, each behind the one before it
+-- the tokens' spans lie in the line between two places, each after the one before it
 abbrev pub AreSpansOf : List ℕ → ℕ → List Token → ℕ → Type 0
 AreSpansOf line from [] to = from ≤ to
 AreSpansOf line from (t ∷ ts) to = (from ≤ t.start) × IsSpanOf line t × AreSpansOf line t.end ts to

@@ -43,7 +43,7 @@ number_piece at c cs =
     if is_bad_number c cs (drop more cs) then Err (BadNumber at) else
     if nat_lt greatest_number number then Err (NumberTooLarge at) else Ok (Some (kind.Number number), more)
 
--- how many characters behind a `/*` belong to the comment: up to and with the next `*/`
+-- how many characters after a `/*` belong to the comment: up to and with the next `*/`
 abbrev pub block_len : List ℕ → Option ℕ
 block_len [] = None
 block_len (c ∷ cs) = if (c == 42) && begins_with 47 cs then Some 2 else option_map suc (block_len cs)
@@ -97,7 +97,7 @@ piece place c cs =
     if opens_comment 42 c cs then block_comment (place (c ∷ cs)) cs else
     token_piece place (place (c ∷ cs)) c cs
 
--- the token of this kind, if any, and then the others: its span goes from its first character to behind its last one
+-- the token of this kind, if any, and then the others: its span goes from its first character to after its last one
 abbrev pub with_token : (List ℕ → ℕ) → List ℕ → Piece → List Token → List Token
 with_token place cs p ts = elim p.0 [
   | Some k ↦ record { kind = k; start = place cs; end = place (drop (suc p.1) cs) } ∷ ts

@@ -60,14 +60,14 @@ fn spoils_number(text: &str) -> bool
     }
 }
 
-/// Whether a number is written badly, from its first digit, what stands behind that, and what behind its last.
+/// Whether a number is written badly, from its first digit, what stands after that, and what after its last.
 fn is_bad_number(first: char, after: &str, left: &str) -> bool
     ensures { result ≡ is_bad_number first (chars after.now) (chars left.now) }
 {
     (first == '0' && begins_with_digit(after)) || spoils_number(left)
 }
 
-/// The number at the front of a text, which begins with a digit and goes on behind it, and what follows the number.
+/// The number at the front of a text, which begins with a digit and goes on after it, and what follows the number.
 pub(crate) fn number<'a>(
     at: usize,
     text: &str,

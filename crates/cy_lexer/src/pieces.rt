@@ -13,7 +13,7 @@ use crate::quoted::{after_quoted, closes};
 use crate::symbols::{Symbol, pair_symbol, single_symbol};
 use crate::tokens::Kind;
 
-/// The kind of the name at the front of the text, which goes on behind its first character, and what follows the name.
+/// The kind of the name at the front of the text, which goes on after its first character, and what follows the name.
 fn word<'a>(text: &'a str, after: &'a str) -> (Kind, &'a str)
     requires split { (c : ℕ) × (chars text.now ≡ c ∷ chars after.now) }
     requires shorter { length after.now ≤ length text.now }
@@ -30,7 +30,7 @@ fn word<'a>(text: &'a str, after: &'a str) -> (Kind, &'a str)
     (kind, left)
 }
 
-/// Whether a comment begins with a slash, first, and the second character, which the text behind it begins with.
+/// Whether a comment begins with a slash, first, and the second character, which the text after it begins with.
 fn opens_comment(first: char, second: char, after: &str) -> bool
     ensures { result ≡ opens_comment second first (chars after.now) }
 {
@@ -80,7 +80,7 @@ fn symbol(first: char, after: &str) -> Option<(Symbol, &str)>
     Some((single_symbol(first)?, after))
 }
 
-/// What follows a quoted name, behind its opening backtick.
+/// What follows a quoted name, after its opening backtick.
 fn after_quoted_name(total: usize, at: usize, text: &str) -> Result<&str, LexFault>
     requires { length text.now ≤ total }
     ensures value { map_ok (seen_token Kind.QuotedName) result
@@ -95,7 +95,7 @@ fn after_quoted_name(total: usize, at: usize, text: &str) -> Result<&str, LexFau
     after_quoted(total, '`', LexFault::UnclosedName(at), text)
 }
 
-/// What follows a text, behind its opening quote.
+/// What follows a text, after its opening quote.
 fn after_text(total: usize, at: usize, quote: char, text: &str) -> Result<&str, LexFault>
     requires { length text.now ≤ total }
     ensures value { map_ok (seen_token Kind.Text) result
@@ -106,7 +106,7 @@ fn after_text(total: usize, at: usize, quote: char, text: &str) -> Result<&str, 
 }
 
 /// The kind of the piece at the front of the text, or no kind for a gap, and what follows the piece. The line has so
-/// many bytes and ends with the text, which begins with the first character and goes on behind it.
+/// many bytes and ends with the text, which begins with the first character and goes on after it.
 #[tactic(auto, unfolding(crate::specs::Tokens::piece), using(crate::proofs::CharactersLemmas::offset_of_text))]
 pub(crate) fn piece<'a>(
     total: usize,

@@ -8,7 +8,7 @@ use crate::characters::{Run, after_run, begins_with, split_first};
 use crate::faults::LexFault;
 use std::alloc::Global;
 
-/// What one character behind a backslash stands for.
+/// What one character after a backslash stands for.
 fn plain_escape(c: char) -> Option<char>
     ensures { result ≡ plain_escape c }
 {
@@ -40,7 +40,7 @@ fn coded_escape(digits: u32, text: &str) -> Option<(char, &str)>
     Some((char::from_u32(code)?, rest))
 }
 
-/// The character that the escape at the front of the text, behind its backslash, stands for, and what follows it.
+/// The character that the escape at the front of the text, after its backslash, stands for, and what follows it.
 fn escape(text: &str) -> Option<(char, &str)>
     ensures value { option_map seen result ≡ option_map (taken (chars text.now)) (escape (chars text.now)) }
     ensures shorter { IfSome result (λ p. length p.1.now ≤ length text.now) }
@@ -53,7 +53,7 @@ fn escape(text: &str) -> Option<(char, &str)>
     }
 }
 
-/// Whether the first character of a text, which goes on behind it, closes what the quote opened.
+/// Whether the first character of a text, which goes on after it, closes what the quote opened.
 pub(crate) fn closes(quote: char, first: char, after: &str) -> bool
     ensures { result ≡ closes quote first (chars after.now) }
 {

@@ -32,7 +32,7 @@ pub struct Token {
     pub kind: Kind,
     /// The byte offset of its first character.
     pub start: usize,
-    /// The byte offset behind its last character.
+    /// The byte offset after its last character.
     pub end: usize,
 }
 

@@ -1,4 +1,4 @@
--- What the items of a projection make of rows, each with what its keys see behind it.
+-- What the items of a projection make of rows, each with what its keys see after it.
 use Rattle.std.proofs.Common.{◌≡◌, ℕ, suc, ◌≤◌, true, false, cond, List, [], ◌∷◌, ◌++◌, length, map, take, refl, sym, ap, subst, ◌∙◌, arith}
 use Rattle.std.specs.Prelude.{Result, Ok, Err, IfOk, Option}
 use Rattle.std.specs.List.{AllByRecursion}
@@ -51,7 +51,7 @@ gathered_values f g (x ∷ xs) = ap (together (single (on_value f (g x)))) (gath
 abbrev pub expressions : List Item → List Expression
 expressions items = map (λ i. i.expression) items
 
--- a row with another one behind it, and a row with its keys
+-- a row with another one after it, and a row with its keys
 abbrev seen_as : List Cell → List Cell → Projected
 seen_as row seen = record { row = row; seen = seen }
 

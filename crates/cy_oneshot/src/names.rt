@@ -21,7 +21,8 @@ pub fn names_of(alloc: Global, items: &[Item]) -> Result<Vec<Text>, Fault>
     Ok(names)
 }
 
-/// Adds the names of a pattern's new variables to those of the columns, in the order of the text. Fails only for want of memory.
+/// Adds the names of a pattern's new variables to those of the columns, in the order of the text. Fails only for want of memory; some of the
+/// names may then have been added, and the columns are to be dropped.
 pub fn add_names(alloc: Global, columns: &mut Vec<Text>, paths: &[Path]) -> Result<(), Fault>
     ensures { OnOk result (columns.new.items ≡ with_new_names columns.old.items (places (map path_of paths.now))) }
 {

@@ -73,7 +73,7 @@ fn sort_keys(alloc: Global, projection: &Projection) -> Result<Vec<SortKey<'_>>,
     Ok(keys)
 }
 
-// What the items make of the rows, with DISTINCT each once: each row with what its keys see behind it.
+// What the items make of the rows, with DISTINCT each once: each row with what its keys see after it.
 fn projected(
     alloc: Global,
     store: &Store,
@@ -113,7 +113,7 @@ fn item_rows(
     }
 }
 
-// The items on each row, and the row itself behind them.
+// The items on each row, and the row itself after them.
 fn project_each(
     alloc: Global,
     store: &Store,
@@ -133,7 +133,7 @@ fn project_each(
     seen.finish()
 }
 
-// What expressions give on a row, and the row itself behind it.
+// What expressions give on a row, and the row itself after it.
 fn project(
     alloc: Global,
     store: &Store,

@@ -13,7 +13,7 @@ use Rattle.cy_trees.specs.declared.expressions.Variable.{Variable}
 use Rattle.cy_trees.specs.Trees.{Name, Expression, Expressions, list, no_more, more, call, call_star, variable, property, has_labels, unary, binary, boolean, integer, null, text, Links, no_links, link, comparison, Arms, arm, no_arms, Otherwise, nothing, otherwise, case}
 use Rattle.cy_trees.specs.Depth.{depth, deepest, links_depth, arms_depth, otherwise_depth}
 use Rattle.cy_lexer.specs.Words as words
-use Rattle.cy_trees.specs.Show.{Piece, word as shown_word, space, says, mark, named, bracketed, label_pieces, binary_pieces, comparator_symbol, unary_pieces, is_literal, owner_pieces, distinct_pieces, expression_pieces, elements_pieces, links_pieces, arms_pieces, otherwise_pieces}
+use Rattle.cy_trees.specs.Show.{Piece, word as shown_word, space, says, mark, named, bracketed, label_pieces, binary_pieces, comparator_symbol, unary_pieces, is_literal_or_list, owner_pieces, distinct_pieces, expression_pieces, elements_pieces, links_pieces, arms_pieces, otherwise_pieces}
 use Rattle.cy_parser.specs.Words.{lowered, number_limit, product_operator, sum_operator, comparator_of}
 use Rattle.cy_parser.specs.Spells as spell
 use Rattle.cy_parser.specs.Spells.{Spells, SpellsAll, SpellsLabels, SpellsLinks, SpellsArms, SpellsOtherwise, Level, whole, exclusion, conjunction, negation, comparisons, predicate, sum, product, signed, postfix, owner, head, IsSymbol, IsKeyword}
@@ -251,7 +251,7 @@ module _ (line : List ℕ) where
 
   mutual
     shown : (e : Expression) → IsWellFormed e → (m : ℕ) → 3 * depth e ≤ m → (ts rest : List Token) → Shown line (expression_pieces e) ts rest →
-        Spells line m (level_of (is_literal e)) e ts rest
+        Spells line m (level_of (is_literal_or_list e)) e ts rest
     shown e w zero few ts rest s = absurd (no_level e few)
     shown null w (suc n) few ts rest s = last_keyword line (λ us. Spells line (suc n) signed null us rest) word.Null ts rest s (λ t is. spell.is_postfix (suc n) null (t ∷ rest) rest (spell.null_ n t rest is))
     shown (boolean true) w (suc n) few ts rest s = last_keyword line (λ us. Spells line (suc n) signed (boolean true) us rest) word.True ts rest s (λ t is. spell.is_postfix (suc n) _ (t ∷ rest) rest (spell.true_ n t rest is))
@@ -265,30 +265,30 @@ module _ (line : List ℕ) where
         (subst (λ z. Spells line (suc n) signed (text z) (t ∷ rest) rest) said (spell.is_postfix (suc n) _ (t ∷ rest) rest (spell.text_ n t rest is))))
     shown (variable v) w (suc n) few ts rest s = shown_variable v w n ts rest s
     shown (property e key) w (suc n) few ts rest s =
-        in_head n (property e key) (owner_pieces (is_literal e) (expression_pieces e) ++ mark sign.Dot ∷ named key ∷ []) ts rest s (λ us vs here.
-        let x = both line (owner_pieces (is_literal e) (expression_pieces e)) (mark sign.Dot ∷ named key ∷ []) us vs here in
-        property_whole n e key us x.0 vs w.1 (shown_owner (is_literal e) n e us x.0 (omega (arith, few)) (λ k ps qs enough part. shown e w.0 k enough ps qs part) x.1) x.2)
+        in_head n (property e key) (owner_pieces (is_literal_or_list e) (expression_pieces e) ++ mark sign.Dot ∷ named key ∷ []) ts rest s (λ us vs here.
+        let x = both line (owner_pieces (is_literal_or_list e) (expression_pieces e)) (mark sign.Dot ∷ named key ∷ []) us vs here in
+        property_whole n e key us x.0 vs w.1 (shown_owner (is_literal_or_list e) n e us x.0 (omega (arith, few)) (λ k ps qs enough part. shown e w.0 k enough ps qs part) x.1) x.2)
     shown (has_labels e labels) w (suc n) few ts rest s =
-        in_head n (has_labels e labels) (owner_pieces (is_literal e) (expression_pieces e) ++ label_pieces labels) ts rest s (λ us vs here.
-        let x = both line (owner_pieces (is_literal e) (expression_pieces e)) (label_pieces labels) us vs here in
-        labels_whole n e labels us x.0 vs w.1 (shown_owner (is_literal e) n e us x.0 (omega (arith, few)) (λ k ps qs enough part. shown e w.0 k enough ps qs part) x.1) x.2)
+        in_head n (has_labels e labels) (owner_pieces (is_literal_or_list e) (expression_pieces e) ++ label_pieces labels) ts rest s (λ us vs here.
+        let x = both line (owner_pieces (is_literal_or_list e) (expression_pieces e)) (label_pieces labels) us vs here in
+        labels_whole n e labels us x.0 vs w.1 (shown_owner (is_literal_or_list e) n e us x.0 (omega (arith, few)) (λ k ps qs enough part. shown e w.0 k enough ps qs part) x.1) x.2)
     shown (unary o e) w (suc zero) few ts rest s = absurd (omega (arith, few))
     shown (unary o e) w (suc (suc zero)) few ts rest s = absurd (omega (arith, few))
     shown (unary o e) w (suc (suc (suc n))) few ts rest s =
         in_head (suc (suc n)) (unary o e) (unary_pieces o (expression_pieces e)) ts rest s (λ us vs here.
-        unary_whole o n e us vs (omega (arith, few)) (λ k ps qs enough part. signed_of (is_literal e) k e ps qs (shown e w k enough ps qs part)) here)
+        unary_whole o n e us vs (omega (arith, few)) (λ k ps qs enough part. signed_of (is_literal_or_list e) k e ps qs (shown e w k enough ps qs part)) here)
     shown (binary o a b) w (suc n) few ts rest s =
         in_head n (binary o a b) (expression_pieces a ++ space ∷ (binary_pieces o ++ space ∷ expression_pieces b)) ts rest s (λ us vs here.
         let x = both line (expression_pieces a) (space ∷ (binary_pieces o ++ space ∷ expression_pieces b)) us vs here in
         let y = both line (binary_pieces o) (space ∷ expression_pieces b) x.0 vs x.2 in
-        binary_whole n o a b us x.0 y.0 vs (signed_of (is_literal a) n a us x.0 (shown a w.0 n (omega (arith, few)) us x.0 x.1)) y.1
-        (signed_of (is_literal b) n b y.0 vs (shown b w.1 n (omega (arith, few)) y.0 vs y.2)))
+        binary_whole n o a b us x.0 y.0 vs (signed_of (is_literal_or_list a) n a us x.0 (shown a w.0 n (omega (arith, few)) us x.0 x.1)) y.1
+        (signed_of (is_literal_or_list b) n b y.0 vs (shown b w.1 n (omega (arith, few)) y.0 vs y.2)))
     shown (comparison e no_links) w (suc n) few ts rest s = absurd w
     shown (comparison e (link c f ls)) w (suc n) few ts rest s =
         in_head n (comparison e (link c f ls)) (expression_pieces e ++ links_pieces (link c f ls)) ts rest s (λ us vs here.
         let x = both line (expression_pieces e) (links_pieces (link c f ls)) us vs here in
         whole_from_negation n _ us vs (from_comparisons n _ us vs (spell.compare n e (link c f ls) us x.0 vs
-        (as_predicate n e us x.0 (signed_of (is_literal e) n e us x.0 (shown e w.0 n (omega (arith, few)) us x.0 x.1)))
+        (as_predicate n e us x.0 (signed_of (is_literal_or_list e) n e us x.0 (shown e w.0 n (omega (arith, few)) us x.0 x.1)))
         (shown_links (link c f ls) (w.1, w.2) n (omega (arith, few)) x.0 vs x.2))))
     shown (list no_more) w (suc zero) few ts rest s = absurd (omega (arith, few))
     shown (list no_more) w (suc (suc n)) few ts rest s =
@@ -345,11 +345,11 @@ module _ (line : List ℕ) where
     shown_all (more e no_more) w n few ts rest s =
         let x = both line (expression_pieces e) [] ts rest s in
         at_end line (λ us. Shown line (expression_pieces e) ts us → SpellsAll line n (more e no_more) ts rest) x.0 rest x.2 (λ here.
-        spell.last_element n e ts rest (as_whole n e ts rest (signed_of (is_literal e) n e ts rest (shown e w.0 n (omega (arith, few)) ts rest here)))) x.1
+        spell.last_element n e ts rest (as_whole n e ts rest (signed_of (is_literal_or_list e) n e ts rest (shown e w.0 n (omega (arith, few)) ts rest here)))) x.1
     shown_all (more e (more f es)) w n few ts rest s =
         let x = both line (expression_pieces e) (mark sign.Comma ∷ space ∷ elements_pieces (more f es)) ts rest s in
         at_symbol line (λ us. Shown line (expression_pieces e) ts us → SpellsAll line n (more e (more f es)) ts rest) sign.Comma (space ∷ elements_pieces (more f es)) x.0 rest x.2 (λ comma mid is after here.
-        spell.next_element n e (more f es) comma ts mid rest (as_whole n e ts (comma ∷ mid) (signed_of (is_literal e) n e ts (comma ∷ mid) (shown e w.0 n (omega (arith, few)) ts (comma ∷ mid) here))) is
+        spell.next_element n e (more f es) comma ts mid rest (as_whole n e ts (comma ∷ mid) (signed_of (is_literal_or_list e) n e ts (comma ∷ mid) (shown e w.0 n (omega (arith, few)) ts (comma ∷ mid) here))) is
         (shown_all (more f es) w.1 n (omega (arith, few)) mid rest after)) x.1
 
     shown_links : (ls : Links) → LinksAreWellFormed ls → (n : ℕ) → 3 * links_depth ls ≤ n → (ts rest : List Token) → Shown line (links_pieces ls) ts rest → LinksSpelt n ls ts rest
@@ -358,11 +358,11 @@ module _ (line : List ℕ) where
         at_symbol line (λ us. SpellsLinks line n (link c e no_links) us rest) (comparator_symbol c) (space ∷ (expression_pieces e ++ [])) ts rest s (λ t mid is after.
         let x = both line (expression_pieces e) [] mid rest after in
         at_end line (λ us. Shown line (expression_pieces e) mid us → SpellsLinks line n (link c e no_links) (t ∷ mid) rest) x.0 rest x.2 (λ here.
-        spell.last_link n c e t mid rest (comparator_read c t is) (as_predicate n e mid rest (signed_of (is_literal e) n e mid rest (shown e w.0 n (omega (arith, few)) mid rest here)))) x.1)
+        spell.last_link n c e t mid rest (comparator_read c t is) (as_predicate n e mid rest (signed_of (is_literal_or_list e) n e mid rest (shown e w.0 n (omega (arith, few)) mid rest here)))) x.1)
     shown_links (link c e (link d f ls)) w n few ts rest s =
         at_symbol line (λ us. SpellsLinks line n (link c e (link d f ls)) us rest) (comparator_symbol c) (space ∷ (expression_pieces e ++ links_pieces (link d f ls))) ts rest s (λ t mid is after.
         let x = both line (expression_pieces e) (links_pieces (link d f ls)) mid rest after in
-        spell.next_link n c e (link d f ls) t mid x.0 rest (comparator_read c t is) (as_predicate n e mid x.0 (signed_of (is_literal e) n e mid x.0 (shown e w.0 n (omega (arith, few)) mid x.0 x.1)))
+        spell.next_link n c e (link d f ls) t mid x.0 rest (comparator_read c t is) (as_predicate n e mid x.0 (signed_of (is_literal_or_list e) n e mid x.0 (shown e w.0 n (omega (arith, few)) mid x.0 x.1)))
         (shown_links (link d f ls) w.1 n (omega (arith, few)) x.0 rest x.2))
 
     shown_arms : (arms : Arms) → ArmsAreWellFormed arms → (n : ℕ) → 3 * arms_depth arms ≤ n → (ts rest : List Token) → Shown line (arms_after arms) ts rest → ArmsSpelt n arms ts rest
@@ -372,23 +372,23 @@ module _ (line : List ℕ) where
         at_keyword line (λ us. Shown line (expression_pieces a) ts us → SpellsArms line n (arm a b no_arms) ts rest) word.Then (space ∷ (expression_pieces b ++ [])) x.0 rest x.2 (λ then_ mid is after here.
         let y = both line (expression_pieces b) [] mid rest after in
         at_end line (λ us. Shown line (expression_pieces b) mid us → SpellsArms line n (arm a b no_arms) ts rest) y.0 rest y.2 (λ there.
-        spell.last_arm n a b then_ ts mid rest (as_whole n a ts (then_ ∷ mid) (signed_of (is_literal a) n a ts (then_ ∷ mid) (shown a w.0 n (omega (arith, few)) ts (then_ ∷ mid) here))) is
-        (as_whole n b mid rest (signed_of (is_literal b) n b mid rest (shown b w.1 n (omega (arith, few)) mid rest there)))) y.1) x.1
+        spell.last_arm n a b then_ ts mid rest (as_whole n a ts (then_ ∷ mid) (signed_of (is_literal_or_list a) n a ts (then_ ∷ mid) (shown a w.0 n (omega (arith, few)) ts (then_ ∷ mid) here))) is
+        (as_whole n b mid rest (signed_of (is_literal_or_list b) n b mid rest (shown b w.1 n (omega (arith, few)) mid rest there)))) y.1) x.1
     shown_arms (arm a b (arm c d arms)) w n few ts rest s =
         let x = both line (expression_pieces a) (space ∷ says word.Then ∷ space ∷ (expression_pieces b ++ arms_pieces (arm c d arms))) ts rest s in
         at_keyword line (λ us. Shown line (expression_pieces a) ts us → SpellsArms line n (arm a b (arm c d arms)) ts rest) word.Then (space ∷ (expression_pieces b ++ arms_pieces (arm c d arms))) x.0 rest x.2 (λ then_ mid is after here.
         let y = both line (expression_pieces b) (arms_pieces (arm c d arms)) mid rest after in
         at_keyword line (λ us. Shown line (expression_pieces b) mid us → SpellsArms line n (arm a b (arm c d arms)) ts rest) word.When (space ∷ arms_after (arm c d arms)) y.0 rest y.2 (λ when further goes_on others there.
         spell.next_arm n a b (arm c d arms) then_ when ts mid further rest
-        (as_whole n a ts (then_ ∷ mid) (signed_of (is_literal a) n a ts (then_ ∷ mid) (shown a w.0 n (omega (arith, few)) ts (then_ ∷ mid) here))) is
-        (as_whole n b mid (when ∷ further) (signed_of (is_literal b) n b mid (when ∷ further) (shown b w.1 n (omega (arith, few)) mid (when ∷ further) there))) goes_on
+        (as_whole n a ts (then_ ∷ mid) (signed_of (is_literal_or_list a) n a ts (then_ ∷ mid) (shown a w.0 n (omega (arith, few)) ts (then_ ∷ mid) here))) is
+        (as_whole n b mid (when ∷ further) (signed_of (is_literal_or_list b) n b mid (when ∷ further) (shown b w.1 n (omega (arith, few)) mid (when ∷ further) there))) goes_on
         (shown_arms (arm c d arms) w.2 n (omega (arith, few)) further rest others)) y.1) x.1
 
     shown_otherwise : (o : Otherwise) → OtherwiseIsWellFormed o → (n : ℕ) → 3 * otherwise_depth o ≤ n → (ts rest : List Token) → Shown line (otherwise_pieces o) ts rest → SpellsOtherwise line n o ts rest
     shown_otherwise nothing w n few ts rest s = at_end line (λ us. SpellsOtherwise line n nothing us rest) ts rest s (spell.no_else n rest)
     shown_otherwise (otherwise e) w n few ts rest s =
         at_keyword line (λ us. SpellsOtherwise line n (otherwise e) us rest) word.Else (space ∷ expression_pieces e) ts rest s (λ t mid is after.
-        spell.else_ n e t mid rest is (as_whole n e mid rest (signed_of (is_literal e) n e mid rest (shown e w n (omega (arith, few)) mid rest after))))
+        spell.else_ n e t mid rest is (as_whole n e mid rest (signed_of (is_literal_or_list e) n e mid rest (shown e w n (omega (arith, few)) mid rest after))))
 
   pub shown-whole : (e : Expression) → IsWellFormed e → (m : ℕ) → 3 * depth e ≤ m → (ts rest : List Token) → Shown line (expression_pieces e) ts rest → Spells line m whole e ts rest
-  shown-whole e w m few ts rest s = as_whole m e ts rest (signed_of (is_literal e) m e ts rest (shown e w m few ts rest s))
+  shown-whole e w m few ts rest s = as_whole m e ts rest (signed_of (is_literal_or_list e) m e ts rest (shown e w m few ts rest s))

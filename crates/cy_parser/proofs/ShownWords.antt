@@ -26,10 +26,10 @@ use Rattle.cy_trees.specs.declared.clauses.Direction.{Direction}
 use Rattle.cy_trees.specs.declared.clauses.Direction.TheVariants as direction
 use Rattle.cy_trees.specs.declared.clauses.Length.{Length}
 use Rattle.cy_trees.specs.Trees.{Name, Expression, null, boolean, integer, text, variable, property, has_labels, unary, binary, comparison, list, case, call, call_star, Expressions, no_more, more, Links, no_links, link, Arms, no_arms, arm, Otherwise, nothing, otherwise, MapEntry, NodePattern, RelationshipPattern, Step, Path, Item, Key, Projection, SetItem, set_property, set_labels, RemoveItem, remove_property, remove_labels, Clause, «match», unwind, «with», «return», create, set, remove, delete, Statement}
-use Rattle.cy_trees.specs.Show.{Piece, says, mark, named, spelt, bracketed, each_after, separated, comma, list_pieces, binary_pieces, comparator_symbol, unary_pieces, label_pieces, is_literal, owner_pieces, distinct_pieces, expression_pieces, elements_pieces, further_pieces, links_pieces, arms_pieces, otherwise_pieces, entry_pieces, map_pieces, variable_pieces, node_pieces, type_pieces, bound_pieces, length_pieces, tail_pieces, head_pieces, relationship_pieces, step_pieces, path_pieces, paths_pieces, filter_pieces, item_pieces, descending_pieces, key_pieces, order_pieces, count_pieces, projection_pieces, set_item_pieces, remove_item_pieces, optional_pieces, detach_pieces, clause_pieces, statement_pieces, text_of, show}
+use Rattle.cy_trees.specs.Show.{Piece, says, mark, named, spelt, bracketed, each_after, separated, comma, list_pieces, binary_pieces, comparator_symbol, unary_pieces, label_pieces, is_literal_or_list, owner_pieces, distinct_pieces, expression_pieces, elements_pieces, further_pieces, links_pieces, arms_pieces, otherwise_pieces, entry_pieces, map_pieces, variable_pieces, node_pieces, type_pieces, bound_pieces, length_pieces, tail_pieces, head_pieces, relationship_pieces, step_pieces, path_pieces, paths_pieces, filter_pieces, item_pieces, descending_pieces, key_pieces, order_pieces, count_pieces, projection_pieces, set_item_pieces, remove_item_pieces, optional_pieces, detach_pieces, clause_pieces, statement_pieces, text_of, show}
 use Rattle.cy_trees.specs.internal.PieceWords.{words_of}
 use Rattle.cy_trees.specs.Show as piece
-use Rattle.cy_parser.specs.SpellsClauses.{greatest_bound, Standing, standing_after, reading}
+use Rattle.cy_parser.specs.SpellsClauses.{greatest_bound, Stage, stage_after, reading}
 use Rattle.cy_parser.specs.internal.WellFormed.{IsText, IsNamed, Every, Several, IfAny, IsVariable, IsWellFormed, AreWellFormed, LinksAreWellFormed, ArmsAreWellFormed, OtherwiseIsWellFormed, IsWhole, EntryIsWellFormed, NodeIsWellFormed, LengthIsWellFormed, RelationshipIsWellFormed, StepIsWellFormed, PathIsWellFormed, ItemIsWellFormed, KeyIsWellFormed, CountIsWellFormed, ProjectionIsWellFormed, SetItemIsWellFormed, RemoveItemIsWellFormed, ClauseIsWellFormed, ClausesAreWellFormed, StatementIsWellFormed}
 use Rattle.cy_parser.proofs.PiecesLemmas.{Before, free, ended, owned, after, touches, stands, Allows, Runs, runs-stands, no_pieces, a_word, a_space, space_after, both, from, to, is_quiet, after_symbol, after_end, after_owner, ended_owned, last, spaced, AreTokens, spaced-words, spaced-are_words, spaced-text, free_first, unspaced}
 use Rattle.cy_parser.proofs.Stands.{Stands}
@@ -130,7 +130,7 @@ unary-runs one.IsNotNull ps run = both run (space_after (said keyword.Is refl (s
 -- ---- expressions
 
 mutual
-  pub expression-runs : (e : Expression) → IsWellFormed e → Runs free (expression_pieces e) (end_of (is_literal e))
+  pub expression-runs : (e : Expression) → IsWellFormed e → Runs free (expression_pieces e) (end_of (is_literal_or_list e))
   expression-runs null is = last (words.keyword keyword.Null) refl refl refl
   expression-runs (boolean true) is = last (words.keyword keyword.True) refl refl refl
   expression-runs (boolean false) is = last (words.keyword keyword.False) refl refl refl
@@ -140,16 +140,16 @@ mutual
   expression-runs (text t) is = last (words.text (chars t)) refl (text-is_word t is) refl
   expression-runs (variable v) is = a_word (words.name (chars v.name)) refl (name-is_word v.name is.0) (to (after_owner (words.name (chars v.name)) refl) no_pieces)
   expression-runs (property e key) is =
-      in_free_brackets (both (owner-runs (is_literal e) (expression_pieces e) (expression-runs e is.0))
+      in_free_brackets (both (owner-runs (is_literal_or_list e) (expression_pieces e) (expression-runs e is.0))
       (a_word (words.symbol sign.Dot) refl refl (last_name key refl is.1)))
   expression-runs (has_labels e labels) is =
-      in_free_brackets (both (owner-runs (is_literal e) (expression_pieces e) (expression-runs e is.0)) (from ended_owned (labels-run labels (several labels is.1))))
-  expression-runs (unary operator e) is = in_free_brackets (unary-runs operator (expression_pieces e) (operand (is_literal e) (expression-runs e is)))
+      in_free_brackets (both (owner-runs (is_literal_or_list e) (expression_pieces e) (expression-runs e is.0)) (from ended_owned (labels-run labels (several labels is.1))))
+  expression-runs (unary operator e) is = in_free_brackets (unary-runs operator (expression_pieces e) (operand (is_literal_or_list e) (expression-runs e is)))
   expression-runs (binary operator a b) is =
-      in_free_brackets (both (operand (is_literal a) (expression-runs a is.0)) (space_after (binary-runs operator (operand (is_literal b) (expression-runs b is.1)))))
+      in_free_brackets (both (operand (is_literal_or_list a) (expression-runs a is.0)) (space_after (binary-runs operator (operand (is_literal_or_list b) (expression-runs b is.1)))))
   expression-runs (comparison e no_links) is = absurd is
   expression-runs (comparison e (link c x links)) is =
-      in_free_brackets (both (operand (is_literal e) (expression-runs e is.0)) (links-run (link c x links) (is.1, is.2)))
+      in_free_brackets (both (operand (is_literal_or_list e) (expression-runs e is.0)) (links-run (link c x links) (is.1, is.2)))
   expression-runs (list es) is =
       a_word (words.symbol sign.LeftBracket) refl refl
       (both (elements-run sign.LeftBracket refl es is) (last (words.symbol sign.RightBracket) refl refl refl))
@@ -165,7 +165,7 @@ mutual
       (in_brackets refl (elements-run sign.LeftParenthesis refl no_more tt))
   expression-runs (call f true (more e es)) is =
       a_word (words.name (chars f)) refl (name-is_word f is.0.0)
-      (in_brackets refl (opened sign.LeftParenthesis refl (said keyword.Distinct refl (both (operand (is_literal e) (expression-runs e is.1)) (further-run es is.2)))))
+      (in_brackets refl (opened sign.LeftParenthesis refl (said keyword.Distinct refl (both (operand (is_literal_or_list e) (expression-runs e is.1)) (further-run es is.2)))))
   expression-runs (call f false (more e es)) is =
       a_word (words.name (chars f)) refl (name-is_word f is.0.0)
       (in_brackets refl (elements-run sign.LeftParenthesis refl (more e es) (is.1, is.2)))
@@ -175,30 +175,30 @@ mutual
 
   elements-run : (s : Symbol) → is_quiet s ≡ true → (es : Expressions) → AreWellFormed es → Runs (after (words.symbol s)) (elements_pieces es) ended
   elements-run s quiet no_more are = to (after_end (words.symbol s) quiet) no_pieces
-  elements-run s quiet (more e es) are = opened s quiet (both (operand (is_literal e) (expression-runs e are.0)) (further-run es are.1))
+  elements-run s quiet (more e es) are = opened s quiet (both (operand (is_literal_or_list e) (expression-runs e are.0)) (further-run es are.1))
 
   further-run : (es : Expressions) → AreWellFormed es → Runs ended (further_pieces es) ended
   further-run no_more are = no_pieces
   further-run (more e es) are =
-      a_word (words.symbol sign.Comma) refl refl (a_space (both (operand (is_literal e) (expression-runs e are.0)) (further-run es are.1)))
+      a_word (words.symbol sign.Comma) refl refl (a_space (both (operand (is_literal_or_list e) (expression-runs e are.0)) (further-run es are.1)))
 
   links-run : (ls : Links) → LinksAreWellFormed ls → Runs ended (links_pieces ls) ended
   links-run no_links are = no_pieces
-  links-run (link c e ls) are = space_after (comparator-runs c (both (operand (is_literal e) (expression-runs e are.0)) (links-run ls are.1)))
+  links-run (link c e ls) are = space_after (comparator-runs c (both (operand (is_literal_or_list e) (expression-runs e are.0)) (links-run ls are.1)))
 
   arms-run : (arms : Arms) → ArmsAreWellFormed arms → Runs ended (arms_pieces arms) ended
   arms-run no_arms are = no_pieces
   arms-run (arm a b arms) are =
-      space_after (said keyword.When refl (both (operand (is_literal a) (expression-runs a are.0))
-      (space_after (said keyword.Then refl (both (operand (is_literal b) (expression-runs b are.1)) (arms-run arms are.2))))))
+      space_after (said keyword.When refl (both (operand (is_literal_or_list a) (expression-runs a are.0))
+      (space_after (said keyword.Then refl (both (operand (is_literal_or_list b) (expression-runs b are.1)) (arms-run arms are.2))))))
 
   otherwise-runs : (o : Otherwise) → OtherwiseIsWellFormed o → Runs ended (otherwise_pieces o) ended
   otherwise-runs nothing is = no_pieces
-  otherwise-runs (otherwise e) is = space_after (said keyword.Else refl (operand (is_literal e) (expression-runs e is)))
+  otherwise-runs (otherwise e) is = space_after (said keyword.Else refl (operand (is_literal_or_list e) (expression-runs e is)))
 
 -- an expression may stand after what a text may begin with, and what ends an operand may stand after it
 pub operand-runs : (e : Expression) → IsWellFormed e → Runs free (expression_pieces e) ended
-operand-runs e is = operand (is_literal e) (expression-runs e is)
+operand-runs e is = operand (is_literal_or_list e) (expression-runs e is)
 
 -- ---- lists
 
@@ -374,13 +374,13 @@ clause-runs (delete detach vs) is =
 
 -- ---- statements
 
-clauses-run : (s : Standing) (cs : List Clause) → ClausesAreWellFormed s cs → Runs ended (each_after (piece.space ∷ []) (map clause_pieces cs)) ended
+clauses-run : (s : Stage) (cs : List Clause) → ClausesAreWellFormed s cs → Runs ended (each_after (piece.space ∷ []) (map clause_pieces cs)) ended
 clauses-run s [] are = no_pieces
-clauses-run s (c ∷ cs) are = space_after (both (clause-runs c are.1) (clauses-run (standing_after c) cs are.2))
+clauses-run s (c ∷ cs) are = space_after (both (clause-runs c are.1) (clauses-run (stage_after c) cs are.2))
 
-clauses-stand : (s : Standing) (cs : List Clause) → ClausesAreWellFormed s cs → stands free (separated (piece.space ∷ []) (map clause_pieces cs)) ≡ true
+clauses-stand : (s : Stage) (cs : List Clause) → ClausesAreWellFormed s cs → stands free (separated (piece.space ∷ []) (map clause_pieces cs)) ≡ true
 clauses-stand s [] are = refl
-clauses-stand s (c ∷ cs) are = runs-stands (both (clause-runs c are.1) (clauses-run (standing_after c) cs are.2))
+clauses-stand s (c ∷ cs) are = runs-stands (both (clause-runs c are.1) (clauses-run (stage_after c) cs are.2))
 
 -- The tokens of the text of pieces are the words of the pieces, one for each, in order: with the spaces after them, without,
 -- and as tokens that have places in the line.

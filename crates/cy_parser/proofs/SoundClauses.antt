@@ -150,16 +150,16 @@ module _ (line : List ℕ) where
   variables-sound ts = separated-sound (read.variable_read line) (SpellsVariable line) (variable-sound line) ts
 
   -- where a stage stands
-  abbrev standing : Stage → spells.Standing
-  standing stage.Reading = spells.reading
-  standing stage.Updating = spells.updating
-  standing stage.Ended = spells.ended
+  abbrev spelt_stage : Stage → spells.Stage
+  spelt_stage stage.Reading = spells.reading
+  spelt_stage stage.Updating = spells.updating
+  spelt_stage stage.Ended = spells.ended
 
   -- the clause that was read is spelt, may stand where its first word may, and leads where that leads
   record IsClause (s : Stage) (o : Opening) (ts : List Token) (c : Clause) (rest : List Token) : Type 0 where
     pub spelt : SpellsClause line c ts rest
-    pub follows : spells.may_follow (standing s) c ≡ read.allows s o
-    pub leads : spells.standing_after c ≡ standing (read.stage_after o)
+    pub follows : spells.may_follow (spelt_stage s) c ≡ read.allows s o
+    pub leads : spells.stage_after c ≡ spelt_stage (read.stage_after o)
 
   abbrev first_word : Opening → Keyword
   first_word opening.Match = word.Match
@@ -186,52 +186,52 @@ module _ (line : List ℕ) where
   opening_is (kind.Keyword word.Detach) o e = let same : opening.Detach ≡ o = cc in ap (λ x. kind.Keyword (first_word x)) same
   opening_is _ o e = cc
 
-  reads : (s : Stage) (b : Bool) (ps : List Path) (f : Option Expression) → spells.may_follow (standing s) («match» b ps f) ≡ read.allows s opening.Match
+  reads : (s : Stage) (b : Bool) (ps : List Path) (f : Option Expression) → spells.may_follow (spelt_stage s) («match» b ps f) ≡ read.allows s opening.Match
   reads stage.Reading b ps f = refl
   reads stage.Updating b ps f = refl
   reads stage.Ended b ps f = refl
 
-  reads_optional : (s : Stage) (b : Bool) (ps : List Path) (f : Option Expression) → spells.may_follow (standing s) («match» b ps f) ≡ read.allows s opening.Optional
+  reads_optional : (s : Stage) (b : Bool) (ps : List Path) (f : Option Expression) → spells.may_follow (spelt_stage s) («match» b ps f) ≡ read.allows s opening.Optional
   reads_optional stage.Reading b ps f = refl
   reads_optional stage.Updating b ps f = refl
   reads_optional stage.Ended b ps f = refl
 
-  unwinds : (s : Stage) (e : Expression) (v : Variable) → spells.may_follow (standing s) (unwind e v) ≡ read.allows s opening.Unwind
+  unwinds : (s : Stage) (e : Expression) (v : Variable) → spells.may_follow (spelt_stage s) (unwind e v) ≡ read.allows s opening.Unwind
   unwinds stage.Reading e v = refl
   unwinds stage.Updating e v = refl
   unwinds stage.Ended e v = refl
 
-  goes_on : (s : Stage) (p : Projection) (f : Option Expression) → spells.may_follow (standing s) («with» p f) ≡ read.allows s opening.With
+  goes_on : (s : Stage) (p : Projection) (f : Option Expression) → spells.may_follow (spelt_stage s) («with» p f) ≡ read.allows s opening.With
   goes_on stage.Reading p f = refl
   goes_on stage.Updating p f = refl
   goes_on stage.Ended p f = refl
 
-  returns : (s : Stage) (p : Projection) → spells.may_follow (standing s) («return» p) ≡ read.allows s opening.Return
+  returns : (s : Stage) (p : Projection) → spells.may_follow (spelt_stage s) («return» p) ≡ read.allows s opening.Return
   returns stage.Reading p = refl
   returns stage.Updating p = refl
   returns stage.Ended p = refl
 
-  creates : (s : Stage) (ps : List Path) → spells.may_follow (standing s) (create ps) ≡ read.allows s opening.Create
+  creates : (s : Stage) (ps : List Path) → spells.may_follow (spelt_stage s) (create ps) ≡ read.allows s opening.Create
   creates stage.Reading ps = refl
   creates stage.Updating ps = refl
   creates stage.Ended ps = refl
 
-  sets : (s : Stage) (is : List SetItem) → spells.may_follow (standing s) (set is) ≡ read.allows s opening.Set
+  sets : (s : Stage) (is : List SetItem) → spells.may_follow (spelt_stage s) (set is) ≡ read.allows s opening.Set
   sets stage.Reading is = refl
   sets stage.Updating is = refl
   sets stage.Ended is = refl
 
-  removes : (s : Stage) (is : List RemoveItem) → spells.may_follow (standing s) (remove is) ≡ read.allows s opening.Remove
+  removes : (s : Stage) (is : List RemoveItem) → spells.may_follow (spelt_stage s) (remove is) ≡ read.allows s opening.Remove
   removes stage.Reading is = refl
   removes stage.Updating is = refl
   removes stage.Ended is = refl
 
-  deletes : (s : Stage) (d : Bool) (vs : List Variable) → spells.may_follow (standing s) (delete d vs) ≡ read.allows s opening.Delete
+  deletes : (s : Stage) (d : Bool) (vs : List Variable) → spells.may_follow (spelt_stage s) (delete d vs) ≡ read.allows s opening.Delete
   deletes stage.Reading d vs = refl
   deletes stage.Updating d vs = refl
   deletes stage.Ended d vs = refl
 
-  detaches : (s : Stage) (d : Bool) (vs : List Variable) → spells.may_follow (standing s) (delete d vs) ≡ read.allows s opening.Detach
+  detaches : (s : Stage) (d : Bool) (vs : List Variable) → spells.may_follow (spelt_stage s) (delete d vs) ≡ read.allows s opening.Detach
   detaches stage.Reading d vs = refl
   detaches stage.Updating d vs = refl
   detaches stage.Ended d vs = refl
@@ -286,7 +286,7 @@ module _ (line : List ℕ) where
       (subst (λ z. IsClause s o z c rest) (sym x.1) k, yes))) (open_by s o (ahead_by read.opening_of ts o e).0 (past ts) (opening_is _ o (ahead_by read.opening_of ts o e).2))))
       (λ none. refused _)
 
-  ends_as : (s : Stage) → read.may_end s ≡ spells.may_end (standing s)
+  ends_as : (s : Stage) → read.may_end s ≡ spells.may_end (spelt_stage s)
   ends_as stage.Reading = refl
   ends_as stage.Updating = refl
   ends_as stage.Ended = refl
@@ -304,7 +304,7 @@ module _ (line : List ℕ) where
       let empty : [] ≡ ts = sym none ∙ c.absent refl in
       subst (λ z. spells.SpellsEnd z) empty spells.nothing_more
 
-  end-sound : (s : Stage) (ts : List Token) → Gives (read.end_read s ts) (λ _ rest. spells.SpellsEnd ts × IsTrue (spells.may_end (standing s)) × (rest ≡ []))
+  end-sound : (s : Stage) (ts : List Token) → Gives (read.end_read s ts) (λ _ rest. spells.SpellsEnd ts × IsTrue (spells.may_end (spelt_stage s)) × (rest ≡ []))
   unfolding read.end_read
   end-sound s ts = by_test _ _ (read.may_end s) ts _
       (λ yes. bind (ate_symbol sign.Semicolon ts) (λ b mid c. later _ _ (λ _ rest n. (semicolon_or_not ts mid b c n.0, sym (ends_as s) ∙ yes, n.1)) (nothing_left-sound mid)))
@@ -313,12 +313,12 @@ module _ (line : List ℕ) where
   record FoundClauses (s : Stage) (found : List Clause) (ts : List Token) (all : List Clause) (rest : List Token) : Type 0 where
     pub these : List Clause
     pub all_is : all ≡ found ++ these
-    pub spelt : spells.SpellsClauses line (standing s) these ts
+    pub spelt : spells.SpellsClauses line (spelt_stage s) these ts
     pub nothing_is_left : rest ≡ []
 
   end-found : (s : Stage) (found : List Clause) (ts : List Token) → Gives ((read.end_read s >> pure found) ts) (FoundClauses s found ts)
   end-found s found ts = bind (end-sound s ts) (λ _ rest e. answer _ _ _
-      (record { these = []; all_is = sym (append-nil found); spelt = spells.no_more_clauses (standing s) ts e.1 e.0; nothing_is_left = e.2 }))
+      (record { these = []; all_is = sym (append-nil found); spelt = spells.no_more_clauses (spelt_stage s) ts e.1 e.0; nothing_is_left = e.2 }))
 
   clauses-sound-from : (turns : ℕ) (s : Stage) (found : List Clause) (ts : List Token) → Gives (read.clauses_from line turns s found ts) (FoundClauses s found ts)
   unfolding read.clauses_from
@@ -328,7 +328,7 @@ module _ (line : List ℕ) where
       (λ o e. bind (clause_in-sound s o ts e) (λ c mid k. later _ _ (λ all rest g. record {
         these = c ∷ g.these;
         all_is = g.all_is ∙ append_assoc found (c ∷ []) g.these;
-        spelt = spells.next_clause (standing s) c g.these ts mid (k.0.follows ∙ k.1) k.0.spelt (subst (λ z. spells.SpellsClauses line z g.these mid) (sym k.0.leads) g.spelt);
+        spelt = spells.next_clause (spelt_stage s) c g.these ts mid (k.0.follows ∙ k.1) k.0.spelt (subst (λ z. spells.SpellsClauses line z g.these mid) (sym k.0.leads) g.spelt);
         nothing_is_left = g.nothing_is_left;
       }) (clauses-sound-from turns (read.stage_after o) (found ++ c ∷ []) mid))))
 

@@ -79,7 +79,7 @@ fresh-space : (b : Bool) (rest : List ℕ) → IsFresh rest → IsFresh (space b
 fresh-space true rest fresh = omega arith
 fresh-space false rest fresh = fresh
 
--- the spans of the tokens, behind what stands in front
+-- the spans of the tokens, after what stands in front
 spans-from : (line front : List ℕ) (before at : ℕ) (ws : List (Word × Bool)) → before ≤ at → at ≡ length front → line ≡ front ++ encode_utf8_all (written ws) → are_words ws ≡ true → AreSpansOf line before (tokens_at at ws) (length line)
 spans-from line front before at [] behind e split are =
     let sizes : length line ≡ length front + 0 = ap length split ∙ length-append front [] in

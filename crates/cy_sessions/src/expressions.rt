@@ -386,7 +386,7 @@ fn outcome(alloc: Global, store: &Store, expression: &str) -> Result<String, Fai
     }
 }
 
-// An expression gives a value, or the fault that stands behind a `!`.
+// An expression gives a value, or the fault that stands after a `!`.
 fn expect(
     rt: &impl Abort,
     alloc: Global,

@@ -5,7 +5,7 @@ use std::alloc::Global;
 use std::process::Abort;
 use std::test::Fail;
 
-/// Lines, each with what its tokens denote, or with the number of its fault and the offset. A bar stands behind each token, and a
+/// Lines, each with what its tokens denote, or with the number of its fault and the offset. A bar stands after each token, and a
 /// sign before a keyword, a text or a quoted name.
 const LINES: &[(&str, &str)] = &[
     // faults

@@ -6,7 +6,7 @@ ghost use Rattle.cy_graph.specs.Graph.{number_end};
 use crate::readings::{query_of, table_text};
 use cy_graph::{Labels, Node, Props, Rel};
 use cy_index::Store;
-use cy_updates::{Outcome, execute};
+use cy_updates::{StatementAnswer, execute};
 use cy_values::{NodeId, RelId, Scalar, Value};
 use std::alloc::{AllocError, Global};
 use std::fmt::Write;
@@ -160,7 +160,7 @@ fn add_graph(text: &mut String, store: &Store) -> Result<(), AllocError> {
 }
 
 // What a statement answered: what it made and removed, and its table.
-fn outcome_text(alloc: Global, outcome: &Outcome) -> Result<String, AllocError> {
+fn outcome_text(alloc: Global, outcome: &StatementAnswer) -> Result<String, AllocError> {
     let (made_nodes, gone_nodes) = (outcome.made_nodes, outcome.gone_nodes);
     let (made_rels, gone_rels) = (outcome.made_rels, outcome.gone_rels);
     let table = table_text(alloc, &outcome.table)?;

@@ -1,4 +1,4 @@
--- The entries of a line, printed one after another behind its answer.
+-- The entries of a line, printed one by one after its answer.
 use Rattle.std.proofs.Common.{◌≡◌, ℕ, ◌&&◌, Bool, true, false, List, [], ◌∷◌, ◌++◌, Option, Some, refl, sym, ap, subst, ◌∙◌, append_assoc, inl}
 use Rattle.std.proofs.lemmas.List.{append-nil}
 use Rattle.cy_engine.specs.Model.{Machine}

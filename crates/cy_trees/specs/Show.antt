@@ -110,13 +110,13 @@ abbrev pub label_pieces : List Name → List Piece
 label_pieces labels = each_after (mark symbol.Colon ∷ []) (map (λ n. named n ∷ []) labels)
 
 -- literals and lists, after which a `.` or a label can't stand
-abbrev pub is_literal : Expression → Bool
-is_literal null = true
-is_literal (boolean b) = true
-is_literal (integer n) = true
-is_literal (text t) = true
-is_literal (list es) = true
-is_literal e = false
+abbrev pub is_literal_or_list : Expression → Bool
+is_literal_or_list null = true
+is_literal_or_list (boolean b) = true
+is_literal_or_list (integer n) = true
+is_literal_or_list (text t) = true
+is_literal_or_list (list es) = true
+is_literal_or_list e = false
 
 abbrev pub owner_pieces : Bool → List Piece → List Piece
 owner_pieces true ps = bracketed ps
@@ -137,9 +137,9 @@ abbrev mutual
   expression_pieces (text t) = spelt t ∷ []
   expression_pieces (variable v) = named v.name ∷ []
   expression_pieces (property e key) =
-      bracketed (owner_pieces (is_literal e) (expression_pieces e) ++ mark symbol.Dot ∷ named key ∷ [])
+      bracketed (owner_pieces (is_literal_or_list e) (expression_pieces e) ++ mark symbol.Dot ∷ named key ∷ [])
   expression_pieces (has_labels e labels) =
-      bracketed (owner_pieces (is_literal e) (expression_pieces e) ++ label_pieces labels)
+      bracketed (owner_pieces (is_literal_or_list e) (expression_pieces e) ++ label_pieces labels)
   expression_pieces (unary operator e) = bracketed (unary_pieces operator (expression_pieces e))
   expression_pieces (binary operator a b) =
       bracketed (expression_pieces a ++ space ∷ (binary_pieces operator ++ space ∷ expression_pieces b))

@@ -1,7 +1,7 @@
 //! The text of expressions.
 
 ghost use Rattle.std.specs.Prelude.{◌≡◌, ◌++◌, OnOk, string_bytes, map, codes};
-ghost use Rattle.cy_trees.specs.Show.{text_of, expression_pieces, elements_pieces, links_pieces, arms_pieces, binary_pieces, comparator_symbol, piece_text, mark, label_pieces, is_literal, owner_pieces, unary_pieces};
+ghost use Rattle.cy_trees.specs.Show.{text_of, expression_pieces, elements_pieces, links_pieces, arms_pieces, binary_pieces, comparator_symbol, piece_text, mark, label_pieces, is_literal_or_list, owner_pieces, unary_pieces};
 ghost use Rattle.cy_trees.specs.internal.Showing.{inside_pieces};
 ghost use Rattle.cy_trees.specs.Views.{expression_of, expressions_from, links_from, link_of, arms_from, arm_of};
 
@@ -56,8 +56,8 @@ pub(crate) fn write_labels(text: &mut String, labels: &[Text]) -> Result<(), All
 }
 
 /// A literal or a list, after which a `.` or a label can't stand.
-fn is_literal(expression: &Expr) -> bool
-    ensures { result ≡ is_literal (expression_of expression.now) }
+fn is_literal_or_list(expression: &Expr) -> bool
+    ensures { result ≡ is_literal_or_list (expression_of expression.now) }
 {
     match expression {
         Expr::Null | Expr::Boolean(_) | Expr::Integer(_) | Expr::Text(_) | Expr::List(_) => true,
@@ -68,9 +68,9 @@ fn is_literal(expression: &Expr) -> bool
 /// Writes what a `.` or a label follows: a literal or a list in brackets.
 #[cycle(showing)]
 fn write_owner(text: &mut String, owner: &Expr) -> Result<(), AllocError>
-    ensures { OnOk result (string_bytes text.new ≡ string_bytes text.old ++ text_of (owner_pieces (is_literal (expression_of owner.now)) (expression_pieces (expression_of owner.now)))) }
+    ensures { OnOk result (string_bytes text.new ≡ string_bytes text.old ++ text_of (owner_pieces (is_literal_or_list (expression_of owner.now)) (expression_pieces (expression_of owner.now)))) }
 {
-    if !is_literal(owner) {
+    if !is_literal_or_list(owner) {
         return write_expression(text, owner);
     }
     text.push('(')?;

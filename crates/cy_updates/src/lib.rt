@@ -13,4 +13,4 @@ mod setting;
 mod statements;
 
 pub use faults::UpdateFault;
-pub use statements::{Outcome, execute};
+pub use statements::{StatementAnswer, execute};

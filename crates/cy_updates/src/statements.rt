@@ -30,7 +30,7 @@ use std::alloc::Global;
 /// What a statement answers: how many nodes and relationships it made and removed, of which one that it made and removed counts
 /// in both, and the table of its RETURN. Without RETURN the table has no column and no row.
 #[derive(Drop)]
-pub struct Outcome {
+pub struct StatementAnswer {
     pub made_nodes: u64,
     pub gone_nodes: u64,
     pub made_rels: u64,
@@ -41,7 +41,11 @@ pub struct Outcome {
 /// Carries a statement out: its clauses one after another, in a change of the store, which stands open at `Ok`. Where its meaning
 /// has a fault it fails with that fault, and besides only with `NoMemory`; the store is then as before, next numbers included, and
 /// no change is open. (Francis et al., queries; openCypher 9, updating clauses; canonical order and faults: own)
-pub fn execute(alloc: Global, store: &mut Store, checked: &Checked) -> Result<Outcome, UpdateFault>
+pub fn execute(
+    alloc: Global,
+    store: &mut Store,
+    checked: &Checked,
+) -> Result<StatementAnswer, UpdateFault>
     requires { IsNone store.old.graph.was }
     ensures meaning { IfOk result (λ outcome. statement_outcome store.old.graph.now (statement_of checked.now) ≡ Ok (outcome_seen store.new.graph.now outcome)) }
     ensures open { OnOk result (store.new ≡ record store.old { graph = record { now = store.new.graph.now; was = Some store.old.graph.now } }) }
@@ -59,7 +63,11 @@ pub fn execute(alloc: Global, store: &mut Store, checked: &Checked) -> Result<Ou
 }
 
 // Carries a statement out in an open change.
-fn carry_out(alloc: Global, store: &mut Store, checked: &Checked) -> Result<Outcome, UpdateFault>
+fn carry_out(
+    alloc: Global,
+    store: &mut Store,
+    checked: &Checked,
+) -> Result<StatementAnswer, UpdateFault>
     requires { IsSome store.old.graph.was }
     ensures meaning { IsAnswer result (outcome_seen store.new.graph.now) (statement_outcome store.old.graph.now (statement_of checked.now)) }
     ensures open { store.new.graph.was ≡ store.old.graph.was }
@@ -74,7 +82,7 @@ fn carry_out(alloc: Global, store: &mut Store, checked: &Checked) -> Result<Outc
     let (next_node, next_rel) = store.next_numbers();
     let made_nodes = next_node.0 - first_node.0;
     let made_rels = next_rel.0 - first_rel.0;
-    Ok(Outcome {
+    Ok(StatementAnswer {
         made_nodes,
         gone_nodes: gone.nodes,
         made_rels,

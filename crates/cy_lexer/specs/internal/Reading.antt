@@ -12,7 +12,7 @@ use Rattle.cy_lexer.specs.Keywords.{spelling}
 abbrev pub offset : ℕ → List ℕ → ℕ
 offset total left = total - length (encode_utf8_all left)
 
--- what was read at the front of a text, and the characters that are left behind it: as the code has it, and by how many
+-- what was read at the front of a text, and the characters that are left after it: as the code has it, and by how many
 -- of the text's characters were taken
 abbrev pub seen : {A : Type 0} → A × Bor (List ℕ) → A × List ℕ
 seen p = (p.0, chars p.1.now)

@@ -18,7 +18,7 @@ use Rattle.cy_oneshot.specs.declared.projection.SortKey as coded_key
 use Rattle.cy_oneshot.specs.declared.groups.Grouped as coded_grouped
 use Rattle.cy_oneshot.specs.declared.groups.Group as coded_group
 
--- a row with the cells that its keys see behind it; it has so many cells itself
+-- a row with the cells that its keys see after it; it has so many cells itself
 abbrev pub projected_of : ℕ → List Cell → Projected
 projected_of width seen = record { row = take width seen; seen = seen }
 
@@ -39,7 +39,7 @@ group_of g = record { key = g.key; rows = g.rows.items }
 abbrev pub cells_by : Content → List Expression → List Cell → Result (List Cell) EvalFault
 cells_by graph expressions row = gathered (map (λ e. cell_of (lookups graph) row e) expressions)
 
--- what they give, and the row behind it
+-- what they give, and the row after it
 abbrev pub seen_by : Content → List Expression → List Cell → Result (List Cell) EvalFault
 seen_by graph expressions before = on_one (λ row. Ok (row ++ before)) (cells_by graph expressions before)
 

@@ -7,7 +7,7 @@ use Rattle.cy_trees.specs.declared.clauses.Length.{Length}
 use Rattle.cy_trees.specs.Trees.{Name, Expression, null, boolean, integer, text, variable, property, has_labels, unary, binary, comparison, list, case, call, call_star, Expressions, no_more, more, Links, no_links, link, Arms, no_arms, arm, Otherwise, nothing, otherwise, MapEntry, NodePattern, RelationshipPattern, Step, Path, Item, Key, Projection, SetItem, set_property, set_labels, RemoveItem, remove_property, remove_labels, Clause, «match», unwind, «with», «return», create, set, remove, delete, Statement}
 use Rattle.cy_trees.specs.Depth.{depth, greatest_depth}
 use Rattle.cy_parser.specs.Words.{lowered, number_limit}
-use Rattle.cy_parser.specs.SpellsClauses.{greatest_bound, Standing, may_follow, may_end, standing_after, reading}
+use Rattle.cy_parser.specs.SpellsClauses.{greatest_bound, Stage, may_follow, may_end, stage_after, reading}
 
 -- the bytes of characters, and of one at least
 abbrev pub IsText : Name → Type 0
@@ -133,9 +133,9 @@ ClauseIsWellFormed (remove items) = Several RemoveItemIsWellFormed items
 ClauseIsWellFormed (delete detach variables) = Several IsVariable variables
 
 -- clauses in an order that is allowed
-abbrev pub ClausesAreWellFormed : Standing → List Clause → Type 0
+abbrev pub ClausesAreWellFormed : Stage → List Clause → Type 0
 ClausesAreWellFormed s [] = IsTrue (may_end s)
-ClausesAreWellFormed s (c ∷ cs) = IsTrue (may_follow s c) × ClauseIsWellFormed c × ClausesAreWellFormed (standing_after c) cs
+ClausesAreWellFormed s (c ∷ cs) = IsTrue (may_follow s c) × ClauseIsWellFormed c × ClausesAreWellFormed (stage_after c) cs
 
 abbrev pub StatementIsWellFormed : Statement → Type 0
 StatementIsWellFormed s = ClausesAreWellFormed reading s.clauses

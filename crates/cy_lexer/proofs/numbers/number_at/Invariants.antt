@@ -9,7 +9,7 @@ use denote.Text.{Utf8}
 use denote.Shadow.{shadow}
 use Rattle.cy_lexer.proofs.numbers.number_at.Given as goal
 
--- the digits so far write a number, behind which the digits of the rest write that of all digits
+-- the digits so far write a number, after which the digits of the rest write that of all digits
 abbrev pub invariant-loop-first : goal.invariant-loop-first
 invariant-loop-first l =
     shadow (Utf8 l.rest) × ((high : ℕ) × IsHeld l.number high × (number_of high (take_while (goes_on Digits) (chars l.rest)) ≡ number_of 0 (take_while (goes_on Digits) (chars l.text))))

@@ -9,7 +9,7 @@ use Rattle.cy_shell.proofs.Outcomes.{on_err}
 use Rattle.cy_shell.proofs.Feeds.{fed_more, fed_all, fed_begun}
 use Rattle.cy_shell.proofs.feeding.write_feed.Goals as goal
 
--- the next entry, and those behind it
+-- the next entry, and those after it
 next_entry : (entries : List (List ℕ × Entry)) (at : ℕ) (e : List ℕ × Entry) → e ≡ get_or entries at e → at < length entries → drop at entries ≡ e ∷ drop (at + 1) entries
 next_entry entries at e is within = drop-cons entries at e within ∙ ap (λ f. f ∷ drop (suc at) entries) (sym is) ∙ ap (λ n. e ∷ drop n entries) (sym (add-one at))
 

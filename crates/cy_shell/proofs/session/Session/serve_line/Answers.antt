@@ -19,7 +19,7 @@ returns-clause-served g c =
     (c.in_ok-write_text.ensures.written ∙ ap (appended _) (c.bytes.ensures ∙ ap (printed_text c.print_answer-answered.result.printed) c.as_slice.ensures.value)) c.fed_entries-entries.result.now c.fed_entries-entries.ensures written)
     c.write_feed.ensures.written
 
--- the entries behind it broke off
+-- the entries after it broke off
 pub returns-clause-broken_off : goal.returns-clause-broken_off
 returns-clause-broken_off g c =
     on_err_weaker c.write_feed.result

@@ -76,6 +76,17 @@ def costs(program, size):
             answer(f"MATCH (a:A {{k: {k}}}), (b:A {{k: {k + 1}}}) RETURN a.k AS a, b.k AS b", ["a", "b"], [k, k + 1]) for k in some
         ]
         yield "two nodes that an index finds", session.count(pairs), True
+        # The node with this `k` has the next number.
+        numbered = [
+            answer(f"MATCH (a), (b) WHERE id(a) = {k + 1} AND id(b) = {k + 2} RETURN a.k AS a, b.k AS b", ["a", "b"], [k, k + 1])
+            for k in some
+        ]
+        yield "two nodes that WHERE gives by their numbers", session.count(numbered), True
+        # The next node of a group is joined with the first one and with four others.
+        between = [
+            answer(f"MATCH (a:A {{k: {k}}})-[:T]-(b)-[:T]-(c) WHERE b.k = {k + 1} RETURN count(*) AS n", ["n"], [4]) for k in some
+        ]
+        yield "two hops, where WHERE fixes the node between", session.count(between), True
 
 
 def row_costs(program, size):

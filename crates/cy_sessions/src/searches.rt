@@ -49,9 +49,14 @@ A B - | 1T2 3U2 2T1 | MATCH (a)-[r*]->(b:B) RETURN id(a) AS a, size(r) AS n => a
 A B - | 1T2 3U2 2T1 | MATCH (a:A) OPTIONAL MATCH (a)<-[:U]-(c) RETURN id(a) AS a, c => a c [1,null]
 A B - | 1T2 3U2 2T1 | MATCH (a)-->(b) WHERE a.k > b.k RETURN id(a) AS a, id(b) AS b => a b [2,1] [3,2]
 A B - | 1T2 3U2 2T1 | MATCH (a)-->(b) WHERE 1 / (a.k - 1) = 0 RETURN id(a) AS a => !43
+A B - | 1T2 3U2 2T1 | MATCH (a)-->(b) WHERE b.k = 2 AND 1 / (a.k - 2) = 0 RETURN id(a) AS a => !43
+A B - | 1T2 3U2 2T1 | MATCH (a)-[r]->(b) WHERE b.k = 2 AND id(r) = 2 RETURN id(a) AS a => a [3]
+A B - | 1T2 3U2 2T1 | MATCH (a)-->(b)-->(c) WHERE a.k = c.k RETURN id(a) AS a, id(b) AS b => a b [1,2] [2,1]
 - - - - | 1T2 2T3 3T1 3T4 | MATCH (a)-->(b)-->(c)-->(a) RETURN id(a) AS a, id(b) AS b, id(c) AS c => a b c [1,2,3] [2,3,1] [3,1,2]
 - - - - | 1T2 2T3 3T1 3T4 | MATCH (a)-->(b)-->(c)-->(a)-->(d) RETURN id(a) AS a, id(d) AS d => a d [3,4]
-- - - - | 1T2 2T3 3T1 3T4 | MATCH (d {k: 4})<-[r*3]-(a) RETURN id(a) AS a => a [1]"#;
+- - - - | 1T2 2T3 3T1 3T4 | MATCH (d {k: 4})<-[r*3]-(a) RETURN id(a) AS a => a [1]
+- - - - | 1T2 2T3 3T1 3T4 | MATCH (a)-->(b)-->(c) WHERE b.k = 3 RETURN id(a) AS a, id(c) AS c => a c [2,1] [2,4]
+- - - - | 1T2 2T3 3T1 3T4 | MATCH (a)-->(b)-->(c) WHERE b.k = 'x' OR b.k = 3 AND c.j = 1 RETURN id(a) AS a => a"#;
 
 // Adds a node with a label, or with none.
 fn add_node(alloc: Global, store: &mut Store, label: &str, number: i64) -> Result<(), Fail>

@@ -1,6 +1,6 @@
 -- The set that DELETE removes as lists of numbers, and what is left when they are removed one after another.
 use Rattle.std.specs.FinMap.Entries as entries
-use Rattle.std.proofs.Common.{◌≡◌, ℕ, ◌+◌, ◌≤◌, Bool, true, false, cond, not, ◌&&◌, ◌||◌, List, [], ◌∷◌, ◌++◌, length, map, filter, append_assoc, Some, None, IsSome, refl, sym, ap, ◌∙◌, arith}
+use Rattle.std.proofs.Common.{◌≡◌, ℕ, ◌+◌, ◌≤◌, Bool, true, false, cond, not, ◌&&◌, ◌||◌, List, [], ◌∷◌, ◌++◌, length, filter, append_assoc, Some, None, IsSome, refl, sym, ap, ◌∙◌, arith}
 use Rattle.std.specs.Prelude.{◌==◌}
 use Rattle.std.specs.List.{AllByRecursion, dedup, dedup_from, list_any}
 use Rattle.std.specs.List.Sorted.{IsPermutation}
@@ -228,14 +228,6 @@ nodes_pushed old new here rest all is leads =
 pub rels_pushed : (old new : List RelId) (here rest : List Entity) (all : List RelId) → new ≡ old ++ rels_among here → old ++ rels_among (here ++ rest) ≡ all → new ++ rels_among rest ≡ all
 rels_pushed old new here rest all is leads =
     ap (λ l. l ++ rels_among rest) is ∙ append_assoc old (rels_among here) (rels_among rest) ∙ ap (λ l. old ++ l) (sym (rels_among-append here rest)) ∙ leads
-
-pub rels_of_list : (ids : List RelId) → rels_among (map (λ (id : RelId). entity.Rel id) ids) ≡ ids
-rels_of_list [] = refl
-rels_of_list (id ∷ ids) = ap (λ l. id ∷ l) (rels_of_list ids)
-
-pub nodes_of_list : (ids : List RelId) → nodes_among (map (λ (id : RelId). entity.Rel id) ids) ≡ []
-nodes_of_list [] = refl
-nodes_of_list (id ∷ ids) = nodes_of_list ids
 
 -- ---- there are no more of them than numbers
 

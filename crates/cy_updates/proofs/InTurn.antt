@@ -36,9 +36,6 @@ here_in P [] i x all less is = absurd (omega arith)
 here_in P (y ∷ ys) zero x all less is = subst P (sym is) all.0
 here_in P (y ∷ ys) (suc i) x all less is = here_in P ys i x all.1 (omega arith) is
 
-pub there_at : {X : Type 0} (P : X → Type 0) (xs : List X) (i : ℕ) (d : X) → AllByRecursion P xs → i < length xs → P (get_or xs i d)
-there_at P xs i d all less = here_in P xs i (get_or xs i d) all less (same_item xs i d (get_or xs i d) less)
-
 module _ {A S : Type 0} (f : A → S → Result S UpdateFault) (items rest : List A) (x : A) (are : items ≡ x ∷ rest) (now : S) (all : Result S UpdateFault) (leads : each_in_turn f items now ≡ all) where
   -- the next one is done
   pub next_leads : (next : S) → f x now ≡ Ok next → each_in_turn f rest next ≡ all
@@ -65,19 +62,9 @@ module _ {A S : Type 0} (f : S → A → S) (items : List A) (now all : S) (lead
 abbrev pub value_of : {A : Type 0} → A → Result A UpdateFault
 value_of x = Ok x
 
-abbrev pub fault_of : (A : Type 0) → UpdateFault → Result A UpdateFault
-fault_of A why = Err why
-
 abbrev value_or : {A : Type 0} → A → Result A UpdateFault → A
 value_or d (Ok x) = x
 value_or d (Err why) = d
 
-abbrev fault_or : {A : Type 0} → UpdateFault → Result A UpdateFault → UpdateFault
-fault_or d (Ok x) = d
-fault_or d (Err why) = why
-
 pub same_ok : {A : Type 0} (x y : A) → value_of x ≡ value_of y → x ≡ y
 same_ok x y is = ap (value_or x) is
-
-pub same_err : {A : Type 0} (one other : UpdateFault) → fault_of A one ≡ fault_of A other → one ≡ other
-same_err one other is = ap (fault_or one) is

@@ -22,7 +22,6 @@ mod CreatedRows
 mod CreatedCells
 mod ClauseSteps
 mod ReachedSteps
-mod SetEach
+mod SetItems
 mod MapValues
 mod Changes
-mod LabelledCells

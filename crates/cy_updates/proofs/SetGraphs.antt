@@ -1,18 +1,21 @@
 -- SET and REMOVE leave a graph with the same numbers.
-use Rattle.std.proofs.Common.{List, [], ◌∷◌, None}
-use Rattle.std.specs.Prelude.{fold, Result, IfOk}
+use Rattle.std.proofs.Common.{List, [], ◌∷◌, Option, Some, None}
+use Rattle.std.specs.Prelude.{fold, Result, Ok, IfOk}
+use Rattle.cy_values.specs.declared.numbers.NodeId.{NodeId}
 use Rattle.cy_values.specs.declared.numbers.Entity.{Entity}
 use Rattle.cy_values.specs.declared.numbers.Entity.TheVariants as entity
 use Rattle.cy_values.specs.declared.scalars.Value.{Value}
 use Rattle.cy_values.specs.declared.rows.Cell.{Cell}
 use Rattle.cy_trees.specs.Trees.{Name, SetItem, set_property, set_labels, RemoveItem, remove_property, remove_labels}
-use Rattle.cy_graph.specs.Graph.{State, IsGraph, with_label, with_prop, without_label}
-use Rattle.cy_graph.specs.declared.nodes.Node.{Node}
+use Rattle.cy_graph.specs.Graph.{State, IsGraph, with_node_changed, with_prop}
+use Rattle.cy_updates.specs.declared.entities.LabelChange.{LabelChange}
+use Rattle.cy_updates.specs.declared.entities.LabelChange.TheVariants.{Add, Drop}
 use Rattle.cy_updates.specs.declared.faults.UpdateFault.{UpdateFault}
 use Rattle.cy_updates.specs.Faults.{each_in_turn}
-use Rattle.cy_updates.specs.Setting.{removed_item, set_item, with_labels_changed, with_node_changed_at, with_property}
+use Rattle.cy_updates.specs.Setting.{removed_item, set_item, with_labels_changed, with_property, without_property}
 use Rattle.cy_updates.specs.Statements.{remove_row, set_row}
 use Rattle.cy_updates.specs.Values.{named_by, settable, unless_null, value_on}
+use Rattle.cy_updates.specs.internal.Entities.{relabelled}
 use Rattle.cy_updates.proofs.Graphs.{Kept, kept_then, label_kept, no_label_kept, prop_kept, same_numbers}
 use Rattle.cy_updates.proofs.StoredValues.{IsSettable, and_any, and_then, if_ok_weaker, settable_is, storable_if}
 
@@ -37,39 +40,32 @@ fold_kept f step (x ∷ xs) graph is =
 
 -- ---- items
 
-pub property_kept : (xs : List Entity) (key : Name) (v : Value) (graph : State) → IsGraph graph → IfOk (with_property xs key v graph) (Kept graph)
-property_kept [] key v graph is = kept_itself graph is
-property_kept (x ∷ xs) key v graph is =
-    and_then IsSettable (Kept graph) (λ w. with_property xs key v (with_prop x key (unless_null w) graph))
-    (λ w can.
-    let next : State = with_prop x key (unless_null w) graph in
-    let here : Kept graph next = prop_kept graph is x key (unless_null w) (storable_if w can) in
-    if_ok_weaker (Kept next) (Kept graph) (λ last rest. kept_then graph next last here rest) (with_property xs key v next) (property_kept xs key v next here.is))
-    (settable v) (settable_is v)
+pub property_kept : (named : Option Entity) (key : Name) (v : Value) (graph : State) → IsGraph graph → IfOk (with_property named key v graph) (Kept graph)
+property_kept None key v graph is = kept_itself graph is
+property_kept (Some x) key v graph is =
+    and_then IsSettable (Kept graph) (λ w. Ok (with_prop x key (unless_null w) graph)) (λ w can. prop_kept graph is x key (unless_null w) (storable_if w can)) (settable v) (settable_is v)
 
-module _ (changed : Name → Node → Node) (each : (label : Name) (x : Entity) (graph : State) → IsGraph graph → Kept graph (with_node_changed_at (changed label) x graph)) where
-  labels_kept : (labels : List Name) (xs : List Entity) (graph : State) → IsGraph graph → Kept graph (with_labels_changed changed labels xs graph)
-  labels_kept labels xs graph is =
-      fold_kept (λ so_far x. fold (λ g label. with_node_changed_at (changed label) x g) so_far labels)
-      (λ x g here. fold_kept (λ h label. with_node_changed_at (changed label) x h) (λ label h there. each label x h there) labels g here) xs graph is
+no_property_kept : (named : Option Entity) (key : Name) (graph : State) → IsGraph graph → Kept graph (without_property named key graph)
+no_property_kept None key graph is = kept_itself graph is
+no_property_kept (Some x) key graph is = prop_kept graph is x key None tt
 
-label_on : (label : Name) (x : Entity) (graph : State) → IsGraph graph → Kept graph (with_node_changed_at (with_label label) x graph)
-label_on label (entity.Node id) graph is = label_kept graph is id label
-label_on label (entity.Rel id) graph is = kept_itself graph is
+pub relabelled_kept : (change : LabelChange) (id : NodeId) (label : Name) (graph : State) → IsGraph graph → Kept graph (with_node_changed id (relabelled change label) graph)
+relabelled_kept Add id label graph is = label_kept graph is id label
+relabelled_kept Drop id label graph is = no_label_kept graph is id label
 
-label_off : (label : Name) (x : Entity) (graph : State) → IsGraph graph → Kept graph (with_node_changed_at (without_label label) x graph)
-label_off label (entity.Node id) graph is = no_label_kept graph is id label
-label_off label (entity.Rel id) graph is = kept_itself graph is
+labels_kept : (change : LabelChange) (labels : List Name) (named : Option Entity) (graph : State) → IsGraph graph → Kept graph (with_labels_changed (relabelled change) labels named graph)
+labels_kept change labels (Some (entity.Node id)) graph is = fold_kept (λ so_far label. with_node_changed id (relabelled change label) so_far) (relabelled_kept change id) labels graph is
+labels_kept change labels (Some (entity.Rel id)) graph is = kept_itself graph is
+labels_kept change labels None graph is = kept_itself graph is
 
 pub set_item_kept : (row : List Cell) (item : SetItem) (graph : State) → IsGraph graph → IfOk (set_item row item graph) (Kept graph)
 set_item_kept row (set_property v key e) graph is =
     and_any (Kept graph) (λ value. with_property (named_by v row) key value graph) (λ value. property_kept (named_by v row) key value graph is) (value_on graph row e)
-set_item_kept row (set_labels v labels) graph is = labels_kept with_label label_on labels (named_by v row) graph is
+set_item_kept row (set_labels v labels) graph is = labels_kept Add labels (named_by v row) graph is
 
 pub removed_item_kept : (row : List Cell) (item : RemoveItem) (graph : State) → IsGraph graph → Kept graph (removed_item row graph item)
-removed_item_kept row (remove_property v key) graph is =
-    fold_kept (λ so_far x. with_prop x key None so_far) (λ x g here. prop_kept g here x key None tt) (named_by v row) graph is
-removed_item_kept row (remove_labels v labels) graph is = labels_kept without_label label_off labels (named_by v row) graph is
+removed_item_kept row (remove_property v key) graph is = no_property_kept (named_by v row) key graph is
+removed_item_kept row (remove_labels v labels) graph is = labels_kept Drop labels (named_by v row) graph is
 
 -- ---- rows
 

@@ -1,5 +1,5 @@
 -- DELETE: one set of all that goes, and one test of it. (openCypher 9, DELETE; which relationship is reported: own)
-use Rattle.std.specs.Prelude.{Bool, false, not, ◌&&◌, ◌||◌, ◌==◌, List, [], ◌∷◌, filter, flat_map, Result, Ok, Err}
+use Rattle.std.specs.Prelude.{Bool, false, not, ◌&&◌, ◌||◌, ◌==◌, List, [], ◌∷◌, filter, flat_map, option_to_list, Result, Ok, Err}
 use Rattle.std.specs.List.{list_any}
 use Rattle.cy_values.specs.declared.numbers.NodeId.{NodeId}
 use Rattle.cy_values.specs.declared.numbers.RelId.{RelId}
@@ -15,7 +15,7 @@ use Rattle.cy_updates.specs.Values.{named_by}
 
 -- all that the variables name on all rows; null names none
 abbrev pub named : List Variable → List (List Cell) → List Entity
-named variables rows = flat_map (λ row. flat_map (λ v. named_by v row) variables) rows
+named variables rows = flat_map (λ row. flat_map (λ v. option_to_list (named_by v row)) variables) rows
 
 abbrev pub same_entity : Entity → Entity → Bool
 same_entity (entity.Node m) (entity.Node n) = m.0 == n.0

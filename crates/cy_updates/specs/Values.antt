@@ -2,9 +2,11 @@
 -- stored, and faults: own)
 use Rattle.std.specs.Prelude.{⊤, ◌||◌, if◌then◌else◌, List, [], ◌∷◌, fold, Option, None, Some, Result, Ok, Err}
 use Rattle.cy_values.specs.declared.numbers.Entity.{Entity}
+use Rattle.cy_values.specs.declared.numbers.Entity.TheVariants as entity
 use Rattle.cy_values.specs.declared.scalars.Value.{Value}
 use Rattle.cy_values.specs.declared.scalars.Value.TheVariants as value
 use Rattle.cy_values.specs.declared.rows.Cell.{Cell}
+use Rattle.cy_values.specs.declared.rows.Cell.TheVariants as cell
 use Rattle.cy_values.specs.Compare.{is_null}
 use Rattle.cy_trees.specs.declared.expressions.Variable.{Variable}
 use Rattle.cy_trees.specs.Trees.{Name, Expression, MapEntry}
@@ -14,16 +16,22 @@ use Rattle.cy_graph.specs.Stored.{is_storable}
 use Rattle.cy_expr.specs.Evaluation.{cell_of, column_value}
 use Rattle.cy_expr.specs.Faults.{on_one}
 use Rattle.cy_expr.specs.Operators.{value_in_cell}
-use Rattle.cy_patterns.specs.Fits.{entities_of}
 use Rattle.cy_patterns.specs.Places.{entries_if}
 use Rattle.cy_expr.specs.Graphs.{lookups}
 use Rattle.cy_updates.specs.declared.faults.UpdateFault.{UpdateFault}
 use Rattle.cy_updates.specs.declared.faults.UpdateFault.TheVariants.{NotStorable}
 use Rattle.cy_updates.specs.Faults.{◌>>=◌, evaluated}
 
--- what a variable names on a row: a node or a relationship; null names none
-abbrev pub named_by : Variable → List Cell → List Entity
-named_by v row = entities_of (column_value v.column row)
+-- What a cell names: a node or a relationship. Null names none, and neither does a list of relationships: scope refuses the variable
+-- of a length wherever one entity is to be named.
+abbrev pub entity_in : Cell → Option Entity
+entity_in (cell.Node id) = Some (entity.Node id)
+entity_in (cell.Rel id) = Some (entity.Rel id)
+entity_in c = None
+
+-- what a variable names on a row
+abbrev pub named_by : Variable → List Cell → Option Entity
+named_by v row = entity_in (column_value v.column row)
 
 -- the value of an expression on a row and the graph as it stands
 abbrev pub value_on : State → List Cell → Expression → Result Value UpdateFault

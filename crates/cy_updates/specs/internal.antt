@@ -2,4 +2,5 @@
 pub mod Answers
 pub mod Creating
 pub mod Deleting
+pub mod Entities
 pub mod Reached

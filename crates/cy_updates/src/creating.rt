@@ -17,7 +17,6 @@ ghost use Rattle.cy_updates.specs.internal.Creating.{IsCreation, column_of, crea
 
 use crate::faults::UpdateFault;
 use crate::maps::{label_set, map_properties};
-use crate::naming::node_in;
 use cy_graph::Rel;
 use cy_index::Store;
 use cy_trees::{Direction, NodePattern, Path, RelationshipPattern, Step, Variable};
@@ -222,6 +221,16 @@ fn bound_node(variable: &Option<Variable>, before: &Row, cells: &[Cell]) -> Opti
     }
     let cell = cells.get(column - row.len())?;
     Some(node_in(cell))
+}
+
+// The node in a cell, if it isn't null.
+fn node_in(cell: &Cell) -> Option<NodeId>
+    ensures { result ≡ node_in_cell cell.now }
+{
+    match cell {
+        Cell::Node(id) => Some(*id),
+        Cell::Rel(_) | Cell::Rels(_) | Cell::Value(_) => None,
+    }
 }
 
 // The node at a place, where the next new one has this number.

@@ -1,10 +1,9 @@
 //! DELETE: one set of all that goes, and one test of it (openCypher 9, DELETE; which relationship is reported: own).
 
-ghost use Rattle.std.specs.Prelude.{◌≡◌, ◌+◌, ◌++◌, ◌∷◌, ◌&&◌, ◌||◌, List, None, [], filter, flat_map, length, map, slice_get, IfErr, IfOk, IsSome, OnOk};
+ghost use Rattle.std.specs.Prelude.{◌≡◌, ◌+◌, ◌++◌, ◌∷◌, ◌&&◌, ◌||◌, List, None, [], filter, flat_map, length, map, option_to_list, slice_get, IfErr, IfOk, IsSome, OnOk};
 ghost use Rattle.cy_values.specs.declared.numbers.NodeId.{NodeId};
 ghost use Rattle.cy_values.specs.declared.numbers.RelId.{RelId};
 ghost use Rattle.cy_graph.specs.Graph.{rels_from, rels_into, rels_with};
-ghost use Rattle.cy_patterns.specs.Fits.{entities_of};
 ghost use Rattle.cy_updates.specs.declared.faults.UpdateFault.TheVariants.{NoMemory};
 ghost use Rattle.cy_updates.specs.Deleting.{deleted};
 ghost use Rattle.cy_updates.specs.Deleting as spec;
@@ -14,10 +13,10 @@ ghost use Rattle.cy_updates.specs.internal.Reached.{AreGone};
 ghost use Rattle.cy_updates.specs.internal.Deleting.{AreAmong, is_node_among, is_rel_among, lesser_of, lies_among, nodes_among, rels_among, rels_at, without_nodes, without_rels};
 
 use crate::faults::UpdateFault;
-use crate::naming::cell_of;
+use crate::naming::entity_of;
 use cy_index::Store;
 use cy_trees::Variable;
-use cy_values::{Cell, NodeId, RelId, Row};
+use cy_values::{Entity, NodeId, RelId, Row};
 use std::alloc::Global;
 
 /// How many nodes and relationships went.
@@ -84,8 +83,8 @@ fn all_named(alloc: Global, variables: &[Variable], rows: &[Row]) -> Result<Name
 
 // Adds what the variables name on a row.
 fn push_named(named: &mut Named, variables: &[Variable], row: &Row) -> Result<(), UpdateFault>
-    ensures nodes { OnOk result (named.new.nodes.items ≡ named.old.nodes.items ++ nodes_among (flat_map (λ v. named_by v row.now) variables.now)) }
-    ensures rels { OnOk result (named.new.rels.items ≡ named.old.rels.items ++ rels_among (flat_map (λ v. named_by v row.now) variables.now)) }
+    ensures nodes { OnOk result (named.new.nodes.items ≡ named.old.nodes.items ++ nodes_among (flat_map (λ v. option_to_list (named_by v row.now)) variables.now)) }
+    ensures rels { OnOk result (named.new.rels.items ≡ named.old.rels.items ++ rels_among (flat_map (λ v. option_to_list (named_by v row.now)) variables.now)) }
     ensures memory { IfErr result (λ why. why ≡ NoMemory) }
 {
     for variable in variables {
@@ -96,29 +95,16 @@ fn push_named(named: &mut Named, variables: &[Variable], row: &Row) -> Result<()
 
 // Adds what a variable names on a row.
 fn push_variable(named: &mut Named, variable: &Variable, row: &Row) -> Result<(), UpdateFault>
-    ensures nodes { OnOk result (named.new.nodes.items ≡ named.old.nodes.items ++ nodes_among (named_by variable.now row.now)) }
-    ensures rels { OnOk result (named.new.rels.items ≡ named.old.rels.items ++ rels_among (named_by variable.now row.now)) }
+    ensures nodes { OnOk result (named.new.nodes.items ≡ named.old.nodes.items ++ nodes_among (option_to_list (named_by variable.now row.now))) }
+    ensures rels { OnOk result (named.new.rels.items ≡ named.old.rels.items ++ rels_among (option_to_list (named_by variable.now row.now))) }
     ensures memory { IfErr result (λ why. why ≡ NoMemory) }
 {
-    match cell_of(variable, row) {
-        Some(cell) => push_cell(named, cell),
-        None => Ok(()),
+    match entity_of(variable, row) {
+        Some(Entity::Node(id)) => named.nodes.push(id)?,
+        Some(Entity::Rel(id)) => named.rels.push(id)?,
+        None => (),
     }
-}
-
-// Adds what a cell names.
-#[tactic(auto, using(crate::proofs::DeletedSets::rels_of_list))]
-fn push_cell(named: &mut Named, cell: &Cell) -> Result<(), UpdateFault>
-    ensures nodes { OnOk result (named.new.nodes.items ≡ named.old.nodes.items ++ nodes_among (entities_of cell.now)) }
-    ensures rels { OnOk result (named.new.rels.items ≡ named.old.rels.items ++ rels_among (entities_of cell.now)) }
-    ensures memory { IfErr result (λ why. why ≡ NoMemory) }
-{
-    match cell {
-        Cell::Node(id) => Ok(named.nodes.push(*id)?),
-        Cell::Rel(id) => Ok(named.rels.push(*id)?),
-        Cell::Rels(ids) => Ok(named.rels.extend_from_slice(ids.as_slice())?),
-        Cell::Value(_) => Ok(()),
-    }
+    Ok(())
 }
 
 // What goes: what is named, and with DETACH each relationship at a node of it.

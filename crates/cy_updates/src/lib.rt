@@ -4,6 +4,7 @@
 mod clauses;
 mod creating;
 mod deleting;
+mod entities;
 mod faults;
 pub mod laws;
 mod maps;

@@ -1,5 +1,5 @@
 use Rattle.std.proofs.Common.{◌+◌, ◌++◌, List, drop, sym, ap, ◌∙◌}
-use Rattle.std.specs.Prelude.{flat_map}
+use Rattle.std.specs.Prelude.{flat_map, option_to_list}
 use Rattle.std.proofs.lemmas.List.{append-nil, drop_all}
 use Rattle.cy_values.specs.declared.rows.Cell.{Cell}
 use Rattle.cy_patterns.proofs.SliceReads.{next_of}
@@ -16,7 +16,7 @@ loop-row-preserved c =
     let variables = c.args.variables.now in
     let rest = drop (l.row-index + 1) rows in
     let next = ap (named variables) (next_of rows l.row-index c.row-item.result c.loop-row-test.true c.row-item.is) in
-    let here = flat_map (λ v. named_by v c.row-item.result) variables in
+    let here = flat_map (λ v. option_to_list (named_by v c.row-item.result)) variables in
     let done = c.in_ok-push_named.ensures in
     record {
       nodes = nodes_pushed l.named.nodes.items c.push_named.new.named.nodes.items here (named variables rest) _ done.nodes (ap (λ set. l.named.nodes.items ++ nodes_among set) (sym next) ∙ l.invariant.nodes);

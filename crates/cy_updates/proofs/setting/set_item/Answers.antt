@@ -6,7 +6,7 @@ use Rattle.cy_graph.specs.Graph.{State}
 use Rattle.cy_updates.specs.declared.faults.UpdateFault.{UpdateFault}
 use Rattle.cy_updates.specs.internal.Answers.{IsAnswer}
 use Rattle.cy_updates.proofs.InTurn.{or_wants}
-use Rattle.cy_updates.proofs.SetEach.{changed_answer, property_item, property_item_stops}
+use Rattle.cy_updates.proofs.SetItems.{changed_answer, property_item, property_item_stops}
 use Rattle.cy_updates.proofs.setting.set_item.Goals as goal
 
 pub returns-in_err-value-in-Property-clause-meaning : goal.returns-in_err-value-in-Property-clause-meaning
@@ -24,4 +24,4 @@ returns-in_ok-value-in-Property-clause-meaning c =
 
 pub returns-in-Labels-clause-meaning : goal.returns-in-Labels-clause-meaning
 returns-in-Labels-clause-meaning c =
-    rw c.in-Labels.is (changed_answer c.add_labels.result c.add_labels.new.store.graph.now _ (rw c.deref.ensures.value at c.add_labels.ensures.changed) c.add_labels.ensures.memory)
+    rw c.in-Labels.is (changed_answer c.relabel.result c.relabel.new.store.graph.now _ (rw c.deref.ensures.value at c.relabel.ensures.changed) c.relabel.ensures.memory)

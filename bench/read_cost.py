@@ -82,6 +82,10 @@ def costs(program, size):
             for k in some
         ]
         yield "two nodes that WHERE gives by their numbers", session.count(numbered), True
+        hops = [
+            answer(f"MATCH (c)-[:T]-()-[:T]-(a) WHERE id(a) = {k + 1} RETURN count(*) AS n", ["n"], [walks(0, 2)]) for k in some
+        ]
+        yield "two hops from a node that WHERE gives by its number", session.count(hops), True
         # The next node of a group is joined with the first one and with four others.
         between = [
             answer(f"MATCH (a:A {{k: {k}}})-[:T]-(b)-[:T]-(c) WHERE b.k = {k + 1} RETURN count(*) AS n", ["n"], [4]) for k in some

@@ -5,8 +5,9 @@ Run it at the top of the repository. It builds a program over a copy of the crat
 folders `out/` have, if they are there. The program has a store, and reads lines that each name a step, or a look-up. The
 store has 10,000 or 100,000 nodes, and a hub with a relationship to each of them. For each cost the script prints the count at
 both sizes and their ratio. A ratio above 1.3 ends it with status 1, and so does a removal at the hub that takes more than
-one instruction for each number that it moves, a property whose change takes more than its limit above one that finds no node, or
-a line that isn't answered as it should be. What a change touched is asked for before it ends, as the engine does.
+one instruction for each number that it moves, a property whose change takes more than its limit above one that finds no node,
+memory that stays of what was made and removed, or a line that isn't answered as it should be. What a change touched is asked for
+before it ends, as the engine does.
 """
 import os
 import shutil
@@ -14,7 +15,7 @@ import sys
 import tempfile
 
 from lexer_cost import built
-from session import Session, report
+from session import Session, peak, report
 
 LIMIT = 1.3
 SIZES = (10_000, 100_000)
@@ -22,6 +23,8 @@ SIZES = (10_000, 100_000)
 TIMES, FEW = 20, 10
 # Instructions of a property that is set, above those of one that is to be set where no node is.
 SET_LIMIT = 1500
+# How often a store is filled and emptied, and how many bytes may stay each time.
+ROUNDS, ROUND_LIMIT = (10_000, 100_000), 1
 # The crates that are copied, with what each stands on.
 CRATES = {
     "cy_values": "thiserror",
@@ -98,6 +101,16 @@ fn remove_rel(store: &mut Store, id: RelId) -> Result<(), GraphFault>
     store.remove_rel(id)
 }
 
+fn remove_node(store: &mut Store, id: NodeId) -> Result<(), GraphFault>
+    requires { IsSome store.old.graph.was }
+    ensures { IsSome store.new.graph.was }
+{
+    if store.node(id).is_none() {
+        return Ok(());
+    }
+    store.remove_node(id)
+}
+
 fn number(word: &str) -> u64 {
     word.parse::<u64>().unwrap_or(0)
 }
@@ -111,6 +124,7 @@ fn take(alloc: Global, store: &mut Store, words: &[&str]) -> Result<(), GraphFau
         ["rel", source, target] => add_rel(alloc, store, NodeId(number(source)), NodeId(number(target))),
         ["set", id, value] => set(alloc, store, NodeId(number(id)), (number(value) % 1000) as i64),
         ["remove", id] => remove_rel(store, RelId(number(id))),
+        ["drop", id] => remove_node(store, NodeId(number(id))),
         _ => Ok(()),
     }
 }
@@ -248,6 +262,19 @@ def store(size):
         yield f"keep rel 1 {i + 2}", "0"
 
 
+def rounds(count):
+    """Lines that make two nodes and a relationship between them, and remove all of them, so many times. Each second time the
+    relationship is taken back instead."""
+    for time in range(count):
+        source, target = 2 * time + 1, 2 * time + 2
+        yield from steps("keep node A 7", "keep node A 7")
+        if time % 2:
+            yield from steps(f"undo rel {source} {target}")
+        else:
+            yield from steps(f"keep rel {source} {target}", f"keep remove {time // 2 + 1}")
+        yield from steps(f"keep drop {source}", f"keep drop {target}")
+
+
 def costs(program, size):
     """Names of costs on a store of so many nodes, each with its count, and whether the limit is for its ratio."""
     some = [size // TIMES * time + size // 40 for time in range(TIMES)]
@@ -276,6 +303,14 @@ def set_is_cheap(found):
     return 0 < above <= SET_LIMIT
 
 
+def keeps_nothing(program):
+    """Whether a store that is empty again keeps no memory of what was in it."""
+    few, many = (peak([program], rounds(count)) for count in ROUNDS)
+    kept = (many - few) / (ROUNDS[1] - ROUNDS[0])
+    print(f"{'bytes that stay of what was made and removed':56} {kept:12,.1f}  of at most {ROUND_LIMIT}", flush=True)
+    return kept <= ROUND_LIMIT
+
+
 def moves_a_tail(small, large):
     """Whether a removal at the hub takes at most one instruction more for each number that it moves. What is taken back moves them
     once more."""
@@ -296,9 +331,10 @@ def main():
         with open(f"{folder}/crates/store_cost/proofs/serve/Invariants.antt", "w") as it:
             it.write(INVARIANT)
         program = built(folder, "store_cost", PROGRAM, LIBRARIES)
+        is_empty = keeps_nothing(program)
         found = {size: list(costs(program, size)) for size in SIZES}
     is_within = report(found.get, *SIZES, LIMIT)
-    held = [is_within, moves_a_tail(*found.values()), set_is_cheap(found[SIZES[0]])]
+    held = [is_empty, is_within, moves_a_tail(*found.values()), set_is_cheap(found[SIZES[0]])]
     return 0 if all(held) else 1
 
 

@@ -9,7 +9,7 @@ use crate::sequences::{Duplicate, Sequence};
 use std::alloc::Global;
 
 /// What stands in one column of a row. The variants stand in the order of cells.
-#[derive(Debug, Drop, PartialEq, Eq, PartialOrd, Ord)]
+#[derive(Debug, Drop, PartialEq, Eq, PartialOrd, Ord, Hash)]
 pub enum Cell {
     Node(NodeId),
     Rel(RelId),

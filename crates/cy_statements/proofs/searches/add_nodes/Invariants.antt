@@ -1,5 +1,5 @@
 use Rattle.std.proofs.Common.{IsSome}
-use Rattle.cy_sessions.proofs.searches.add_nodes.Given as goal
+use Rattle.cy_statements.proofs.searches.add_nodes.Given as goal
 
 -- the change stays open
 abbrev pub invariant-loop-label : goal.invariant-loop-label

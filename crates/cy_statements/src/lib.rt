@@ -1,0 +1,15 @@
+//! Expressions, queries and statements, executed on stores. There is nothing here but tests.
+#![tactic(auto)]
+
+#[cfg(test)]
+mod cells;
+#[cfg(test)]
+mod expressions;
+#[cfg(test)]
+mod readings;
+#[cfg(test)]
+mod searches;
+#[cfg(test)]
+mod small_graphs;
+#[cfg(test)]
+mod updates;

@@ -11,7 +11,7 @@ use Rattle.cy_expr.specs.declared.faults.EvalFault.{EvalFault}
 use Rattle.cy_trees.specs.Trees.{Statement}
 use Rattle.cy_scope.specs.Checked.{IsViewQuery}
 use Rattle.cy_oneshot.specs.Queries.{query_columns, query_rows}
-use Rattle.cy_engine.specs.declared.entries.Entry.{Entry}
+use Rattle.cy_bags.specs.declared.changes.Entry.{Entry}
 use Rattle.cy_engine.specs.declared.replies.Reply.TheVariants as reply
 use Rattle.cy_engine.specs.Runs.{Event, Run, with_entry, entries_of, followed, counts_in, IsMaintained}
 use Rattle.cy_engine.specs.State.{EngineState, Entries, View, empty_engine, entry_at, rows_of, view_at}

@@ -1,7 +1,6 @@
 pub mod Chains
 pub mod ChangeEffects
 pub mod Contents
-pub mod Counting
 pub mod Effects
 pub mod Following
 pub mod FromTokens
@@ -13,7 +12,6 @@ pub mod Queries
 pub mod Registry
 pub mod StatementEnds
 pub mod Steps
-pub mod Surpluses
 pub mod TouchedContents
 pub mod Traces
 pub mod ViewEntries

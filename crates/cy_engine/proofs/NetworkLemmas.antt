@@ -10,7 +10,7 @@ use Rattle.cy_trees.specs.Views.{statement_of}
 use Rattle.cy_values.specs.declared.rows.Cell.{Cell}
 use Rattle.cy_values.specs.Bag.{IsBagOf, IsCanonical}
 use Rattle.cy_graph.specs.Graph.{Content, State}
-use Rattle.cy_engine.specs.declared.entries.Change.{Change}
+use Rattle.cy_bags.specs.declared.changes.Change.{Change}
 use Rattle.cy_engine.specs.declared.network.Network.{Network}
 use Rattle.cy_engine.specs.declared.network.Prepared.{Prepared}
 use Rattle.cy_engine.specs.declared.views.Registered.{Registered}
@@ -18,7 +18,7 @@ use Rattle.cy_engine.specs.Model.{held, view_of}
 use Rattle.cy_engine.specs.State.{rows_of}
 use Rattle.cy_engine.specs.internal.Network.{AllPrepared, AllReady, AllStand, IsReady, StandsFor, abandoned, abandoned_one, abandoned_view, settled, settled_one, with_prepared}
 use Rattle.cy_engine.specs.internal.Representation.{Registry, views_in}
-use Rattle.cy_engine.specs.internal.Surplus.{IsCountedSurplus}
+use Rattle.cy_bags.specs.Difference.{IsCountedSurplus}
 
 -- ---- one network
 

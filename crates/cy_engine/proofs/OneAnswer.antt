@@ -13,19 +13,19 @@ use Rattle.cy_values.specs.Order.{row_cmp}
 use Rattle.cy_values.proofs.Identity.{same_rows}
 use Rattle.cy_graph.specs.Graph.{Content}
 use Rattle.cy_index.specs.declared.keys.Pair.{Pair}
-use Rattle.cy_engine.specs.declared.entries.Change.{Change}
-use Rattle.cy_engine.specs.declared.entries.Entry.{Entry}
+use Rattle.cy_bags.specs.declared.changes.Change.{Change}
+use Rattle.cy_bags.specs.declared.changes.Entry.{Entry}
 use Rattle.cy_engine.specs.declared.faults.Fault.{Fault}
 use Rattle.cy_engine.specs.declared.faults.Fault.TheVariants as fault
 use Rattle.cy_engine.specs.declared.replies.Reply.{Reply}
 use Rattle.cy_engine.specs.declared.replies.Reply.TheVariants as reply
-use Rattle.cy_engine.specs.Difference.{IsDifference}
+use Rattle.cy_bags.specs.Difference.{IsDifference}
 use Rattle.cy_engine.specs.Requests.{Request, Nothing, StatementOf, ViewOf, RowsOf, IndexOf, Refused, request}
 use Rattle.cy_engine.specs.Runs.{is_parsers, Agree, HasRoom}
 use Rattle.cy_engine.specs.State.{EngineState, Entries, View, rows_of}
 use Rattle.cy_engine.specs.Step.{Answer, AreRows, IsEntry, AreEntries, IsRefused, IsReplied, Carries, Makes, Indexes, Shows, Reads, Answers, Lexed, Step}
 use Rattle.cy_engine.specs.Verdicts.{Carried, statement_verdict, view_verdict, rows_verdict, index_verdict}
-use Rattle.cy_engine.proofs.Surpluses.{same_pairs}
+use Rattle.cy_bags.proofs.Surpluses.{same_pairs}
 
 abbrev IsOne : Type 0
 IsOne = (line : List ℕ) (tokens : List Token) (statement other : Statement) → SpellsStatement line statement tokens → SpellsStatement line other tokens → statement ≡ other

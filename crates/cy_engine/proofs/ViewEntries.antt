@@ -8,10 +8,10 @@ use Rattle.cy_values.specs.declared.rows.Cell.{Cell}
 use Rattle.cy_values.specs.Bag.{weight_of, IsCanonical, IsSameBag, IsSurplus}
 use Rattle.cy_values.specs.Order.{row_cmp}
 use Rattle.cy_graph.specs.Graph.{Content}
-use Rattle.cy_engine.specs.declared.entries.Change.{Change}
+use Rattle.cy_bags.specs.declared.changes.Change.{Change}
 use Rattle.cy_engine.specs.declared.network.Prepared.{Prepared}
 use Rattle.cy_engine.specs.declared.views.Registered.{Registered}
-use Rattle.cy_engine.specs.Difference.{IsDifference}
+use Rattle.cy_bags.specs.Difference.{IsDifference}
 use Rattle.cy_engine.specs.Model.{held, view_of}
 use Rattle.cy_engine.specs.State.{Entries, View, rows_of}
 use Rattle.cy_engine.specs.Step.{AreEntries}

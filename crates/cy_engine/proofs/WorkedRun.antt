@@ -22,15 +22,15 @@ use Rattle.cy_values.specs.Order.{row_cmp}
 use Rattle.cy_graph.specs.declared.nodes.Node.{Node}
 use Rattle.cy_engine.specs.declared.faults.Fault.TheVariants as fault
 use Rattle.cy_engine.specs.declared.replies.Reply.TheVariants as reply
-use Rattle.cy_engine.specs.Difference.{IsDifference}
+use Rattle.cy_bags.specs.Difference.{IsDifference}
 use Rattle.cy_engine.specs.Requests.{request}
 use Rattle.cy_engine.specs.Runs.{Event, Run}
 use Rattle.cy_engine.specs.State.{EngineState, Entries, View, empty_engine}
 use Rattle.cy_engine.specs.Step.{Answer, Answers, Lexed, Step}
-use Rattle.cy_engine.specs.internal.Counting.{counted_rows}
-use Rattle.cy_engine.specs.internal.Surplus.{surplus_of}
-use Rattle.cy_engine.proofs.Counting.{bag_of_counted}
-use Rattle.cy_engine.proofs.Surpluses.{is_surplus}
+use Rattle.cy_bags.specs.internal.Counting.{counted_rows}
+use Rattle.cy_bags.specs.internal.Surplus.{surplus_of}
+use Rattle.cy_bags.proofs.Counting.{bag_of_counted}
+use Rattle.cy_bags.proofs.Surpluses.{is_surplus}
 use Rattle.cy_engine.proofs.WorkedLines.{digit, keyword, create_line, create_lexed, create_tree, create_tokens, create_spelt, view_line, view_lexed, view_tokens, query_tree, query_spelt, rows_line, rows_lexed, rows_tokens, set_line, set_lexed, set_tokens, set_tree, set_spelt, unknown_line, unknown_lexed, unknown_spelt, null_line, null_lexed, null_spelt_whole, delete_line, delete_lexed, delete_tokens, delete_tree, delete_spelt, bare_line, bare_lexed, bare_tokens, bare_tree, bare_spelt}
 
 -- ---- the states

@@ -1,4 +1,3 @@
-pub mod Difference
 pub mod Faults
 pub mod Model
 pub mod Requests

@@ -8,7 +8,7 @@ use Rattle.cy_values.specs.declared.rows.Cell.{Cell}
 use Rattle.cy_graph.specs.Graph.{Content, State, empty_state}
 use Rattle.cy_index.specs.declared.keys.Pair.{Pair}
 use Rattle.cy_oneshot.specs.Queries.{query_rows}
-use Rattle.cy_engine.specs.declared.entries.Entry.{Entry}
+use Rattle.cy_bags.specs.declared.changes.Entry.{Entry}
 
 -- a view: its name, its query and the tick at which it was made. Its rows are no part of it: they are what its
 -- query means on the graph

@@ -15,13 +15,13 @@ use Rattle.cy_graph.specs.Graph.{Content}
 use Rattle.cy_index.specs.declared.keys.Pair.{Pair}
 use Rattle.cy_oneshot.specs.Queries.{query_columns}
 use Rattle.cy_updates.specs.Counts.{Counts}
-use Rattle.cy_engine.specs.declared.entries.Entry.{Entry}
+use Rattle.cy_bags.specs.declared.changes.Entry.{Entry}
 use Rattle.cy_engine.specs.declared.faults.Fault.{Fault}
 use Rattle.cy_engine.specs.declared.faults.Fault.TheVariants as fault
 use Rattle.cy_engine.specs.declared.replies.Changed.{Changed}
 use Rattle.cy_engine.specs.declared.replies.Reply.{Reply}
 use Rattle.cy_engine.specs.declared.replies.Reply.TheVariants as reply
-use Rattle.cy_engine.specs.Difference.{IsDifference}
+use Rattle.cy_bags.specs.Difference.{IsDifference}
 use Rattle.cy_engine.specs.Requests.{Request, Nothing, StatementOf, ViewOf, RowsOf, IndexOf, Refused, request}
 use Rattle.cy_engine.specs.State.{EngineState, Entries, View, rows_of}
 use Rattle.cy_engine.specs.Verdicts.{Carried, statement_verdict, view_verdict, rows_verdict, index_verdict}

@@ -1,5 +1,3 @@
-pub mod Counting
 pub mod Network
 pub mod Representation
 pub mod Stages
-pub mod Surplus

@@ -13,14 +13,14 @@ ghost use Rattle.cy_engine.specs.internal.Network.{AllStand, abandoned_one, sett
 ghost use Rattle.cy_engine.specs.internal.Representation.{views_in};
 ghost use Rattle.cy_engine.specs.internal.Stages.{AddsIndex, AnswersOrWants, HasEffect, ShowsRows};
 
-use crate::bags::copied;
-use crate::entries::{Entry, entries_of};
+use crate::entries::entries_of;
 use crate::faults::Fault;
 use crate::network::Network;
 use crate::reading::{read_query, read_statement};
 use crate::replies::{Changed, Reply};
 use crate::requests::{Request, read_request};
 use crate::views::{Registered, abandon, made_reply, prepare, register, settle};
+use cy_bags::{Entry, copied};
 use cy_index::Store;
 use cy_lexer::{Token, lex};
 use cy_oneshot::Table;

@@ -3,36 +3,12 @@
 ghost use Rattle.std.specs.Prelude.{◌≡◌, IfErr, IfOk};
 ghost use Rattle.cy_engine.specs.internal.Network.{AllPrepared, is_nothing, pending_entries};
 
-use crate::bags::copied;
 use crate::faults::Fault;
 use crate::views::Registered;
-use cy_values::{Duplicate, Row, Sequence, Text};
+use cy_bags::{Change, Entry};
+use cy_values::{Duplicate, Text};
 use indexmap::IndexMap;
 use std::alloc::Global;
-
-/// The difference of the rows of a view before and after a line: the surplus of the bag before over the bag after, and that
-/// of the bag after over the bag before. Each row stands once with its count, in canonical order, and none in both.
-#[derive(Debug, Drop)]
-pub struct Change {
-    pub removed: Sequence<(Row, u64)>,
-    pub added: Sequence<(Row, u64)>,
-}
-
-impl Duplicate for Change {
-    fn copy(&self, alloc: Global) -> Result<Self, cy_values::Fault> {
-        Ok(Change {
-            removed: Sequence::new(copied(alloc, self.removed.as_slice())?),
-            added: Sequence::new(copied(alloc, self.added.as_slice())?),
-        })
-    }
-}
-
-/// What one line changed in the rows of a view, with the tick of that line.
-#[derive(Debug, Drop)]
-pub struct Entry {
-    pub tick: u64,
-    pub change: Change,
-}
 
 /// The entries of the views whose rows the open change, for which they are prepared, makes another bag: with their names, in the
 /// order in which the views were made.

@@ -1,8 +1,6 @@
 //! The engine: lines in, replies out, and views that follow the graph.
 #![tactic(auto)]
 
-mod bags;
-mod differences;
 mod engine;
 mod entries;
 mod faults;
@@ -14,8 +12,8 @@ mod requests;
 mod runs;
 mod views;
 
+pub use cy_bags::{Change, Entry};
 pub use engine::Engine;
-pub use entries::{Change, Entry};
 pub use faults::Fault;
 pub use replies::{Changed, Reply};
 pub use runs::answer_all;

@@ -6,10 +6,8 @@ ghost use Rattle.cy_values.specs.Bag.{IsBagOf, IsCanonical};
 ghost use Rattle.cy_engine.specs.State.{rows_of};
 ghost use Rattle.cy_engine.specs.internal.Network.{IsReady, StandsFor, abandoned, settled};
 
-use crate::bags::counted_in_order;
-use crate::differences::difference;
-use crate::entries::Change;
 use crate::faults::Fault;
+use cy_bags::{Change, counted_in_order, difference};
 use cy_index::Store;
 use cy_oneshot::answer;
 use cy_oneshot::laws::view_queries;

@@ -3,7 +3,7 @@ use Rattle.std.proofs.Common.{◌≡◌, ℕ, ◌&&◌, Bool, true, false, List,
 use Rattle.std.proofs.lemmas.List.{append-nil}
 use Rattle.cy_engine.specs.Model.{Machine}
 use Rattle.cy_engine.specs.State.{EngineState}
-use Rattle.cy_engine.specs.declared.entries.Entry.{Entry}
+use Rattle.cy_bags.specs.declared.changes.Entry.{Entry}
 use Rattle.cy_shell.specs.internal.Feeding.{IsAnswer, WritesFeed, BeginsFeed}
 use Rattle.cy_shell.specs.Printed.{text_of, IsObjectText, IsFeedText, fed}
 use Rattle.cy_shell.specs.Replies.{entry_json}

@@ -3,7 +3,7 @@ use Rattle.std.specs.Prelude.{◌≡◌, ℕ, Bool, true, false, List, [], ◌�
 use Rattle.serde_json.specs.Data.{Data}
 use Rattle.serde_json.specs.Written.{compact_text}
 use Rattle.cy_engine.specs.Faults.{code_of, offset_of}
-use Rattle.cy_engine.specs.declared.entries.Entry.{Entry}
+use Rattle.cy_bags.specs.declared.changes.Entry.{Entry}
 use Rattle.cy_engine.specs.declared.faults.Fault.{Fault}
 use Rattle.cy_engine.specs.declared.faults.Fault.TheVariants.{NoMemory}
 use Rattle.cy_engine.specs.declared.replies.Reply.{Reply}

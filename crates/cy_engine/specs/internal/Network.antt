@@ -6,11 +6,11 @@ use Rattle.std.specs.declared.string.String.{String}
 use Rattle.cy_trees.specs.Views.{statement_of}
 use Rattle.cy_values.specs.Bag.{IsBagOf, IsCanonical}
 use Rattle.cy_graph.specs.Graph.{Content}
-use Rattle.cy_engine.specs.declared.entries.Change.{Change}
+use Rattle.cy_bags.specs.declared.changes.Change.{Change}
 use Rattle.cy_engine.specs.declared.network.Network.{Network}
 use Rattle.cy_engine.specs.declared.network.Prepared.{Prepared}
 use Rattle.cy_engine.specs.declared.views.Registered.{Registered}
-use Rattle.cy_engine.specs.Difference.{IsDifference}
+use Rattle.cy_bags.specs.Difference.{IsDifference}
 use Rattle.cy_engine.specs.State.{Entries, rows_of}
 
 -- a network between changes stands for a graph: it has the rows that its query means there

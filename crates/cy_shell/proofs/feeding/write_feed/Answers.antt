@@ -1,7 +1,7 @@
 use Rattle.std.proofs.Common.{◌≡◌, ◌<◌, ◌+◌, ◌∷◌, ℕ, List, drop, length, get_or, suc, add-one, sym, ap, subst, ◌∙◌, arith}
 use Rattle.std.proofs.Math.Seq.{drop-cons}
 use Rattle.std.proofs.lemmas.List.{drop_all}
-use Rattle.cy_engine.specs.declared.entries.Entry.{Entry}
+use Rattle.cy_bags.specs.declared.changes.Entry.{Entry}
 use Rattle.cy_shell.specs.Streams.{appended}
 use Rattle.cy_shell.specs.internal.Writing.{AppendsFront}
 use Rattle.cy_shell.specs.internal.Printing.{printed_text}

@@ -1,6 +1,6 @@
 use Rattle.std.proofs.Common.{◌≡◌, ◌++◌, drop}
-use Rattle.cy_engine.specs.internal.Surplus.{surplus_of}
-use Rattle.cy_engine.proofs.differences.surplus_rows.Given as goal
+use Rattle.cy_bags.specs.internal.Surplus.{surplus_of}
+use Rattle.cy_bags.proofs.changes.surplus_rows.Given as goal
 
 -- what is found so far and what is surplus among those left are all
 abbrev pub invariant-loop-row : goal.invariant-loop-row

@@ -9,7 +9,7 @@ use Rattle.std.proofs.lemmas.List.Sums.{sum_by-cons}
 use Rattle.cy_values.specs.declared.rows.Cell.{Cell}
 use Rattle.cy_values.specs.Order.{row_cmp}
 use Rattle.cy_values.specs.Bag.{count_of, weight_of, IsBagOf, IsCanonical}
-use Rattle.cy_engine.specs.internal.Counting.{counted_from, counted_rows}
+use Rattle.cy_bags.specs.internal.Counting.{counted_from, counted_rows}
 
 equal : (o : Ordering) → is_eq o ≡ true → o ≡ Equal
 equal Less h = cc

@@ -1,16 +1,40 @@
-//! The difference of two bags of rows.
+//! Changes: the differences of two bags of rows, and entries, which are changes at a tick.
 
-ghost use Rattle.std.specs.Prelude.{◌≡◌, IfErr, IfOk};
+ghost use Rattle.std.specs.Prelude.{◌≡◌, IfOk};
 ghost use Rattle.cy_values.specs.Bag.{IsCanonical, weight_of};
-ghost use Rattle.cy_engine.specs.internal.Surplus.{IsCountedSurplus, surplus_of};
+ghost use Rattle.cy_bags.specs.Difference.{IsCountedSurplus};
+ghost use Rattle.cy_bags.specs.internal.Surplus.{surplus_of};
 
-use crate::entries::Change;
-use crate::faults::Fault;
-use cy_values::{Duplicate, Row, Sequence, row_order, row_order_laws};
+use crate::bags::copied;
+use cy_values::{Duplicate, Fault, Row, Sequence, row_order, row_order_laws};
 use std::alloc::Global;
 
-/// The difference of rows before and after, both with their counts, in canonical order.
-pub(crate) fn difference(
+/// What changes one bag of rows into another: the surplus of the bag before over the bag after, and that of the bag after over the
+/// bag before. Each row stands once with its count, in canonical order, and none in both.
+#[derive(Debug, Drop)]
+pub struct Change {
+    pub removed: Sequence<(Row, u64)>,
+    pub added: Sequence<(Row, u64)>,
+}
+
+impl Duplicate for Change {
+    fn copy(&self, alloc: Global) -> Result<Self, Fault> {
+        Ok(Change {
+            removed: Sequence::new(copied(alloc, self.removed.as_slice())?),
+            added: Sequence::new(copied(alloc, self.added.as_slice())?),
+        })
+    }
+}
+
+/// What one line changed in the rows of a view, with the tick of that line.
+#[derive(Debug, Drop)]
+pub struct Entry {
+    pub tick: u64,
+    pub change: Change,
+}
+
+/// The difference of rows before and after, both with their counts, in canonical order. Fails only for want of memory.
+pub fn difference(
     alloc: Global,
     before: &[(Row, u64)],
     after: &[(Row, u64)],
@@ -19,7 +43,6 @@ pub(crate) fn difference(
     requires after { IsCanonical after.now }
     ensures removed { IfOk result (λ change. IsCountedSurplus before.now after.now change.removed) }
     ensures added { IfOk result (λ change. IsCountedSurplus after.now before.now change.added) }
-    ensures memory { IfErr result (λ fault. fault ≡ Fault.NoMemory) }
 {
     Ok(Change {
         removed: Sequence::new(surplus(alloc, before, after)?),
@@ -35,8 +58,7 @@ fn surplus(
 ) -> Result<Vec<(Row, u64)>, Fault>
     requires more { IsCanonical more.now }
     requires less { IsCanonical less.now }
-    ensures surplus { IfOk result (λ surplus. IsCountedSurplus more.now less.now surplus.items) }
-    ensures memory { IfErr result (λ fault. fault ≡ Fault.NoMemory) }
+    ensures { IfOk result (λ surplus. IsCountedSurplus more.now less.now surplus.items) }
 {
     row_order_laws();
     surplus_rows(alloc, more, less)
@@ -49,8 +71,7 @@ fn surplus_rows(
     less: &[(Row, u64)],
 ) -> Result<Vec<(Row, u64)>, Fault>
     requires { IsCanonical less.now }
-    ensures surplus { IfOk result (λ surplus. surplus.items ≡ surplus_of more.now less.now) }
-    ensures memory { IfErr result (λ fault. fault ≡ Fault.NoMemory) }
+    ensures { IfOk result (λ surplus. surplus.items ≡ surplus_of more.now less.now) }
 {
     let mut surplus = Vec::new(alloc);
     for (row, count) in more.iter() {

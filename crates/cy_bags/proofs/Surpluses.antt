@@ -11,7 +11,8 @@ use Rattle.std.proofs.lemmas.List.Sums.{sum_by-cons}
 use Rattle.cy_values.specs.declared.rows.Cell.{Cell}
 use Rattle.cy_values.specs.Order.{row_cmp}
 use Rattle.cy_values.specs.Bag.{weight_of, IsCanonical}
-use Rattle.cy_engine.specs.internal.Surplus.{IsCountedSurplus, surplus_of}
+use Rattle.cy_bags.specs.Difference.{IsCountedSurplus}
+use Rattle.cy_bags.specs.internal.Surplus.{surplus_of}
 
 abbrev Pairs : Type 0
 Pairs = List (List Cell × ℕ)

@@ -1,8 +1,8 @@
 use Rattle.std.proofs.Common.{rules, sym}
 use Rattle.std.proofs.lemmas.Fn.{always_returns_same}
 use Rattle.cy_values.specs.Order.{row_cmp}
-use Rattle.cy_engine.proofs.Surpluses.{weight_at, searched}
-use Rattle.cy_engine.proofs.differences.count_among.Goals as goal
+use Rattle.cy_bags.proofs.Surpluses.{weight_at, searched}
+use Rattle.cy_bags.proofs.changes.count_among.Goals as goal
 
 pub returns-in-Ok : goal.returns-in-Ok
 returns-in-Ok c =

@@ -3,10 +3,10 @@ use Rattle.std.proofs.lemmas.List.{reverse-reverse}
 use Rattle.std.proofs.lemmas.List.Sorted.{sum_by-IsPermutation}
 use Rattle.std.proofs.lemmas.Result.{IfOk-weaker}
 use Rattle.cy_values.specs.Bag.{IsBagOf, IsCanonical, count_of, weight_of}
-use Rattle.cy_engine.specs.internal.Counting.{counted_rows}
-use Rattle.cy_engine.proofs.Counting.{bag_of_counted, canonical_of_counted}
-use Rattle.cy_engine.proofs.bags.counted_in_order.Goals as goal
-use Rattle.cy_engine.proofs.bags.counted_in_order.Goals.{After-counted}
+use Rattle.cy_bags.specs.internal.Counting.{counted_rows}
+use Rattle.cy_bags.proofs.Counting.{bag_of_counted, canonical_of_counted}
+use Rattle.cy_bags.proofs.bags.counted_in_order.Goals as goal
+use Rattle.cy_bags.proofs.bags.counted_in_order.Goals.{After-counted}
 
 -- what is counted is what was sorted
 in_order : (c : After-counted) → reverse c.reverse.new.self.items ≡ c.sort.new.self.items
@@ -22,7 +22,7 @@ returns-clause-bag c =
     ∙ bag_of_counted c.row_order_laws.ensures.total (λ x y. (c.row_order_laws.ensures.identity x y).0) (reverse c.reverse.new.self.items) row
     ∙ ap (count_of row) (in_order c)
     ∙ sum_by-IsPermutation _ _ _ c.sort.ensures.permutation)
-    c.counted.ensures.counts
+    c.counted.ensures
 
 pub returns-clause-canonical : goal.returns-clause-canonical
 returns-clause-canonical c =
@@ -32,4 +32,4 @@ returns-clause-canonical c =
     (λ pairs counts.
     subst IsCanonical (sym (counts ∙ ap counted_rows (in_order c)))
     (canonical_of_counted c.row_order_laws.ensures.total (λ x y. (c.row_order_laws.ensures.identity x y).0) _ c.row_order_laws.ensures.ordered c.sort.new.self.items c.in_ok-sort.ensures.sorted))
-    c.counted.ensures.counts
+    c.counted.ensures

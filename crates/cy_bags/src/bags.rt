@@ -1,18 +1,16 @@
 //! Bags of rows: rows with their counts.
 
-ghost use Rattle.std.specs.Prelude.{◌≡◌, IfErr, IfOk, reverse};
+ghost use Rattle.std.specs.Prelude.{◌≡◌, IfOk, reverse};
 ghost use Rattle.cy_values.specs.Bag.{IsBagOf, IsCanonical};
-ghost use Rattle.cy_engine.specs.internal.Counting.{counted_rows};
+ghost use Rattle.cy_bags.specs.internal.Counting.{counted_rows};
 
-use crate::faults::Fault;
-use cy_values::{Duplicate, Row, row_order, row_order_laws};
+use cy_values::{Duplicate, Fault, Row, row_order, row_order_laws};
 use std::alloc::Global;
 
-/// Rows, each once with its count, in canonical order.
-pub(crate) fn counted_in_order(alloc: Global, mut rows: Vec<Row>) -> Result<Vec<(Row, u64)>, Fault>
+/// Rows, each once with its count, in canonical order. Fails only for want of memory.
+pub fn counted_in_order(alloc: Global, mut rows: Vec<Row>) -> Result<Vec<(Row, u64)>, Fault>
     ensures bag { IfOk result (λ pairs. IsBagOf rows.items pairs.items) }
     ensures canonical { IfOk result (λ pairs. IsCanonical pairs.items) }
-    ensures memory { IfErr result (λ fault. fault ≡ Fault.NoMemory) }
 {
     rows.sort()?;
     rows.reverse();
@@ -22,8 +20,7 @@ pub(crate) fn counted_in_order(alloc: Global, mut rows: Vec<Row>) -> Result<Vec<
 
 // Rows that stand in order from the end on, each once with how often it stands there.
 fn counted(alloc: Global, mut rows: Vec<Row>) -> Result<Vec<(Row, u64)>, Fault>
-    ensures counts { IfOk result (λ pairs. pairs.items ≡ counted_rows (reverse rows.items)) }
-    ensures memory { IfErr result (λ fault. fault ≡ Fault.NoMemory) }
+    ensures { IfOk result (λ pairs. pairs.items ≡ counted_rows (reverse rows.items)) }
 {
     let mut counted = Vec::new(alloc);
     let Some(mut row) = rows.pop() else {
@@ -44,10 +41,10 @@ fn counted(alloc: Global, mut rows: Vec<Row>) -> Result<Vec<(Row, u64)>, Fault>
 }
 
 /// The same rows with their counts. Fails only for want of memory.
-pub(crate) fn copied(
+pub fn copied(
     alloc: Global,
     pairs: &[(Row, u64)],
-) -> Result<Vec<(Row, u64)>, cy_values::Fault>
+) -> Result<Vec<(Row, u64)>, Fault>
     ensures { IfOk result (λ copied. copied.items ≡ pairs.now) }
 {
     let mut copied = Vec::with_capacity(alloc, pairs.len())?;

@@ -1,5 +1,5 @@
 use Rattle.std.proofs.Common.{◌≡◌, take}
-use Rattle.cy_engine.proofs.bags.copied.Given as goal
+use Rattle.cy_bags.proofs.bags.copied.Given as goal
 
 -- the rows so far are copied
 abbrev pub invariant-loop-row : goal.invariant-loop-row

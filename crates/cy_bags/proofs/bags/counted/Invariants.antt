@@ -1,6 +1,6 @@
 use Rattle.std.proofs.Common.{◌≡◌, ◌+◌, ◌≤◌, ◌++◌, reverse, vec_len}
-use Rattle.cy_engine.specs.internal.Counting.{counted_from, counted_rows}
-use Rattle.cy_engine.proofs.bags.counted.Given as goal
+use Rattle.cy_bags.specs.internal.Counting.{counted_from, counted_rows}
+use Rattle.cy_bags.proofs.bags.counted.Given as goal
 
 -- what is counted, and what the row at hand and those left count, are all
 abbrev pub invariant-loop-next : goal.invariant-loop-next

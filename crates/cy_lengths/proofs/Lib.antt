@@ -1,0 +1,12 @@
+mod Sums
+mod Totals
+mod Pigeons
+mod OneEnd
+mod Walks
+mod Fitting
+mod PlaceSums
+mod Spread
+mod PathPlaces
+mod Tables
+mod Unnamed
+mod WorkedLengths

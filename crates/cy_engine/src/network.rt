@@ -102,5 +102,5 @@ fn rows_on(alloc: Global, query: &ViewQuery, store: &Store) -> Result<Vec<(Row, 
 {
     view_queries();
     let table = answer(alloc, store, query.checked())?;
-    counted_in_order(alloc, table.rows)
+    Ok(counted_in_order(alloc, table.rows)?)
 }

@@ -11,7 +11,8 @@ use Rattle.cy_trees.specs.declared.expressions.Variable.{Variable}
 use Rattle.cy_graph.specs.Graph.{Content}
 use Rattle.cy_graph.specs.declared.nodes.Node.{Node}
 use Rattle.cy_graph.specs.declared.nodes.Rel.{Rel}
-use Rattle.cy_lengths.specs.Lengths.{LongStep, any_node, own_table, packed_table, packed_tables, pattern, rows_of}
+use Rattle.cy_patterns.specs.Matching.{fitting}
+use Rattle.cy_lengths.specs.Lengths.{LongStep, any_node, own_table, packed_table, packed_tables, pattern, rows_of, rows_written_out}
 
 abbrev bare : ℕ → NodeId × Node
 bare n = (record { 0 = n }, record { labels = []; props = [] })
@@ -79,3 +80,38 @@ r = record { name = codes "r"; column = Some 0 }
 
 parallel_named : rows_of (pattern (step (Some r) Right 1 None)) [] (packed_tables parallel (step (Some r) Right 1 None) []) ≡ (rels (1 ∷ []) ∷ []) ∷ (rels (2 ∷ []) ∷ []) ∷ []
 parallel_named = refl
+
+-- `(a)-[*0..2]->(a)` on the loop: one name is one node, with no relationship and with the loop
+abbrev a : Variable
+a = record { name = codes "a"; column = Some 0 }
+
+abbrev circle : LongStep
+circle = record (step None Right 0 (Some 2)) { start = record any_node { variable = Some a }; end = record any_node { variable = Some a } }
+
+circle_rows : fitting loop (pattern circle) [] ≡ (n 1 ∷ []) ∷ (n 1 ∷ []) ∷ []
+circle_rows = refl
+
+circle_of_none : rows_written_out loop circle [] 0 ≡ (n 1 ∷ []) ∷ []
+circle_of_none = refl
+
+circle_of_one : rows_written_out loop circle [] 1 ≡ (n 1 ∷ []) ∷ []
+circle_of_one = refl
+
+circle_of_two : rows_written_out loop circle [] 2 ≡ []
+circle_of_two = refl
+
+-- `(a)-[r*1..2]->(b)` on the two: one row for each of them, with the nodes and the list
+abbrev b : Variable
+b = record { name = codes "b"; column = Some 2 }
+
+abbrev second : Variable
+second = record { name = codes "r"; column = Some 1 }
+
+abbrev by_names : LongStep
+by_names = record (step (Some second) Right 1 (Some 2)) { start = record any_node { variable = Some a }; end = record any_node { variable = Some b } }
+
+parallel_rows : fitting parallel (pattern by_names) [] ≡ (n 1 ∷ rels (1 ∷ []) ∷ n 2 ∷ []) ∷ (n 1 ∷ rels (2 ∷ []) ∷ n 2 ∷ []) ∷ []
+parallel_rows = refl
+
+parallel_rows_packed : rows_of (pattern by_names) [] (packed_tables parallel by_names []) ≡ (n 1 ∷ rels (1 ∷ []) ∷ n 2 ∷ []) ∷ (n 1 ∷ rels (2 ∷ []) ∷ n 2 ∷ []) ∷ []
+parallel_rows_packed = refl

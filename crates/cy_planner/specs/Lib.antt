@@ -1,0 +1,5 @@
+pub mod Weight
+pub mod Faults
+pub mod WideTables
+pub mod Serves
+pub mod internal

@@ -1,0 +1,4 @@
+pub mod RowMaps
+pub mod Soundness
+pub mod Replacing
+pub mod LookUps

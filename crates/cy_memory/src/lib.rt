@@ -1,0 +1,13 @@
+//! Memories: rows with counts, as they were and as they are staged, found by a key.
+#![tactic(auto)]
+
+mod faults;
+mod keyed;
+mod memory;
+mod rows;
+mod tables;
+
+pub use faults::MemoryFault;
+pub use keyed::KeyedMemory;
+pub use memory::{Memory, Record};
+pub use tables::KeyedCursor;

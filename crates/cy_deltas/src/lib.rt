@@ -1,0 +1,12 @@
+//! How a change of rows goes through each part of a plan: what changes above it when rows change below it.
+#![tactic(auto)]
+
+mod distinct_rows;
+mod filters;
+mod memories;
+mod pairs;
+mod shifts;
+
+pub use distinct_rows::distinct;
+pub use filters::{all_different, filter};
+pub use shifts::Shift;

@@ -41,10 +41,7 @@ fn counted(alloc: Global, mut rows: Vec<Row>) -> Result<Vec<(Row, u64)>, Fault>
 }
 
 /// The same rows with their counts. Fails only for want of memory.
-pub fn copied(
-    alloc: Global,
-    pairs: &[(Row, u64)],
-) -> Result<Vec<(Row, u64)>, Fault>
+pub fn copied(alloc: Global, pairs: &[(Row, u64)]) -> Result<Vec<(Row, u64)>, Fault>
     ensures { IfOk result (λ copied. copied.items ≡ pairs.now) }
 {
     let mut copied = Vec::with_capacity(alloc, pairs.len())?;

@@ -9,4 +9,6 @@ mod shifts;
 
 pub use distinct_rows::distinct;
 pub use filters::{all_different, filter};
-pub use shifts::Shift;
+pub use memories::{records_with, stage_shifts};
+pub use pairs::appended;
+pub use shifts::{Shift, add_shift};

@@ -14,12 +14,7 @@ pub struct Shift {
 }
 
 /// Adds the shift of a row with these counts, if they differ. Fails only for want of memory.
-pub(crate) fn add_shift(
-    shifts: &mut Vec<Shift>,
-    row: Row,
-    before: u64,
-    after: u64,
-) -> Result<(), Fault>
+pub fn add_shift(shifts: &mut Vec<Shift>, row: Row, before: u64, after: u64) -> Result<(), Fault>
     ensures { OnOk result (shifts.new.items ≡ shifts.old.items ++ shift_between row before after) }
 {
     if before != after {

@@ -1,3 +1,1 @@
 pub mod Sums
-pub mod LoweredLemmas
-pub mod LoweredLists

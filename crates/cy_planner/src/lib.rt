@@ -1,9 +1,7 @@
-//! Plans of the queries of views: how much there is to plan, which plans serve a query, and expressions over columns alone.
+//! Plans of the queries of views: how much there is to plan, and which plans serve a query.
 #![tactic(auto)]
 
 mod faults;
-mod lowering;
-mod places;
 mod weight;
 
 pub use faults::PlanFault;

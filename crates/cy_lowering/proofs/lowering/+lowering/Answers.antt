@@ -8,10 +8,10 @@ use Rattle.cy_trees.specs.declared.expressions.Link.{Link}
 use Rattle.cy_trees.specs.Trees.{Expression, call}
 use Rattle.cy_trees.specs.Views.{arm_of, arms_from, expression_of, expressions_from, link_of, links_from}
 use Rattle.cy_kinds.specs.Functions.{function_named}
-use Rattle.cy_planner.specs.internal.Lowered as spec
-use Rattle.cy_planner.specs.internal.Places.{place}
-use Rattle.cy_planner.proofs.LoweredLists.{call_is, lowered_arms_list, lowered_links_list, lowered_list, other_arguments, single_call}
-use Rattle.cy_planner.proofs.lowering.+lowering.Goals as goal
+use Rattle.cy_lowering.specs.Lowered as spec
+use Rattle.cy_lowering.specs.Places.{place}
+use Rattle.cy_lowering.proofs.LoweredLists.{call_is, lowered_arms_list, lowered_links_list, lowered_list, other_arguments, single_call}
+use Rattle.cy_lowering.proofs.lowering.+lowering.Goals as goal
 
 pub lower_elements-returns : goal.lower_elements-returns
 lower_elements-returns t c =

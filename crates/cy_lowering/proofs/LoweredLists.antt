@@ -11,7 +11,7 @@ use Rattle.cy_trees.specs.Views.{arm_of, expression_of, expressions_from, links_
 use Rattle.cy_trees.proofs.ViewsLemmas.{case_otherwise}
 use Rattle.cy_kinds.specs.declared.functions.Function.{Function}
 use Rattle.cy_plans.specs.declared.operators.Attribute.{Attribute}
-use Rattle.cy_planner.specs.internal.Lowered.{all_in, lowered, lowered_arm, lowered_arms, lowered_call, lowered_expressions, lowered_link, lowered_links, lowered_single, missing_arms, unless_null}
+use Rattle.cy_lowering.specs.Lowered.{all_in, lowered, lowered_arm, lowered_arms, lowered_call, lowered_expressions, lowered_link, lowered_links, lowered_single, missing_arms, unless_null}
 
 pub lowered_list : (place : ℕ → Attribute → ℕ) (es : List Expression) → expressions_from (map (lowered place) es) ≡ lowered_expressions place (expressions_from es)
 lowered_list place [] = refl

@@ -4,8 +4,8 @@ use Rattle.cy_trees.specs.declared.expressions.BinaryOperator.TheVariants.{In}
 use Rattle.cy_trees.specs.declared.expressions.UnaryOperator.TheVariants.{IsNull, Not}
 use Rattle.cy_trees.specs.Trees.{Name, Expression, binary, boolean, null, text, unary}
 use Rattle.cy_trees.specs.Views.{expression_of}
-use Rattle.cy_planner.proofs.LoweredLists.{all_in_by_arms, boolean_is}
-use Rattle.cy_planner.proofs.lowering.all_in.Goals as goal
+use Rattle.cy_lowering.proofs.LoweredLists.{all_in_by_arms, boolean_is}
+use Rattle.cy_lowering.proofs.lowering.all_in.Goals as goal
 
 pub returns : goal.returns
 returns c =

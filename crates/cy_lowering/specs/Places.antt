@@ -3,7 +3,7 @@ use Rattle.std.specs.Prelude.{ℕ, ◌+◌, ◌==◌, Bool, true, false, ◌&&�
 use Rattle.std.specs.Str.{bytes_eq}
 use Rattle.cy_plans.specs.declared.operators.Attribute.{Attribute}
 use Rattle.cy_plans.specs.declared.operators.Attribute.TheVariants.{Property, RelType, Labels}
-use Rattle.cy_planner.specs.declared.places.Wanted.{Wanted}
+use Rattle.cy_lowering.specs.declared.places.Wanted.{Wanted}
 
 abbrev pub same_attribute : Attribute → Attribute → Bool
 same_attribute (Property key) (Property other) = bytes_eq key other

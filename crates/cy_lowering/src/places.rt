@@ -2,19 +2,19 @@
 
 ghost use Rattle.std.specs.Prelude.{◌≡◌, ◌+◌, ◌≤◌, length};
 ghost use Rattle.cy_plans.specs.WellFormed.{greatest_width};
-ghost use Rattle.cy_planner.specs.internal.Places as spec;
+ghost use Rattle.cy_lowering.specs.Places as spec;
 
 use cy_plans::Attribute;
 
 /// A look-up that is wanted: an attribute of the entity in a column.
 #[derive(Drop)]
-pub(crate) struct Wanted {
-    pub(crate) column: usize,
-    pub(crate) attribute: Attribute,
+pub struct Wanted {
+    pub column: usize,
+    pub attribute: Attribute,
 }
 
 /// The column of a look-up, where those that are wanted stand from a column on; the column after them, if it isn't wanted.
-pub(crate) fn place(first: usize, wanted: &[Wanted], column: usize, attribute: &Attribute) -> usize
+pub fn place(first: usize, wanted: &[Wanted], column: usize, attribute: &Attribute) -> usize
     requires { first + length wanted.now ≤ greatest_width }
     ensures { result ≡ spec.place first wanted.now column attribute.now }
 {

@@ -3,8 +3,8 @@ use Rattle.std.proofs.lemmas.Grind.{common_steps}
 use Rattle.cy_trees.specs.declared.expressions.Arm.{roll-Arm}
 use Rattle.cy_trees.specs.declared.expressions.Expr.{Null}
 use Rattle.cy_trees.specs.Views.{arm_of, expression_of}
-use Rattle.cy_planner.proofs.LoweredLists.{guarded_case, null_arm}
-use Rattle.cy_planner.proofs.lowering.unless_null.Goals as goal
+use Rattle.cy_lowering.proofs.LoweredLists.{guarded_case, null_arm}
+use Rattle.cy_lowering.proofs.lowering.unless_null.Goals as goal
 
 pub returns : goal.returns
 returns c =

@@ -4,7 +4,7 @@ use Rattle.cy_trees.specs.declared.expressions.BinaryOperator.TheVariants.{In}
 use Rattle.cy_trees.specs.declared.expressions.UnaryOperator.TheVariants.{IsNull, Not}
 use Rattle.cy_trees.specs.Trees.{binary, boolean, null, text, unary}
 use Rattle.cy_trees.specs.Views.{arm_of, expression_of}
-use Rattle.cy_planner.proofs.lowering.all_in.Given as goal
+use Rattle.cy_lowering.proofs.lowering.all_in.Given as goal
 
 abbrev pub invariant-loop-label : goal.invariant-loop-label
 invariant-loop-label l =

@@ -1,9 +1,9 @@
 -- The parts so far.
 use Rattle.std.proofs.Common.{◌≡◌, map, take}
 use Rattle.cy_trees.specs.Views.{expression_of, link_of, arm_of}
-use Rattle.cy_planner.specs.internal.Lowered.{lowered, lowered_arm, lowered_link}
-use Rattle.cy_planner.specs.internal.Places.{place}
-use Rattle.cy_planner.proofs.lowering.+lowering.Given as goal
+use Rattle.cy_lowering.specs.Lowered.{lowered, lowered_arm, lowered_link}
+use Rattle.cy_lowering.specs.Places.{place}
+use Rattle.cy_lowering.proofs.lowering.+lowering.Given as goal
 
 abbrev pub invariant-lower_elements-loop-element : goal.invariant-lower_elements-loop-element
 invariant-lower_elements-loop-element l = map expression_of l.made.items ≡ map (lowered (place l.first l.wanted)) (map expression_of (take l.element-index l.elements))

@@ -17,8 +17,8 @@ ghost use Rattle.cy_plans.specs.declared.operators.Attribute as declared;
 ghost use Rattle.cy_plans.specs.declared.operators.Attribute.TheVariants.{Property};
 ghost use Rattle.cy_plans.specs.WellFormed.{greatest_width};
 ghost use Rattle.cy_plans.specs.Expressions.{no_graph};
-ghost use Rattle.cy_planner.specs.internal.Lowered as spec;
-ghost use Rattle.cy_planner.specs.internal.Places as places;
+ghost use Rattle.cy_lowering.specs.Lowered as spec;
+ghost use Rattle.cy_lowering.specs.Places as places;
 
 use crate::places::{Wanted, place};
 use cy_kinds::Function;
@@ -29,7 +29,7 @@ use std::alloc::Global;
 
 /// An expression over columns has, on the row with what is looked up, the value that the expression has on the row before and on the
 /// graph, where no property of the graph is null (own).
-pub(crate) fn lowering_keeps_values()
+pub fn lowering_keeps_values()
     ensures { (place : ℕ → declared.Attribute → ℕ) (graph : Lookups) (row wide : List Cell) (e : Expression)
         → ((x : Entity) (key : Name) → option_map_or is_null (graph.property_of x key) false ≡ false)
         → spec.IsReadable place graph row wide e → cell_of no_graph wide (spec.lowered place e) ≡ cell_of graph row e }
@@ -266,7 +266,7 @@ fn lower_call(
 /// stand from a column on.
 #[cycle(lowering)]
 #[tactic(auto, using(crate::proofs::LoweredLists::case_lowered))]
-pub(crate) fn lower(
+pub fn lower(
     alloc: Global,
     expression: &Expr,
     first: usize,

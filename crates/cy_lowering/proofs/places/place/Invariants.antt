@@ -1,7 +1,7 @@
 -- The look-ups that are left settle the place.
 use Rattle.std.proofs.Common.{◌≡◌, ◌+◌, drop}
-use Rattle.cy_planner.specs.internal.Places as spec
-use Rattle.cy_planner.proofs.places.place.Given as goal
+use Rattle.cy_lowering.specs.Places as spec
+use Rattle.cy_lowering.proofs.places.place.Given as goal
 
 abbrev pub invariant-loop-other : goal.invariant-loop-other
 invariant-loop-other l =

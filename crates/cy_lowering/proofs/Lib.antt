@@ -1,0 +1,2 @@
+pub mod LoweredLemmas
+pub mod LoweredLists

@@ -6,14 +6,14 @@ ghost use Rattle.cy_graph.specs.Graph.{node_at};
 ghost use Rattle.cy_graph.specs.Stored.{IsStorable};
 
 use crate::cells::add_cell;
-use cy_expr::{eval, eval_sure};
+use cy_expr::{EvalFault, eval, eval_sure, eval_truth, eval_value, list_of};
 use cy_graph::{Labels, Props, TextMap};
 use cy_index::Store;
 use cy_lexer::lex;
 use cy_parser::parse;
 use cy_scope::{Checked, check};
 use cy_trees::{Clause, Expr, Variable};
-use cy_values::{Cell, Fault, NodeId, RelId, Row, Scalar, Sequence, Text, Value};
+use cy_values::{Cell, Fault, NodeId, RelId, Row, Scalar, Sequence, Text, Truth, Value};
 use std::alloc::{AllocError, Global};
 use std::process::Abort;
 use std::test::Fail;
@@ -366,14 +366,79 @@ fn returned(query: &Checked) -> Option<&Expr> {
     }
 }
 
+// What an expression is asked for.
+#[derive(Clone, Copy)]
+enum Asked {
+    Cell,
+    Value,
+    Truth,
+}
+
+// A truth as a value.
+fn truth_value(truth: Truth) -> Value {
+    match truth {
+        Truth::Yes => Value::Bool(true),
+        Truth::No => Value::Bool(false),
+        Truth::Unknown => Value::Null,
+    }
+}
+
+// What an expression gives on a row. Where it is refused memory, it is evaluated once more.
+fn given(
+    alloc: Global,
+    store: &Store,
+    asked: Asked,
+    expression: &Expr,
+    row: &Row,
+) -> Result<Cell, EvalFault>
+    requires { All IsNumbered row.now }
+{
+    match given_once(alloc, store, asked, expression, row) {
+        Err(EvalFault::NoMemory) => given_once(alloc, store, asked, expression, row),
+        outcome => outcome,
+    }
+}
+
+// The same, as a cell.
+fn given_once(
+    alloc: Global,
+    store: &Store,
+    asked: Asked,
+    expression: &Expr,
+    row: &Row,
+) -> Result<Cell, EvalFault>
+    requires { All IsNumbered row.now }
+{
+    match asked {
+        Asked::Cell => eval(alloc, expression, row, store),
+        Asked::Value => Ok(Cell::Value(eval_value(alloc, expression, row, store)?)),
+        Asked::Truth => {
+            let truth = eval_truth(alloc, expression, row, store)?;
+            Ok(Cell::Value(truth_value(truth)))
+        }
+    }
+}
+
+// What an expression whose cell is this gives: what names nodes or relationships is no value, and only booleans and null have a truth.
+fn wanted_of<'a>(asked: Asked, cell: &'a str) -> &'a str {
+    let is_value = !cell.contains("node") && !cell.contains("rel");
+    match asked {
+        Asked::Cell => cell,
+        Asked::Value if is_value => cell,
+        Asked::Truth if matches!(cell, "true" | "false" | "null") || cell.starts_with("!") => cell,
+        Asked::Truth if is_value => "!40",
+        Asked::Value | Asked::Truth => "!41",
+    }
+}
+
 // What an expression gives on the row, or the number of its fault.
-fn outcome(alloc: Global, store: &Store, expression: &str) -> Result<String, Fail> {
+fn outcome(alloc: Global, store: &Store, asked: Asked, expression: &str) -> Result<String, Fail> {
     let line = returning(alloc, expression)?;
     let tokens = lex(alloc, line.as_str())?;
     let query = check(alloc, parse(alloc, tokens.as_slice(), line.as_str())?)?;
     let expression = returned(&query).ok_or("no expression")?;
     let row = sample_row(alloc)?;
-    match eval(alloc, expression, &row, store) {
+    match given(alloc, store, asked, expression, &row) {
         Ok(cell) => {
             let mut text = String::new(alloc);
             add_cell(&mut text, &cell)?;
@@ -386,7 +451,7 @@ fn outcome(alloc: Global, store: &Store, expression: &str) -> Result<String, Fai
     }
 }
 
-// An expression gives a value, or the fault that stands after a `!`.
+// An expression gives a cell, or the fault that stands after a `!`, and so the value and the truth of that cell.
 fn expect(
     rt: &impl Abort,
     alloc: Global,
@@ -394,8 +459,10 @@ fn expect(
     expression: &str,
     wanted: &str,
 ) -> Result<(), Fail> {
-    let outcome = outcome(alloc, store, expression)?;
-    assert_eq!(rt; outcome.as_str(), wanted, "{expression}");
+    for asked in [Asked::Cell, Asked::Value, Asked::Truth] {
+        let outcome = outcome(alloc, store, asked, expression)?;
+        assert_eq!(rt; outcome.as_str(), wanted_of(asked, wanted), "{expression}");
+    }
     Ok(())
 }
 
@@ -445,6 +512,29 @@ fn expect_all(rt: &impl Abort, alloc: Global, store: &Store) -> Result<(), Fail>
     }
     let copied = column(alloc)?;
     assert!(rt; matches!(&copied, Cell::Value(Value::Text(text)) if text.as_str() == "né"));
+    Ok(())
+}
+
+// A list of a number, null and another value.
+fn list_with(alloc: Global, value: Value) -> Result<Value, EvalFault> {
+    let mut values = Vec::new(alloc);
+    values.push(Value::Int(7))?;
+    values.push(Value::Null)?;
+    values.push(value)?;
+    list_of(alloc, values)
+}
+
+// A list of values, and none of a list.
+#[test]
+fn lists(rt: HostRuntime) -> Result<(), Fail> {
+    let list = list_with(rt.alloc(), Value::Bool(true))
+        .ok()
+        .ok_or("no list")?;
+    let mut text = String::new(rt.alloc());
+    add_cell(&mut text, &Cell::Value(list))?;
+    assert_eq!(rt; text.as_str(), "[7,null,true]");
+    let empty = Value::List(Sequence::new(Vec::new(rt.alloc())));
+    assert!(rt; matches!(list_with(rt.alloc(), empty), Err(EvalFault::NestedList)));
     Ok(())
 }
 

@@ -1,4 +1,4 @@
-//! What no transcript holds of sessions: calls of the engine, lines of bytes or of great length, options, and streams that fail.
+//! What no transcript holds of sessions: calls of the engine, invalid UTF-8, very long lines, options, and streams that fail.
 //! There is nothing here but tests.
 #![tactic(auto)]
 

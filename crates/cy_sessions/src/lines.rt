@@ -1,4 +1,4 @@
-//! Lines that no transcript holds: bytes that are no text, very long lines, control characters, and lines that are generated.
+//! Lines that no transcript holds: invalid UTF-8, very long lines, control characters, and lines that are generated.
 
 use cy_shell::{MemorySink, MemorySource, Settings, run};
 use std::alloc::Global;
@@ -20,7 +20,7 @@ const INPUTS: [(&[u8], &str); 3] = [
 {"rows":[[["\"\u0001\t"],1]],"tick":2,"view":"v"}
 "#,
     ),
-    // a line that would be carried out if it were a text, and one without LF
+    // a line that would be executed if it were UTF-8, and one without LF
     (
         b"CREATE (:A {k: '\xFF'})\nCREATE (:A)",
         r#"{"at":16,"code":18,"error":"NotUtf8"}

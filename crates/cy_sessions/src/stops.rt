@@ -6,8 +6,8 @@ use std::alloc::Global;
 use std::process::Abort;
 use std::test::Fail;
 
-// Two views with a feed, and what is written for each line. A line that is no text has no entries, though the line before it
-// had.
+// Two views with a feed, and what is written for each line. A line of invalid UTF-8 has no entries, though the line before
+// it had.
 const SESSION: [(&[u8], &[u8]); 7] = [
     (
         b"CREATE (:A {k: 7})\n",

@@ -1,6 +1,10 @@
 pub mod Same
 pub mod ShiftLemmas
 pub mod Parts
+pub mod StepCounts
 pub mod Staging
+pub mod BagLemmas
 pub mod PairLemmas
 pub mod JoinLemmas
+pub mod PlanLemmas
+pub mod StepLemmas

@@ -1,14 +1,15 @@
 -- The shifts of a row, among those that are made of others.
-use Rattle.std.proofs.Common.{◌≡◌, ℕ, ◌==◌, Bool, true, false, cond, List, [], ◌∷◌, ◌++◌, refl, sym, ap, ◌∙◌, filter, arith}
+use Rattle.std.proofs.Common.{◌≡◌, ℕ, ◌+◌, ◌<◌, ◌≤◌, ◌==◌, Bool, true, false, cond, List, [], ◌∷◌, ◌++◌, refl, sym, ap, subst, ◌∙◌, filter, length, take, get_or, arith}
 use Rattle.std.specs.Prelude.{flat_map}
-use Rattle.std.proofs.lemmas.List.{append-nil}
-use Rattle.std.proofs.lemmas.List.Elements.{filter-append}
+use Rattle.std.specs.List.{All}
+use Rattle.std.proofs.lemmas.List.{append-nil, append_assoc, take_more}
+use Rattle.std.proofs.lemmas.List.Elements.{All-cons, All-filter, All-head, All-nil, All-tail, filter-append}
 use Rattle.std.proofs.lemmas.List.Concat.{flat_map-append}
 use Rattle.std.proofs.lemmas.Bool.Decides.{nat_tests}
 use Rattle.cy_values.specs.declared.rows.Cell.{Cell}
-use Rattle.cy_memory.specs.Counts.{Counts, is_row}
+use Rattle.cy_memory.specs.Counts.{Counts, greatest_count, is_row}
 use Rattle.cy_deltas.specs.declared.shifts.Shift.{Shift}
-use Rattle.cy_deltas.specs.Deltas.{IsDelta, shifts_of, shift_between}
+use Rattle.cy_deltas.specs.Deltas.{IsBounded, IsDelta, shifts_of, shift_between}
 use Rattle.cy_deltas.proofs.Same.{row_itself}
 
 -- Of what is made of several things, a row has only the shifts that are made of those that pass a test, where the others make none of it.
@@ -92,3 +93,68 @@ pub delta_alike : (before after other_before other_after : Counts) (shifts : Lis
     → IsDelta before after shifts → IsDelta other_before other_after shifts
 delta_alike before after other_before other_after shifts same_before same_after delta =
     record { each = λ row. delta.each row ∙ ap (λ n. shift_between row n (after row)) (same_before row) ∙ ap (λ n. shift_between row (other_before row) n) (same_after row) }
+
+-- what holds of the things of each row holds of all
+pub all_by_rows : {X : Type 0} (row_of : X → List Cell) (P : X → Type 0) (xs : List X) → ((row : List Cell) → All P (filter (λ x. is_row row (row_of x)) xs)) → All P xs
+all_by_rows row_of P [] each = All-nil P
+all_by_rows row_of P (x ∷ xs) each =
+    All-cons P x xs
+    (All-head P x (filter (λ y. is_row (row_of x) (row_of y)) xs)
+    (subst (λ b. All P (cond b (x ∷ filter (λ y. is_row (row_of x) (row_of y)) xs) (filter (λ y. is_row (row_of x) (row_of y)) xs))) (row_itself (row_of x)) (each (row_of x))))
+    (all_by_rows row_of P xs (λ row. rest row (is_row row (row_of x)) (each row)))
+  where
+    rest : (row : List Cell) (b : Bool) → All P (cond b (x ∷ filter (λ y. is_row row (row_of y)) xs) (filter (λ y. is_row row (row_of y)) xs)) → All P (filter (λ y. is_row row (row_of y)) xs)
+    rest row true all = All-tail P x (filter (λ y. is_row row (row_of y)) xs) all
+    rest row false all = all
+
+-- what holds of each row whose count differs, with its two counts, holds of all shifts of a delta
+pub each_shift : (P : Shift → Type 0) (before after : Counts) (shifts : List Shift) → IsDelta before after shifts
+    → ((row : List Cell) → (before row == after row) ≡ false → P (record { row = row; before = before row; after = after row })) → All P shifts
+each_shift P before after shifts delta each =
+    all_by_rows (λ s. s.row) P shifts (λ row. subst (All P) (sym (delta.each row)) (of_one row (before row == after row) refl))
+  where
+    of_one : (row : List Cell) (b : Bool) → (before row == after row) ≡ b → All P (cond b [] ((record { row = row; before = before row; after = after row }) ∷ []))
+    of_one row true is = All-nil P
+    of_one row false is = All-cons P (record { row = row; before = before row; after = after row }) [] (each row is) (All-nil P)
+
+-- a row whose count differs counts before or after
+pub some_count : (m n : ℕ) → (m == n) ≡ false → 0 < m + n
+some_count m n differ = grind (arith, nat_tests)
+
+-- each shift has the two counts of its row
+pub shift_counts : (before after : Counts) (shifts : List Shift) → IsDelta before after shifts → All (λ s. (s.before ≡ before s.row) × (s.after ≡ after s.row)) shifts
+shift_counts before after shifts delta = each_shift (λ s. (s.before ≡ before s.row) × (s.after ≡ after s.row)) before after shifts delta (λ row differ. (refl, refl))
+
+-- what is made of each of several things, where two ways to make it agree
+pub made_alike : {X Y : Type 0} (P : X → Type 0) (f g : X → List Y) → ((x : X) → P x → f x ≡ g x) → (xs : List X) → All P xs → flat_map f xs ≡ flat_map g xs
+made_alike P f g alike [] each = refl
+made_alike P f g alike (x ∷ xs) each =
+    ap (λ made. made ++ flat_map f xs) (alike x (All-head P x xs each)) ∙ ap (λ rest. g x ++ rest) (made_alike P f g alike xs (All-tail P x xs each))
+
+-- what the shifts so far made of a row, and one more
+pub pairs_more : (row : List Cell) (h : Shift → List Shift) (shifts : List Shift) (i : ℕ) (s : Shift) (start so_far new : List Shift) → i < length shifts → s ≡ get_or shifts i s
+    → shifts_of row so_far ≡ shifts_of row start ++ flat_map h (take i shifts) → shifts_of row new ≡ shifts_of row so_far ++ h s
+    → shifts_of row new ≡ shifts_of row start ++ flat_map h (take (i + 1) shifts)
+pairs_more row h shifts i s start so_far new below is before made =
+    made
+    ∙ ap (λ l. l ++ h s) before
+    ∙ append_assoc (shifts_of row start) (flat_map h (take i shifts)) (h s)
+    ∙ ap (λ l. shifts_of row start ++ l) (sym (ap (flat_map h) (take_more shifts i s below ∙ ap (λ t. take i shifts ++ t ∷ []) (sym is)) ∙ made_more h (take i shifts) s))
+
+-- where no row counts too often before or after, no shift does
+pub shifts_bounded : (before after : Counts) (shifts : List Shift) → IsDelta before after shifts → ((row : List Cell) → before row ≤ greatest_count) → ((row : List Cell) → after row ≤ greatest_count)
+    → All IsBounded shifts
+shifts_bounded before after shifts delta first second = each_shift IsBounded before after shifts delta (λ row differ. (first row, second row))
+
+-- and where no shift does, and no row before, no row does after
+pub after_bounded : (before after : Counts) (shifts : List Shift) → IsDelta before after shifts → All IsBounded shifts → ((row : List Cell) → before row ≤ greatest_count)
+    → (row : List Cell) → after row ≤ greatest_count
+after_bounded before after shifts delta bounded first row =
+    step (before row == after row) refl (subst (All IsBounded) (delta.each row) (All-filter (λ s. is_row row s.row) IsBounded shifts bounded))
+  where
+    same_number : (m n : ℕ) → (m == n) ≡ true → m ≡ n
+    same_number m n h = grind (arith, nat_tests)
+
+    step : (b : Bool) → (before row == after row) ≡ b → All IsBounded (cond b [] ((record { row = row; before = before row; after = after row }) ∷ [])) → after row ≤ greatest_count
+    step true is all = subst (λ n. n ≤ greatest_count) (same_number (before row) (after row) is) (first row)
+    step false is all = (All-head IsBounded (record { row = row; before = before row; after = after row }) [] all).1

@@ -1,13 +1,21 @@
 -- The change of a bag of rows, row by row: of each row whose count differs, both counts. (own)
-use Rattle.std.specs.Prelude.{◌≡◌, ℕ, ◌+◌, ◌*◌, ◌<◌, ◌≤◌, ◌==◌, List, [], ◌∷◌, length, take, drop, if◌then◌else◌}
+use Rattle.std.specs.Prelude.{◌≡◌, ℕ, ◌+◌, ◌*◌, ◌<◌, ◌≤◌, ◌==◌, List, [], ◌∷◌, Option, Some, None, length, take, drop, if◌then◌else◌}
 use Rattle.std.specs.List.{All}
 use Rattle.std.specs.Prelude as std
 use Rattle.cy_values.specs.declared.rows.Cell.{Cell}
 use Rattle.cy_values.specs.Bag.{count_of}
+use Rattle.cy_graph.specs.Graph.{Content}
 use Rattle.cy_memory.specs.Counts.{Counts, greatest_count, is_row, with_count}
 use Rattle.cy_plans.specs.declared.operators.KeyColumns.{KeyColumns}
 use Rattle.cy_plans.specs.Keys.{meet}
+use Rattle.cy_plans.specs.Meaning.{rows_of}
+use Rattle.cy_plans.specs.Plans.{Plan}
 use Rattle.cy_deltas.specs.declared.shifts.Shift.{Shift}
+
+-- the rows of a plan on a graph, and none where there is no graph yet
+abbrev pub rows_at : Option Content → Plan → List (List Cell)
+rows_at None p = []
+rows_at (Some graph) p = rows_of graph p
 
 -- how many times each row counts in a list of rows
 abbrev pub counts : List (List Cell) → Counts
@@ -43,7 +51,10 @@ HaveColumns columns before after = (row : List Cell) → 0 < before row + after 
 abbrev pub AreWide : ℕ → Counts → Counts → Type 0
 AreWide width before after = (row : List Cell) → 0 < before row + after row → length row ≡ width
 
+-- how often a row of the left part and one of the right part count together: as often as the one times as often as the other where they meet
+abbrev pub pair_count : List KeyColumns → Counts → Counts → List Cell → List Cell → ℕ
+pair_count keys left right row other = if meet keys row other then left row * right other else 0
+
 -- how often a row counts that begins with a row of the one counts, which is so wide, and goes on with a row of the others that it meets
 abbrev pub pair_counts : List KeyColumns → ℕ → Counts → Counts → Counts
-pair_counts keys width left right row =
-    if meet keys (take width row) (drop width row) then left (take width row) * right (drop width row) else 0
+pair_counts keys width left right row = pair_count keys left right (take width row) (drop width row)

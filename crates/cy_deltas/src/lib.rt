@@ -3,12 +3,15 @@
 
 mod distinct_rows;
 mod filters;
+mod joins;
+pub mod laws;
 mod memories;
 mod pairs;
 mod shifts;
 
 pub use distinct_rows::distinct;
 pub use filters::{all_different, filter};
+pub use joins::join;
 pub use memories::{records_with, stage_shifts};
 pub use pairs::appended;
 pub use shifts::{Shift, add_shift};

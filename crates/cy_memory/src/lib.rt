@@ -10,4 +10,5 @@ mod tables;
 pub use faults::MemoryFault;
 pub use keyed::KeyedMemory;
 pub use memory::{Memory, Record};
+pub use rows::rows_equal;
 pub use tables::KeyedCursor;

@@ -1,0 +1,41 @@
+-- By how much the count of a row changes in all, where it may stand in several shifts.
+use Rattle.std.specs.Prelude.{ℕ, ◌-◌, Bool, List, [], Option, None, Some, if◌then◌else◌, flat_map}
+use Rattle.std.specs.List.{sum_by, list_any}
+use Rattle.cy_values.specs.declared.rows.Cell.{Cell}
+use Rattle.cy_memory.specs.Counts.{Counts, is_row}
+use Rattle.cy_memory.specs.declared.memory.Record.{Record}
+use Rattle.cy_deltas.specs.declared.shifts.Shift.{Shift}
+use Rattle.cy_deltas.specs.Deltas.{shift_between}
+
+-- what a shift by which the row counts less takes from it
+abbrev pub loss : List Cell → Shift → ℕ
+loss row s = if is_row row s.row then s.before - s.after else 0
+
+-- what all of them take
+abbrev pub lost : List Cell → List Shift → ℕ
+lost row shifts = sum_by (λ s. loss row s) shifts
+
+-- what a shift by which the row counts more adds to it
+abbrev pub gain : List Cell → Shift → ℕ
+gain row s = if is_row row s.row then s.after - s.before else 0
+
+-- what all of them add
+abbrev pub gained : List Cell → List Shift → ℕ
+gained row shifts = sum_by (λ s. gain row s) shifts
+
+-- a shift with another row
+abbrev pub image : (List Cell → List Cell) → Shift → Shift
+image f s = record { row = f s.row; before = s.before; after = s.after }
+
+-- whether one of the shifts is of the row
+abbrev pub is_changed : List Cell → List Shift → Bool
+is_changed row shifts = list_any (λ s. is_row row s.row) shifts
+
+-- the shifts of some rows between two counts
+abbrev pub shifts_at : Counts → Counts → List (List Cell) → List Shift
+shifts_at before after rows = flat_map (λ row. shift_between row (before row) (after row)) rows
+
+-- the shift of the row of a record, if there is one
+abbrev pub shift_in : Option Record → List Shift
+shift_in None = []
+shift_in (Some r) = shift_between r.row r.before r.after

@@ -1,0 +1,74 @@
+//! How a change goes through `Project`.
+
+ghost use Rattle.std.specs.Prelude.{◌≡◌, ◌+◌, ◌*◌, ◌<◌, ◌≤◌, true, List, IfOk, IfErr, OnOk, length, map};
+ghost use Rattle.std.specs.List.{All};
+ghost use Rattle.cy_values.specs.declared.rows.Cell.{Cell};
+ghost use Rattle.cy_expr.specs.Lookups.{IsNumbered};
+ghost use Rattle.cy_memory.specs.declared.faults.MemoryFault.TheVariants.{TooManyRows};
+ghost use Rattle.cy_memory.specs.Counts.{greatest_count};
+ghost use Rattle.cy_plans.specs.Expressions as expressions;
+ghost use Rattle.cy_plans.specs.Sure.{HasCells};
+ghost use Rattle.cy_plans.specs.Views.{output_of};
+ghost use Rattle.cy_deltas.specs.Deltas.{IsBounded, IsDelta, counts};
+ghost use Rattle.cy_merges.specs.Merges.{AreBounded, IsProjectChange, all_columns};
+ghost use Rattle.cy_merges.specs.internal.Sums.{image};
+
+use crate::merges::merge;
+use cy_deltas::Shift;
+use cy_memory::{Memory, MemoryFault};
+use cy_plans::{Output, rows};
+use cy_values::Fault;
+use std::alloc::Global;
+
+/// What changes of the rows of a projection, where the rows below it change. The memory holds the projection's rows as they were;
+/// its key is the whole row. What it counts after the change is staged. `TooManyRows` where a row of the projection counts too
+/// often after the change; otherwise it fails only for want of memory, and never where nothing changes. After a refusal a part may
+/// be staged.
+pub fn project<M: Memory>(
+    alloc: Global,
+    outputs: &[Output],
+    memory: &mut M,
+    shifts: Vec<Shift>,
+) -> Result<Vec<Shift>, MemoryFault>
+    requires sure { All (λ s. HasCells (map output_of outputs.now) s.row) shifts.items }
+    requires numbered { All (λ s. All IsNumbered s.row) shifts.items }
+    requires bounded { All IsBounded shifts.items }
+    requires columns { M.key_columns memory.old ≡ all_columns (length outputs.now) }
+    requires settled { M.staged memory.old ≡ M.was memory.old }
+    requires counts { AreBounded (M.was memory.old) }
+    requires held { (before : List (List Cell)) × ((after : List (List Cell)) × IsProjectChange (map output_of outputs.now) (M.was memory.old) shifts.items before after) }
+    ensures delta { IfOk result (λ made. (before after : List (List Cell)) → IsProjectChange (map output_of outputs.now) (M.was memory.old) shifts.items before after
+        → IsDelta (counts (map (expressions.projected (map output_of outputs.now)) before)) (counts (map (expressions.projected (map output_of outputs.now)) after)) made.items) }
+    ensures staged { OnOk result ((before after : List (List Cell)) → IsProjectChange (map output_of outputs.now) (M.was memory.old) shifts.items before after
+        → M.staged memory.new ≡ counts (map (expressions.projected (map output_of outputs.now)) after)) }
+    ensures shifts { IfOk result (λ made. All IsBounded made.items) }
+    ensures counts { OnOk result (AreBounded (M.staged memory.new)) }
+    ensures was { M.was memory.new ≡ M.was memory.old }
+    ensures columns { M.key_columns memory.new ≡ M.key_columns memory.old }
+    ensures too_many { IfErr result (λ fault. fault ≡ TooManyRows → (before after : List (List Cell)) → IsProjectChange (map output_of outputs.now) (M.was memory.old) shifts.items before after
+        → (row : List Cell) × (greatest_count < counts (map (expressions.projected (map output_of outputs.now)) after) row)) }
+    ensures steps { M.EXACT ≡ true → M.step_count memory.new ≤ M.step_count memory.old + 2 * length shifts.items }
+    ensures nothing { IfErr result (λ _. 0 < length shifts.items) }
+{
+    let images = images_of(alloc, outputs, shifts)?;
+    merge(alloc, memory, images)
+}
+
+// The shifts with the rows that the projection makes of theirs. Fails only for want of memory, and never where there are none.
+fn images_of(alloc: Global, outputs: &[Output], shifts: Vec<Shift>) -> Result<Vec<Shift>, Fault>
+    requires sure { All (λ s. HasCells (map output_of outputs.now) s.row) shifts.items }
+    requires numbered { All (λ s. All IsNumbered s.row) shifts.items }
+    ensures images { IfOk result (λ images. images.items ≡ map (image (expressions.projected (map output_of outputs.now))) shifts.items) }
+    ensures nothing { IfErr result (λ _. 0 < length shifts.items) }
+{
+    let mut images = Vec::new(alloc);
+    for shift in shifts {
+        let row = rows::projected(alloc, outputs, &shift.row)?;
+        images.push(Shift {
+            row,
+            before: shift.before,
+            after: shift.after,
+        })?;
+    }
+    Ok(images)
+}

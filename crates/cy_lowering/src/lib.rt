@@ -5,4 +5,4 @@ mod lowering;
 mod places;
 
 pub use lowering::{lower, lowering_keeps_values};
-pub use places::{Wanted, place};
+pub use places::{Wanted, is_of, place};

@@ -6,3 +6,4 @@ pub mod Meaning
 pub mod Sure
 pub mod WellFormed
 pub mod Views
+pub mod Within

@@ -1,0 +1,9 @@
+pub mod AskedLists
+pub mod Attributes
+pub mod Filtered
+pub mod Lists
+pub mod Lowerable
+pub mod OverRows
+pub mod Placed
+pub mod Projected
+pub mod Stored

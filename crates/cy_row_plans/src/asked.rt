@@ -1,0 +1,158 @@
+//! What expressions ask of the graph: attributes of what stands in columns of the row. Each call adds it to what is wanted, each look-up
+//! once, and fails only for want of memory; some of it may then have been added.
+
+ghost use Rattle.std.specs.Prelude.{◌≡◌, OnOk, map};
+ghost use Rattle.std.specs.List.{list_any};
+ghost use Rattle.cy_trees.specs.Views.{arm_of, arms_from, expression_of, expressions_from, link_of, links_from};
+ghost use Rattle.cy_kinds.specs.Functions.{function_named};
+ghost use Rattle.cy_kinds.specs.internal.ExpressionTrees.{otherwise_of};
+ghost use Rattle.cy_plans.specs.declared.operators.Attribute.TheVariants as attribute;
+ghost use Rattle.cy_lowering.specs.Places as places;
+ghost use Rattle.cy_row_plans.specs.internal.Asked as spec;
+
+use cy_kinds::Function;
+use cy_lowering::{Wanted, is_of};
+use cy_plans::Attribute;
+use cy_trees::{Arm, Expr, Link};
+use cy_values::{Duplicate, Fault, Text};
+use std::alloc::Global;
+
+/// Adds a look-up, unless it is there.
+fn add(wanted: &mut Vec<Wanted>, asked: Wanted) -> Result<(), Fault>
+    ensures { OnOk result (wanted.new.items ≡ spec.added wanted.old.items asked) }
+{
+    if !is_wanted(wanted.as_slice(), &asked) {
+        wanted.push(asked)?;
+    }
+    Ok(())
+}
+
+fn is_wanted(wanted: &[Wanted], asked: &Wanted) -> bool
+    ensures { result ≡ list_any (places.is_of asked.now.column asked.now.attribute) wanted.now }
+{
+    wanted
+        .iter()
+        .any(|other| is_of(asked.column, &asked.attribute, other))
+}
+
+/// Adds an attribute of what a variable stands for.
+fn add_attribute(wanted: &mut Vec<Wanted>, owner: &Expr, attribute: Attribute) -> Result<(), Fault>
+    ensures { OnOk result (wanted.new.items ≡ spec.with_asked wanted.old.items (spec.asked_of (expression_of owner.now) attribute)) }
+{
+    match owner {
+        Expr::Variable(variable) => match variable.column {
+            Some(column) => add(wanted, Wanted { column, attribute }),
+            None => Ok(()),
+        },
+        _ => Ok(()),
+    }
+}
+
+/// Adds an attribute of what the first argument stands for.
+fn add_of_first(
+    wanted: &mut Vec<Wanted>,
+    arguments: &[Expr],
+    attribute: Attribute,
+) -> Result<(), Fault>
+    ensures { OnOk result (wanted.new.items ≡ spec.with_asked wanted.old.items (spec.asked_of_first (expressions_from (map expression_of arguments.now)) attribute)) }
+{
+    if arguments.is_empty() {
+        return Ok(());
+    }
+    add_attribute(wanted, &arguments[0], attribute)
+}
+
+/// Adds what an expression asks.
+#[cycle(asked)]
+pub fn add_asked(alloc: Global, wanted: &mut Vec<Wanted>, expression: &Expr) -> Result<(), Fault>
+    ensures { OnOk result (wanted.new.items ≡ spec.with_tree wanted.old.items (expression_of expression.now)) }
+{
+    match expression {
+        Expr::Null => Ok(()),
+        Expr::Boolean(_) => Ok(()),
+        Expr::Integer(_) => Ok(()),
+        Expr::Text(_) => Ok(()),
+        Expr::Variable(_) => Ok(()),
+        Expr::Property(owner, key) => {
+            add_attribute(wanted, owner, Attribute::Property(key.copy(alloc)?))
+        }
+        Expr::HasLabels(owner, _) => add_attribute(wanted, owner, Attribute::Labels),
+        Expr::Unary(_, operand) => add_asked(alloc, wanted, operand),
+        Expr::Binary(_, left, right) => {
+            add_asked(alloc, wanted, left)?;
+            add_asked(alloc, wanted, right)
+        }
+        Expr::Comparison(operand, links) => {
+            add_asked(alloc, wanted, operand)?;
+            add_links(alloc, wanted, links)
+        }
+        Expr::List(elements) => add_elements(alloc, wanted, elements),
+        Expr::Case(arms, otherwise) => {
+            add_arms(alloc, wanted, arms)?;
+            add_otherwise(alloc, wanted, otherwise)
+        }
+        Expr::Call(name, _, arguments) => add_call(alloc, wanted, name, arguments),
+        Expr::CallStar(_) => Ok(()),
+    }
+}
+
+#[cycle(asked)]
+fn add_call(
+    alloc: Global,
+    wanted: &mut Vec<Wanted>,
+    name: &Text,
+    arguments: &[Expr],
+) -> Result<(), Fault>
+    ensures { OnOk result (wanted.new.items ≡ (let es = expressions_from (map expression_of arguments.now) in spec.with_call wanted.old.items (function_named name.now) es (spec.with_elements wanted.old.items es))) }
+{
+    match Function::named(name.as_str()) {
+        Some(Function::Labels) => add_of_first(wanted, arguments, Attribute::Labels),
+        Some(Function::Type) => add_of_first(wanted, arguments, Attribute::RelType),
+        _ => add_elements(alloc, wanted, arguments),
+    }
+}
+
+#[cycle(asked)]
+fn add_elements(alloc: Global, wanted: &mut Vec<Wanted>, elements: &[Expr]) -> Result<(), Fault>
+    ensures { OnOk result (wanted.new.items ≡ spec.with_elements wanted.old.items (expressions_from (map expression_of elements.now))) }
+{
+    for element in elements {
+        add_asked(alloc, wanted, element)?;
+    }
+    Ok(())
+}
+
+#[cycle(asked)]
+fn add_links(alloc: Global, wanted: &mut Vec<Wanted>, links: &[Link]) -> Result<(), Fault>
+    ensures { OnOk result (wanted.new.items ≡ spec.with_links wanted.old.items (links_from (map link_of links.now))) }
+{
+    for link in links {
+        add_asked(alloc, wanted, &link.operand)?;
+    }
+    Ok(())
+}
+
+#[cycle(asked)]
+fn add_arms(alloc: Global, wanted: &mut Vec<Wanted>, arms: &[Arm]) -> Result<(), Fault>
+    ensures { OnOk result (wanted.new.items ≡ spec.with_arms wanted.old.items (arms_from (map arm_of arms.now))) }
+{
+    for arm in arms {
+        add_asked(alloc, wanted, &arm.condition)?;
+        add_asked(alloc, wanted, &arm.outcome)?;
+    }
+    Ok(())
+}
+
+#[cycle(asked)]
+fn add_otherwise(
+    alloc: Global,
+    wanted: &mut Vec<Wanted>,
+    otherwise: &Option<Box<Expr>>,
+) -> Result<(), Fault>
+    ensures { OnOk result (wanted.new.items ≡ spec.with_else wanted.old.items (otherwise_of otherwise.now)) }
+{
+    match otherwise {
+        Some(otherwise) => add_asked(alloc, wanted, otherwise),
+        None => Ok(()),
+    }
+}

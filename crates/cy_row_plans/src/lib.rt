@@ -1,0 +1,12 @@
+//! What is planned on the rows of a plan: look-ups of what expressions ask of the graph, conditions and projections.
+#![tactic(auto)]
+
+mod asked;
+mod columns;
+mod filters;
+mod lookups;
+mod projections;
+
+pub use columns::column_outputs;
+pub use filters::filter_where;
+pub use projections::project_items;

@@ -14,7 +14,7 @@ use Rattle.cy_values.specs.Bag.{weight_of, IsCanonical}
 use Rattle.cy_bags.specs.Difference.{IsCountedSurplus}
 use Rattle.cy_bags.specs.internal.Surplus.{surplus_of}
 
-abbrev Pairs : Type 0
+abbrev pub Pairs : Type 0
 Pairs = List (List Cell × ℕ)
 
 -- all these rows come after a row
@@ -26,7 +26,7 @@ canonical_tail : (p : List Cell × ℕ) (ps : Pairs) → IsCanonical (p ∷ ps) 
 canonical_tail p [] can = tt
 canonical_tail p (q ∷ qs) can = can.2
 
-canonical_counts : (p : List Cell × ℕ) (ps : Pairs) → IsCanonical (p ∷ ps) → 0 < p.1
+pub canonical_counts : (p : List Cell × ℕ) (ps : Pairs) → IsCanonical (p ∷ ps) → 0 < p.1
 canonical_counts p [] can = can
 canonical_counts p (q ∷ qs) can = can.0
 
@@ -47,7 +47,7 @@ weight_above row (p ∷ ps) above =
     sum_by-cons (λ (q : List Cell × ℕ). cond (eq_by_cmp row_cmp row q.0) q.1 0) p ps
     ∙ ap (λ o. cond (is_eq o) p.1 0 + weight_of row ps) above.0 ∙ omega (arith, weight_above row ps above.1)
 
-weight_cons : (row : List Cell) (p : List Cell × ℕ) (ps : Pairs) → weight_of row (p ∷ ps) ≡ cond (eq_by_cmp row_cmp row p.0) p.1 0 + weight_of row ps
+pub weight_cons : (row : List Cell) (p : List Cell × ℕ) (ps : Pairs) → weight_of row (p ∷ ps) ≡ cond (eq_by_cmp row_cmp row p.0) p.1 0 + weight_of row ps
 weight_cons row p ps = sum_by-cons (λ (q : List Cell × ℕ). cond (eq_by_cmp row_cmp row q.0) q.1 0) p ps
 
 module _ (total : IsTotalOrder row_cmp) (same : (x y : List Cell) → row_cmp x y ≡ Equal → x ≡ y) where

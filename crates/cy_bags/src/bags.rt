@@ -1,6 +1,6 @@
 //! Bags of rows: rows with their counts.
 
-ghost use Rattle.std.specs.Prelude.{◌≡◌, IfOk, reverse};
+ghost use Rattle.std.specs.Prelude.{◌≡◌, ◌++◌, IfOk, reverse};
 ghost use Rattle.cy_values.specs.Bag.{IsBagOf, IsCanonical};
 ghost use Rattle.cy_bags.specs.internal.Counting.{counted_rows};
 
@@ -44,9 +44,19 @@ fn counted(alloc: Global, mut rows: Vec<Row>) -> Result<Vec<(Row, u64)>, Fault>
 pub fn copied(alloc: Global, pairs: &[(Row, u64)]) -> Result<Vec<(Row, u64)>, Fault>
     ensures { IfOk result (λ copied. copied.items ≡ pairs.now) }
 {
-    let mut copied = Vec::with_capacity(alloc, pairs.len())?;
-    for (row, count) in pairs.iter() {
-        copied.push((row.copy(alloc)?, *count))?;
+    extended(alloc, Vec::with_capacity(alloc, pairs.len())?, pairs)
+}
+
+/// Rows with their counts, and copies of others after them. Fails only for want of memory.
+pub(crate) fn extended(
+    alloc: Global,
+    mut pairs: Vec<(Row, u64)>,
+    others: &[(Row, u64)],
+) -> Result<Vec<(Row, u64)>, Fault>
+    ensures { IfOk result (λ extended. extended.items ≡ pairs.items ++ others.now) }
+{
+    for (row, count) in others.iter() {
+        pairs.push((row.copy(alloc)?, *count))?;
     }
-    Ok(copied)
+    Ok(pairs)
 }

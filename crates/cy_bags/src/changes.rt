@@ -2,7 +2,7 @@
 
 ghost use Rattle.std.specs.Prelude.{◌≡◌, IfOk};
 ghost use Rattle.cy_values.specs.Bag.{IsCanonical, weight_of};
-ghost use Rattle.cy_bags.specs.Difference.{IsCountedSurplus};
+ghost use Rattle.cy_bags.specs.Difference.{IsCountedSurplus, is_nothing};
 ghost use Rattle.cy_bags.specs.internal.Surplus.{surplus_of};
 
 use crate::bags::copied;
@@ -15,6 +15,15 @@ use std::alloc::Global;
 pub struct Change {
     pub removed: Sequence<(Row, u64)>,
     pub added: Sequence<(Row, u64)>,
+}
+
+impl Change {
+    /// Whether nothing changes.
+    pub fn is_empty(&self) -> bool
+        ensures { result ≡ is_nothing self.now }
+    {
+        self.removed.as_slice().is_empty() && self.added.as_slice().is_empty()
+    }
 }
 
 impl Duplicate for Change {
@@ -31,6 +40,15 @@ impl Duplicate for Change {
 pub struct Entry {
     pub tick: u64,
     pub change: Change,
+}
+
+impl Duplicate for Entry {
+    fn copy(&self, alloc: Global) -> Result<Self, Fault> {
+        Ok(Entry {
+            tick: self.tick,
+            change: self.change.copy(alloc)?,
+        })
+    }
 }
 
 /// The difference of rows before and after, both with their counts, in canonical order. Fails only for want of memory.
@@ -50,8 +68,8 @@ pub fn difference(
     })
 }
 
-// The surplus of the first rows over the second ones, both with their counts, in canonical order.
-fn surplus(
+/// The surplus of the first rows over the second ones, both with their counts, in canonical order. Fails only for want of memory.
+pub fn surplus(
     alloc: Global,
     more: &[(Row, u64)],
     less: &[(Row, u64)],

@@ -1,6 +1,6 @@
 mod Columns
 mod RowsLemmas
-mod TreeWordsLemmas
+pub mod TreeWordsLemmas
 pub mod KindsKept
 mod SameTrees
 pub mod KindedExpressions

@@ -69,7 +69,7 @@ mutual
   otherwise_kept n nothing = refl
   otherwise_kept n (otherwise e) = tree_kept (with_word n 1) e
 
-same_words : (a b : Expression) → same a b ≡ true → words_of a ≡ words_of b
+pub same_words : (a b : Expression) → same a b ≡ true → words_of a ≡ words_of b
 same_words a b is = sym (tree_kept [] a) ∙ ap (λ (e : Expression). with_tree [] e) (same_resolved [] a b is) ∙ tree_kept [] b
 
 abbrev Key : Type 0

@@ -20,6 +20,8 @@ mod ProjectionAnswers
 mod GroupAnswers
 mod RowsThere
 mod Projections
+mod Unordered
+mod KeyPlaces
 mod SortedKeys
 mod EachRow
 mod EachProjected

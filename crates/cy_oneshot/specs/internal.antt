@@ -1,5 +1,6 @@
 -- What proofs alone need.
 pub mod Grouping
+pub mod KeyPlaces
 pub mod Keys
 pub mod Integers
 pub mod Names

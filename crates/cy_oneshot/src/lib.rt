@@ -4,6 +4,7 @@
 mod aggregates;
 mod clauses;
 mod groups;
+mod key_places;
 pub mod laws;
 mod names;
 mod order;

@@ -1,7 +1,7 @@
 //! WITH and RETURN: items with their aggregates, then DISTINCT, then order, SKIP and LIMIT (openCypher 9, WITH and RETURN; ties
 //! and faults: own).
 
-ghost use Rattle.std.specs.Prelude.{◌≡◌, ◌⊎◌, ◌+◌, ◌<◌, [], ◌∷◌, ◌++◌, IfOk, OnOk, Result, Err, drop, length, map, slice_index_or, take};
+ghost use Rattle.std.specs.Prelude.{◌≡◌, ◌⊎◌, ◌+◌, ◌<◌, [], ◌∷◌, ◌++◌, IfOk, IfSome, OnOk, None, Result, Err, false, drop, length, map, slice_index_or, take};
 ghost use Rattle.cy_values.specs.declared.rows.Cell.TheVariants as cell;
 ghost use Rattle.cy_values.specs.declared.scalars.Value.TheVariants as value;
 ghost use Rattle.cy_trees.specs.Views.{expression_of, item_of, key_of, projection_of};
@@ -10,16 +10,17 @@ ghost use Rattle.cy_patterns.specs.Outcomes as outcomes;
 ghost use Rattle.cy_oneshot.specs.Projection as spec;
 ghost use Rattle.cy_matching.specs.Reading.{AreInGraph};
 ghost use Rattle.cy_matching.specs.internal.Answers.{IsAnswer, IsRowThere};
+ghost use Rattle.cy_oneshot.specs.internal.KeyPlaces.{AreFirst};
 ghost use Rattle.cy_oneshot.specs.internal.Keys.{keyed_by, keyed_of, projected_of, seen_by, sort_key_of};
 ghost use Rattle.cy_matching.specs.internal.Permuted.{IsAlikeAnswer};
 
 use crate::groups::{aggregated, cells_on, expressions_of};
+use crate::key_places::{Places, item_places, place_of_key};
 use crate::order::{Keyed, sort_keyed, sort_rows_once};
 use cy_expr::EvalFault;
 use cy_index::Store;
 use cy_kinds::has_aggregates;
 use cy_matching::{Gathered, cell_on};
-use cy_scope::place_of_item;
 use cy_trees::{Expr, Item, Key, Projection};
 use cy_values::{Cell, Duplicate, Fault, Row, Sequence, Value, row_order_laws};
 use std::alloc::Global;
@@ -50,6 +51,50 @@ pub(crate) fn projection_rows(
     Ok(cut(alloc, projection, keyed)?)
 }
 
+/// The rows of a projection as a bag, in whatever order. They are put in order only where a key, SKIP or LIMIT asks for it.
+pub(crate) fn unordered_rows(
+    alloc: Global,
+    store: &Store,
+    projection: &Projection,
+    rows: Vec<Row>,
+) -> Result<Vec<Row>, EvalFault>
+    requires { AreInGraph store.now.graph.now.content rows.items }
+    ensures { IsAlikeAnswer result (λ made. made.items) (spec.projection_rows store.now.graph.now.content (projection_of projection.now) rows.items) }
+{
+    if is_ordered(projection) {
+        projection_rows(alloc, store, projection, rows)
+    } else {
+        plain_rows(alloc, store, projection, rows)
+    }
+}
+
+// Whether the order of rows counts: for a key, for SKIP or for LIMIT.
+fn is_ordered(projection: &Projection) -> bool
+    ensures order { result ≡ false → projection.now.order.items ≡ [] }
+    ensures skip { result ≡ false → projection.now.skip ≡ None }
+    ensures limit { result ≡ false → projection.now.limit ≡ None }
+{
+    !projection.order.is_empty() || projection.skip.is_some() || projection.limit.is_some()
+}
+
+// The rows without keys, of which none is cut.
+fn plain_rows(
+    alloc: Global,
+    store: &Store,
+    projection: &Projection,
+    rows: Vec<Row>,
+) -> Result<Vec<Row>, EvalFault>
+    requires there { AreInGraph store.now.graph.now.content rows.items }
+    requires order { projection.now.order.items ≡ [] }
+    requires skip { projection.now.skip ≡ None }
+    requires limit { projection.now.limit ≡ None }
+    ensures { IsAlikeAnswer result (λ made. made.items) (spec.projection_rows store.now.graph.now.content (projection_of projection.now) rows.items) }
+{
+    let seen = projected(alloc, store, projection, rows)?;
+    let made = columns_alone(alloc, projection.items.len(), seen)?;
+    Ok(made)
+}
+
 // Which of the keys are descending.
 fn descending_keys(alloc: Global, keys: &[Key]) -> Result<Vec<bool>, Fault>
     ensures { IfOk result (λ found. found.items ≡ map (λ k. k.descending) keys.now) }
@@ -65,9 +110,22 @@ fn descending_keys(alloc: Global, keys: &[Key]) -> Result<Vec<bool>, Fault>
 fn sort_keys(alloc: Global, projection: &Projection) -> Result<Vec<SortKey<'_>>, Fault>
     ensures { IfOk result (λ keys. map sort_key_of keys.items ≡ map (λ k. (spec.item_of_key (map item_of projection.now.items.items) k, k)) (map key_of projection.now.order.items)) }
 {
+    let places = item_places(alloc, projection)?;
+    placed_keys(alloc, projection, &places)
+}
+
+// The same, where the places of the items are given.
+fn placed_keys<'a>(
+    alloc: Global,
+    projection: &'a Projection,
+    places: &Option<Places>,
+) -> Result<Vec<SortKey<'a>>, Fault>
+    requires { IfSome places.now (λ found. AreFirst found.entries (map item_of projection.now.items.items) 0) }
+    ensures { IfOk result (λ keys. map sort_key_of keys.items ≡ map (λ k. (spec.item_of_key (map item_of projection.entry.now.items.items) k, k)) (map key_of projection.entry.now.order.items)) }
+{
     let mut keys = Vec::with_capacity(alloc, projection.order.len())?;
     for key in &projection.order {
-        let place = place_of_item(&projection.items, &key.expression);
+        let place = place_of_key(alloc, places, &projection.items, &key.expression)?;
         keys.push(SortKey { key, place })?;
     }
     Ok(keys)

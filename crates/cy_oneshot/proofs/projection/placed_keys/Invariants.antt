@@ -2,7 +2,7 @@ use Rattle.std.proofs.Common.{◌≡◌, map, take}
 use Rattle.cy_trees.specs.Views.{item_of, key_of}
 use Rattle.cy_oneshot.specs.Projection.{item_of_key}
 use Rattle.cy_oneshot.specs.internal.Keys.{sort_key_of}
-use Rattle.cy_oneshot.proofs.projection.sort_keys.Given as goal
+use Rattle.cy_oneshot.proofs.projection.placed_keys.Given as goal
 
 -- the keys so far
 abbrev pub invariant-loop-key : goal.invariant-loop-key

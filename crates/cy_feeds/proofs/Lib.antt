@@ -1,0 +1,4 @@
+pub mod Asked
+pub mod GoingOn
+pub mod Pushes
+pub mod Telling

@@ -10,7 +10,7 @@ use Rattle.cy_expr.specs.declared.faults.EvalFault.{EvalFault}
 use Rattle.cy_expr.specs.Faults.{on_one}
 use Rattle.cy_matching.specs.Order.{Keyed, in_order, keyed_order}
 use Rattle.cy_matching.specs.internal.Answers.{IsAnswer}
-use Rattle.cy_matching.specs.internal.Permuted.{Alike, IsAlikeAnswer, Permuted, nothing, more, exchanged, and_then}
+use Rattle.cy_matching.specs.internal.Permuted.{Alike, IsAlikeAnswer, Permuted, and_then}
 use Rattle.cy_patterns.specs.Outcomes.{IsSameOutcome, gathered, joined, together}
 use Rattle.cy_oneshot.specs.Projection.{Projected, cut, item_of_key, key_cell, keyed, limited, projected, projection_rows, skipped}
 use Rattle.cy_oneshot.specs.internal.Keys.{projected_of}
@@ -18,18 +18,12 @@ use Rattle.cy_matching.proofs.BagLemmas.{same_outcome}
 use Rattle.cy_matching.proofs.Joined.{alike_itself, joined_each}
 use Rattle.cy_matching.proofs.OnceCounts.{permuted_in_order}
 use Rattle.cy_matching.proofs.Permuted.{permuted_map, turned}
+use Rattle.cy_oneshot.proofs.SeenRows.{each_permuted}
 
 -- what is answered in order is answered in some order
 pub as_alike : {A B : Type 0} (view : A → List B) (r : Result A EvalFault) (meant : Result (List B) EvalFault) → IsAnswer r view meant → IsAlikeAnswer r view meant
 as_alike view (Ok x) meant is = subst (λ o. Alike (Ok (view x)) o) (sym is) (alike_itself (Ok (view x)))
 as_alike view (Err fault) meant is = is
-
--- what holds of each holds of each in another order
-each_permuted : {A : Type 0} (P : A → Type 0) {xs ys : List A} → Permuted xs ys → AllByRecursion P ys → AllByRecursion P xs
-each_permuted P nothing each = tt
-each_permuted P (more x p) each = (each.0, each_permuted P p each.1)
-each_permuted P (exchanged x y xs) each = (each.1.0, (each.0, each.1.1))
-each_permuted P (and_then p q) each = each_permuted P p (each_permuted P q each)
 
 pub each_alike : {A : Type 0} (P : A → Type 0) (made : List A) (o : Result (List A) EvalFault) → Alike (Ok made) o → IfOk o (AllByRecursion P) → AllByRecursion P made
 each_alike P made (Ok others) q each = each_permuted P q each

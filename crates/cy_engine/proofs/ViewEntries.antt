@@ -11,11 +11,11 @@ use Rattle.cy_graph.specs.Graph.{Content}
 use Rattle.cy_bags.specs.declared.changes.Change.{Change}
 use Rattle.cy_engine.specs.declared.network.Prepared.{Prepared}
 use Rattle.cy_engine.specs.declared.views.Registered.{Registered}
-use Rattle.cy_bags.specs.Difference.{IsDifference}
+use Rattle.cy_bags.specs.Difference.{IsDifference, is_nothing}
 use Rattle.cy_engine.specs.Model.{held, view_of}
 use Rattle.cy_engine.specs.State.{Entries, View, rows_of}
 use Rattle.cy_engine.specs.Step.{AreEntries}
-use Rattle.cy_engine.specs.internal.Network.{AllPrepared, AllReady, entry_if, is_nothing, pending_entries}
+use Rattle.cy_engine.specs.internal.Network.{AllPrepared, AllReady, entry_if, pending_entries}
 use Rattle.cy_engine.specs.internal.Representation.{Registry, views_in}
 
 -- the bags are the same where neither has a surplus

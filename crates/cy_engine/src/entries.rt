@@ -1,11 +1,11 @@
 //! What a line changes in the rows of the views.
 
 ghost use Rattle.std.specs.Prelude.{◌≡◌, IfErr, IfOk};
-ghost use Rattle.cy_engine.specs.internal.Network.{AllPrepared, is_nothing, pending_entries};
+ghost use Rattle.cy_engine.specs.internal.Network.{AllPrepared, pending_entries};
 
 use crate::faults::Fault;
 use crate::views::Registered;
-use cy_bags::{Change, Entry};
+use cy_bags::Entry;
 use cy_values::{Duplicate, Text};
 use indexmap::IndexMap;
 use std::alloc::Global;
@@ -24,18 +24,11 @@ pub(crate) fn entries_of(
     let mut entries = Vec::new(alloc);
     for (name, view) in views.iter() {
         let change = view.network.pending();
-        if !is_empty(change) {
+        if !change.is_empty() {
             let name = Text::from_str(alloc, name.as_str())?;
             let change = change.copy(alloc)?;
             entries.push((name, Entry { tick, change }))?;
         }
     }
     Ok(entries)
-}
-
-// Whether nothing changed.
-fn is_empty(change: &Change) -> bool
-    ensures { result ≡ is_nothing change.now }
-{
-    change.removed.as_slice().is_empty() && change.added.as_slice().is_empty()
 }

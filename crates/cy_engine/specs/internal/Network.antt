@@ -1,16 +1,15 @@
 -- What is kept of a view: when it stands for a graph, and when it is ready for the end of a change.
-use Rattle.std.specs.Prelude.{◌≡◌, ℕ, Bool, true, false, ◌&&◌, List, [], ◌∷◌, ◌++◌, Option, None, Some, IsSome, IfSome, if◌then◌else◌, string_bytes}
+use Rattle.std.specs.Prelude.{◌≡◌, ℕ, List, [], ◌∷◌, ◌++◌, Option, None, Some, IsSome, IfSome, if◌then◌else◌, string_bytes}
 use Rattle.std.specs.List.{AllByRecursion}
 use Rattle.std.specs.declared.alloc.Global.{Global}
 use Rattle.std.specs.declared.string.String.{String}
 use Rattle.cy_trees.specs.Views.{statement_of}
 use Rattle.cy_values.specs.Bag.{IsBagOf, IsCanonical}
 use Rattle.cy_graph.specs.Graph.{Content}
-use Rattle.cy_bags.specs.declared.changes.Change.{Change}
 use Rattle.cy_engine.specs.declared.network.Network.{Network}
 use Rattle.cy_engine.specs.declared.network.Prepared.{Prepared}
 use Rattle.cy_engine.specs.declared.views.Registered.{Registered}
-use Rattle.cy_bags.specs.Difference.{IsDifference}
+use Rattle.cy_bags.specs.Difference.{IsDifference, is_nothing}
 use Rattle.cy_engine.specs.State.{Entries, rows_of}
 
 -- a network between changes stands for a graph: it has the rows that its query means there
@@ -65,14 +64,6 @@ abbrev pub abandoned_one : String Global × Registered → String Global × Regi
 abandoned_one e = (e.0, abandoned_view e.1)
 
 -- ---- what is pending
-
-abbrev pub is_nil : {A : Type 0} → List A → Bool
-is_nil [] = true
-is_nil (x ∷ xs) = false
-
--- no row goes, and none comes
-abbrev pub is_nothing : Change → Bool
-is_nothing change = is_nil change.removed && is_nil change.added
 
 -- the entry of a view, where something is pending
 abbrev pub entry_if : List ℕ → ℕ → Option Prepared → Entries

@@ -63,9 +63,9 @@ none_gone base (suc k) tick (e ∷ es) rising above none =
     let low : e.tick ≤ latest e.tick (take k es) = latest_above e.tick k es rising.1 in
     other_tick e tick es (λ same. omega (arith, same, low, above)) (none_gone e.tick k tick es rising.1 above none)
 
-pub dropped_tell : (limit base room k : ℕ) (es : List Entry) (rows : ℕ → List (List Cell)) (now : ℕ) → Tells (record { limit = limit; base = base; entries = es; room = room }) rows now
-    → Tells (record { limit = limit; base = latest base (take k es); entries = drop k es; room = room }) rows now
-dropped_tell limit base room k es rows now tells = record {
+pub dropped_tell : (limit base k : ℕ) (es : List Entry) (rows : ℕ → List (List Cell)) (now : ℕ) → Tells (record { limit = limit; base = base; entries = es }) rows now
+    → Tells (record { limit = limit; base = latest base (take k es); entries = drop k es }) rows now
+dropped_tell limit base k es rows now tells = record {
   rising = rising_drop base k es tells.rising;
   differences = all_drop _ k es tells.differences;
   silent = λ tick low high none. tells.silent tick (omega (arith, low, latest_above base k es tells.rising)) high (none_gone base k tick es tells.rising low none);
@@ -75,7 +75,7 @@ dropped_tell limit base room k es rows now tells = record {
 -- ---- a tick more
 
 longer_tell : (feed : History) (rows : ℕ → List (List Cell)) (now : ℕ) (entry : Entry) → Tells feed rows now → feed.base ≤ now → entry.tick ≡ now + 1 → IsDifference (rows now) (rows (now + 1)) entry.change
-    → Tells (record { limit = feed.limit; base = feed.base; entries = feed.entries ++ entry ∷ []; room = feed.room }) rows (now + 1)
+    → Tells (record { limit = feed.limit; base = feed.base; entries = feed.entries ++ entry ∷ [] }) rows (now + 1)
 longer_tell feed rows now entry tells low is difference =
     let before : entry.tick - 1 ≡ now = omega (arith, is) in
     record {
@@ -100,7 +100,7 @@ longer_tell feed rows now entry tells low is difference =
 
 pub pushed_feeds_tell : PushedFeedsTell
 pushed_feeds_tell feed rows now entry tells low is difference =
-    dropped_tell feed.limit feed.base feed.room (length (feed.entries ++ entry ∷ []) - feed.limit) (feed.entries ++ entry ∷ []) rows (now + 1) (longer_tell feed rows now entry tells low is difference)
+    dropped_tell feed.limit feed.base (length (feed.entries ++ entry ∷ []) - feed.limit) (feed.entries ++ entry ∷ []) rows (now + 1) (longer_tell feed rows now entry tells low is difference)
 
 pub quiet_feeds_tell : QuietFeedsTell
 quiet_feeds_tell feed rows now tells same = record {

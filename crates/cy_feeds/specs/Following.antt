@@ -6,7 +6,7 @@ use Rattle.cy_values.specs.Bag.{IsBagOf, IsCanonical, IsSameBag, count_of, weigh
 use Rattle.cy_bags.specs.declared.changes.Change.{Change}
 use Rattle.cy_bags.specs.Difference.{IsDifference}
 use Rattle.cy_bags.specs.declared.changes.Entry.{Entry}
-use Rattle.cy_feeds.specs.Feeds.{History, IsRising, entries_after, new_feed, pushed}
+use Rattle.cy_feeds.specs.Feeds.{History, IsRising, entries_after, new_history, pushed}
 
 -- ---- one entry
 
@@ -68,7 +68,7 @@ CopiesChange =
 
 -- a feed that is new tells what the rows are at its tick
 abbrev pub NewFeedsTell : Type 0
-NewFeedsTell = (history made : ℕ) (rows : ℕ → List (List Cell)) → Tells (new_feed history made) rows made
+NewFeedsTell = (history made : ℕ) (rows : ℕ → List (List Cell)) → Tells (new_history history made) rows made
 
 -- with the difference that the next tick made it tells what the rows are at that tick
 abbrev pub PushedFeedsTell : Type 0

@@ -1,7 +1,7 @@
 //! The last entries of a view.
 
 ghost use Rattle.std.specs.Prelude.{◌≡◌, ◌≤◌, ◌<◌, [], IfOk, OnErr, OnOk};
-ghost use Rattle.cy_feeds.specs.Feeds.{IsReserved, answer_since, latest, new_feed, pushed};
+ghost use Rattle.cy_feeds.specs.Feeds.{IsReserved, answer_since, latest, new_history, pushed};
 
 use cy_bags::Entry;
 use cy_values::{Duplicate, Fault, Sequence};
@@ -31,11 +31,11 @@ pub enum Answer {
 impl Model for Feed {
     ghost use Rattle.std.specs.Prelude.{◌≤◌};
     ghost use Rattle.std.specs.VecDeque.{deque_capacity};
-    ghost use Rattle.cy_feeds.specs.Feeds.{History, IsRising};
+    ghost use Rattle.cy_feeds.specs.Feeds.{Kept, IsRising};
 
-    ghost Value = { History };
+    ghost Value = { Kept };
 
-    ghost view = { λ f. record { limit = f.history; base = f.base; entries = f.entries.items; room = deque_capacity f.entries } };
+    ghost view = { λ f. record { history = record { limit = f.history; base = f.base; entries = f.entries.items }; room = deque_capacity f.entries } };
 
     ghost invariant = { λ f. (1 ≤ f.history) × (deque_capacity f.entries ≤ f.history) × IsRising f.base f.entries.items };
 }
@@ -45,7 +45,7 @@ impl Feed {
     pub fn new(alloc: Global, history: usize, made: u64) -> Self
         requires from { 1 ≤ history }
         requires to { history ≤ 4096 }
-        ensures { result ≡ new_feed history made }
+        ensures { result ≡ record { history = new_history history made; room = 0 } }
     {
         Feed {
             alloc,
@@ -61,7 +61,7 @@ impl Feed {
         ensures same { self.new ≡ record self.old { room = self.new.room } }
         ensures reserved { OnOk result (IsReserved self.new) }
         ensures err { OnErr result (self.new ≡ self.old) }
-        ensures room { self.new.room ≤ self.new.limit }
+        ensures room { self.new.room ≤ self.new.history.limit }
     {
         let length = self.entries.len();
         if length == self.entries.capacity() && length < self.history {
@@ -74,8 +74,8 @@ impl Feed {
     /// Adds an entry; of a full feed the oldest goes. It takes no memory.
     pub fn push(&mut self, entry: Entry)
         requires reserved { IsReserved self.old }
-        requires rising { latest self.old.base self.old.entries < entry.tick }
-        ensures { self.new ≡ pushed entry self.old }
+        requires rising { latest self.old.history.base self.old.history.entries < entry.tick }
+        ensures { self.new ≡ record self.old { history = pushed entry self.old.history } }
     {
         if self.entries.len() == self.history {
             if let Some(oldest) = self.entries.pop_front() {
@@ -87,7 +87,7 @@ impl Feed {
 
     /// Copies of all entries above a tick, where none of them is gone. Fails only for want of memory.
     pub fn since(&self, tick: u64) -> Result<Answer, Fault>
-        ensures { IfOk result (λ answer. answer ≡ answer_since tick self.now) }
+        ensures { IfOk result (λ answer. answer ≡ answer_since tick self.now.history) }
     {
         if tick < self.base {
             return Ok(Answer::Lagged);

@@ -1,3 +1,4 @@
 -- What proofs alone need.
 pub mod Maps
 pub mod Tables
+pub mod Lists

@@ -3,12 +3,16 @@
 
 mod faults;
 mod keyed;
+mod listed;
+mod lists;
 mod memory;
 mod rows;
 mod tables;
 
 pub use faults::MemoryFault;
 pub use keyed::KeyedMemory;
+pub use listed::ListMemory;
+pub use lists::ListCursor;
 pub use memory::{Memory, Record};
 pub use rows::rows_equal;
 pub use tables::KeyedCursor;

@@ -1,0 +1,124 @@
+-- The rows that are made of single entities, and how they change where the entities do.
+use Rattle.std.proofs.Common.{◌≡◌, ℕ, ◌+◌, ◌==◌, Bool, true, false, cond, not, ◌||◌, List, [], ◌∷◌, ◌++◌, Option, None, Some, refl, sym, ap, subst, ◌∙◌, filter, map, nat_eq, arith}
+use Rattle.std.specs.Prelude.{sum_by, flat_map}
+use Rattle.std.specs.List.{IsDistinct, list_any}
+use Rattle.std.specs.Map.{lookup, keys_of}
+use Rattle.std.specs.Option.{option_map_or}
+use Rattle.std.specs.declared.cmp.Ordering.{Ordering}
+use Rattle.std.specs.Ordering.{eq_by_cmp, nat_cmp}
+use Rattle.std.specs.FinMap.Entries as entries
+use Rattle.std.proofs.lemmas.Bool.{false≢true, true≢false}
+use Rattle.std.proofs.lemmas.List.{append-nil}
+use Rattle.std.proofs.lemmas.List.Sums.{sum_by-cons}
+use Rattle.std.proofs.lemmas.Bool.Decides.{nat_tests}
+use Rattle.cy_values.specs.declared.rows.Cell.{Cell}
+use Rattle.cy_values.specs.Bag.{count_of}
+use Rattle.cy_memory.specs.Counts.{is_row}
+use Rattle.cy_plans.proofs.Counts.{count_cons, count_flat_map}
+use Rattle.cy_deltas.specs.declared.shifts.Shift.{Shift}
+use Rattle.cy_deltas.specs.Deltas.{shifts_of, shift_between}
+use Rattle.cy_deltas.proofs.ShiftLemmas.{shifts_made}
+use Rattle.cy_scans.specs.Changes.{IsImage}
+use Rattle.cy_scans.proofs.Keys.{found_alike, number_itself, own_entries, rising_once, same_by_order, same_number, sum_kept}
+
+-- whether a row is of the entity with the number, where it is known which one it is of
+abbrev pub owns : Option ℕ → ℕ → Bool
+owns None n = false
+owns (Some q) n = nat_eq q n
+
+-- Rows that are made of entities by number: which ones each makes, none where it isn't there, and of which one a row may be.
+pub record Scan (V : Type 0) : Type 0 where
+  pub rows : ℕ → Option V → List (List Cell)
+  pub owner : List Cell → Option ℕ
+  pub none : (n : ℕ) → rows n None ≡ []
+  pub apart : (row : List Cell) (n : ℕ) (o : Option V) → owns (owner row) n ≡ false → count_of row (rows n o) ≡ 0
+
+-- how often a row counts, by the one entity that it may be of
+abbrev pub count_at : {V : Type 0} → (ℕ → Option V → List (List Cell)) → (ℕ → Option V) → List Cell → Option ℕ → ℕ
+count_at rows at row None = 0
+count_at rows at row (Some q) = count_of row (rows q (at q))
+
+equal_between : (row : List Cell) (n : ℕ) → shift_between row n n ≡ []
+equal_between row n = ap (λ b. cond b [] ((record { row = row; before = n; after = n }) ∷ [])) (itself n)
+  where
+    itself : (m : ℕ) → (m == m) ≡ true
+    itself m = grind (arith, nat_tests)
+
+pub none_between : (row : List Cell) (m n : ℕ) → m ≡ n → shift_between row m n ≡ []
+none_between row m n same = ap (λ k. shift_between row k n) same ∙ equal_between row n
+
+module _ {V : Type 0} (scan : Scan V) where
+  no_rows : (row : List Cell) (n : ℕ) (o : Option V) → o ≡ None → count_of row (scan.rows n o) ≡ 0
+  no_rows row n o is = ap (λ (p : Option V). count_of row (scan.rows n p)) is ∙ ap (count_of row) (scan.none n)
+
+  module _ {K : Type 0} (number : K → ℕ) (key : ℕ → K) (back : (k : K) → key (number k) ≡ k) (forth : (n : ℕ) → number (key n) ≡ n) where
+    abbrev order : K → K → Ordering
+    order x y = nat_cmp (number x) (number y)
+
+    abbrev made : K × V → List (List Cell)
+    made e = scan.rows (number e.0) (Some e.1)
+
+    same_keys : (x y : K) → eq_by_cmp order x y ≡ true → x ≡ y
+    same_keys x y is = sym (back x) ∙ ap key (same_number (number x) (number y) (sym (same_by_order (number x) (number y)) ∙ is)) ∙ back y
+
+    tests_alike : (q : ℕ) (k : K) → eq_by_cmp order (key q) k ≡ nat_eq q (number k)
+    tests_alike q k = same_by_order (number (key q)) (number k) ∙ ap (λ n. nat_eq n (number k)) (forth q)
+
+    -- how often a row counts among those of all
+    pub count_scan : (row : List Cell) (es : List (K × V)) → entries.is_sorted order es ≡ true
+        → count_of row (flat_map made es) ≡ count_at scan.rows (λ n. entries.find order (key n) es) row (scan.owner row)
+    count_scan row es rising = count_flat_map (is_row row) made es ∙ by (scan.owner row) refl
+      where
+        by : (o : Option ℕ) → scan.owner row ≡ o → sum_by (λ e. count_of row (made e)) es ≡ count_at scan.rows (λ n. entries.find order (key n) es) row o
+        by None is =
+            sum_kept (λ e. false) (λ e. count_of row (made e)) (λ e h. scan.apart row (number e.0) (Some e.1) (ap (λ (o : Option ℕ). owns o (number e.0)) is)) es
+            ∙ ap (sum_by (λ e. count_of row (made e))) (none_kept es)
+          where
+            none_kept : (xs : List (K × V)) → filter (λ e. false) xs ≡ []
+            none_kept [] = refl
+            none_kept (x ∷ xs) = none_kept xs
+        by (Some q) is =
+            sum_kept (λ e. eq_by_cmp order (key q) e.0) (λ e. count_of row (made e))
+            (λ e h. scan.apart row (number e.0) (Some e.1) (ap (λ (o : Option ℕ). owns o (number e.0)) is ∙ sym (tests_alike q e.0) ∙ h)) es
+            ∙ ap (sum_by (λ e. count_of row (made e))) (own_entries (eq_by_cmp order) same_keys (key q) es (rising_once order es rising) ∙ ap (λ (o : Option V). option_map_or (λ v. (key q, v) ∷ []) o []) (found_alike order (key q) es))
+            ∙ one (entries.find order (key q) es)
+          where
+            one : (o : Option V) → sum_by (λ e. count_of row (made e)) (option_map_or (λ v. (key q, v) ∷ []) o []) ≡ count_of row (scan.rows q o)
+            one None = sym (no_rows row q None refl)
+            one (Some v) = sum_by-cons (λ e. count_of row (made e)) (key q, v) [] ∙ added (count_of row (made (key q, v))) ∙ ap (λ n. count_of row (scan.rows n (Some v))) (forth q)
+              where
+                added : (n : ℕ) → n + 0 ≡ n
+                added n = omega arith
+
+  -- how a row's count changes, where the entities change by which are touched
+  pub scan_shifts : (before now : ℕ → Option V) (touched : List (ℕ × Option V)) (changes : ℕ → Option V → Option V → List Shift)
+      → ((row : List Cell) (n : ℕ) (old new : Option V) → shifts_of row (changes n old new) ≡ shift_between row (count_of row (scan.rows n old)) (count_of row (scan.rows n new)))
+      → IsDistinct nat_eq (keys_of touched) → ((n : ℕ) → IsImage (before n) (now n) (lookup (nat_eq n) touched)) → (row : List Cell)
+      → shifts_of row (flat_map (λ e. changes e.0 e.1 (now e.0)) touched) ≡ shift_between row (count_at scan.rows before row (scan.owner row)) (count_at scan.rows now row (scan.owner row))
+  scan_shifts before now touched changes says once images row =
+      shifts_made row (λ e. owns (scan.owner row) e.0) made none touched ∙ by (scan.owner row) refl
+    where
+      made : ℕ × Option V → List Shift
+      made e = changes e.0 e.1 (now e.0)
+
+      none : (e : ℕ × Option V) → owns (scan.owner row) e.0 ≡ false → shifts_of row (made e) ≡ []
+      none e h = says row e.0 e.1 (now e.0) ∙ none_between row _ _ (scan.apart row e.0 e.1 h ∙ sym (scan.apart row e.0 (now e.0) h))
+
+      by : (o : Option ℕ) → scan.owner row ≡ o → flat_map (λ e. shifts_of row (made e)) (filter (λ e. owns o e.0) touched)
+          ≡ shift_between row (count_at scan.rows before row o) (count_at scan.rows now row o)
+      by None is = ap (flat_map (λ e. shifts_of row (made e))) (none_kept touched)
+        where
+          none_kept : (xs : List (ℕ × Option V)) → filter (λ e. false) xs ≡ []
+          none_kept [] = refl
+          none_kept (x ∷ xs) = none_kept xs
+      by (Some q) is =
+          ap (flat_map (λ e. shifts_of row (made e))) (own_entries nat_eq same_number q touched once)
+          ∙ one (lookup (nat_eq q) touched) (images q)
+        where
+          one : (o : Option (Option V)) → IsImage (before q) (now q) o → flat_map (λ e. shifts_of row (made e)) (option_map_or (λ v. (q, v) ∷ []) o [])
+              ≡ shift_between row (count_of row (scan.rows q (before q))) (count_of row (scan.rows q (now q)))
+          one None same = sym (none_between row _ _ (ap (λ (v : Option V). count_of row (scan.rows q v)) same))
+          one (Some was) image =
+              append-nil (shifts_of row (made (q, was)))
+              ∙ says row q was (now q)
+              ∙ ap (λ (v : Option V). shift_between row (count_of row (scan.rows q v)) (count_of row (scan.rows q (now q)))) image.0

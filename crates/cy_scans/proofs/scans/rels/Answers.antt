@@ -1,0 +1,19 @@
+use Rattle.std.proofs.Common.{◌≡◌, ◌++◌, List, [], sym, ap, ◌∙◌, map}
+use Rattle.std.specs.Option.{option_copied}
+use Rattle.std.proofs.lemmas.List.{append-nil}
+use Rattle.cy_scans.proofs.ScanDeltas.{rel_bounded, rel_delta, rel_shifts}
+use Rattle.cy_scans.proofs.scans.rels.Goals as goal
+
+pub returns-clause-delta : goal.returns-clause-delta
+returns-clause-delta c = λ before change.
+    rel_delta before c.args.sight.now.graph.now c.args.change.now change c.args.types.now c.args.orientation c.loop-number.shifts.items
+    (sym (append-nil c.loop-number.shifts.items)
+    ∙ ap (λ left. c.loop-number.shifts.items ++ rel_shifts c.args.types.now c.args.orientation c.args.sight.now.graph.now (map (λ e. (e.0, option_copied e.1)) left)) (sym c.in-None.ensures.steps.0)
+    ∙ c.loop-number.invariant.made)
+
+pub returns-clause-bounded : goal.returns-clause-bounded
+returns-clause-bounded c =
+    rel_bounded c.args.types.now c.args.orientation c.args.sight.now.graph.now c.args.change.now.rels c.loop-number.shifts.items
+    (sym (append-nil c.loop-number.shifts.items)
+    ∙ ap (λ left. c.loop-number.shifts.items ++ rel_shifts c.args.types.now c.args.orientation c.args.sight.now.graph.now (map (λ e. (e.0, option_copied e.1)) left)) (sym c.in-None.ensures.steps.0)
+    ∙ c.loop-number.invariant.made)

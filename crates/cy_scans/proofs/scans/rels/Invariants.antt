@@ -1,0 +1,12 @@
+-- What is made so far, with what is still to be made, is all; each touched relationship is read once.
+use Rattle.std.proofs.Common.{◌≡◌, ◌≤◌, ◌+◌, ◌++◌, length, map}
+use Rattle.std.specs.Option.{option_copied}
+use Rattle.cy_scans.proofs.ScanDeltas.{rel_shifts}
+use Rattle.cy_scans.proofs.scans.rels.Given as goal
+
+abbrev pub invariant-loop-number : goal.invariant-loop-number
+invariant-loop-number l = record {
+  made : l.shifts.items ++ rel_shifts l.types l.orientation l.initial.sight.graph.now (map (λ e. (e.0, option_copied e.1)) l.number-iterator) ≡ rel_shifts l.types l.orientation l.initial.sight.graph.now l.change.rels;
+  graph : l.sight.graph ≡ l.initial.sight.graph;
+  reads : l.sight.reads + length l.number-iterator ≤ l.initial.sight.reads + length l.change.rels;
+}

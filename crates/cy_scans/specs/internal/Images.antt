@@ -1,0 +1,36 @@
+-- The images of touched entities, as they are gathered.
+use Rattle.std.specs.Prelude.{ℕ, List, [], ◌∷◌, Option, None, Some, if◌then◌else◌, nat_eq}
+use Rattle.std.proofs.Common.{inl, inr}
+use Rattle.cy_values.specs.declared.numbers.Entity.TheVariants as entity
+use Rattle.cy_graph.specs.declared.nodes.Node.{Node}
+use Rattle.cy_graph.specs.declared.nodes.Rel.{Rel}
+use Rattle.cy_graph.specs.Touched.{Old, BeforeImage}
+
+-- the node that was there, and the relationship
+abbrev pub node_in : Option Old → Option Node
+node_in None = None
+node_in (Some (inl node)) = Some node
+node_in (Some (inr rel)) = None
+
+abbrev pub rel_in : Option Old → Option Rel
+rel_in None = None
+rel_in (Some (inl node)) = None
+rel_in (Some (inr rel)) = Some rel
+
+-- what stands under the number of a node once a touched entity was added, and under that of a relationship
+abbrev pub node_noted : ℕ → BeforeImage → Option (Option Node) → Option (Option Node)
+node_noted number (entity.Node id, was) found = if nat_eq id.0 number then Some (node_in was) else found
+node_noted number (entity.Rel id, was) found = found
+
+abbrev pub rel_noted : ℕ → BeforeImage → Option (Option Rel) → Option (Option Rel)
+rel_noted number (entity.Node id, was) found = found
+rel_noted number (entity.Rel id, was) found = if nat_eq id.0 number then Some (rel_in was) else found
+
+-- what stands there once all were
+abbrev pub nodes_noted : ℕ → List BeforeImage → Option (Option Node) → Option (Option Node)
+nodes_noted number [] found = found
+nodes_noted number (e ∷ es) found = nodes_noted number es (node_noted number e found)
+
+abbrev pub rels_noted : ℕ → List BeforeImage → Option (Option Rel) → Option (Option Rel)
+rels_noted number [] found = found
+rels_noted number (e ∷ es) found = rels_noted number es (rel_noted number e found)

@@ -3,3 +3,7 @@ pub mod Gathering
 pub mod ScanLemmas
 pub mod ScanRows
 pub mod ScanDeltas
+pub mod LookupLemmas
+pub mod LookupDeltas
+pub mod AttributeLemmas
+pub mod CostLemmas

@@ -1,3 +1,4 @@
 -- What proofs alone need.
+pub mod Attributes
 pub mod Images
 pub mod Rows

@@ -1,0 +1,25 @@
+use Rattle.std.proofs.Common.{◌≡◌, List, [], ◌∷◌, ◌++◌, ap, subst, ◌∙◌}
+use Rattle.std.proofs.lemmas.List.Elements.{filter-append}
+use Rattle.std.proofs.lemmas.Result.{on_ok_weaker}
+use Rattle.std.specs.Prelude.{flat_map}
+use Rattle.cy_values.specs.declared.rows.Cell.{Cell}
+use Rattle.cy_memory.specs.Counts.{is_row}
+use Rattle.cy_memory.specs.Records.{IsAnswer}
+use Rattle.cy_deltas.specs.Deltas.{shifts_of}
+use Rattle.cy_scans.specs.internal.Attributes.{valued_record}
+use Rattle.cy_scans.proofs.LookupLemmas.{still_made}
+use Rattle.cy_scans.proofs.lookups.add_still.Goals as goal
+
+pub returns-clause-made : goal.returns-clause-made
+returns-clause-made g c =
+    let columns = g.M.Memory.key_columns c.args.memory.now in
+    let was = g.M.Memory.was c.args.memory.now in
+    let staged = g.M.Memory.staged c.args.memory.now in
+    let key = c.new.ensures ∙ c.in_ok-push.ensures.items ∙ ap (λ cells. cells ++ c.args.entity ∷ []) c.in_ok-cells.ensures.items in
+    let answer = subst (λ (k : List Cell). IsAnswer columns was staged k c.in-Ok.records.items) key c.in-Ok.ensures.answer in
+    on_ok_weaker c.add_records.result
+    (λ is row.
+    ap (shifts_of row) is
+    ∙ filter-append (λ s. is_row row s.row) c.args.made.now.items (flat_map (valued_record c.args.values.now) c.in-Ok.records.items)
+    ∙ ap (λ made. shifts_of row c.args.made.now.items ++ made) (still_made columns was staged (c.args.entity ∷ []) c.args.values.now c.in-Ok.records.items answer row))
+    c.add_records.ensures

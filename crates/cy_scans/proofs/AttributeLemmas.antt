@@ -2,7 +2,6 @@
 use Rattle.std.proofs.Common.{◌≡◌, ℕ, ◌+◌, ◌≤◌, ◌∷◌, [], ◌++◌, List, Option, length, length-append, sym, ap, subst, ◌∙◌, arith}
 use Rattle.std.specs.Prelude.{flat_map}
 use Rattle.std.proofs.lemmas.List.{append_assoc}
-use Rattle.std.proofs.lemmas.List.Elements.{filter-append}
 use Rattle.cy_values.specs.declared.numbers.NodeId.{NodeId}
 use Rattle.cy_values.specs.declared.numbers.RelId.{RelId}
 use Rattle.cy_values.specs.declared.scalars.Value.{Value}
@@ -11,13 +10,13 @@ use Rattle.cy_values.specs.declared.rows.Cell.TheVariants as cell
 use Rattle.cy_graph.specs.declared.nodes.Node.{Node}
 use Rattle.cy_graph.specs.declared.nodes.Rel.{Rel}
 use Rattle.cy_graph.specs.Graph.{State, Versions, node_at, rel_at}
-use Rattle.cy_memory.specs.Counts.{Counts, is_row}
+use Rattle.cy_memory.specs.Counts.{Counts}
 use Rattle.cy_plans.specs.declared.operators.Attribute.{Attribute}
 use Rattle.cy_plans.specs.Expressions.{cell_at}
 use Rattle.cy_plans.specs.Meaning.{attribute_of}
 use Rattle.cy_deltas.proofs.ShiftLemmas.{made_more}
 use Rattle.cy_deltas.specs.declared.shifts.Shift.{Shift}
-use Rattle.cy_deltas.specs.Deltas.{counts_after, shifts_of}
+use Rattle.cy_deltas.specs.Deltas.{shifts_of}
 use Rattle.cy_scans.specs.declared.attributes.Attributes.{Attributes}
 use Rattle.cy_scans.specs.Changes.{IsChange, Touches}
 use Rattle.cy_scans.specs.internal.Attributes.{AreAttributes, node_attribute, reattributed, rel_attribute, still, still_shifts, valued}

@@ -1,5 +1,5 @@
 -- How many rows name touched entities.
-use Rattle.std.proofs.Common.{◌≡◌, ℕ, ◌+◌, ◌<◌, ◌≤◌, Bool, true, false, cond, not, ◌||◌, ◌&&◌, List, [], ◌∷◌, ◌++◌, Option, None, Some, refl, sym, ap, subst, ◌∙◌, filter, length, is_some, slice_get, nat_eq, arith}
+use Rattle.std.proofs.Common.{◌≡◌, ℕ, ◌+◌, ◌<◌, ◌≤◌, Bool, true, false, cond, not, ◌||◌, ◌&&◌, List, [], ◌∷◌, ◌++◌, Option, None, Some, refl, sym, ap, subst, ◌∙◌, filter, length, map, is_some, slice_get, nat_eq, arith}
 use Rattle.std.specs.Prelude.{count_by, sum_by, unwrap_or}
 use Rattle.std.specs.List.{All, IsDistinct}
 use Rattle.std.specs.Map.{lookup, keys_of}
@@ -11,8 +11,6 @@ use Rattle.std.proofs.lemmas.List.Sums.{sum_by-cons}
 use Rattle.cy_values.specs.Bag.{count_of}
 use Rattle.cy_values.specs.declared.rows.Cell.{Cell}
 use Rattle.cy_values.specs.declared.rows.Cell.TheVariants as cell
-use Rattle.cy_graph.specs.declared.nodes.Node.{Node}
-use Rattle.cy_graph.specs.declared.nodes.Rel.{Rel}
 use Rattle.cy_memory.specs.declared.memory.Record.{Record}
 use Rattle.cy_memory.specs.Counts.{Counts, is_row, key_of}
 use Rattle.cy_memory.specs.Records.{IsAnswer, is_counted, is_found}
@@ -22,9 +20,10 @@ use Rattle.cy_plans.proofs.Counts.{count_append, count_cons, count_once}
 use Rattle.cy_deltas.specs.declared.shifts.Shift.{Shift}
 use Rattle.cy_deltas.specs.Deltas.{IsDelta, counts, counts_after, shift_between}
 use Rattle.cy_deltas.proofs.Staging.{after_delta}
-use Rattle.cy_deltas.proofs.Same.{is_row_back, is_row_if, row_itself, same_row}
-use Rattle.cy_scans.specs.Changes.{IsChange, Touches}
+use Rattle.cy_deltas.proofs.Same.{is_row_back, row_itself, same_row}
+use Rattle.cy_scans.specs.Changes.{Touches}
 use Rattle.cy_scans.specs.Costs.{names_touched}
+use Rattle.cy_scans.specs.internal.Named.{AreAmong}
 use Rattle.cy_scans.proofs.Keys.{own_entries, same_number, sum_kept}
 use Rattle.cy_scans.proofs.LookupDeltas.{cell_is, cells_of, key_is, node_key, rel_key}
 use Rattle.cy_scans.proofs.ScanLemmas.{owns}
@@ -247,3 +246,27 @@ counted_there was shifts old new is delta row counted =
     let once = count_once row (old ++ new) in
     let both = count_append row old new in
     omega (arith, some, before, after, once, both))
+
+-- ---- steps
+
+pub few_steps : (old new records most : ℕ) → new ≤ old + 1 + records → records ≤ most → new ≤ old + 1 + most
+few_steps old new records most steps few = omega (arith, steps, few)
+
+pub fewer_left : {A B : Type 0} (v : A → B) (f : B → ℕ) (s t : List A) (x : A) (start so_far new all : ℕ) → s ≡ x ∷ t → so_far + (length (map v s) + sum_by f (map v s)) ≤ start + all
+    → new ≤ so_far + 1 + f (v x) → new + (length (map v t) + sum_by f (map v t)) ≤ start + all
+fewer_left v f s t x start so_far new all is before one =
+    let lengths : length (map v s) ≡ length (v x ∷ map v t) = ap (λ xs. length (map v xs)) is in
+    let sums : sum_by f (map v s) ≡ f (v x) + sum_by f (map v t) = ap (λ xs. sum_by f (map v xs)) is ∙ sum_by-cons f (v x) (map v t) in
+    omega (arith, lengths, sums, before, one)
+
+pub none_left : {A B : Type 0} (v : A → B) (f : B → ℕ) (s : List A) (new bound : ℕ) → new + (length (map v s) + sum_by f (map v s)) ≤ bound → new ≤ bound
+none_left v f s new bound before = omega (arith, before)
+
+pub all_steps : (start staged nodes rels node_count rel_count node_sum rel_sum named : ℕ) → staged ≤ start → nodes ≤ staged + (node_count + node_sum) → rels ≤ nodes + (rel_count + rel_sum) → node_sum + rel_sum ≤ named
+    → rels ≤ start + node_count + rel_count + named
+all_steps start staged nodes rels node_count rel_count node_sum rel_sum named one two three four = omega (arith, one, two, three, four)
+
+-- rows that are all, where the counts were named otherwise
+pub among_alike : (rows : List (List Cell)) (was other_was staged other_staged : Counts) → other_was ≡ was → other_staged ≡ staged → AreAmong was staged rows → AreAmong other_was other_staged rows
+among_alike rows was other_was staged other_staged same_was same_staged among =
+    subst (λ (w : Counts). AreAmong w other_staged rows) (sym same_was) (subst (λ (s : Counts). AreAmong was s rows) (sym same_staged) among)

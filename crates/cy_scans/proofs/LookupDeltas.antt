@@ -1,20 +1,16 @@
 -- The deltas of rows with an attribute: those of rows that change, and of rows that name a touched entity.
-use Rattle.std.proofs.Common.{◌≡◌, ℕ, ◌+◌, ◌≤◌, ◌==◌, Bool, true, false, cond, ◌&&◌, List, [], ◌∷◌, ◌++◌, Option, None, Some, refl, sym, ap, subst, ◌∙◌, filter, map, slice_get, nat_eq, arith}
-use Rattle.std.specs.Prelude.{flat_map, slice_index_or, unwrap_or}
+use Rattle.std.proofs.Common.{◌≡◌, ℕ, ◌≤◌, ◌==◌, Bool, true, false, cond, ◌&&◌, List, [], ◌∷◌, ◌++◌, Option, None, Some, refl, sym, ap, subst, ◌∙◌, filter, map, slice_get, nat_eq, arith}
+use Rattle.std.specs.Prelude.{flat_map, unwrap_or}
 use Rattle.std.specs.List.{All, IsDistinct, cons_option}
 use Rattle.std.specs.Map.{lookup, keys_of}
 use Rattle.std.specs.Option.{option_map_or}
 use Rattle.std.specs.declared.cmp.Ordering.{Ordering}
 use Rattle.std.specs.declared.cmp.Ordering.TheVariants.{Less, Equal, Greater}
 use Rattle.std.specs.Ordering.{is_eq, nat_cmp, ordering_then}
-use Rattle.std.proofs.lemmas.Bool.{false≢true, true≢false}
 use Rattle.std.proofs.lemmas.Bool.Decides.{nat_tests}
 use Rattle.std.proofs.lemmas.List.{append-nil}
 use Rattle.std.proofs.lemmas.List.Elements.{All-cons, All-filter, All-head, All-nil, All-tail}
 use Rattle.std.proofs.lemmas.Option.{unwrap_or-slice_get}
-use Rattle.cy_values.specs.declared.numbers.NodeId.{NodeId}
-use Rattle.cy_values.specs.declared.numbers.RelId.{RelId}
-use Rattle.cy_values.specs.declared.scalars.Value.{Value}
 use Rattle.cy_values.specs.declared.rows.Cell.{Cell}
 use Rattle.cy_values.specs.declared.rows.Cell.TheVariants as cell
 use Rattle.cy_values.specs.Bag.{count_of}
@@ -27,8 +23,8 @@ use Rattle.cy_plans.specs.Expressions.{cell_at, null}
 use Rattle.cy_plans.specs.Meaning.{attribute_of, with_attribute}
 use Rattle.cy_deltas.specs.declared.shifts.Shift.{Shift}
 use Rattle.cy_deltas.specs.Deltas.{IsBounded, IsDelta, counts, counts_after, shifts_of, shift_between}
-use Rattle.cy_deltas.proofs.Same.{is_row_if, row_itself, same_row}
-use Rattle.cy_deltas.proofs.ShiftLemmas.{shifts_between, shifts_made}
+use Rattle.cy_deltas.proofs.Same.{row_itself, same_row}
+use Rattle.cy_deltas.proofs.ShiftLemmas.{shifts_made}
 use Rattle.cy_deltas.proofs.Staging.{after_delta}
 use Rattle.cy_scans.specs.declared.attributes.Attributes.{Attributes}
 use Rattle.cy_scans.specs.Changes.{IsChange, IsImage, Touches}

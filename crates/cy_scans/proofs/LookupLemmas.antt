@@ -1,13 +1,7 @@
 -- The rows with an attribute, and how they change.
-use Rattle.std.proofs.Common.{◌≡◌, ◌≢◌, ℕ, ◌+◌, ◌==◌, Bool, true, false, cond, not, ◌&&◌, List, [], ◌∷◌, ◌++◌, Option, None, Some, MatchOption, refl, sym, ap, subst, ◌∙◌, filter, map, slice_get, nat_eq, arith}
-use Rattle.std.specs.Prelude.{flat_map, slice_index_or, unwrap_or}
-use Rattle.std.specs.List.{All, IsDistinct}
-use Rattle.std.specs.Map.{lookup, keys_of}
-use Rattle.std.specs.Option.{option_map_or}
-use Rattle.std.specs.declared.cmp.Ordering.{Ordering}
-use Rattle.std.specs.declared.cmp.Ordering.TheVariants.{Less, Equal, Greater}
-use Rattle.std.specs.Ordering.{is_eq, nat_cmp, ordering_then}
-use Rattle.std.proofs.lemmas.Bool.{false≢true, true≢false}
+use Rattle.std.proofs.Common.{◌≡◌, ◌≢◌, ℕ, ◌+◌, ◌==◌, Bool, true, false, cond, ◌&&◌, List, [], ◌∷◌, ◌++◌, Option, None, Some, MatchOption, refl, sym, ap, ◌∙◌, map, arith}
+use Rattle.std.specs.Prelude.{flat_map}
+use Rattle.std.proofs.lemmas.Bool.{true≢false}
 use Rattle.std.proofs.lemmas.Bool.Decides.{nat_tests}
 use Rattle.std.proofs.lemmas.List.{append-nil}
 use Rattle.std.proofs.lemmas.List.Elements.{filter-append}
@@ -21,24 +15,20 @@ use Rattle.cy_values.specs.Bag.{count_of}
 use Rattle.cy_graph.specs.Graph.{Content, State, node_at, rel_at}
 use Rattle.cy_memory.specs.declared.memory.Record.{Record}
 use Rattle.cy_memory.specs.Counts.{Counts, is_row, key_of}
-use Rattle.cy_memory.specs.Records.{IsAnswer, is_counted, is_found}
+use Rattle.cy_memory.specs.Records.{IsAnswer, is_counted}
 use Rattle.cy_plans.specs.declared.operators.Attribute.{Attribute}
 use Rattle.cy_plans.specs.declared.operators.Attribute.TheVariants.{Property, RelType, Labels}
 use Rattle.cy_plans.specs.Expressions.{cell_at, null}
 use Rattle.cy_plans.specs.Meaning.{attribute_of, with_attribute}
 use Rattle.cy_plans.proofs.Counts.{count_cons}
 use Rattle.cy_deltas.specs.declared.shifts.Shift.{Shift}
-use Rattle.cy_deltas.specs.Deltas.{IsDelta, counts, counts_after, shifts_of, shift_between}
+use Rattle.cy_deltas.specs.Deltas.{shifts_of, shift_between}
 use Rattle.cy_deltas.proofs.PairLemmas.{answered}
 use Rattle.cy_deltas.proofs.Same.{is_row_if, same_row}
 use Rattle.cy_deltas.proofs.ShiftLemmas.{shifts_between, shifts_made}
-use Rattle.cy_deltas.proofs.Staging.{after_delta}
 use Rattle.cy_scans.specs.declared.attributes.Attributes.{Attributes}
-use Rattle.cy_scans.specs.Changes.{IsChange, IsImage, Touches}
-use Rattle.cy_scans.specs.internal.Attributes.{AreAttributes, front, node_attribute, reattributed, rel_attribute, shift_at, still, still_shifts, valued, valued_record}
-use Rattle.cy_scans.proofs.Keys.{number_itself, own_entries, same_by_order, same_number}
-use Rattle.cy_scans.proofs.ScanLemmas.{none_between, owns}
-use Rattle.cy_scans.proofs.ScanRows.{node_owner, rel_owner}
+use Rattle.cy_scans.specs.internal.Attributes.{AreAttributes, front, node_attribute, reattributed, rel_attribute, shift_at, still_shifts, valued, valued_record}
+use Rattle.cy_scans.proofs.ScanLemmas.{none_between}
 
 -- ---- a row with one cell more
 

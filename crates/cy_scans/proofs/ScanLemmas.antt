@@ -1,25 +1,24 @@
 -- The rows that are made of single entities, and how they change where the entities do.
-use Rattle.std.proofs.Common.{◌≡◌, ℕ, ◌+◌, ◌==◌, Bool, true, false, cond, not, ◌||◌, List, [], ◌∷◌, ◌++◌, Option, None, Some, refl, sym, ap, subst, ◌∙◌, filter, map, nat_eq, arith}
+use Rattle.std.proofs.Common.{◌≡◌, ℕ, ◌+◌, ◌==◌, Bool, true, false, cond, List, [], ◌∷◌, Option, None, Some, refl, sym, ap, ◌∙◌, filter, nat_eq, arith}
 use Rattle.std.specs.Prelude.{sum_by, flat_map}
-use Rattle.std.specs.List.{IsDistinct, list_any}
+use Rattle.std.specs.List.{IsDistinct}
 use Rattle.std.specs.Map.{lookup, keys_of}
 use Rattle.std.specs.Option.{option_map_or}
 use Rattle.std.specs.declared.cmp.Ordering.{Ordering}
 use Rattle.std.specs.Ordering.{eq_by_cmp, nat_cmp}
 use Rattle.std.specs.FinMap.Entries as entries
-use Rattle.std.proofs.lemmas.Bool.{false≢true, true≢false}
 use Rattle.std.proofs.lemmas.List.{append-nil}
 use Rattle.std.proofs.lemmas.List.Sums.{sum_by-cons}
 use Rattle.std.proofs.lemmas.Bool.Decides.{nat_tests}
 use Rattle.cy_values.specs.declared.rows.Cell.{Cell}
 use Rattle.cy_values.specs.Bag.{count_of}
 use Rattle.cy_memory.specs.Counts.{is_row}
-use Rattle.cy_plans.proofs.Counts.{count_cons, count_flat_map}
+use Rattle.cy_plans.proofs.Counts.{count_flat_map}
 use Rattle.cy_deltas.specs.declared.shifts.Shift.{Shift}
 use Rattle.cy_deltas.specs.Deltas.{shifts_of, shift_between}
 use Rattle.cy_deltas.proofs.ShiftLemmas.{shifts_made}
 use Rattle.cy_scans.specs.Changes.{IsImage}
-use Rattle.cy_scans.proofs.Keys.{found_alike, number_itself, own_entries, rising_once, same_by_order, same_number, sum_kept}
+use Rattle.cy_scans.proofs.Keys.{found_alike, own_entries, rising_once, same_by_order, same_number, sum_kept}
 
 -- whether a row is of the entity with the number, where it is known which one it is of
 abbrev pub owns : Option ℕ → ℕ → Bool

@@ -1,4 +1,5 @@
 -- What proofs alone need.
 pub mod Attributes
 pub mod Images
+pub mod Named
 pub mod Rows

@@ -1,5 +1,5 @@
 -- The attributes of entities, and what rows become with them.
-use Rattle.std.specs.Prelude.{◌≡◌, ◌≢◌, ℕ, ◌==◌, ◌&&◌, Bool, List, [], ◌∷◌, ◌++◌, Option, None, Some, if◌then◌else◌, map, flat_map, unwrap_or, MatchOption}
+use Rattle.std.specs.Prelude.{◌≡◌, ◌≢◌, ℕ, ◌==◌, ◌&&◌, List, [], ◌∷◌, ◌++◌, Option, if◌then◌else◌, map, unwrap_or, MatchOption}
 use Rattle.std.specs.Option.{option_map_or}
 use Rattle.cy_values.specs.declared.scalars.Scalar.TheVariants as scalar
 use Rattle.cy_values.specs.declared.scalars.Value.{Value}
@@ -15,7 +15,6 @@ use Rattle.cy_memory.specs.declared.memory.Record.{Record}
 use Rattle.cy_memory.specs.Counts.{Counts, is_row, key_of}
 use Rattle.cy_plans.specs.declared.operators.Attribute.{Attribute}
 use Rattle.cy_plans.specs.declared.operators.Attribute.TheVariants.{Property, RelType, Labels}
-use Rattle.cy_plans.specs.Expressions.{cell_at}
 use Rattle.cy_plans.specs.Meaning.{with_attribute}
 use Rattle.cy_deltas.specs.declared.shifts.Shift.{Shift}
 use Rattle.cy_deltas.specs.Deltas.{shifts_of, shift_between}

@@ -1,4 +1,4 @@
-use Rattle.std.proofs.Common.{◌≡◌, ℕ, List, Option, [], ◌∷◌, ◌++◌, map, sym, ap, ◌∙◌, arith}
+use Rattle.std.proofs.Common.{ℕ, Option, [], ◌∷◌, ◌++◌, map, sym, ap, ◌∙◌}
 use Rattle.std.specs.Option.{option_copied}
 use Rattle.std.specs.Prelude.{flat_map}
 use Rattle.std.proofs.lemmas.List.{append-nil}
@@ -6,7 +6,9 @@ use Rattle.cy_values.specs.declared.rows.Cell.TheVariants as cell
 use Rattle.cy_graph.specs.declared.nodes.Node.{Node}
 use Rattle.cy_deltas.specs.Deltas.{shifts_of}
 use Rattle.cy_scans.specs.internal.Attributes.{still}
+use Rattle.cy_scans.specs.internal.Named.{with_key}
 use Rattle.cy_scans.proofs.AttributeLemmas.{one_entity, one_less, walked}
+use Rattle.cy_scans.proofs.CostLemmas.{among_alike, fewer_left, none_left}
 use Rattle.cy_scans.proofs.lookups.add_at_nodes.Goals as goal
 
 pub loop-touched-preserved : goal.loop-touched-preserved
@@ -30,6 +32,11 @@ loop-touched-preserved g c =
       columns = c.add_at_node.ensures.columns ∙ so_far.columns;
       graph = c.add_at_node.ensures.graph ∙ so_far.graph;
       reads = one_less c.loop-touched.touched-iterator c.next.new.self _ c.args.sight.now.reads c.loop-touched.sight.reads c.add_at_node.new.sight.reads _ c.in-Some.ensures.steps so_far.reads c.add_at_node.ensures.reads;
+      steps = λ column rows keys among exact.
+          fewer_left (λ e. (e.0, option_copied e.1)) (λ (e : ℕ × Option Node). with_key (column ∷ []) (cell.Node (record { 0 = e.0 }) ∷ []) rows) c.loop-touched.touched-iterator c.next.new.self (c.in-Some.touched.0.now, c.in-Some.touched.1.now)
+          (g.M.Memory.step_count c.args.memory.now) (g.M.Memory.step_count c.loop-touched.memory) (g.M.Memory.step_count c.add_at_node.new.memory) _ c.in-Some.ensures.steps
+          (so_far.steps column rows keys among exact)
+          (c.in_ok-add_at_node.ensures.steps column rows (so_far.columns ∙ keys) (among_alike rows was (g.M.Memory.was c.loop-touched.memory) staged (g.M.Memory.staged c.loop-touched.memory) so_far.was so_far.staged among) exact);
     }
 
 pub returns-clause-made : goal.returns-clause-made
@@ -40,3 +47,8 @@ returns-clause-made g c =
     sym (append-nil (shifts_of row c.loop-touched.made.items))
     ∙ ap (λ left. shifts_of row c.loop-touched.made.items ++ flat_map (λ (e : ℕ × Option Node). still before.content c.args.sight.now.graph.now.content column c.args.attribute.now was staged (cell.Node (record { 0 = e.0 })) row) (map (λ e. (e.0, option_copied e.1)) left)) (sym c.in-None.ensures.steps.0)
     ∙ c.loop-touched.invariant.made before column change keys row
+
+pub returns-clause-steps : goal.returns-clause-steps
+returns-clause-steps g c = λ column rows keys among exact.
+    none_left (λ e. (e.0, option_copied e.1)) (λ (e : ℕ × Option Node). with_key (column ∷ []) (cell.Node (record { 0 = e.0 }) ∷ []) rows) c.loop-touched.touched-iterator
+    (g.M.Memory.step_count c.loop-touched.memory) _ (c.loop-touched.invariant.steps column rows keys among exact)

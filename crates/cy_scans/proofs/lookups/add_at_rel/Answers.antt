@@ -1,8 +1,9 @@
-use Rattle.std.proofs.Common.{◌≡◌, ℕ, List, [], ◌∷◌, ◌++◌, ap, ◌∙◌}
+use Rattle.std.proofs.Common.{ℕ, ◌+◌, ◌≤◌, List, [], ◌∷◌, ◌++◌, ap, subst, ◌∙◌}
 use Rattle.std.proofs.lemmas.Result.{on_ok_weaker}
 use Rattle.cy_values.specs.declared.rows.Cell.TheVariants as cell
 use Rattle.cy_deltas.specs.Deltas.{shifts_of}
 use Rattle.cy_scans.specs.internal.Attributes.{still_shifts}
+use Rattle.cy_scans.specs.internal.Named.{with_key}
 use Rattle.cy_scans.proofs.AttributeLemmas.{still_rel}
 use Rattle.cy_scans.proofs.lookups.add_at_rel.Goals as goal
 
@@ -17,3 +18,10 @@ returns-clause-made g c =
     (ap (λ (columns : List ℕ). still_shifts columns was staged (cell.Rel c.args.id ∷ []) c.in_ok-values.values row) keys
     ∙ still_rel before c.args.sight.now.graph.now column c.args.attribute.now was staged c.args.id c.in_ok-values.values (c.in_ok-values.ensures.values before change) row))
     c.add_still.ensures.made
+
+pub returns-clause-steps : goal.returns-clause-steps
+returns-clause-steps g c =
+    on_ok_weaker c.add_still.result
+    (λ steps column rows keys among exact.
+    subst (λ (columns : List ℕ). g.M.Memory.step_count c.add_still.new.memory ≤ g.M.Memory.step_count c.args.memory.now + 1 + with_key columns (cell.Rel c.args.id ∷ []) rows) keys (steps rows among exact))
+    c.add_still.ensures.steps

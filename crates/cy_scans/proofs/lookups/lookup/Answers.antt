@@ -1,8 +1,9 @@
-use Rattle.std.proofs.Common.{◌≡◌, List, [], ◌∷◌, ◌++◌, sym, ap, ◌∙◌}
-use Rattle.cy_values.specs.declared.rows.Cell.{Cell}
+use Rattle.std.proofs.Common.{◌≡◌, ◌++◌, sym, ap, ◌∙◌}
+use Rattle.cy_plans.specs.Meaning.{each_once}
 use Rattle.cy_deltas.specs.Deltas.{counts_after}
 use Rattle.cy_deltas.proofs.Staging.{on_ok}
 use Rattle.cy_scans.proofs.AttributeLemmas.{assembled}
+use Rattle.cy_scans.proofs.CostLemmas.{all_steps, among_alike, counted_there, named_sum}
 use Rattle.cy_scans.proofs.LookupDeltas.{lookup_bounded, lookup_delta}
 use Rattle.cy_scans.proofs.lookups.lookup.Goals as goal
 
@@ -45,3 +46,20 @@ returns-clause-bounded g c = λ before change.
     (λ b h. c.in_ok-add_at_rels.ensures.made b c.args.column h (c.add_at_nodes.ensures.columns ∙ keys))
     before change)
     c.requires.within c.requires.bounded
+
+pub returns-clause-steps : goal.returns-clause-steps
+returns-clause-steps g c = λ before old new change is delta exact.
+    let was = g.M.Memory.was c.args.memory.now in
+    let staged_now : g.M.Memory.staged c.stage_shifts.new.memory ≡ counts_after c.args.shifts.items was =
+    on_ok c.stage_shifts.result (sym c.is_err.ensures.value ∙ c.if-is_err.false) c.stage_shifts.ensures.staged
+    ∙ ap (λ shifts. counts_after shifts was) c.deref.ensures.value in
+    let keys = c.stage_shifts.ensures.columns ∙ c.requires.columns in
+    let rows = each_once (old ++ new) in
+    let among = counted_there was c.args.shifts.items old new is delta in
+    all_steps (g.M.Memory.step_count c.args.memory.now) (g.M.Memory.step_count c.stage_shifts.new.memory) (g.M.Memory.step_count c.add_at_nodes.new.memory) (g.M.Memory.step_count c.add_at_rels.new.memory)
+    _ _ _ _ _
+    (c.stage_shifts.ensures.steps exact)
+    (c.in_ok-add_at_nodes.ensures.steps c.args.column rows keys (among_alike rows was (g.M.Memory.was c.stage_shifts.new.memory) (counts_after c.args.shifts.items was) (g.M.Memory.staged c.stage_shifts.new.memory) c.stage_shifts.ensures.was staged_now among) exact)
+    (c.in_ok-add_at_rels.ensures.steps c.args.column rows (c.add_at_nodes.ensures.columns ∙ keys)
+    (among_alike rows was (g.M.Memory.was c.add_at_nodes.new.memory) (counts_after c.args.shifts.items was) (g.M.Memory.staged c.add_at_nodes.new.memory) (c.add_at_nodes.ensures.was ∙ c.stage_shifts.ensures.was) (c.add_at_nodes.ensures.staged ∙ staged_now) among) exact)
+    (named_sum c.args.change.now c.args.column change.nodes_once change.rels_once rows)

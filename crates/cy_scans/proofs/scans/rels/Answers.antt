@@ -1,4 +1,4 @@
-use Rattle.std.proofs.Common.{◌≡◌, ◌++◌, List, [], sym, ap, ◌∙◌, map}
+use Rattle.std.proofs.Common.{◌++◌, sym, ap, ◌∙◌, map}
 use Rattle.std.specs.Option.{option_copied}
 use Rattle.std.proofs.lemmas.List.{append-nil}
 use Rattle.cy_scans.proofs.ScanDeltas.{rel_bounded, rel_delta, rel_shifts}

@@ -1,4 +1,4 @@
-use Rattle.std.proofs.Common.{◌≡◌, ◌≢◌, sym, subst, ap, refl, ◌∙◌}
+use Rattle.std.proofs.Common.{sym, subst, ap, refl, ◌∙◌}
 use Rattle.std.proofs.lemmas.Bool.{true≢false}
 use Rattle.cy_values.specs.declared.scalars.Value.{Value}
 use Rattle.cy_values.specs.contracts.scalars.ValuePartialEq.TheImpl as value_eq

@@ -1,0 +1,8 @@
+pub mod Extended
+pub mod MatchPlans
+pub mod MatchedPlans
+pub mod Outcomes
+pub mod PlaceColumns
+pub mod PlainProjections
+pub mod ProjectedPlans
+pub mod WithPlans

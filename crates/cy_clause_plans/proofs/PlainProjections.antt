@@ -1,12 +1,12 @@
 -- What a projection without aggregates and without order makes.
-use Rattle.std.proofs.Common.{◌≡◌, ℕ, min, Bool, true, false, cond, ◌||◌, List, [], ◌∷◌, ◌++◌, map, refl, sym, ap, subst, ◌∙◌}
-use Rattle.std.specs.Prelude.{IsOk, IsTrue, is_some, Option, None, Some, Result, Ok, Err, if◌then◌else◌}
+use Rattle.std.proofs.Common.{◌≡◌, ℕ, min, Bool, true, false, ◌||◌, List, [], ◌∷◌, ◌++◌, map, refl, sym, ap, subst, ◌∙◌}
+use Rattle.std.specs.Prelude.{IsOk, is_some, Option, None, Some, Result, Ok, Err, if◌then◌else◌}
 use Rattle.std.specs.List.{AllByRecursion}
-use Rattle.std.proofs.lemmas.Bool.{false≢true, true≢false}
+use Rattle.std.proofs.lemmas.Bool.{true≢false}
 use Rattle.cy_values.specs.declared.rows.Cell.{Cell}
-use Rattle.cy_values.specs.Bag.{count_of, IsSameBag}
+use Rattle.cy_values.specs.Bag.{count_of}
 use Rattle.cy_values.specs.Order.{row_cmp}
-use Rattle.cy_trees.specs.Trees.{Expression, Item, Key, Projection}
+use Rattle.cy_trees.specs.Trees.{Item, Key, Projection}
 use Rattle.cy_kinds.specs.Aggregates.{has_aggregates}
 use Rattle.cy_scope.specs.Views.{has_keys, has_order}
 use Rattle.cy_graph.specs.Graph.{Content}
@@ -14,7 +14,7 @@ use Rattle.cy_expr.specs.declared.faults.EvalFault.{EvalFault}
 use Rattle.cy_expr.specs.Evaluation.{cell_of}
 use Rattle.cy_expr.specs.Faults.{on_one}
 use Rattle.cy_expr.specs.Graphs.{lookups}
-use Rattle.cy_patterns.specs.Outcomes.{gathered, joined, together}
+use Rattle.cy_patterns.specs.Outcomes.{gathered, together}
 use Rattle.cy_matching.specs.Order.{Keyed, each_once, in_order, keyed_order}
 use Rattle.cy_oneshot.specs.Groups as groups
 use Rattle.cy_oneshot.specs.Projection.{Projected, cut, distinct_rows, item_rows, keyed, project, projected, projection_rows, with_columns_alone}

@@ -1,5 +1,5 @@
 -- The plan of a projection.
-use Rattle.std.proofs.Common.{◌≡◌, ℕ, min, ◌≤◌, Bool, true, false, cond, List, [], ◌∷◌, map, length, refl, sym, ap, subst, ◌∙◌, inl, inr, arith}
+use Rattle.std.proofs.Common.{◌≡◌, min, Bool, true, false, cond, List, [], ◌∷◌, map, refl, sym, ap, subst, ◌∙◌, inl, inr, arith}
 use Rattle.std.specs.Prelude.{IsOk, Result, Ok, Err}
 use Rattle.std.specs.List.{All, AllByRecursion, Contains}
 use Rattle.std.proofs.lemmas.List.{length-map}
@@ -8,7 +8,7 @@ use Rattle.cy_values.specs.declared.rows.Cell.{Cell}
 use Rattle.cy_values.specs.Bag.{count_of}
 use Rattle.cy_values.specs.Order.{row_cmp}
 use Rattle.cy_trees.specs.declared.clauses.Item as coded
-use Rattle.cy_trees.specs.Trees.{Expression, Item, Projection}
+use Rattle.cy_trees.specs.Trees.{Item, Projection}
 use Rattle.cy_trees.specs.Views.{expression_of, item_of}
 use Rattle.cy_kinds.specs.Scopes.{Scope}
 use Rattle.cy_graph.specs.Graph.{Content, State}
@@ -27,7 +27,7 @@ use Rattle.cy_plans.specs.Within.{IsWithin}
 use Rattle.cy_plans.proofs.Counts.{count_once}
 use Rattle.cy_row_plans.specs.Rows.{AreReadOver, IsProjected, cells_on}
 use Rattle.cy_clause_plans.specs.Projections.{CanProject, IsPlain, IsProjection, expressions_in}
-use Rattle.cy_clause_plans.proofs.PlainProjections.{HasCells, as_ordered, chosen_rows, counted, counts_are, have_all, made_of, rows_are}
+use Rattle.cy_clause_plans.proofs.PlainProjections.{HasCells, counted, counts_are, have_all, rows_are}
 
 module _ (graph : Content) where
   expressions_have : (row : List Cell) (items : List Item) → AllByRecursion (λ (i : Item). IsOk (cell_of (lookups graph) row i.expression)) items

@@ -1,5 +1,5 @@
 -- The plan of WITH with its WHERE.
-use Rattle.std.proofs.Common.{◌≡◌, ℕ, ◌≤◌, Bool, true, false, List, [], ◌∷◌, map, filter, length, refl, sym, ap, subst, ◌∙◌}
+use Rattle.std.proofs.Common.{◌≡◌, false, List, map, filter, refl, sym, ap, subst, ◌∙◌}
 use Rattle.std.specs.Prelude.{IfOk, IsOk, IsTrue, Option, None, Some, Result, Ok, Err}
 use Rattle.std.specs.List.{All, AllByRecursion, Contains}
 use Rattle.std.specs.Cmp.{IsTotalOrder}
@@ -9,7 +9,7 @@ use Rattle.cy_values.specs.Order.{row_cmp}
 use Rattle.cy_trees.specs.Trees.{Expression, Projection, «with»}
 use Rattle.cy_kinds.specs.Rows.{row_fits}
 use Rattle.cy_kinds.specs.Scopes.{Scope}
-use Rattle.cy_graph.specs.Graph.{Content, State}
+use Rattle.cy_graph.specs.Graph.{State}
 use Rattle.cy_expr.specs.declared.faults.EvalFault.{EvalFault}
 use Rattle.cy_expr.specs.Faults.{on_one}
 use Rattle.cy_patterns.specs.Matching.{selected}
@@ -19,10 +19,9 @@ use Rattle.cy_matching.proofs.Together.{all_kept}
 use Rattle.cy_oneshot.proofs.SeenRows.{each_permuted}
 use Rattle.cy_oneshot.specs.Projection.{projection_rows}
 use Rattle.cy_oneshot.specs.Queries.{rows_after}
-use Rattle.cy_plans.specs.Plans.{Plan, width}
+use Rattle.cy_plans.specs.Plans.{Plan}
 use Rattle.cy_plans.specs.Meaning.{rows_of}
 use Rattle.cy_plans.specs.Parts.{parts}
-use Rattle.cy_plans.specs.Sure.{IsSureOn}
 use Rattle.cy_plans.specs.Within.{IsWithin}
 use Rattle.cy_row_plans.specs.Rows.{FitsRows, IsFiltered, keeps}
 use Rattle.cy_clause_plans.specs.Projections.{CanGoOn, CanProject, IsProjection, IsWith}

@@ -7,7 +7,7 @@ use Rattle.cy_kinds.specs.Rows.{row_fits}
 use Rattle.cy_kinds.specs.Aggregates.{has_aggregates}
 use Rattle.cy_kinds.specs.Scopes.{Scope}
 use Rattle.cy_scope.specs.Views.{has_order}
-use Rattle.cy_graph.specs.Graph.{Content, State, IsGraph}
+use Rattle.cy_graph.specs.Graph.{State, IsGraph}
 use Rattle.cy_patterns.specs.Outcomes.{IsSameOutcome}
 use Rattle.cy_oneshot.specs.Projection.{projection_rows}
 use Rattle.cy_oneshot.specs.Queries.{rows_after}

@@ -1,4 +1,4 @@
-use Rattle.std.proofs.Common.{◌≡◌, length, sym, ◌∙◌}
+use Rattle.std.proofs.Common.{sym, ◌∙◌}
 use Rattle.cy_trees.specs.Trees.{Expression, Projection}
 use Rattle.cy_trees.specs.Views.{expression_of, filter_of, projection_of}
 use Rattle.cy_plans.specs.Plans.{Plan}

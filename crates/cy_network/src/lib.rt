@@ -1,0 +1,4 @@
+//! Networks: the rows of a view's plan, kept up to date by what changes in the graph.
+#![tactic(auto)]
+
+mod memories;

@@ -2,3 +2,5 @@
 #![tactic(auto)]
 
 mod memories;
+mod pending;
+mod rows;

@@ -1,0 +1,8 @@
+use Rattle.std.proofs.Common.{◌≡◌, take}
+use Rattle.std.specs.Prelude.{flat_map}
+use Rattle.cy_network.specs.internal.Roots.{excess}
+use Rattle.cy_network.proofs.pending.gains.Given as goal
+
+-- the gains so far
+abbrev pub invariant-loop-shift : goal.invariant-loop-shift
+invariant-loop-shift l = l.pairs.items ≡ flat_map (excess (λ s. s.after) (λ s. s.before)) (take l.shift-index l.shifts)

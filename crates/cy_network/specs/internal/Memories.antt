@@ -1,0 +1,87 @@
+-- The memories of a plan: a part has those of the part at its left below it, then those of the one at its right, and then its own.
+use Rattle.std.specs.Prelude.{◌≡◌, ℕ, ◌<◌, List, [], ◌∷◌, ◌++◌, Option, map, length, count_by, if◌then◌else◌, nat_lt}
+use Rattle.std.specs.List.{All}
+use Rattle.cy_values.specs.declared.rows.Cell.{Cell}
+use Rattle.cy_values.specs.Bag.{count_of}
+use Rattle.cy_trees.specs.Trees.{Expression}
+use Rattle.cy_graph.specs.Graph.{Content}
+use Rattle.cy_memory.specs.Counts.{Counts}
+use Rattle.cy_plans.specs.declared.operators.KeyColumns.{KeyColumns}
+use Rattle.cy_plans.specs.Plans as plan
+use Rattle.cy_plans.specs.Plans.{Plan, width}
+use Rattle.cy_plans.specs.Parts.{parts}
+use Rattle.cy_plans.specs.Meaning.{each_once, is_partner}
+use Rattle.cy_deltas.specs.Deltas.{counts, rows_at}
+use Rattle.cy_merges.specs.Merges.{AreBounded, all_columns}
+
+-- the key columns of the memories that a part has itself: a join keeps the rows of both sides by their keys, an outer join these and the number of
+-- partners of each row of its left side, a look-up the rows below it by its column, and what adds counts keeps its own rows
+abbrev pub own_keys : Plan → List (List ℕ)
+own_keys plan.unit = []
+own_keys plan.nodes = []
+own_keys (plan.rels types orientation) = []
+own_keys (plan.join left right keys) = map (λ k. k.left) keys ∷ map (λ k. k.right) keys ∷ []
+own_keys (plan.outer left right keys test) = map (λ k. k.left) keys ∷ map (λ k. k.right) keys ∷ all_columns (width left) ∷ []
+own_keys (plan.lookup p column attribute) = (column ∷ []) ∷ []
+own_keys (plan.filter p test) = []
+own_keys (plan.all_different p columns) = []
+own_keys (plan.project p outputs) = all_columns (length outputs) ∷ []
+own_keys (plan.distinct p) = []
+own_keys (plan.union left right) = all_columns (width left) ∷ []
+
+-- the key columns of all memories of a plan
+abbrev pub keys : Plan → List (List ℕ)
+keys plan.unit = []
+keys plan.nodes = []
+keys (plan.rels types orientation) = []
+keys (plan.join left right ks) = (keys left ++ keys right) ++ own_keys (plan.join left right ks)
+keys (plan.outer left right ks test) = (keys left ++ keys right) ++ own_keys (plan.outer left right ks test)
+keys (plan.lookup p column attribute) = keys p ++ own_keys (plan.lookup p column attribute)
+keys (plan.filter p test) = keys p
+keys (plan.all_different p columns) = keys p
+keys (plan.project p outputs) = keys p ++ own_keys (plan.project p outputs)
+keys (plan.distinct p) = keys p
+keys (plan.union left right) = (keys left ++ keys right) ++ own_keys (plan.union left right)
+
+-- how many different rows of the right side are partners of each row of the left side that counts
+abbrev pub numbers_of_partners : List KeyColumns → Expression → List (List Cell) → List (List Cell) → Counts
+numbers_of_partners ks test lefts rights row = if nat_lt 0 (count_of row lefts) then count_by (is_partner ks test row) (each_once rights) else 0
+
+-- what the memories of a part count, where the rows of each part are given
+abbrev pub own_contents : (Plan → List (List Cell)) → Plan → List Counts
+own_contents rows plan.unit = []
+own_contents rows plan.nodes = []
+own_contents rows (plan.rels types orientation) = []
+own_contents rows (plan.join left right ks) = counts (rows left) ∷ counts (rows right) ∷ []
+own_contents rows (plan.outer left right ks test) = counts (rows left) ∷ counts (rows right) ∷ numbers_of_partners ks test (rows left) (rows right) ∷ []
+own_contents rows (plan.lookup p column attribute) = counts (rows p) ∷ []
+own_contents rows (plan.filter p test) = []
+own_contents rows (plan.all_different p columns) = []
+own_contents rows (plan.project p outputs) = counts (rows (plan.project p outputs)) ∷ []
+own_contents rows (plan.distinct p) = []
+own_contents rows (plan.union left right) = counts (rows (plan.union left right)) ∷ []
+
+-- what all memories of a plan count
+abbrev pub contents : (Plan → List (List Cell)) → Plan → List Counts
+contents rows plan.unit = []
+contents rows plan.nodes = []
+contents rows (plan.rels types orientation) = []
+contents rows (plan.join left right ks) = (contents rows left ++ contents rows right) ++ own_contents rows (plan.join left right ks)
+contents rows (plan.outer left right ks test) = (contents rows left ++ contents rows right) ++ own_contents rows (plan.outer left right ks test)
+contents rows (plan.lookup p column attribute) = contents rows p ++ own_contents rows (plan.lookup p column attribute)
+contents rows (plan.filter p test) = contents rows p
+contents rows (plan.all_different p columns) = contents rows p
+contents rows (plan.project p outputs) = contents rows p ++ own_contents rows (plan.project p outputs)
+contents rows (plan.distinct p) = contents rows p
+contents rows (plan.union left right) = (contents rows left ++ contents rows right) ++ own_contents rows (plan.union left right)
+
+-- no row of any part counts more than 2^62 - 1
+abbrev pub AreWithin : Option Content → Plan → Type 0
+AreWithin graph p = All (λ part. AreBounded (counts (rows_at graph part))) (parts p)
+
+-- The memories of a plan hold what it means on a graph, or nothing where there is none yet, and nothing is staged.
+pub record AreHeld (graph : Option Content) (p : Plan) (columns : List (List ℕ)) (was staged : List Counts) : Type 0 where
+  pub keyed : columns ≡ keys p
+  pub held : was ≡ contents (rows_at graph) p
+  pub settled : staged ≡ contents (rows_at graph) p
+  pub within : AreWithin graph p

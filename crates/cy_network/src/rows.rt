@@ -1,0 +1,53 @@
+//! The rows of a network, each with its count under itself.
+
+ghost use Rattle.std.specs.Prelude.{◌≡◌, ◌+◌, ◌<◌, ◌≤◌, List, IfOk, length};
+ghost use Rattle.std.specs.List.{All};
+ghost use Rattle.indexmap.specs.IndexMap.{spare};
+ghost use Rattle.cy_values.specs.declared.rows.Cell.{Cell};
+ghost use Rattle.cy_values.specs.Bag.{IsCanonical, weight_of};
+ghost use Rattle.cy_memory.specs.Counts.{with_count};
+ghost use Rattle.cy_network.specs.internal.Roots.{AreOnce, ArePositive, counted, written};
+
+use cy_memory::rows_equal;
+use cy_values::{Fault, Row, row_order_laws};
+use indexmap::IndexMap;
+
+/// Writes the counts of some rows, one after another. There is room for each that is new.
+pub(crate) fn write_counts(rows: &mut IndexMap<Row, u64>, next: Vec<(Row, u64)>)
+    requires room { length next.items ≤ spare rows.old }
+    requires positive { ArePositive rows.old.entries }
+    ensures counts { counted rows.new.entries ≡ written next.items (counted rows.old.entries) }
+    ensures positive { ArePositive rows.new.entries }
+{
+    for (row, count) in next {
+        write_count(rows, row, count);
+    }
+}
+
+// Writes the count of a row, for which there is room if it is new. One that counts 0 goes.
+fn write_count(rows: &mut IndexMap<Row, u64>, row: Row, count: u64)
+    requires room { 0 < spare rows.old }
+    requires positive { ArePositive rows.old.entries }
+    ensures counts { (other : List Cell) → counted rows.new.entries other ≡ with_count row count (counted rows.old.entries) other }
+    ensures positive { ArePositive rows.new.entries }
+    ensures room { spare rows.old ≤ spare rows.new + 1 }
+{
+    rows_equal();
+    if count == 0 {
+        let _ = rows.swap_remove(&row);
+    } else {
+        let _ = rows.insert(row, count);
+    }
+}
+
+/// Rows with their counts, in canonical order. Fails only for want of memory.
+pub(crate) fn sorted(mut pairs: Vec<(Row, u64)>) -> Result<Vec<(Row, u64)>, Fault>
+    requires once { AreOnce pairs.items }
+    requires positive { All (λ p. 0 < p.1) pairs.items }
+    ensures counts { IfOk result (λ sorted. (row : List Cell) → weight_of row sorted.items ≡ weight_of row pairs.items) }
+    ensures canonical { IfOk result (λ sorted. IsCanonical sorted.items) }
+{
+    row_order_laws();
+    pairs.sort()?;
+    Ok(pairs)
+}

@@ -1,4 +1,4 @@
-//! What a store lends of its open change, and how often it was read.
+//! What a store lends of its entities and of its open change, and how often it was read.
 
 ghost use Rattle.std.specs.Prelude.{◌≡◌, ◌+◌, ◌-◌, ◌^◌, min, IsSome, IfSome, IfOk, IfErr, OnOk, map};
 ghost use Rattle.std.specs.Option.{option_copied};
@@ -11,7 +11,7 @@ use cy_values::{NodeId, RelId};
 use std::alloc::Global;
 use std::marker::Model;
 
-/// What the open change touched, and the single entities of the store. Each entity that is asked for is a read.
+/// The single entities of the store, and what its open change touched. Each entity that is asked for is a read.
 #[derive(Drop)]
 pub struct Sight<'a> {
     store: &'a Store,
@@ -19,19 +19,15 @@ pub struct Sight<'a> {
 }
 
 impl<'a> Model for Sight<'a> {
-    ghost use Rattle.std.specs.Prelude.{IsSome};
     ghost use Rattle.cy_index.specs.Index.{SightState};
 
     ghost Value = { SightState };
 
     ghost view = { λ s. record { graph = s.store.now.graph; reads = s.reads } };
-
-    ghost invariant = { λ s. IsSome s.store.now.graph.was };
 }
 
 impl<'a> Sight<'a> {
     pub(crate) fn new(store: &'a Store) -> Self
-        requires { IsSome store.now.graph.was }
         ensures { result ≡ record { graph = store.now.graph; reads = 0 } }
     {
         Sight { store, reads: 0 }
@@ -40,8 +36,8 @@ impl<'a> Sight<'a> {
     /// The entities whose value is another than when the change began, as `Graph::touched` gives them. Fails only for
     /// want of memory.
     pub fn touched(&self, alloc: Global) -> Result<Vec<Touched<'a>>, GraphFault>
+        requires { IsSome self.now.graph.was }
         ensures ok { IfOk result (λ touched. IfSome self.now.graph.was (λ before. AreTouched before self.now.graph.now (map before_image touched.items))) }
-        ensures open { IsSome self.now.graph.was }
         ensures graphs { OnOk result (IsGraph self.now.graph.now × IfSome self.now.graph.was (λ before. IsGraph before)) }
         ensures fault { IfErr result (λ fault. fault ≡ GraphFault.NoMemory) }
     {

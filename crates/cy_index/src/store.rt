@@ -146,9 +146,8 @@ impl Store {
         self.graph.touched(alloc)
     }
 
-    /// Lends the entities of the open change, and what it touched.
+    /// Lends the entities, and where a change is open what it touched.
     pub fn sight(&self) -> Sight<'_>
-        requires { IsSome self.now.graph.was }
         ensures { result ≡ record { graph = self.now.graph; reads = 0 } }
     {
         Sight::new(self)

@@ -36,6 +36,7 @@ impl<'a> Model for GraphChange<'a> {
 impl<'a> GraphChange<'a> {
     /// What the open change touched. Fails only for want of memory.
     pub fn new(alloc: Global, sight: &Sight<'a>) -> Result<Self, Fault>
+        requires { IsSome sight.now.graph.was }
         ensures change { IfOk result (λ change. IsChange (before_change sight.now.graph) sight.now.graph.now change) }
     {
         let Ok(touched) = sight.touched(alloc) else {

@@ -1,6 +1,6 @@
 //! From a line to its tokens.
 
-ghost use Rattle.std.specs.Prelude.{◌≡◌, ◌≢◌, ◌<◌, length, Err, All, IfOk, IfErr, chars};
+ghost use Rattle.std.specs.Prelude.{◌≡◌, ◌≢◌, ◌<◌, ◌++◌, ◌∷◌, [], length, Err, All, IfOk, IfErr, OnOk, chars};
 ghost use Rattle.cy_lexer.specs.Gaps.{LeavesGaps};
 ghost use Rattle.cy_lexer.specs.Line.{longest_line};
 ghost use Rattle.cy_lexer.specs.Tokens.{tokens_of};
@@ -14,7 +14,7 @@ use crate::tokens::Token;
 use std::alloc::Global;
 
 /// The tokens of a line, or the first fault that reading it from the left meets. Fails with `LineTooLong` above 65,536
-/// bytes, and may fail with `NoMemory` at its start and at any token. Nothing but white space and comments stands between
+/// bytes, and may fail with `NoMemory` at any token. Nothing but white space and comments stands between
 /// the tokens.
 pub fn lex(alloc: Global, line: &str) -> Result<Vec<Token>, LexFault>
     ensures tokens { IfOk result (λ tokens. tokens_of line.now ≡ Ok tokens.items) }
@@ -27,17 +27,30 @@ pub fn lex(alloc: Global, line: &str) -> Result<Vec<Token>, LexFault>
     if line.len() > LONGEST_LINE {
         return Err(LexFault::LineTooLong);
     }
-    // A token and the gap after it mostly take two bytes or more.
-    let mut tokens = Vec::with_capacity(alloc, line.len() / 2)?;
+    let mut tokens = Vec::new(alloc);
     let mut rest = line;
     while let Some((first, after)) = split_first(rest) {
         let start = line.len() - rest.len();
         let (kind, left) = piece(line.len(), rest, first, after)?;
         if let Some(kind) = kind {
             let end = line.len() - left.len();
-            tokens.push(Token { kind, start, end })?;
+            push_token(&mut tokens, Token { kind, start, end }, left)?;
         }
         rest = left;
     }
     Ok(tokens)
+}
+
+// Adds the token that stands before the rest of the line. With the first one comes room for those that the rest mostly has, so that a
+// line without tokens takes no memory.
+fn push_token(tokens: &mut Vec<Token>, token: Token, rest: &str) -> Result<(), LexFault>
+    ensures ok { OnOk result (tokens.new.items ≡ tokens.old.items ++ token ∷ []) }
+    ensures fault { IfErr result (λ fault. fault ≡ LexFault.NoMemory) }
+{
+    if tokens.is_empty() {
+        // A token and the gap after it mostly take two bytes or more.
+        tokens.reserve(1 + rest.len() / 2)?;
+    }
+    tokens.push(token)?;
+    Ok(())
 }

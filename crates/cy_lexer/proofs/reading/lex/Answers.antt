@@ -5,11 +5,11 @@ use Rattle.cy_lexer.proofs.TokensLemmas.{IsRead-token, IsRead-gap, IsRead-all, I
 use Rattle.cy_lexer.proofs.GapsLemmas.{tokens_of-leaves_gaps}
 use Rattle.cy_lexer.proofs.reading.lex.Goals as goal
 
-pub loop-first-preserved-in_ok-push : goal.loop-first-preserved-in_ok-push
-loop-first-preserved-in_ok-push c =
+pub loop-first-preserved-in_ok-push_token : goal.loop-first-preserved-in_ok-push_token
+loop-first-preserved-in_ok-push_token c =
     let text : IsUtf8 c.in_ok-kind.left.now = search rules in (
       text,
-      IsRead-token c.args.line.now c.loop-first.rest.now c.in_ok-kind.left.now c.in-Some.first _ c.in_ok-kind.kind c.in-Some-kind.kind c.loop-first.tokens.items _ c.loop-first.invariant.0 text c.in-Some.ensures.cases c.in_ok-kind.ensures.value c.in-Some-kind.is (omega (arith, c.in_ok-kind.ensures.shorter, c.in-Some.ensures.shorter)) c.in_ok-push.ensures.items c.loop-first.invariant.1,
+      IsRead-token c.args.line.now c.loop-first.rest.now c.in_ok-kind.left.now c.in-Some.first _ c.in_ok-kind.kind c.in-Some-kind.kind c.loop-first.tokens.items _ c.loop-first.invariant.0 text c.in-Some.ensures.cases c.in_ok-kind.ensures.value c.in-Some-kind.is (omega (arith, c.in_ok-kind.ensures.shorter, c.in-Some.ensures.shorter)) c.in_ok-push_token.ensures.ok c.loop-first.invariant.1,
     )
 
 pub loop-first-preserved : goal.loop-first-preserved
@@ -25,7 +25,7 @@ returns-then-line-gt-LONGEST_LINE-clause-fault c _ = tokens_of-long c.args.line.
 pub returns-in_err-kind-clause-fault : goal.returns-in_err-kind-clause-fault
 returns-in_err-kind-clause-fault c =
     let bad = IsRead-fault c.args.line.now c.loop-first.rest.now c.loop-first.tokens.items c.in-Some.first _ c.in_err-kind.field-0.0 c.utf8.line c.if-line-gt-LONGEST_LINE.false c.loop-first.invariant.1 c.in-Some.ensures.cases (sym c.in_err-kind.ensures.value) in
-    let returned = err_from_is_err_and c.from_residual-in_err-kind.result c.from_residual-in_err-kind.ensures.1 in
+    let returned = err_from_is_err_and c.from_residual.result c.from_residual.ensures.1 in
     rw (returned.1, returned.2) (λ _. bad)
 
 pub returns-clause-tokens : goal.returns-clause-tokens

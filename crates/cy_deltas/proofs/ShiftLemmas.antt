@@ -3,7 +3,7 @@ use Rattle.std.proofs.Common.{◌≡◌, ℕ, ◌+◌, ◌<◌, ◌≤◌, ◌==
 use Rattle.std.specs.Prelude.{flat_map}
 use Rattle.std.specs.List.{All}
 use Rattle.std.proofs.lemmas.List.{append-nil, append_assoc, take_more}
-use Rattle.std.proofs.lemmas.List.Elements.{All-cons, All-filter, All-head, All-nil, All-tail, filter-append}
+use Rattle.std.proofs.lemmas.List.Elements.{All-append, All-cons, All-filter, All-head, All-nil, All-tail, filter-append}
 use Rattle.std.proofs.lemmas.List.Concat.{flat_map-append}
 use Rattle.std.proofs.lemmas.Bool.Decides.{nat_tests}
 use Rattle.cy_values.specs.declared.rows.Cell.{Cell}
@@ -158,3 +158,37 @@ after_bounded before after shifts delta bounded first row =
     step : (b : Bool) → (before row == after row) ≡ b → All IsBounded (cond b [] ((record { row = row; before = before row; after = after row }) ∷ [])) → after row ≤ greatest_count
     step true is all = subst (λ n. n ≤ greatest_count) (same_number (before row) (after row) is) (first row)
     step false is all = (All-head IsBounded (record { row = row; before = before row; after = after row }) [] all).1
+
+-- what is made of shifts is bounded where the new counts are
+between_bounded : (row : List Cell) (m n : ℕ) → m ≤ greatest_count → n ≤ greatest_count → All IsBounded (shift_between row m n)
+between_bounded row m n first second = by (m == n)
+  where
+    by : (b : Bool) → All IsBounded (cond b [] ((record { row = row; before = m; after = n }) ∷ []))
+    by true = All-nil IsBounded
+    by false = All-cons IsBounded (record { row = row; before = m; after = n }) [] (first, second) (All-nil IsBounded)
+
+pub recounted_bounded : (count : List Cell → ℕ → ℕ) (P : Shift → Type 0) → ((s : Shift) → P s → (count s.row s.before ≤ greatest_count) × (count s.row s.after ≤ greatest_count))
+    → (shifts : List Shift) → All P shifts → All IsBounded (flat_map (recounted count) shifts)
+recounted_bounded count P most [] all = All-nil IsBounded
+recounted_bounded count P most (s ∷ shifts) all =
+    let one = most s (All-head P s shifts all) in
+    All-append IsBounded (recounted count s) (flat_map (recounted count) shifts) (between_bounded s.row (count s.row s.before) (count s.row s.after) one.0 one.1)
+    (recounted_bounded count P most shifts (All-tail P s shifts all))
+
+pub any_shift : (shifts : List Shift) → All (λ (s : Shift). Unit {0}) shifts
+any_shift [] = All-nil (λ (s : Shift). Unit {0})
+any_shift (s ∷ shifts) = All-cons (λ (s : Shift). Unit {0}) s shifts tt (any_shift shifts)
+
+-- of bounded shifts, those of the rows that pass a test are
+pub kept_bounded : (p : List Cell → Bool) (shifts kept : List Shift) → kept ≡ flat_map (recounted (λ row n. cond (p row) n 0)) shifts → All IsBounded shifts → All IsBounded kept
+kept_bounded p shifts kept is all =
+    subst (All IsBounded) (sym is)
+    (recounted_bounded (λ row n. cond (p row) n 0) IsBounded (λ s bounded. (most (p s.row) s.before bounded.0, most (p s.row) s.after bounded.1)) shifts all)
+  where
+    most : (b : Bool) (n : ℕ) → n ≤ greatest_count → cond b n 0 ≤ greatest_count
+    most true n less = less
+    most false n less = omega (arith, less)
+
+-- the row of each shift counts before or after
+pub shift_there : (before after : Counts) (shifts : List Shift) → IsDelta before after shifts → All (λ s. 0 < before s.row + after s.row) shifts
+shift_there before after shifts delta = each_shift (λ s. 0 < before s.row + after s.row) before after shifts delta (λ row differ. some_count (before row) (after row) differ)

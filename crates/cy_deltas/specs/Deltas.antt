@@ -17,6 +17,11 @@ abbrev pub rows_at : Option Content → Plan → List (List Cell)
 rows_at None p = []
 rows_at (Some graph) p = rows_of graph p
 
+-- what a graph holds, and nothing where there is no graph yet
+abbrev pub content_at : Option Content → Content
+content_at None = record { nodes = []; rels = [] }
+content_at (Some graph) = graph
+
 -- how many times each row counts in a list of rows
 abbrev pub counts : List (List Cell) → Counts
 counts rows row = count_of row rows

@@ -5,6 +5,10 @@ use Rattle.std.specs.List.{IsDistinct}
 use Rattle.std.specs.Map.{keys_of, lookup}
 use Rattle.std.proofs.lemmas.Map.Made.{Contains-tail, lookup-map_values}
 use Rattle.std.specs.Option.{option_map}
+use Rattle.std.specs.declared.cmp.Ordering.{Ordering}
+use Rattle.std.specs.Ordering.{eq_by_cmp, is_eq, nat_cmp}
+use Rattle.std.specs.FinMap.Entries as entries
+use Rattle.std.proofs.lemmas.Bool.Decides.{nat_tests}
 use Rattle.std.proofs.lemmas.Bool.{false≢true, true≢false}
 use Rattle.std.proofs.lemmas.List.Elements.{Contains-append_right}
 use Rattle.cy_values.specs.declared.numbers.NodeId.{NodeId}
@@ -14,12 +18,12 @@ use Rattle.cy_graph.specs.declared.nodes.Node.{Node}
 use Rattle.cy_graph.specs.declared.nodes.Rel.{Rel}
 use Rattle.cy_graph.specs.contracts.nodes.NodePartialEq.TheImpl as node_eq
 use Rattle.cy_graph.specs.contracts.nodes.RelPartialEq.TheImpl as rel_eq
-use Rattle.cy_graph.specs.Graph.{IsGraph, State, Versions, node_at, rel_at}
+use Rattle.cy_graph.specs.Graph.{IsGraph, State, Versions, empty_state, node_at, node_order, rel_at, rel_order}
 use Rattle.cy_graph.specs.Touched.{Old, BeforeImage, AreTouched, value_of}
 use Rattle.cy_graph.proofs.Same.{same_node, node_itself, same_rel, rel_itself}
 use Rattle.cy_graph.proofs.Touching.{same_nodes, same_rels}
 use Rattle.cy_scans.specs.Changes.{IsChange, IsImage, Touches, before_change, image_at}
-use Rattle.cy_scans.specs.internal.Images.{node_in, rel_in, node_noted, rel_noted, nodes_noted, rels_noted}
+use Rattle.cy_scans.specs.internal.Images.{come, node_in, rel_in, node_noted, rel_noted, nodes_noted, rels_noted}
 use Rattle.cy_scans.proofs.Keys.{same_number, number_itself}
 
 -- one more at the end
@@ -211,3 +215,77 @@ added g key number value old new is =
     step : (b : Bool) → option_map g (cond b (Some value) (lookup (nat_eq number) old)) ≡ cond b (Some (g value)) (option_map g (lookup (nat_eq number) old))
     step true = refl
     step false = refl
+
+-- ---- all entities of a graph, of which none was there
+
+one_choice : {A : Type 0} (b : Bool) (x : A) → cond b x x ≡ x
+one_choice true x = refl
+one_choice false x = refl
+
+come_stays : {K V W : Type 0} (number_of : K → ℕ) (number : ℕ) (es : List (K × V)) → come {W = W} number_of number es (Some None) ≡ Some None
+come_stays number_of number [] = refl
+come_stays {W = W} number_of number (e ∷ es) =
+    ap (come {W = W} number_of number es) (one_choice (nat_eq (number_of e.0) number) (Some None)) ∙ come_stays {W = W} number_of number es
+
+come_mapped : {K V X W : Type 0} (number_of : K → ℕ) (number : ℕ) (g : Option X → Option W) → g None ≡ None → (es : List (K × V)) (found : Option (Option X))
+    → option_map g (come number_of number es found) ≡ come number_of number es (option_map g found)
+come_mapped number_of number g none [] found = refl
+come_mapped {W = W} number_of number g none (e ∷ es) found =
+    come_mapped number_of number g none es (cond (nat_eq (number_of e.0) number) (Some None) found) ∙ ap (come {W = W} number_of number es) (step (nat_eq (number_of e.0) number))
+  where
+    step : (b : Bool) → option_map g (cond b (Some None) found) ≡ cond b (Some None) (option_map g found)
+    step true = ap Some none
+    step false = refl
+
+-- the same where the values are seen by others
+pub seen_come : {K V X W : Type 0} (number_of : K → ℕ) (g : Option X → Option W) → g None ≡ None → (es : List (K × V)) (noted : List (ℕ × Option X))
+    → ((n : ℕ) → image_at n noted ≡ come number_of n es None) → (n : ℕ) → image_at n (map (λ e. (e.0, g e.1)) noted) ≡ come number_of n es None
+seen_come number_of g none es noted is n = lookup-map_values g (nat_eq n) noted ∙ ap (option_map g) (is n) ∙ come_mapped number_of n g none es None
+
+-- an entity comes exactly where a look-up finds it
+found_come : {K V W : Type 0} (R : K → K → Ordering) (number_of : K → ℕ) (q : K) → ((k : K) → eq_by_cmp R q k ≡ nat_eq (number_of k) (number_of q)) → (es : List (K × V))
+    → come {W = W} number_of (number_of q) es None ≡ option_map (λ v. None) (entries.find R q es)
+found_come R number_of q same [] = refl
+found_come {W = W} R number_of q same (e ∷ es) =
+    ap (λ b. come {W = W} number_of (number_of q) es (cond b (Some None) None)) (sym (same e.0)) ∙ step (eq_by_cmp R q e.0) (found_come {W = W} R number_of q same es)
+  where
+    step : (b : Bool) → come {W = W} number_of (number_of q) es None ≡ option_map (λ v. None) (entries.find R q es)
+        → come {W = W} number_of (number_of q) es (cond b (Some None) None) ≡ option_map (λ v. None) (cond b (Some e.1) (entries.find R q es))
+    step true rest = come_stays {W = W} number_of (number_of q) es
+    step false rest = rest
+
+by_number : (m n : ℕ) → is_eq (nat_cmp m n) ≡ nat_eq n m
+by_number m n = grind (arith, nat_tests)
+
+image_come : {V : Type 0} (now : Option V) (o : Option (Option V)) → o ≡ option_map (λ v. None) now → IsImage None now o
+image_come {V = V} None o is = subst (IsImage {V = V} None None) (sym is) refl
+image_come {V = V} (Some v) o is = subst (IsImage {V = V} None (Some v)) (sym is) (refl, λ same. cc)
+
+empty_graph : IsGraph (empty_state 1 1)
+empty_graph = record {
+  rising = refl;
+  numbered = tt;
+  in_form = tt;
+  stored = tt;
+  rels_rising = refl;
+  rels_numbered = tt;
+  rels_in_form = tt;
+  rels_stored = tt;
+  ends = tt;
+  node_range = (omega arith, omega arith);
+  rel_range = (omega arith, omega arith);
+}
+
+pub all_come : (now : State) → IsGraph now → (touches : Touches)
+    → ((n : ℕ) → image_at n touches.nodes ≡ come (λ (k : NodeId). k.0) n now.content.nodes None) → ((n : ℕ) → image_at n touches.rels ≡ come (λ (k : RelId). k.0) n now.content.rels None)
+    → IsDistinct nat_eq (keys_of touches.nodes) → IsDistinct nat_eq (keys_of touches.rels) → IsChange (empty_state 1 1) now touches
+all_come now graph touches nodes rels nodes_once rels_once = record {
+  graph_before = empty_graph;
+  graph_now = graph;
+  nodes_once = nodes_once;
+  rels_once = rels_once;
+  nodes = λ id. image_come (node_at id now) (image_at id.0 touches.nodes)
+      (nodes id.0 ∙ found_come node_order (λ (k : NodeId). k.0) id (λ k. by_number id.0 k.0) now.content.nodes);
+  rels = λ id. image_come (rel_at id now) (image_at id.0 touches.rels)
+      (rels id.0 ∙ found_come rel_order (λ (k : RelId). k.0) id (λ k. by_number id.0 k.0) now.content.rels);
+}

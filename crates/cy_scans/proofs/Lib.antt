@@ -7,3 +7,4 @@ pub mod LookupLemmas
 pub mod LookupDeltas
 pub mod AttributeLemmas
 pub mod CostLemmas
+pub mod Determined

@@ -1,15 +1,16 @@
 //! What an open change of the store touched, found by number.
 
-ghost use Rattle.std.specs.Prelude.{◌≡◌, ℕ, [], IfOk, OnOk, IsSome, map, length, nat_eq};
+ghost use Rattle.std.specs.Prelude.{◌≡◌, ℕ, [], None, IfOk, OnOk, IsSome, map, length, nat_eq};
 ghost use Rattle.std.specs.Option.{option_copied, option_map};
 ghost use Rattle.std.specs.List.{IsDistinct};
 ghost use Rattle.std.specs.Map.{keys_of};
+ghost use Rattle.cy_graph.specs.Graph.{IsGraph, empty_state};
 ghost use Rattle.cy_graph.specs.Touched.{before_image, old_value};
 ghost use Rattle.cy_scans.specs.Changes.{IsChange, before_change, image_at};
-ghost use Rattle.cy_scans.specs.internal.Images.{node_in, rel_in, node_noted, rel_noted};
+ghost use Rattle.cy_scans.specs.internal.Images.{come, node_in, rel_in, node_noted, rel_noted};
 
 use cy_graph::{Node, Rel, Touched, Was};
-use cy_index::Sight;
+use cy_index::{Sight, Store};
 use cy_values::{Entity, Fault, NodeId, RelId};
 use indexmap::{IndexMap, map};
 use std::alloc::Global;
@@ -46,6 +47,19 @@ impl<'a> GraphChange<'a> {
         for entity in touched {
             change.add(entity)?;
         }
+        change.once();
+        Ok(change)
+    }
+
+    /// What leads from a graph without anything to that of a store: each entity is touched, and none was there. Fails only for want
+    /// of memory.
+    pub fn of_all(alloc: Global, store: &'a Store) -> Result<Self, Fault>
+        ensures { IfOk result (λ change. IsChange (empty_state 1 1) store.now.graph.now change) }
+    {
+        let change = GraphChange {
+            nodes: nodes_of(alloc, store)?,
+            rels: rels_of(alloc, store)?,
+        };
         change.once();
         Ok(change)
     }
@@ -112,6 +126,29 @@ impl<'a> GraphChange<'a> {
     {
         self.rels.iter()
     }
+}
+
+// All nodes of a store, none of which was there. Fails only for want of memory.
+fn nodes_of<'a>(alloc: Global, store: &'a Store) -> Result<IndexMap<u64, Option<&'a Node>>, Fault>
+    ensures nodes { IfOk result (λ nodes. (number : ℕ) → image_at number nodes.entries ≡ come (λ k. k.0) number store.now.graph.now.content.nodes None) }
+    ensures graph { OnOk result (IsGraph store.now.graph.now) }
+{
+    let mut nodes = IndexMap::new(alloc);
+    for (id, _) in store.nodes() {
+        nodes.insert(id.0, None)?;
+    }
+    Ok(nodes)
+}
+
+// All relationships of a store, none of which was there. Fails only for want of memory.
+fn rels_of<'a>(alloc: Global, store: &'a Store) -> Result<IndexMap<u64, Option<&'a Rel>>, Fault>
+    ensures rels { IfOk result (λ rels. (number : ℕ) → image_at number rels.entries ≡ come (λ k. k.0) number store.now.graph.now.content.rels None) }
+{
+    let mut rels = IndexMap::new(alloc);
+    for (id, _) in store.rels() {
+        rels.insert(id.0, None)?;
+    }
+    Ok(rels)
 }
 
 // The node that a value is.

@@ -3,6 +3,7 @@
 
 mod attributes;
 mod changes;
+pub mod laws;
 mod lookups;
 mod scans;
 

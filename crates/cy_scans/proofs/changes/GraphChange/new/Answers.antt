@@ -27,7 +27,7 @@ returns c =
     let seen = YieldsList-end (YieldsList-from_vec {s = c.into_iter-entity-iterator.result} c.in-Ok.touched.items gives.0 (gives.1 ∙ c.in-Ok.touched.ok.0)) c.loop-entity.yielded c.loop-entity.entity-iterator c.loop-entity.yielded_by c.next.result c.next.new.self c.in-None.is c.next.ensures.steps in
     record {
       change =
-          gathered c.args.sight.now.graph (map before_image c.in-Ok.touched.items) c.touched.ensures.open c.in-Ok.ensures.ok c.in-Ok.ensures.graphs c.loop-entity.change
+          gathered c.args.sight.now.graph (map before_image c.in-Ok.touched.items) c.requires c.in-Ok.ensures.ok c.in-Ok.ensures.graphs c.loop-entity.change
           (λ number. c.loop-entity.invariant.nodes number ∙ ap (λ es. nodes_noted number (map before_image es) None) (sym (map-id c.loop-entity.yielded) ∙ seen.0))
           (λ number. c.loop-entity.invariant.rels number ∙ ap (λ es. rels_noted number (map before_image es) None) (sym (map-id c.loop-entity.yielded) ∙ seen.0))
           c.once.ensures.nodes c.once.ensures.rels;

@@ -12,18 +12,23 @@ use Rattle.cy_engine.specs.declared.faults.Fault.{Fault}
 use Rattle.cy_engine.specs.State.{Entries, View}
 use Rattle.cy_engine.specs.Step.{AreEntries}
 use Rattle.cy_engine.specs.Verdicts.{next_tick, tick_after}
-use Rattle.cy_engine.specs.internal.Network.{AllPrepared, AllReady, AllStand, abandoned_one, pending_entries, settled_one}
+use Rattle.cy_engine.specs.internal.Network.{AllPrepared, AllReady, AllStand, AllTake, pending_entries, settled_one}
 use Rattle.cy_engine.specs.internal.Representation.{Registry, views_in}
 use Rattle.cy_engine.specs.internal.Stages.{HasEffect}
 use Rattle.cy_engine.proofs.Chains.{nothing_changed}
 use Rattle.cy_engine.proofs.Contents.{tick_moves, tick_stays}
-use Rattle.cy_engine.proofs.NetworkLemmas.{on_open, ready_prepared, ready_settled, stand_abandoned, stand_on, stand_settled}
+use Rattle.cy_engine.proofs.NetworkLemmas.{on_open, ready_prepared, ready_settled, stand_on, stand_settled}
+use Rattle.cy_engine.proofs.FedViews.{none_take, nothing_pending}
 use Rattle.cy_engine.proofs.TouchedContents.{nothing_touched, touched_differs}
 use Rattle.cy_engine.proofs.ViewEntries.{pending_exact}
 
 -- the views before the change have nothing prepared
-pub none_prepared : (was : Option State) (entries : Registry) → IsSome was → IfSome was (λ before. AllStand before.content entries) → map abandoned_one entries ≡ entries
-none_prepared was entries is_open stand = on_open was is_open stand (λ before s. stand_abandoned before.content entries s)
+module _ (was : Option State) (entries : Registry) (tick : ℕ) (is_open : IsSome was) (stand : IfSome was (λ before. AllStand before.content entries)) where
+  pub take_before : AllTake tick entries
+  take_before = on_open was is_open stand (λ before s. none_take tick before.content entries s)
+
+  pub pending_before : pending_entries tick entries ≡ []
+  pending_before = on_open was is_open stand (λ before s. nothing_pending tick before.content entries s)
 
 module _ (now : State) (list : Vec Touched Global) where
   -- nothing is in the list
@@ -55,10 +60,10 @@ module _ (now : State) (list : Vec Touched Global) where
           entries_are = rw (alike, none) (nothing_changed (views_in entries) before.content tick);
         }
 
-    pub untouched_stand : (was : Option State) → IsSome was → IfSome was IsTouched → IfSome was IsGraph → IfSome was (λ before. AllStand before.content entries) → AllStand now.content (map settled_one entries)
+    pub untouched_stand : (was : Option State) → IsSome was → IfSome was IsTouched → IfSome was IsGraph → IfSome was (λ before. AllStand before.content entries) → AllStand now.content (map (settled_one tick) entries)
     untouched_stand None is_open touched graph stand = cc
     untouched_stand (Some before) is_open touched graph stand =
-        stand_settled now.content entries (stand_on before.content now.content entries (same before nothing touched graph_now graph) stand)
+        stand_settled tick now.content entries (stand_on before.content now.content entries (same before nothing touched graph_now graph) stand)
 
   -- where something was, the tick is to rise
   module _ (tick : ℕ) (something : (vec_len list == 0) ≡ false) where
@@ -82,5 +87,5 @@ module _ (was : Option State) (now : State) (entries : Registry) (is_open : IsSo
   pub have_prepared : AllPrepared entries
   have_prepared = on_open was is_open ready (λ before r. ready_prepared before.content now.content entries r)
 
-  pub ready_stand : AllStand now.content (map settled_one entries)
-  ready_stand = on_open was is_open ready (λ before r. ready_settled before.content now.content entries r)
+  pub ready_stand : (tick : ℕ) → AllStand now.content (map (settled_one tick) entries)
+  ready_stand tick = on_open was is_open ready (λ before r. ready_settled tick before.content now.content entries r)

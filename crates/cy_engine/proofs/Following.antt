@@ -1,23 +1,32 @@
 -- The rows of a view are those that it had when it was made, changed by its later entries.
-use Rattle.std.proofs.Common.{◌≡◌, ◌⊎◌, ℕ, ◌+◌, ◌-◌, cond, List, [], ◌∷◌, find, Option, None, Some, Result, Ok, Err, refl, sym, ap, subst, ◌∙◌, arith, inl, inr}
-use Rattle.std.specs.Prelude.{Contains, IsOk}
+use Rattle.std.proofs.Common.{◌≡◌, ◌⊎◌, ℕ, ◌+◌, ◌-◌, cond, not, true, false, List, [], ◌∷◌, map, Option, None, Some, Result, Ok, Err, refl, sym, ap, subst, ◌∙◌, arith, inl, inr}
+use Rattle.std.specs.Prelude.{IsOk}
+use Rattle.std.specs.List.{AllByRecursion}
 use Rattle.std.specs.Result.{result_unwrap_or}
-use Rattle.std.specs.Option.{option_map}
 use Rattle.std.specs.Str.{bytes_eq}
 use Rattle.cy_values.specs.declared.rows.Cell.{Cell}
 use Rattle.cy_values.specs.Bag.{count_of, weight_of}
-use Rattle.cy_graph.specs.Graph.{Content}
+use Rattle.cy_graph.specs.Graph.{Content, State}
 use Rattle.cy_expr.specs.declared.faults.EvalFault.{EvalFault}
 use Rattle.cy_trees.specs.Trees.{Statement}
 use Rattle.cy_scope.specs.Checked.{IsViewQuery}
 use Rattle.cy_oneshot.specs.Queries.{query_columns, query_rows}
 use Rattle.cy_bags.specs.declared.changes.Entry.{Entry}
+use Rattle.cy_feeds.specs.Feeds.{History, new_history}
 use Rattle.cy_engine.specs.declared.replies.Reply.TheVariants as reply
-use Rattle.cy_engine.specs.Runs.{Event, Run, with_entry, entries_of, followed, counts_in, IsMaintained}
-use Rattle.cy_engine.specs.State.{EngineState, Entries, View, empty_engine, entry_at, rows_of, view_at}
-use Rattle.cy_engine.specs.Step.{AreEntries, IsEntry}
+use Rattle.cy_engine.specs.Headline.{AreItsEntries, AsksForView, HeadlineHolds, IsItsEntry, IsMaintained, Leads, Serves, counts_in, entries_of, followed, with_entries, with_entry}
+use Rattle.cy_engine.specs.Model.{Machine, state_of}
+use Rattle.cy_engine.specs.Runs.{Event, OnlySo, Run, Runs, accepted}
+use Rattle.cy_engine.specs.State.{EngineState, Entries, View, empty_engine, entry_at, rows_of}
+use Rattle.cy_engine.specs.Step.{AreEntries, Answer, Step, fed, without}
+use Rattle.cy_engine.specs.internal.Representation.{AreNamed}
+use Rattle.cy_engine.proofs.Building.{run_builds, step_leads}
+use Rattle.cy_engine.proofs.EachEntry.{each_entry}
 use Rattle.cy_engine.proofs.Effects.{Effects, effects, exact}
-use Rattle.cy_engine.proofs.Names.{IsNew, AreNamed, Among, itself, turned, among_from, among_either, other_name, effects_named, effects_among, found}
+use Rattle.cy_engine.proofs.Making.{step_asked}
+use Rattle.cy_engine.proofs.Names.{Among, among_from, among_either, found}
+use Rattle.cy_engine.proofs.StepNames.{effects_named, fed_name, fed_query}
+use Rattle.cy_engine.proofs.ToldRows.{with_one}
 
 abbrev Counts : Type 0
 Counts = List Cell → ℕ
@@ -28,57 +37,121 @@ followed_alike f g (e ∷ es) same row =
     followed_alike (λ r. (f r - weight_of r e.change.removed) + weight_of r e.change.added) (λ r. (g r - weight_of r e.change.removed) + weight_of r e.change.added) es
     (λ r. ap (λ n. (n - weight_of r e.change.removed) + weight_of r e.change.added) (same r)) row
 
--- an entry leads from the rows before to the rows after
-entry_leads : (view : View) (before after : Content) (tick : ℕ) (e : Entry) → IsEntry view.query before after tick e → (row : List Cell)
-    → count_of row (rows_of view.query after) ≡ (count_of row (rows_of view.query before) - weight_of row e.change.removed) + weight_of row e.change.added
-entry_leads view before after tick e is row = omega (arith, is.difference.removed.counts row, is.difference.added.counts row)
+-- a line, and then what follows
+then_followed : (query : Statement) (old mid : State) (first : Option Entry) (rest : List Entry) → IsItsEntry query old.content mid.content first → (row : List Cell)
+    → followed (counts_in query mid) rest row ≡ followed (counts_in query old) (with_entry first rest) row
+then_followed query old mid None rest is row = followed_alike (counts_in query mid) (counts_in query old) rest (λ r. sym (is r)) row
+then_followed query old mid (Some e) rest is row =
+    followed_alike (counts_in query mid) (λ r. (counts_in query old r - weight_of r e.change.removed) + weight_of r e.change.added) rest
+    (λ r. omega (arith, is.1.removed.counts r, is.1.added.counts r)) row
 
-abbrev at_name : List ℕ → Entries → Option (List ℕ × Entry)
-at_name name es = find (λ e. bytes_eq name e.0) es
+-- ---- what a view was before a line
 
-none_at : (name : List ℕ) (vs : List View) (before after : Content) (tick : ℕ) (es : Entries) → IsNew name vs → AreEntries vs before after tick es → at_name name es ≡ None
-none_at name [] before after tick es new are = ap (at_name name) are
-none_at name (v ∷ vs) before after tick es new (inl (same, rest)) = none_at name vs before after tick es new.1 rest
-none_at name (v ∷ vs) before after tick es new (inr (entry, others, is, is_entry, rest)) =
-    ap (at_name name) is ∙ ap (λ b. cond b (Some (v.name, entry)) (at_name name others)) (turned v.name name new.0) ∙ none_at name vs before after tick others new.1 rest
+-- with another feed
+abbrev fed_with : View → History → View
+fed_with view feed = record view { feed = feed }
 
--- what the entries of a step say of one view
-abbrev Leads : View → Content → Content → Option Entry → Type 0
-Leads view before after None = (row : List Cell) → count_of row (rows_of view.query after) ≡ count_of row (rows_of view.query before)
-Leads view before after (Some e) = (row : List Cell) → count_of row (rows_of view.query after) ≡ (count_of row (rows_of view.query before) - weight_of row e.change.removed) + weight_of row e.change.added
+-- a view that stands after a line stood before it with the feed that its entry then went into
+record Stood (old : EngineState) (entries : Entries) (mid : EngineState) (view : View) : Type 0 where
+  feed : History
+  there : Among (fed_with view feed) old.views
+  feeds : view.feed ≡ with_entries (with_entry (entry_at view.name entries) []) feed
+  entry : IsItsEntry view.query old.graph.content mid.graph.content (entry_at view.name entries)
 
-leads_at : (view : View) (vs : List View) (before after : Content) (tick : ℕ) (es : Entries) → AreNamed vs → AreEntries vs before after tick es → Among view vs → Leads view before after (entry_at view.name es)
-leads_at view [] before after tick es named are here = absurd here
-leads_at view (v ∷ vs) before after tick es named (inl (same, rest)) (inl is) =
-    let new : IsNew view.name vs = subst (λ (w : View). IsNew w.name vs) is named.0 in
-    subst (Leads view before after) (sym (ap (option_map (λ (e : List ℕ × Entry). e.1)) (none_at view.name vs before after tick es new rest)))
-    (λ row. sym (ap (λ (w : View). count_of row (rows_of w.query before)) (sym is) ∙ same row ∙ ap (λ (w : View). count_of row (rows_of w.query after)) is))
-leads_at view (v ∷ vs) before after tick es named (inl (same, rest)) (inr here) = leads_at view vs before after tick es named.1 rest here
-leads_at view (v ∷ vs) before after tick es named (inr (entry, others, is_2, is_entry, rest)) (inl is) =
-    let first : at_name view.name es ≡ Some (v.name, entry) =
-    ap (at_name view.name) is_2 ∙ ap (λ b. cond b (Some (v.name, entry)) (at_name view.name others)) (ap (λ (w : View). bytes_eq view.name w.name) is ∙ itself view.name) in
-    subst (Leads view before after) (sym (ap (option_map (λ (e : List ℕ × Entry). e.1)) first))
-    (entry_leads view before after tick entry (subst (λ (w : View). IsEntry w.query before after tick entry) is is_entry))
-leads_at view (v ∷ vs) before after tick es named (inr (entry, others, is_2, is_entry, rest)) (inr here) =
-    let later : at_name view.name es ≡ at_name view.name others =
-    ap (at_name view.name) is_2 ∙ ap (λ b. cond b (Some (v.name, entry)) (at_name view.name others)) (other_name v.name view vs named.0 here) in
-    subst (Leads view before after) (sym (ap (option_map (λ (e : List ℕ × Entry). e.1)) later)) (leads_at view vs before after tick others named.1 rest here)
+among_holds : (P : View → Type 0) (view : View) (views : List View) → AllByRecursion P views → Among view views → P view
+among_holds P view [] all here = absurd here
+among_holds P view (v ∷ views) all (inl is) = subst P is all.0
+among_holds P view (v ∷ views) all (inr here) = among_holds P view views all.1 here
 
--- a step, and then what follows
-then_followed : (view : View) (old mid : EngineState) (first : Option Entry) (rest : List Entry) → Leads view old.graph.content mid.graph.content first → (row : List Cell)
-    → followed (counts_in view mid) rest row ≡ followed (counts_in view old) (with_entry first rest) row
-then_followed view old mid None rest leads row = followed_alike (counts_in view mid) (counts_in view old) rest leads row
-then_followed view old mid (Some e) rest leads row =
-    followed_alike (counts_in view mid) (λ r. (counts_in view old r - weight_of r e.change.removed) + weight_of r e.change.added) rest leads row
+among_without : (name : List ℕ) (view : View) (views : List View) → Among view (without name views) → Among view views
+among_without name view [] here = here
+among_without name view (v ∷ views) here =
+    let later = among_without name view views in
+    elim (bytes_eq name v.name) as (λ b. Among view (cond (not b) (v ∷ without name views) (without name views)) → Among view (v ∷ views)) [
+      | true ↦ λ there. inr (later there)
+      | false ↦ λ there. from later there
+    ] here
+  where
+    from : (Among view (without name views) → Among view views) → Among view (v ∷ without name views) → Among view (v ∷ views)
+    from later (inl is) = inl is
+    from later (inr there) = inr (later there)
 
-pub run_followed : (view : View) (old new : EngineState) (events : List Event) → Run old events new → AreNamed old.views → Among view old.views
-    → (row : List Cell) → counts_in view new row ≡ followed (counts_in view old) (entries_of view.name events) row
-run_followed view old new [] run named here row = ap (λ (s : EngineState). counts_in view s row) run
-run_followed view old new (e ∷ events) (mid, step, run) named here row =
-    let does = effects old e.answer e.entries mid e.line step in
-    run_followed view mid new events run (effects_named old e.answer e.entries mid does named) (effects_among old e.answer e.entries mid view does here) row
-    ∙ then_followed view old mid (entry_at view.name e.entries) (entries_of view.name events)
-    (leads_at view old.views old.graph.content mid.graph.content mid.tick e.entries named (exact old e.answer e.entries mid does) here) row
+among_fed : (entries : Entries) (view : View) (views : List View) → Among view (map (fed entries) views) → (was : View) × Among was views × (fed entries was ≡ view)
+among_fed entries view [] here = absurd here
+among_fed entries view (v ∷ views) (inl is) = (v, inl refl, is)
+among_fed entries view (v ∷ views) (inr later) = let was = among_fed entries view views later in (was.0, inr was.1, was.2)
+
+-- the feed before an entry, and after it
+unfed : (was : View) (o : Option Entry) → fed_with (with_one was o) was.feed ≡ was
+unfed was None = refl
+unfed was (Some e) = refl
+
+feed_after : (was : View) (o : Option Entry) → (with_one was o).feed ≡ with_entries (with_entry o []) was.feed
+feed_after was None = refl
+feed_after was (Some e) = refl
+
+module _ (old : EngineState) (answer : Answer) (entries : Entries) (mid : EngineState) (view : View) where
+  quiet_stood : entries ≡ [] → mid.graph ≡ old.graph → Among view old.views → Stood old entries mid view
+  quiet_stood none same there =
+      let no_entry : entry_at view.name entries ≡ None = ap (entry_at view.name) none in
+      record {
+        feed = view.feed;
+        there = there;
+        feeds = ap (λ (o : Option Entry). with_entries (with_entry o []) view.feed) (sym no_entry);
+        entry = subst (IsItsEntry view.query old.graph.content mid.graph.content) (sym no_entry) (λ row. ap (λ (g : State). count_of row (rows_of view.query g.content)) (sym same));
+      }
+
+  carried_stood : AreNamed old.views → AreEntries old.views old.graph.content mid.graph.content mid.tick entries → (was : View) → Among was old.views → fed entries was ≡ view → Stood old entries mid view
+  carried_stood named are was there is =
+      let o = entry_at was.name entries in
+      let named_so : was.name ≡ view.name = sym (fed_name entries was) ∙ ap (λ (v : View). v.name) is in
+      let asks : was.query ≡ view.query = sym (fed_query entries was) ∙ ap (λ (v : View). v.query) is in
+      let all = each_entry old.graph.content mid.graph.content mid.tick (λ v o. IsItsEntry v.query old.graph.content mid.graph.content o) (λ v same. same) (λ v e is. (is.differs, is.difference)) old.views entries named are in
+      let its : IsItsEntry was.query old.graph.content mid.graph.content o = among_holds (λ v. IsItsEntry v.query old.graph.content mid.graph.content (entry_at v.name entries)) was old.views all there in
+      record {
+        feed = was.feed;
+        there = subst (λ (v : View). Among v old.views) (sym (ap (λ (v : View). fed_with v was.feed) (sym is) ∙ unfed was o)) there;
+        feeds = ap (λ (v : View). v.feed) (sym is) ∙ feed_after was o ∙ ap (λ (n : List ℕ). with_entries (with_entry (entry_at n entries) []) was.feed) named_so;
+        entry =
+            subst (λ (n : List ℕ). IsItsEntry view.query old.graph.content mid.graph.content (entry_at n entries)) named_so
+            (subst (λ (q : Statement). IsItsEntry q old.graph.content mid.graph.content o) asks its);
+      }
+
+  -- the line asked for the view, and made it
+  record WasMade (line : List ℕ) : Type 0 where
+    asks : AsksForView line view.name view.query
+    checked : IsViewQuery view.query
+    feeds : view.feed ≡ new_history old.history view.made
+    answered : answer ≡ Ok (reply.Made (query_columns view.query) view.made view.name)
+
+  stood_or_made : (line : List ℕ) → Step old line answer entries mid → Effects old answer entries mid → AreNamed old.views → Among view mid.views → Stood old entries mid view ⊎ WasMade line
+  stood_or_made line step (inl (left, none)) named there = inl (quiet_stood none (ap (λ (s : EngineState). s.graph) left) (subst (λ (s : EngineState). Among view s.views) left there))
+  stood_or_made line step (inr (inl (carried, timed, a))) named there =
+      let was = among_fed entries view old.views (subst (λ (s : EngineState). Among view s.views) a.left there) in
+      inl (carried_stood named (exact old answer entries mid (inr (inl (carried, timed, a)))) was.0 was.1 was.2)
+  stood_or_made line step (inr (inr (inl (made, fresh, a)))) named there = from (among_either view made old.views (subst (λ (s : EngineState). Among view s.views) a.left there))
+    where
+      from : Among view old.views ⊎ (made ≡ view) → Stood old entries mid view ⊎ WasMade line
+      from (inl before) = inl (quiet_stood a.no_entries (ap (λ (s : EngineState). s.graph) a.left) before)
+      from (inr is) = inr (record {
+        asks = subst (λ (v : View). AsksForView line v.name v.query) is (step_asked line old answer entries mid made a step);
+        checked = subst (λ (v : View). IsViewQuery v.query) is fresh.query;
+        feeds = subst (λ (v : View). v.feed ≡ new_history old.history v.made) is fresh.feed;
+        answered = a.answered ∙ ap (λ (v : View). Ok (reply.Made (query_columns v.query) v.made v.name)) is;
+      })
+  stood_or_made line step (inr (inr (inr (inl (gone, at, a))))) named there =
+      inl (quiet_stood a.no_entries (ap (λ (s : EngineState). s.graph) a.left) (among_without gone.name view old.views (subst (λ (s : EngineState). Among view s.views) a.left there)))
+  stood_or_made line step (inr (inr (inr (inr (pair, a))))) named there =
+      inl (quiet_stood a.no_entries (ap (λ (s : EngineState). s.graph) a.left) (subst (λ (s : EngineState). Among view s.views) a.left there))
+
+  same_history : Effects old answer entries mid → mid.history ≡ old.history
+  same_history (inl (left, none)) = ap (λ (s : EngineState). s.history) left
+  same_history (inr (inl (carried, timed, a))) = ap (λ (s : EngineState). s.history) a.left
+  same_history (inr (inr (inl (made, fresh, a)))) = ap (λ (s : EngineState). s.history) a.left
+  same_history (inr (inr (inr (inl (gone, at, a))))) = ap (λ (s : EngineState). s.history) a.left
+  same_history (inr (inr (inr (inr (pair, a))))) = ap (λ (s : EngineState). s.history) a.left
+
+-- ---- all lines
 
 -- the queries of views have rows
 abbrev pub HaveRows : Type 0
@@ -88,69 +161,107 @@ has_rows : (r : Result (List (List Cell)) EvalFault) → IsOk r → r ≡ Ok (re
 has_rows (Ok rows) is = refl
 has_rows (Err why) is = cc
 
--- a view that stands at the end stood at the beginning, or was made
-pub maintained_or_there : HaveRows → (view : View) (old new : EngineState) (events : List Event) → Run old events new → AreNamed old.views → Among view new.views → Among view old.views ⊎ IsMaintained old new events view
-maintained_or_there have view old new [] run named here = inl (subst (λ (s : EngineState). Among view s.views) run here)
-maintained_or_there have view old new (e ∷ events) (mid, step, run) named here =
-    from (maintained_or_there have view mid new events run (effects_named old e.answer e.entries mid does named) here)
-  where
-    does : Effects old e.answer e.entries mid
-    does = effects old e.answer e.entries mid e.line step
+-- a view that stands at the end stood at the beginning, with a feed into which its entries then went
+record Kept (old : EngineState) (events : List Event) (new : EngineState) (view : View) : Type 0 where
+  feed : History
+  there : Among (fed_with view feed) old.views
+  feeds : view.feed ≡ with_entries (entries_of view.name events) feed
+  entries : AreItsEntries view old.graph events new.graph
+  replayed : (row : List Cell) → counts_in view.query new.graph row ≡ followed (counts_in view.query old.graph) (entries_of view.name events) row
 
-    now_follows : Among view mid.views → (row : List Cell) → counts_in view new row ≡ followed (counts_in view mid) (entries_of view.name events) row
-    now_follows there = run_followed view mid new events run (effects_named old e.answer e.entries mid does named) there
+more_entries : (o : Option Entry) (rest : List Entry) (feed : History) → with_entries rest (with_entries (with_entry o []) feed) ≡ with_entries (with_entry o rest) feed
+more_entries None rest feed = refl
+more_entries (Some e) rest feed = refl
 
-    now_made : (made : View) → IsViewQuery made.query → made ≡ view → Among view mid.views → e.answer ≡ Ok (reply.Made (query_columns made.query) made.made made.name) → IsMaintained old new (e ∷ events) view
-    now_made made checked is there answered = record {
-      before = [];
-      making = e;
-      after = events;
-      made = mid;
-      are = refl;
-      answered = answered ∙ ap (λ (v : View). Ok (reply.Made (query_columns v.query) v.made v.name)) is;
-      run_to = (mid, step, refl);
-      run_from = run;
-      means = has_rows (query_rows new.graph.content view.query) (have new.graph.content view.query (subst (λ (v : View). IsViewQuery v.query) is checked));
-      follows = now_follows there;
-      shown = λ rows are row. are.bag row ∙ now_follows there row;
-    }
+module _ (have : HaveRows) (view : View) where
+  kept_or_made : (history : ℕ) (old new : EngineState) (events : List Event) → Run old events new → old.history ≡ history → AreNamed old.views → Among view new.views
+      → Kept old events new view ⊎ IsMaintained old.graph history events new view
+  kept_or_made history old new [] run same named here = inl (record {
+    feed = view.feed;
+    there = subst (λ (s : EngineState). Among view s.views) run here;
+    feeds = refl;
+    entries = ap (λ (s : EngineState). s.graph) run;
+    replayed = λ row. ap (λ (s : EngineState). counts_in view.query s.graph row) run;
+  })
+  kept_or_made history old new (e ∷ events) (mid, step, run) same named here =
+      from (kept_or_made history mid new events run (same_history old e.answer e.entries mid view does ∙ same) (effects_named old e.answer e.entries mid does named) here)
+    where
+      does : Effects old e.answer e.entries mid
+      does = effects old e.answer e.entries mid e.line step
 
-    stood : Effects old e.answer e.entries mid → Among view mid.views → Among view old.views ⊎ IsMaintained old new (e ∷ events) view
-    stood (inl (left, none)) there = inl (subst (λ (s : EngineState). Among view s.views) left there)
-    stood (inr (inl (carried, a))) there = inl (subst (λ (s : EngineState). Among view s.views) a.left there)
-    stood (inr (inr (inr (pair, a)))) there = inl (subst (λ (s : EngineState). Among view s.views) a.left there)
-    stood (inr (inr (inl (made, free, a)))) there = either (among_either view made old.views (subst (λ (s : EngineState). Among view s.views) a.left there))
-      where
-        either : Among view old.views ⊎ (made ≡ view) → Among view old.views ⊎ IsMaintained old new (e ∷ events) view
-        either (inl before) = inl before
-        either (inr is) = inr (now_made made free.1 is there a.answered)
+      leads : Leads e.line e.answer old.graph mid.graph
+      leads = step_leads e.line old e.answer e.entries mid step
 
-    from : Among view mid.views ⊎ IsMaintained mid new events view → Among view old.views ⊎ IsMaintained old new (e ∷ events) view
-    from (inl there) = stood does there
-    from (inr kept) = inr (record {
-      before = e ∷ kept.before;
-      making = kept.making;
-      after = kept.after;
-      made = kept.made;
-      are = ap (λ (es : List Event). e ∷ es) kept.are;
-      answered = kept.answered;
-      run_to = (mid, step, kept.run_to);
-      run_from = kept.run_from;
-      means = kept.means;
-      follows = kept.follows;
-      shown = kept.shown;
-    })
+      now_kept : (kept : Kept mid events new view) → Stood old e.entries mid (fed_with view kept.feed) → Kept old (e ∷ events) new view
+      now_kept kept stood = record {
+        feed = stood.feed;
+        there = stood.there;
+        feeds = kept.feeds ∙ ap (with_entries (entries_of view.name events)) stood.feeds ∙ more_entries (entry_at view.name e.entries) (entries_of view.name events) stood.feed;
+        entries = (mid.graph, leads, stood.entry, kept.entries);
+        replayed = λ row. kept.replayed row ∙ then_followed view.query old.graph mid.graph (entry_at view.name e.entries) (entries_of view.name events) stood.entry row;
+      }
+
+      now_made : (kept : Kept mid events new view) → WasMade old e.answer e.entries mid (fed_with view kept.feed) e.line → IsMaintained old.graph history (e ∷ events) new view
+      now_made kept made = record {
+        before = [];
+        making = e;
+        after = events;
+        graph = mid.graph;
+        are = refl;
+        asks = made.asks;
+        answered = made.answered;
+        made_on = (mid.graph, leads, refl);
+        means = has_rows (query_rows new.graph.content view.query) (have new.graph.content view.query made.checked);
+        shown = λ rows are row. are.bag row;
+        entries = kept.entries;
+        feed = kept.feeds ∙ ap (with_entries (entries_of view.name events)) (made.feeds ∙ ap (λ (h : ℕ). new_history h view.made) same);
+        replayed = kept.replayed;
+      }
+
+      one : (kept : Kept mid events new view) → Stood old e.entries mid (fed_with view kept.feed) ⊎ WasMade old e.answer e.entries mid (fed_with view kept.feed) e.line
+          → Kept old (e ∷ events) new view ⊎ IsMaintained old.graph history (e ∷ events) new view
+      one kept (inl stood) = inl (now_kept kept stood)
+      one kept (inr made) = inr (now_made kept made)
+
+      from : Kept mid events new view ⊎ IsMaintained mid.graph history events new view → Kept old (e ∷ events) new view ⊎ IsMaintained old.graph history (e ∷ events) new view
+      from (inl kept) = one kept (stood_or_made old e.answer e.entries mid (fed_with view kept.feed) e.line step does named kept.there)
+      from (inr was) = inr (record {
+        before = e ∷ was.before;
+        making = was.making;
+        after = was.after;
+        graph = was.graph;
+        are = ap (λ (es : List Event). e ∷ es) was.are;
+        asks = was.asks;
+        answered = was.answered;
+        made_on = (mid.graph, leads, was.made_on);
+        means = was.means;
+        shown = was.shown;
+        entries = was.entries;
+        feed = was.feed;
+        replayed = was.replayed;
+      })
 
 run_named : (old new : EngineState) (events : List Event) → Run old events new → AreNamed old.views → AreNamed new.views
 run_named old new [] run named = subst (λ (s : EngineState). AreNamed s.views) (sym run) named
 run_named old new (e ∷ events) (mid, step, run) named = run_named mid new events run (effects_named old e.answer e.entries mid (effects old e.answer e.entries mid e.line step) named)
 
-pub views_kept : HaveRows → (history : ℕ) (events : List Event) (now : EngineState) (view : View) → Run (empty_engine history) events now → Contains now.views view
-    → (view_at view.name now ≡ Some view) × IsMaintained (empty_engine history) now events view
-views_kept have history events now view run here =
-    let there : Among view now.views = among_from now.views view here.0 here.1 here.2 in
-    (found now.views view (run_named (empty_engine history) now events run tt) there, made (maintained_or_there have view (empty_engine history) now events run tt there))
-  where
-    made : Among view [] ⊎ IsMaintained (empty_engine history) now events view → IsMaintained (empty_engine history) now events view
-    made (inl none) = absurd none
-    made (inr kept) = kept
+module _ (have : HaveRows) (no_trace : (old new : EngineState) (events : List Event) → Run old events new → OnlySo old (accepted events) new) where
+  pub headline_holds : HeadlineHolds
+  headline_holds history events now run = record {
+    graph = run_builds (empty_engine history) now events run;
+    views = λ view here.
+        let there : Among view now.views = among_from now.views view here.0 here.1 here.2 in
+        (found now.views view (run_named (empty_engine history) now events run tt) there, made view (kept_or_made have view history (empty_engine history) now events run refl tt there));
+    no_trace = no_trace (empty_engine history) now events run;
+  }
+    where
+      made : (view : View) → Kept (empty_engine history) events now view ⊎ IsMaintained (empty_engine history).graph history events now view → IsMaintained (empty_engine history).graph history events now view
+      made view (inl kept) = absurd kept.there
+      made view (inr was) = was
+
+-- lines that a new engine answers have it
+pub serves : HeadlineHolds → (old new : Machine) (lines : List (List ℕ)) (answers : List Answer) → Runs old new lines answers → Serves old new lines answers
+serves holds old new lines answers runs = record {
+  run = runs;
+  headline = λ history is. holds history runs.events (state_of new) (subst (λ (m : Machine). Run (state_of m) runs.events (state_of new)) is runs.run);
+}

@@ -8,12 +8,15 @@ use Rattle.cy_lexer.specs.Line.{longest_line}
 use Rattle.cy_lexer.specs.Tokens.{tokens_of}
 use Rattle.cy_engine.specs.declared.faults.Fault.{Fault}
 use Rattle.cy_engine.specs.declared.faults.Fault.TheVariants as fault
+use Rattle.cy_engine.specs.declared.replies.Reply.{Reply}
 use Rattle.cy_engine.specs.declared.replies.Reply.TheVariants as reply
+use Rattle.cy_feeds.specs.declared.feeds.Answer as feeds
+use Rattle.cy_feeds.specs.Feeds.{answer_since}
 use Rattle.cy_engine.specs.Faults.{of_lexer}
-use Rattle.cy_engine.specs.internal.Stages.{AnswersOrWants, ShowsRows}
-use Rattle.cy_engine.specs.Requests.{Request, RowsOf, Refused, request}
+use Rattle.cy_engine.specs.internal.Stages.{AnswersOrWants, ListsViews, ShowsChanges, ShowsRows, ShowsSince}
+use Rattle.cy_engine.specs.Requests.{Request, RowsOf, SinceOf, ListOfViews, Refused, request}
 use Rattle.cy_engine.specs.State.{EngineState, Entries, View}
-use Rattle.cy_engine.specs.Step.{Answer, Answers, IsRefused, Lexed, Shows, Step}
+use Rattle.cy_engine.specs.Step.{Answer, Answers, Follows, IsRefused, IsReplied, Lexed, Shows, Step, Tells}
 use Rattle.cy_engine.proofs.FromTokens.{lexed}
 
 short_or_long : (n m : ℕ) → (n ≤ m) ⊎ (m < n)
@@ -66,11 +69,43 @@ rows_answered line name state entries (Ok (reply.Made columns tick view)) none s
 rows_answered line name state entries (Ok (reply.Rows rows tick view)) none (found, is, are, ticks, named) =
     inr (subst (λ (v : Result View Fault). Shows name v state (Ok (reply.Rows rows tick view)) entries state) (sym is)
     (rows, are, record { answered = λ i. Ok (reply.Rows rows (ticks i) (named i)); no_entries = none; left = refl }))
+rows_answered line name state entries (Ok (reply.Entries changes tick view)) none shows = absurd shows
+rows_answered line name state entries (Ok (reply.Dropped view)) none shows = absurd shows
+rows_answered line name state entries (Ok (reply.Views views)) none shows = absurd shows
 rows_answered line name state entries (Ok (reply.Index label key)) none shows = absurd shows
 rows_answered line name state entries (Err why) none (inl wants) = inl (record { answered = ap Err wants; no_entries = none; left = refl })
 rows_answered line name state entries (Err why) none (inr is) =
     inr (subst (λ (v : Result View Fault). Shows name v state (Err why) entries state) (sym is)
     (let refused : IsRefused why state (Err why) entries state = record { answered = refl; no_entries = none; left = refl } in refused))
+
+-- what is answered to `:since`
+pub since_answered : (line name : List ℕ) (since : ℕ) (state : EngineState) (entries : Entries) (answer : Answer) → entries ≡ [] → ShowsSince state name since answer → AnswersOrWants line (SinceOf name since) state answer entries state
+since_answered line name since state entries (Err why) none (inl wants) = inl (record { answered = ap Err wants; no_entries = none; left = refl })
+since_answered line name since state entries (Err why) none (inr is) =
+    inr (subst (λ (v : Result View Fault). Tells name since v state (Err why) entries state) (sym is)
+    (let refused : IsRefused why state (Err why) entries state = record { answered = refl; no_entries = none; left = refl } in refused))
+since_answered line name since state entries (Ok given) none (found, is, shows) =
+    inr (subst (λ (v : Result View Fault). Tells name since v state (Ok given) entries state) (sym is) (told given shows))
+  where
+    told : (given : Reply) → ShowsChanges state name since found given → Follows name found (answer_since since found.feed) state (Ok given) entries state
+    told reply.Nothing shows = absurd shows
+    told (reply.Statement changed columns rows) shows = absurd shows
+    told (reply.Made columns tick view) shows = absurd shows
+    told (reply.Rows rows tick view) (lagged, are, ticks, named) =
+        subst (λ (a : feeds.Answer). Follows name found a state (Ok (reply.Rows rows tick view)) entries state) (sym lagged)
+        (rows, are, record { answered = λ i. Ok (reply.Rows rows (ticks i) (named i)); no_entries = none; left = refl })
+    told (reply.Entries changes tick view) (says, ticks, named) =
+        subst (λ (a : feeds.Answer). Follows name found a state (Ok (reply.Entries changes tick view)) entries state) (sym says)
+        (let replied : IsReplied (reply.Entries changes state.tick name) state (Ok (reply.Entries changes tick view)) entries state =
+        record { answered = λ i. Ok (reply.Entries changes (ticks i) (named i)); no_entries = none; left = refl } in replied)
+    told (reply.Dropped view) shows = absurd shows
+    told (reply.Views views) shows = absurd shows
+    told (reply.Index label key) shows = absurd shows
+
+-- what is answered to `:views`
+pub views_answered : (line : List ℕ) (state : EngineState) (entries : Entries) (answer : Answer) → entries ≡ [] → ListsViews state answer → AnswersOrWants line ListOfViews state answer entries state
+views_answered line state entries (Err why) none wants = inl (record { answered = ap Err wants; no_entries = none; left = refl })
+views_answered line state entries (Ok given) none is = inr (record { answered = ap Ok is; no_entries = none; left = refl })
 
 pub no_error : {A : Type 0} (x : A) (why : LexFault) → (let r : Result A LexFault = Ok x in r) ≡ Err why → ⊥
 no_error x why is = cc

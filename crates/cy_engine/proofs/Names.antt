@@ -1,20 +1,9 @@
 -- Views keep names of their own.
-use Rattle.std.proofs.Common.{◌≡◌, ◌⊎◌, ◌<◌, ℕ, zero, suc, true, false, cond, List, [], ◌∷◌, ◌++◌, find, length, get_or, None, Some, refl, sym, ap, subst, ◌∙◌, arith, inl, inr}
+use Rattle.std.proofs.Common.{◌≡◌, ◌⊎◌, ◌<◌, ℕ, zero, suc, true, false, cond, List, [], ◌∷◌, ◌++◌, find, length, get_or, None, Some, refl, sym, ap, ◌∙◌, arith, inl, inr}
 use Rattle.std.specs.Str.{bytes_eq}
 use Rattle.std.proofs.lemmas.Slice.Eq.{bytes_eq-Decides}
-use Rattle.cy_engine.specs.State.{EngineState, Entries, View}
-use Rattle.cy_engine.specs.Step.{Answer}
-use Rattle.cy_engine.proofs.Effects.{Effects}
-
--- a name that none of these views has
-abbrev pub IsNew : List ℕ → List View → Type 0
-IsNew name [] = Unit {0}
-IsNew name (v ∷ vs) = (bytes_eq v.name name ≡ false) × IsNew name vs
-
--- no two of these views have one name
-abbrev pub AreNamed : List View → Type 0
-AreNamed [] = Unit {0}
-AreNamed (v ∷ vs) = IsNew v.name vs × AreNamed vs
+use Rattle.cy_engine.specs.State.{View}
+use Rattle.cy_engine.specs.internal.Representation.{AreNamed, IsNew}
 
 -- one of these views
 abbrev pub Among : View → List View → Type 0
@@ -35,7 +24,7 @@ turned a b h =
     ] refl
 
 -- a view that is not found is new, after the others
-new_last : (name : List ℕ) (v : View) (vs : List View) → v.name ≡ name → find (λ w. bytes_eq name w.name) vs ≡ None → AreNamed vs → AreNamed (vs ++ v ∷ [])
+pub new_last : (name : List ℕ) (v : View) (vs : List View) → v.name ≡ name → find (λ w. bytes_eq name w.name) vs ≡ None → AreNamed vs → AreNamed (vs ++ v ∷ [])
 new_last name v [] is none named = (tt, tt)
 new_last name v (w ∷ vs) is none named =
     elim (bytes_eq name w.name) as (λ b. bytes_eq name w.name ≡ b → cond b (Some w) (find (λ u. bytes_eq name u.name) vs) ≡ None → AreNamed (w ∷ vs ++ v ∷ [])) [
@@ -75,19 +64,6 @@ pub other_name : (name : List ℕ) (view : View) (vs : List View) → IsNew name
 other_name name view [] new here = absurd here
 other_name name view (v ∷ vs) new (inl is) = ap (λ (w : View). bytes_eq w.name name) (sym is) ∙ new.0
 other_name name view (v ∷ vs) new (inr here) = other_name name view vs new.1 here
-
-module _ (old : EngineState) (answer : Answer) (entries : Entries) (new : EngineState) where
-  pub effects_named : Effects old answer entries new → AreNamed old.views → AreNamed new.views
-  effects_named (inl (left, none)) named = subst (λ (s : EngineState). AreNamed s.views) (sym left) named
-  effects_named (inr (inl (carried, a))) named = subst (λ (s : EngineState). AreNamed s.views) (sym a.left) named
-  effects_named (inr (inr (inl (view, free, a)))) named = subst (λ (s : EngineState). AreNamed s.views) (sym a.left) (new_last view.name view old.views refl free.0 named)
-  effects_named (inr (inr (inr (pair, a)))) named = subst (λ (s : EngineState). AreNamed s.views) (sym a.left) named
-
-  pub effects_among : (view : View) → Effects old answer entries new → Among view old.views → Among view new.views
-  effects_among view (inl (left, none)) here = subst (λ (s : EngineState). Among view s.views) (sym left) here
-  effects_among view (inr (inl (carried, a))) here = subst (λ (s : EngineState). Among view s.views) (sym a.left) here
-  effects_among view (inr (inr (inr (pair, a)))) here = subst (λ (s : EngineState). Among view s.views) (sym a.left) here
-  effects_among view (inr (inr (inl (made, free, a)))) here = subst (λ (s : EngineState). Among view s.views) (sym a.left) (still_among view old.views (made ∷ []) here)
 
 pub found : (vs : List View) (view : View) → AreNamed vs → Among view vs → find (λ v. bytes_eq view.name v.name) vs ≡ Some view
 found [] view named here = absurd here

@@ -1,6 +1,7 @@
 -- What is kept of views, through a change.
 use Rattle.std.proofs.Common.{◌≡◌, ℕ, zero, suc, ◌≤◌, List, [], ◌∷◌, ◌++◌, map, length, Option, Some, None, String, Global, Vec, refl, sym, ap, subst, ◌∙◌, ◌+◌, add-one, arith}
 use Rattle.std.specs.Prelude.{slice_get, IsSome, IfSome}
+use Rattle.std.specs.List.{AllByRecursion}
 use Rattle.std.specs.Map.{values_of}
 use Rattle.std.proofs.lemmas.List.{length-map}
 use Rattle.std.proofs.lemmas.Option.{IfSome_then}
@@ -16,8 +17,8 @@ use Rattle.cy_engine.specs.declared.network.Prepared.{Prepared}
 use Rattle.cy_engine.specs.declared.views.Registered.{Registered}
 use Rattle.cy_engine.specs.Model.{held, view_of}
 use Rattle.cy_engine.specs.State.{rows_of}
-use Rattle.cy_engine.specs.internal.Network.{AllPrepared, AllReady, AllStand, IsReady, StandsFor, abandoned, abandoned_one, abandoned_view, settled, settled_one, with_prepared}
-use Rattle.cy_engine.specs.internal.Representation.{Registry, views_in}
+use Rattle.cy_engine.specs.internal.Network.{AllPrepared, AllReady, AllStand, IsReady, StandsFor, abandoned_one, resting_one, resting_view, settled, settled_one, with_prepared}
+use Rattle.cy_engine.specs.internal.Representation.{AllInTime, IsInTime, Registry, views_in}
 use Rattle.cy_bags.specs.Difference.{IsCountedSurplus}
 
 -- ---- one network
@@ -55,13 +56,10 @@ module _ (network : Network) where
       made_ready network.query network.rows next change before.content after stands.bag stands.canonical bag order removed added
 
 -- a network that isn't prepared stays as it is
-abandoned_same : (network : Network) → network.prepared ≡ None → abandoned network ≡ network
-abandoned_same network none = λ i. record network { prepared = sym none i }
-
 settled_same : (network : Network) → network.prepared ≡ None → settled network ≡ network
 settled_same network none = ap (with_prepared network) none
 
-settled_query : (network : Network) → (settled network).query ≡ network.query
+pub settled_query : (network : Network) → (settled network).query ≡ network.query
 settled_query network = from network.prepared
   where
     from : (o : Option Prepared) → (with_prepared network o).query ≡ network.query
@@ -70,40 +68,52 @@ settled_query network = from network.prepared
 
 -- ---- all of them
 
-pub stand_abandoned : (graph : Content) (entries : Registry) → AllStand graph entries → map abandoned_one entries ≡ entries
-stand_abandoned graph [] stand = refl
-stand_abandoned graph (e ∷ entries) stand = λ i. (e.0, record e.1 { network = abandoned_same e.1.network stand.0.unprepared i }) ∷ stand_abandoned graph entries stand.1 i
+-- what stands for a graph still does when it is at rest, and where views at rest stand for it, so do these once they are abandoned
+stand_resting : (graph : Content) (entries : Registry) → AllStand graph entries → AllStand graph (map resting_one entries)
+stand_resting graph [] stand = tt
+stand_resting graph (e ∷ entries) stand = (record { bag = stand.0.bag; canonical = stand.0.canonical; unprepared = refl }, stand_resting graph entries stand.1)
+
+resting_stand : (graph : Content) (entries : Registry) → AllStand graph (map resting_one entries) → AllStand graph (map abandoned_one entries)
+resting_stand graph [] stand = tt
+resting_stand graph (e ∷ entries) stand = (stand.0, resting_stand graph entries stand.1)
+
+pub stand_back : (graph : Content) (entries ready : Registry) → map resting_one ready ≡ map resting_one entries → AllStand graph entries → AllStand graph (map abandoned_one ready)
+stand_back graph entries ready back stand = resting_stand graph ready (subst (AllStand graph) (sym back) (stand_resting graph entries stand))
 
 pub stand_more : (graph : Content) (entries : Registry) (e : String Global × Registered) → AllStand graph entries → StandsFor e.1.network graph → AllStand graph (entries ++ e ∷ [])
 stand_more graph [] e stand one = (one, tt)
 stand_more graph (f ∷ entries) e stand one = (stand.0, stand_more graph entries e stand.1 one)
 
-pub stand_settled : (graph : Content) (entries : Registry) → AllStand graph entries → AllStand graph (map settled_one entries)
-stand_settled graph [] stand = tt
-stand_settled graph (e ∷ entries) stand = (subst (λ (n : Network). StandsFor n graph) (sym (settled_same e.1.network stand.0.unprepared)) stand.0, stand_settled graph entries stand.1)
+pub in_time_more : (tick : ℕ) (entries : Registry) (e : String Global × Registered) → AllInTime tick entries → IsInTime tick e.1 → AllInTime tick (entries ++ e ∷ [])
+in_time_more tick [] e all one = (one, tt)
+in_time_more tick (f ∷ entries) e all one = (all.0, in_time_more tick entries e all.1 one)
 
-pub ready_settled : (before after : Content) (entries : Registry) → AllReady before after entries → AllStand after (map settled_one entries)
-ready_settled before after [] ready = tt
-ready_settled before after (e ∷ entries) ready = (ready.0.on, ready_settled before after entries ready.1)
+pub stand_settled : (tick : ℕ) (graph : Content) (entries : Registry) → AllStand graph entries → AllStand graph (map (settled_one tick) entries)
+stand_settled tick graph [] stand = tt
+stand_settled tick graph (e ∷ entries) stand = (subst (λ (n : Network). StandsFor n graph) (sym (settled_same e.1.network stand.0.unprepared)) stand.0, stand_settled tick graph entries stand.1)
+
+pub ready_settled : (tick : ℕ) (before after : Content) (entries : Registry) → AllReady before after entries → AllStand after (map (settled_one tick) entries)
+ready_settled tick before after [] ready = tt
+ready_settled tick before after (e ∷ entries) ready = (ready.0.on, ready_settled tick before after entries ready.1)
 
 pub ready_prepared : (before after : Content) (entries : Registry) → AllReady before after entries → AllPrepared entries
 ready_prepared before after [] ready = tt
 ready_prepared before after (e ∷ entries) ready = (ready.0.prepared, ready_prepared before after entries ready.1)
 
 -- they are the same views
-pub views_settled : (entries : Registry) → views_in (map settled_one entries) ≡ views_in entries
-views_settled [] = refl
-views_settled (e ∷ entries) = λ i. view_of (record { name = (held e).name; query = settled_query e.1.network i; made = e.1.made }) ∷ views_settled entries i
-
 pub views_abandoned : (entries : Registry) → views_in (map abandoned_one entries) ≡ views_in entries
 views_abandoned [] = refl
 views_abandoned (e ∷ entries) = ap (λ vs. view_of (held e) ∷ vs) (views_abandoned entries)
 
-pub views_same : (some others : Registry) → map abandoned_one some ≡ map abandoned_one others → views_in some ≡ views_in others
-views_same some others same = sym (views_abandoned some) ∙ ap views_in same ∙ views_abandoned others
+views_resting : (entries : Registry) → views_in (map resting_one entries) ≡ views_in entries
+views_resting [] = refl
+views_resting (e ∷ entries) = ap (λ vs. view_of (held e) ∷ vs) (views_resting entries)
 
-pub count_same : (some others : Registry) → map abandoned_one some ≡ map abandoned_one others → length some ≡ length others
-count_same some others same = sym (length-map some abandoned_one) ∙ ap length same ∙ length-map others abandoned_one
+pub views_same : (some others : Registry) → map resting_one some ≡ map resting_one others → views_in some ≡ views_in others
+views_same some others same = sym (views_resting some) ∙ ap views_in same ∙ views_resting others
+
+pub count_same : (some others : Registry) → map resting_one some ≡ map resting_one others → length some ≡ length others
+count_same some others same = sym (length-map some resting_one) ∙ ap length same ∙ length-map others resting_one
 
 -- the same for the graph, where its content is the same
 pub stand_on : (before after : Content) (entries : Registry) → after ≡ before → AllStand before entries → AllStand after entries
@@ -112,13 +122,45 @@ stand_on before after entries same stand = subst (λ (c : Content). AllStand c e
 -- ---- one after another
 
 -- another value for one of them
-pub abandoned_at : (entries : Registry) (n : ℕ) (view other : Registered) → Some view ≡ slice_get (values_of entries) n → abandoned_view other ≡ abandoned_view view
-    → map abandoned_one (set_value_at entries n other) ≡ map abandoned_one entries
-abandoned_at [] n view other at same = refl
-abandoned_at (e ∷ entries) zero view other at same =
+pub resting_at : (entries : Registry) (n : ℕ) (view other : Registered) → Some view ≡ slice_get (values_of entries) n → resting_view other ≡ resting_view view
+    → map resting_one (set_value_at entries n other) ≡ map resting_one entries
+resting_at [] n view other at same = refl
+resting_at (e ∷ entries) zero view other at same =
     let is : view ≡ e.1 = cc in
-    λ i. (e.0, (same ∙ ap abandoned_view is) i) ∷ map abandoned_one entries
-abandoned_at (e ∷ entries) (suc n) view other at same = ap (λ es. abandoned_one e ∷ es) (abandoned_at entries n view other at same)
+    λ i. (e.0, (same ∙ ap resting_view is) i) ∷ map resting_one entries
+resting_at (e ∷ entries) (suc n) view other at same = ap (λ es. resting_one e ∷ es) (resting_at entries n view other at same)
+
+-- what holds of the first so many
+module _ (P : Registered → Type 0) where
+  abbrev pub FirstAre : ℕ → Registry → Type 0
+  FirstAre n [] = Unit {0}
+  FirstAre zero (e ∷ entries) = Unit {0}
+  FirstAre (suc n) (e ∷ entries) = P e.1 × FirstAre n entries
+
+  pub first_none : (entries : Registry) → FirstAre 0 entries
+  first_none [] = tt
+  first_none (e ∷ entries) = tt
+
+  one_next : (entries : Registry) (n : ℕ) (view : Registered) → P view → FirstAre n entries → FirstAre (suc n) (set_value_at entries n view)
+  one_next [] n view is first = tt
+  one_next (e ∷ entries) zero view is first = (is, first_none entries)
+  one_next (e ∷ entries) (suc n) view is first = (first.0, one_next entries n view is first.1)
+
+  one_past : (entries : Registry) (n : ℕ) → None ≡ slice_get (values_of entries) n → FirstAre n entries → FirstAre (suc n) entries
+  one_past [] n none first = tt
+  one_past (e ∷ entries) zero none first = cc
+  one_past (e ∷ entries) (suc n) none first = (first.0, one_past entries n none first.1)
+
+  pub first_next : (entries : Registry) (n : ℕ) (view : Registered) → P view → FirstAre n entries → FirstAre (n + 1) (set_value_at entries n view)
+  first_next entries n view is first = rw (add-one n) (one_next entries n view is first)
+
+  pub first_past : (entries : Registry) (n : ℕ) → None ≡ slice_get (values_of entries) n → FirstAre n entries → FirstAre (n + 1) entries
+  first_past entries n none first = rw (add-one n) (one_past entries n none first)
+
+  pub first_all : (entries : Registry) (n : ℕ) → length entries ≤ n → FirstAre n entries → AllByRecursion (λ (e : String Global × Registered). P e.1) entries
+  first_all [] n all first = tt
+  first_all (e ∷ entries) zero all first = absurd (omega (arith, all))
+  first_all (e ∷ entries) (suc n) all first = (first.0, first_all entries n (omega (arith, all)) first.1)
 
 module _ (before after : Content) where
   -- so many are ready, and the others stand for the graph before
@@ -198,6 +240,17 @@ module _ (change : Registered → Registered) where
       let is : view ≡ e.1 = cc in
       (λ i. (e.0, change (is i)) ∷ entries) ∙ ap (λ es. one e ∷ es) (sym (done_none entries))
   done_next (suc n) (e ∷ entries) view at = ap (λ es. one e ∷ es) (done_next n entries view at)
+
+  -- the next of them is as it was
+  module _ (P : Registered → Type 0) where
+    as_it_was : (n : ℕ) (entries : Registry) (view : Registered) → Some view ≡ slice_get (values_of (done n entries)) n → AllByRecursion (λ (e : String Global × Registered). P e.1) entries → P view
+    as_it_was n [] view at all = cc
+    as_it_was zero (e ∷ entries) view at all = let is : view ≡ e.1 = cc in subst P (sym is) all.0
+    as_it_was (suc n) (e ∷ entries) view at all = as_it_was n entries view at all.1
+
+    pub next_was : (entries now : Registry) (n : ℕ) → now ≡ done n entries → (view : Registered) → Some view ≡ slice_get (values_of now) n
+        → AllByRecursion (λ (e : String Global × Registered). P e.1) entries → P view
+    next_was entries now n so_far view at all = as_it_was n entries view (at ∙ ap (λ (es : Registry). slice_get (values_of es) n) so_far) all
 
   done_past : (n : ℕ) (entries : Registry) → None ≡ slice_get (values_of (done n entries)) n → done n entries ≡ done (suc n) entries
   done_past n [] none = refl

@@ -1,5 +1,5 @@
 -- What becomes of a line is determined.
-use Rattle.std.proofs.Common.{◌≡◌, ℕ, true, List, [], ◌∷◌, Result, Ok, Err, refl, sym, ap, subst, ◌∙◌, inl, inr}
+use Rattle.std.proofs.Common.{◌≡◌, ℕ, true, false, List, [], ◌∷◌, map, Result, Ok, Err, refl, sym, ap, subst, ◌∙◌, inl, inr}
 use Rattle.std.specs.Prelude.{IsTrue}
 use Rattle.std.specs.Cmp.{IsTotalOrder}
 use Rattle.cy_lexer.specs.declared.faults.LexFault.{LexFault}
@@ -15,16 +15,19 @@ use Rattle.cy_graph.specs.Graph.{Content}
 use Rattle.cy_index.specs.declared.keys.Pair.{Pair}
 use Rattle.cy_bags.specs.declared.changes.Change.{Change}
 use Rattle.cy_bags.specs.declared.changes.Entry.{Entry}
+use Rattle.cy_feeds.specs.declared.feeds.Answer as feeds
+use Rattle.cy_feeds.specs.declared.feeds.Answer.TheVariants.{Entries as Since, Lagged}
+use Rattle.cy_feeds.specs.Feeds.{answer_since}
 use Rattle.cy_engine.specs.declared.faults.Fault.{Fault}
 use Rattle.cy_engine.specs.declared.faults.Fault.TheVariants as fault
 use Rattle.cy_engine.specs.declared.replies.Reply.{Reply}
 use Rattle.cy_engine.specs.declared.replies.Reply.TheVariants as reply
 use Rattle.cy_bags.specs.Difference.{IsDifference}
-use Rattle.cy_engine.specs.Requests.{Request, Nothing, StatementOf, ViewOf, RowsOf, IndexOf, Refused, request}
-use Rattle.cy_engine.specs.Runs.{is_parsers, Agree, HasRoom}
+use Rattle.cy_engine.specs.Requests.{Request, Nothing, StatementOf, ViewOf, RowsOf, SinceOf, ListOfViews, DropOf, IndexOf, Refused, request}
+use Rattle.cy_engine.specs.Runs.{Agree, IsBound, is_choice, is_want}
 use Rattle.cy_engine.specs.State.{EngineState, Entries, View, rows_of}
-use Rattle.cy_engine.specs.Step.{Answer, AreRows, IsEntry, AreEntries, IsRefused, IsReplied, Carries, Makes, Indexes, Shows, Reads, Answers, Lexed, Step}
-use Rattle.cy_engine.specs.Verdicts.{Carried, statement_verdict, view_verdict, rows_verdict, index_verdict}
+use Rattle.cy_engine.specs.Step.{Answer, AreRows, IsEntry, AreEntries, IsRefused, IsReplied, Carries, Makes, Drops, Indexes, Shows, Follows, Tells, Reads, fed, listed, Answers, Lexed, Step}
+use Rattle.cy_engine.specs.Verdicts.{Carried, index_verdict, rows_verdict, since_verdict, statement_verdict, view_verdict}
 use Rattle.cy_bags.proofs.Surpluses.{same_pairs}
 
 abbrev IsOne : Type 0
@@ -71,15 +74,20 @@ module _ (total : IsTotalOrder row_cmp) where
 
     carries_one : (v : Result Carried Fault) → Carries v old answer entries new → Carries v old again more other → Same
     carries_one (Err why) a b = refused_one why a b
-    carries_one (Ok carried) a b = (
-      inl (a.answered ∙ sym b.answered),
-      entries_one old.views old.graph.content carried.outcome.graph.content carried.tick entries more a.entries_are b.entries_are,
-      a.left ∙ sym b.left,
-    )
+    carries_one (Ok carried) a b =
+        let alike : entries ≡ more = entries_one old.views old.graph.content carried.outcome.graph.content carried.tick entries more a.entries_are b.entries_are in (
+          inl (a.answered ∙ sym b.answered),
+          alike,
+          a.left ∙ (λ i. record old { graph = carried.outcome.graph; views = map (fed (alike i)) old.views; tick = carried.tick }) ∙ sym b.left,
+        )
 
     makes_one : (v : Result View Fault) → Makes v old answer entries new → Makes v old again more other → Same
     makes_one (Err why) a b = refused_one why a b
     makes_one (Ok view) a b = (inl (a.answered ∙ sym b.answered), a.no_entries ∙ sym b.no_entries, a.left ∙ sym b.left)
+
+    drops_one : (v : Result View Fault) → Drops v old answer entries new → Drops v old again more other → Same
+    drops_one (Err why) a b = refused_one why a b
+    drops_one (Ok view) a b = (inl (a.answered ∙ sym b.answered), a.no_entries ∙ sym b.no_entries, a.left ∙ sym b.left)
 
     indexes_one : (v : Result Pair Fault) → Indexes v old answer entries new → Indexes v old again more other → Same
     indexes_one (Err why) a b = refused_one why a b
@@ -90,8 +98,16 @@ module _ (total : IsTotalOrder row_cmp) where
     shows_one name (Ok view) (rows, are, a) (rows_2, are_2, b) =
         replied_one (reply.Rows rows old.tick name) (reply.Rows rows_2 old.tick name) (ap (λ (r : List (List Cell × ℕ)). reply.Rows r old.tick name) (rows_one old view rows rows_2 are are_2)) a b
 
-    parsers : (a : Answer) (why : Fault) → a ≡ Err why → is_parsers (Err why) ≡ true → IsTrue (is_parsers a)
-    parsers a why is known = ap is_parsers is ∙ known
+    tells_one : (name : List ℕ) (tick : ℕ) (v : Result View Fault) → Tells name tick v old answer entries new → Tells name tick v old again more other → Same
+    tells_one name tick (Err why) a b = refused_one why a b
+    tells_one name tick (Ok view) a b = from (answer_since tick view.feed) a b
+      where
+        from : (told : feeds.Answer) → Follows name view told old answer entries new → Follows name view told old again more other → Same
+        from (Since changes) a b = replied_one (reply.Entries changes old.tick name) (reply.Entries changes old.tick name) refl a b
+        from Lagged a b = shows_one name (Ok view) a b
+
+    parsers : (a : Answer) (why : Fault) → a ≡ Err why → is_choice (Err why) ≡ true → IsTrue (is_choice a)
+    parsers a why is known = ap is_choice is ∙ known
 
     reads_one : (line : List ℕ) (tokens : List Token) (goes_on : Statement → EngineState → Answer → Entries → EngineState → Type 0)
         → ((tree : Statement) → goes_on tree old answer entries new → goes_on tree old again more other → Same)
@@ -113,6 +129,9 @@ module _ (total : IsTotalOrder row_cmp) where
     answers_one line (ViewOf name tokens) a b =
         reads_one line tokens (λ tree. Makes (view_verdict tree name old)) (λ tree. makes_one (view_verdict tree name old)) a b
     answers_one line (RowsOf name) a b = shows_one name (rows_verdict name old) a b
+    answers_one line (SinceOf name tick) a b = tells_one name tick (since_verdict name tick old) a b
+    answers_one line ListOfViews a b = replied_one (reply.Views (map listed old.views)) (reply.Views (map listed old.views)) refl a b
+    answers_one line (DropOf name) a b = drops_one (rows_verdict name old) a b
     answers_one line (IndexOf label key) a b = indexes_one (index_verdict label key old) a b
     answers_one line (Refused why) a b = refused_one why a b
 
@@ -120,7 +139,7 @@ module _ (total : IsTotalOrder row_cmp) where
     lexed_one line (Err why) a b = refused_one (fault.Lex why) a b
     lexed_one line (Ok tokens) a b = answers_one line (request line tokens) a b
 
-    pub step_one : (line : List ℕ) → Step old line answer entries new → Step old line again more other → HasRoom answer → HasRoom again → Same
-    step_one line (inl a) b room room_2 = absurd (room a.1.answered)
-    step_one line (inr a) (inl b) room room_2 = absurd (room_2 b.1.answered)
-    step_one line (inr a) (inr b) room room_2 = lexed_one line (tokens_of line) a b
+    pub step_one : (line : List ℕ) → Step old line answer entries new → Step old line again more other → IsBound answer → IsBound again → Same
+    step_one line (inl a) b bound bound_2 = let wrong : true ≡ false = sym (ap is_want a.1.answered) ∙ bound in absurd (cc)
+    step_one line (inr a) (inl b) bound bound_2 = let wrong : true ≡ false = sym (ap is_want b.1.answered) ∙ bound_2 in absurd (cc)
+    step_one line (inr a) (inr b) bound bound_2 = lexed_one line (tokens_of line) a b

@@ -1,5 +1,5 @@
 -- The queries of views: what the verdicts say of them.
-use Rattle.std.proofs.Common.{◌≡◌, ℕ, zero, suc, ◌-◌, List, [], ◌∷◌, Bool, true, false, cond, not, ◌&&◌, map, nat_lt, length, Option, Some, None, Result, Ok, Err, refl, sym, ap, subst, ◌∙◌, arith}
+use Rattle.std.proofs.Common.{◌≡◌, ℕ, zero, suc, ◌+◌, ◌-◌, ◌==◌, List, [], ◌∷◌, Bool, true, false, cond, not, ◌&&◌, map, nat_lt, length, Option, Some, None, Result, Ok, Err, refl, sym, ap, subst, ◌∙◌, arith}
 use Rattle.std.specs.Prelude.{option_map, slice_get}
 use Rattle.std.specs.List.{list_any}
 use Rattle.std.specs.Option.{option_map_or}
@@ -18,17 +18,18 @@ use Rattle.cy_scope.specs.Resolved.{resolved_statement}
 use Rattle.cy_kinds.specs.declared.faults.ViewFault.TheVariants.{AggregateInView, MayFail, NotAReading, OrderInView, Unbounded}
 use Rattle.cy_scope.specs.Views.{are_sure_clauses, ends_with_return, has_aggregate, is_ordered, is_return, is_unbounded, is_update, view_fault}
 use Rattle.cy_oneshot.specs.Queries.{columns_after, columns_after_all}
+use Rattle.cy_feeds.specs.Feeds.{new_history}
 use Rattle.cy_updates.specs.Faults.{◌>>=◌}
 use Rattle.cy_engine.specs.declared.faults.Fault.{Fault}
 use Rattle.cy_engine.specs.declared.faults.Fault.TheVariants as fault
-use Rattle.cy_engine.specs.State.{EngineState, View, view_at, view_limit}
+use Rattle.cy_engine.specs.State.{EngineState, View, last_tick, view_at, view_limit}
 use Rattle.cy_engine.specs.Verdicts.{making_verdict, needs, next_tick, query_verdict, scope_verdict, unless, view_verdict}
 
 pub bind_ok : {A B : Type 0} (r : Result A Fault) (f : A → Result B Fault) (y : B) → (r >>= f) ≡ Ok y → (x : A) × (r ≡ Ok x) × (f x ≡ Ok y)
 bind_ok (Ok x) f y is = (x, refl, is)
 bind_ok (Err why) f y is = cc
 
-same_ok : {A : Type 0} (a b : A) → (let r : Result A Fault = Ok a in r) ≡ Ok b → a ≡ b
+pub same_ok : {A : Type 0} (a b : A) → (let r : Result A Fault = Ok a in r) ≡ Ok b → a ≡ b
 same_ok a b is = cc
 
 -- a statement with a verdict of scope is checked
@@ -48,18 +49,27 @@ query_checked tree query is =
     from resolved of None good is = subst IsViewQuery (same_ok resolved query is) (of, good)
     from resolved of (Some why) bad is = cc
 
+-- the tick after one that isn't the last
+pub risen : (tick after : ℕ) → next_tick tick ≡ Ok after → after ≡ tick + 1
+risen tick after is =
+    elim (tick == last_tick) as (λ b. (let r : Result ℕ Fault = cond b (Err fault.Full) (Ok (tick + 1)) in r) ≡ Ok after → after ≡ tick + 1) [
+      | true ↦ λ h. absurd (cc)
+      | false ↦ λ h. cc
+    ] is
+
 -- what holds where a view may be made now
 module _ (name : List ℕ) (state : EngineState) (made : ℕ) (is : making_verdict name state ≡ Ok made) where
-  at_limit : (view_at name state ≡ None) × (nat_lt (length state.views) view_limit ≡ true)
+  at_limit : (view_at name state ≡ None) × (nat_lt (length state.views) view_limit ≡ true) × (made ≡ state.tick + 1)
   at_limit = from (view_at name state) refl is
     where
-      room : (b : Bool) → nat_lt (length state.views) view_limit ≡ b → (needs b fault.TooManyViews >>= λ _. next_tick state.tick) ≡ Ok made → nat_lt (length state.views) view_limit ≡ true
-      room true few is = few
+      room : (b : Bool) → nat_lt (length state.views) view_limit ≡ b → (needs b fault.TooManyViews >>= λ _. next_tick state.tick) ≡ Ok made
+          → (nat_lt (length state.views) view_limit ≡ true) × (made ≡ state.tick + 1)
+      room true few is = (few, risen state.tick made is)
       room false few is = cc
 
       from : (o : Option View) → view_at name state ≡ o → (unless (λ _. fault.ViewNameTaken) o >>= λ _. needs (nat_lt (length state.views) view_limit) fault.TooManyViews >>= λ _. next_tick state.tick) ≡ Ok made
-          → (view_at name state ≡ None) × (nat_lt (length state.views) view_limit ≡ true)
-      from None free is = (free, room (nat_lt (length state.views) view_limit) refl is)
+          → (view_at name state ≡ None) × (nat_lt (length state.views) view_limit ≡ true) × (made ≡ state.tick + 1)
+      from None free is = let limit = room (nat_lt (length state.views) view_limit) refl is in (free, limit.0, limit.1)
       from (Some v) taken is = cc
 
   pub made_free : view_at name state ≡ None
@@ -68,13 +78,22 @@ module _ (name : List ℕ) (state : EngineState) (made : ℕ) (is : making_verdi
   pub made_few : nat_lt (length state.views) view_limit ≡ true
   made_few = at_limit.1
 
--- a view that is made has a name that none had, and the query of a view
-pub view_made : (tree : Statement) (name : List ℕ) (old : EngineState) (view : View) → view_verdict tree name old ≡ Ok view → (view_at view.name old ≡ None) × IsViewQuery view.query
+  pub made_rises : made ≡ state.tick + 1
+  made_rises = at_limit.2
+
+-- a view may be made: none has its name, its query is one of a view, its tick is the next one, and its feed is new
+pub record IsFresh (old : EngineState) (view : View) : Type 0 where
+  pub free : view_at view.name old ≡ None
+  pub query : IsViewQuery view.query
+  pub made : view.made ≡ old.tick + 1
+  pub feed : view.feed ≡ new_history old.history view.made
+
+pub view_made : (tree : Statement) (name : List ℕ) (old : EngineState) (view : View) → view_verdict tree name old ≡ Ok view → IsFresh old view
 view_made tree name old view is =
-    let query = bind_ok (query_verdict tree) (λ q. making_verdict name old >>= λ made. let v : View = record { name = name; query = q; made = made } in Ok v) view is in
-    let made = bind_ok (making_verdict name old) (λ tick. let v : View = record { name = name; query = query.0; made = tick } in Ok v) view query.2 in
-    let same : (let v : View = record { name = name; query = query.0; made = made.0 } in v) ≡ view = same_ok _ view made.2 in
-    subst (λ (v : View). (view_at v.name old ≡ None) × IsViewQuery v.query) same (made_free name old made.0 made.1, query_checked tree query.0 query.1)
+    let query = bind_ok (query_verdict tree) (λ q. making_verdict name old >>= λ made. let v : View = record { name = name; query = q; made = made; feed = new_history old.history made } in Ok v) view is in
+    let made = bind_ok (making_verdict name old) (λ tick. let v : View = record { name = name; query = query.0; made = tick; feed = new_history old.history tick } in Ok v) view query.2 in
+    let same : (let v : View = record { name = name; query = query.0; made = made.0; feed = new_history old.history made.0 } in v) ≡ view = same_ok _ view made.2 in
+    subst (IsFresh old) same (record { free = made_free name old made.0 made.1; query = query_checked tree query.0 query.1; made = made_rises name old made.0 made.1; feed = refl })
 
 -- ---- the columns of a query
 

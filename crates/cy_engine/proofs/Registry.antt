@@ -17,7 +17,7 @@ module _ (name : List ℕ) where
   find_named [] = refl
   find_named (e ∷ es) =
       elim (bytes_eq name (string_bytes e.0)) as (λ b. bytes_eq name (string_bytes e.0) ≡ b → cond b (Some (view_of (held e))) (find (λ v. bytes_eq name v.name) (views_in es)) ≡ option_map (named name) (cond b (Some e.1) (registered_at name es))) [
-        | true ↦ λ same. ap (λ n. let v : View = record { name = n; query = statement_of e.1.network.query; made = e.1.made } in Some v) (sym ((bytes_eq-Decides name (string_bytes e.0)).0 same))
+        | true ↦ λ same. ap (λ n. let v : View = record { name = n; query = statement_of e.1.network.query; made = e.1.made; feed = e.1.feed.history } in Some v) (sym ((bytes_eq-Decides name (string_bytes e.0)).0 same))
         | false ↦ λ _. find_named es
       ] refl
 

@@ -1,5 +1,5 @@
 -- What the parts of the engine's work on a line come to.
-use Rattle.std.proofs.Common.{◌≡◌, ◌⊎◌, ℕ, ◌<◌, ◌≤◌, Bool, true, false, nat_lt, length, is_some, arith, List, [], ◌∷◌, ◌++◌, Some, None, Ok, Err, refl, ap, inl, inr}
+use Rattle.std.proofs.Common.{◌≡◌, ◌⊎◌, ℕ, ◌<◌, ◌≤◌, Bool, true, false, nat_lt, length, map, is_some, arith, List, [], ◌∷◌, ◌++◌, Some, None, Ok, Err, refl, ap, inl, inr}
 use Rattle.std.proofs.lemmas.Bool.Decides.{nat_tests}
 use Rattle.cy_lexer.specs.declared.tokens.Token.{Token}
 use Rattle.cy_trees.specs.Trees.{Statement}
@@ -8,6 +8,7 @@ use Rattle.cy_index.specs.Index.{StoreState, has_pair}
 use Rattle.cy_index.specs.declared.faults.IndexFault.{IndexFault}
 use Rattle.cy_index.specs.declared.faults.IndexFault.TheVariants as index
 use Rattle.cy_oneshot.specs.Queries.{query_columns}
+use Rattle.cy_feeds.specs.Feeds.{new_history}
 use Rattle.cy_updates.specs.Faults.{◌>>=◌}
 use Rattle.cy_updates.specs.Statements.{Outcome, statement_outcome}
 use Rattle.cy_updates.specs.declared.faults.UpdateFault.{UpdateFault}
@@ -23,7 +24,7 @@ use Rattle.cy_engine.specs.internal.Representation.{Registry, views_in}
 use Rattle.cy_engine.specs.Model.{machine_of, state_of}
 use Rattle.cy_engine.specs.Requests.{Request, StatementOf, ViewOf}
 use Rattle.cy_engine.specs.State.{EngineState, Entries, View, view_at, view_limit}
-use Rattle.cy_engine.specs.Step.{Answer, IsCarried, IsMade, IsRefused, changed_by}
+use Rattle.cy_engine.specs.Step.{Answer, IsCarried, IsMade, IsRefused, changed_by, fed}
 use Rattle.cy_engine.specs.Verdicts.{Carried, carry_verdict, making_verdict, needs, next_tick, query_verdict, scope_verdict, tick_after, unless}
 
 -- ---- what carrying a statement out comes to
@@ -81,7 +82,7 @@ module _ (line : List ℕ) (tokens : List Token) (old : EngineState) (answer : A
   statement_carried resolved carried tree verdict is = inr (inl (tree.tree, tree.spelt, rw (tree.that, verdict) is))
 
   pub view_made : (name : List ℕ) (query : Statement) (made : ℕ) → HasTree line tokens (λ tree. query_verdict tree ≡ Ok query)
-      → making_verdict name old ≡ Ok made → IsMade (record { name = name; query = query; made = made }) old answer entries new → AnswersOrWants line (ViewOf name tokens) old answer entries new
+      → making_verdict name old ≡ Ok made → IsMade (record { name = name; query = query; made = made; feed = new_history old.history made }) old answer entries new → AnswersOrWants line (ViewOf name tokens) old answer entries new
   view_made name query made tree verdict is = inr (inl (tree.tree, tree.spelt, rw (tree.that, verdict) is))
 
 -- ---- whether a view may be made
@@ -113,7 +114,7 @@ module _ (line : List ℕ) (tokens : List Token) (store : StoreState) (views : R
   pub statement_done : (new : EngineState) (resolved : Statement) (outcome : Outcome) (effect : Effect) (entries : Entries) (answer : Reply)
       → HasTree line tokens (λ tree. scope_verdict tree ≡ Ok resolved) → statement_outcome store.graph.now resolved ≡ Ok outcome
       → HasEffect (views_in views) store.graph.now.content outcome.graph.content tick effect → answer ≡ reply.Statement (changed_by outcome.counts) outcome.columns outcome.rows
-      → new ≡ record start { graph = outcome.graph; tick = effect.tick } → entries ≡ effect.entries → AnswersOrWants line (StatementOf tokens) start (Ok answer) entries new
+      → new ≡ record start { graph = outcome.graph; views = map (fed entries) start.views; tick = effect.tick } → entries ≡ effect.entries → AnswersOrWants line (StatementOf tokens) start (Ok answer) entries new
   statement_done new resolved outcome effect entries answer tree means does answered left made =
       statement_carried line tokens start (Ok answer) entries new resolved (record { outcome = outcome; tick = effect.tick }) tree
       (carried resolved store.graph.now tick outcome effect.tick means does.ticks)
@@ -121,7 +122,7 @@ module _ (line : List ℕ) (tokens : List Token) (store : StoreState) (views : R
 
   pub view_done : (left : Registry) (made : ℕ) (name : List ℕ) (query : Statement) (entries after : Entries) (answer : Reply)
       → HasTree line tokens (λ tree. query_verdict tree ≡ Ok query) → making_verdict name start ≡ Ok made
-      → entries ≡ [] → answer ≡ reply.Made (query_columns query) made name → views_in left ≡ views_in views ++ (record { name = name; query = query; made = made }) ∷ []
+      → entries ≡ [] → answer ≡ reply.Made (query_columns query) made name → views_in left ≡ views_in views ++ (record { name = name; query = query; made = made; feed = new_history history made }) ∷ []
       → AnswersOrWants line (ViewOf name tokens) start (Ok answer) entries (state_of (machine_of store left made history after))
   view_done left made name query entries after answer tree verdict none answered added =
       view_made line tokens start (Ok answer) entries (state_of (machine_of store left made history after)) name query made tree verdict

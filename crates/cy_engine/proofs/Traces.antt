@@ -4,14 +4,17 @@ use Rattle.std.specs.List.{AllByRecursion}
 use Rattle.cy_lexer.specs.declared.faults.LexFault.{LexFault}
 use Rattle.cy_lexer.specs.declared.tokens.Token.{Token}
 use Rattle.cy_lexer.specs.Tokens.{tokens_of}
+use Rattle.cy_feeds.specs.declared.feeds.Answer as feeds
+use Rattle.cy_feeds.specs.declared.feeds.Answer.TheVariants.{Entries as Since, Lagged}
+use Rattle.cy_feeds.specs.Feeds.{answer_since}
 use Rattle.cy_index.specs.declared.keys.Pair.{Pair}
 use Rattle.cy_engine.specs.declared.faults.Fault.{Fault}
 use Rattle.cy_engine.specs.declared.replies.Reply.{Reply}
-use Rattle.cy_engine.specs.Requests.{Request, Nothing, StatementOf, ViewOf, RowsOf, IndexOf, Refused, request}
-use Rattle.cy_engine.specs.Runs.{Event, Run, Agree, HasRoom, IsDetermined, accepted, accepted_before, is_parsers}
+use Rattle.cy_engine.specs.Requests.{Request, Nothing, StatementOf, ViewOf, RowsOf, SinceOf, ListOfViews, DropOf, IndexOf, Refused, request}
+use Rattle.cy_engine.specs.Runs.{Event, Run, Agree, IsBound, IsDetermined, OnlySo, accepted, accepted_before, is_choice, is_want}
 use Rattle.cy_engine.specs.State.{EngineState, Entries, View}
-use Rattle.cy_engine.specs.Step.{Answer, Carries, Makes, Indexes, Shows, Answers, Lexed, Step}
-use Rattle.cy_engine.specs.Verdicts.{Carried, statement_verdict, view_verdict, rows_verdict, index_verdict}
+use Rattle.cy_engine.specs.Step.{Answer, Carries, Makes, Drops, Indexes, Shows, Follows, Tells, Answers, Lexed, Step}
+use Rattle.cy_engine.specs.Verdicts.{Carried, index_verdict, rows_verdict, since_verdict, statement_verdict, view_verdict}
 
 abbrev is_ok : Answer → Type 0
 is_ok answer = (reply : Reply) × (answer ≡ Ok reply)
@@ -32,6 +35,18 @@ module _ (old : EngineState) (answer : Answer) (entries : Entries) (new : Engine
   shows_left name (Ok view) (rows, are, a) = a.left
   shows_left name (Err other) a = a.left
 
+  tells_left : (name : List ℕ) (tick : ℕ) (v : Result View Fault) → Tells name tick v old answer entries new → new ≡ old
+  tells_left name tick (Err other) a = a.left
+  tells_left name tick (Ok view) a = from (answer_since tick view.feed) a
+    where
+      from : (told : feeds.Answer) → Follows name view told old answer entries new → new ≡ old
+      from (Since changes) a = a.left
+      from Lagged (rows, are, a) = a.left
+
+  drops_left : (v : Result View Fault) → Drops v old answer entries new → new ≡ old
+  drops_left (Ok view) a = absurd (no_reply _ a.answered)
+  drops_left (Err other) a = a.left
+
   indexes_left : (v : Result Pair Fault) → Indexes v old answer entries new → new ≡ old
   indexes_left (Ok pair) a = absurd (no_reply _ a.answered)
   indexes_left (Err other) a = a.left
@@ -43,6 +58,9 @@ module _ (old : EngineState) (answer : Answer) (entries : Entries) (new : Engine
   answers_left line (ViewOf name tokens) (inl (tree, spelt, a)) = makes_left (view_verdict tree name old) a
   answers_left line (ViewOf name tokens) (inr (parsed, unspelt, a)) = a.left
   answers_left line (RowsOf name) a = shows_left name (rows_verdict name old) a
+  answers_left line (SinceOf name tick) a = tells_left name tick (since_verdict name tick old) a
+  answers_left line ListOfViews a = a.left
+  answers_left line (DropOf name) a = drops_left (rows_verdict name old) a
   answers_left line (IndexOf label key) a = indexes_left (index_verdict label key old) a
   answers_left line (Refused other) a = a.left
 
@@ -70,33 +88,34 @@ all_accepted (e ∷ events) =
       | Err why ↦ λ is. all_accepted events
     ] refl
 
-has_room : (answer : Answer) → is_ok answer → HasRoom answer
-has_room answer (reply, is) none = let wrong : Ok reply ≡ Err _ = sym is ∙ none in cc
+is_bound : (answer : Answer) → is_ok answer → IsBound answer
+is_bound answer (reply, is) = ap is_want is
 
 no_parser : (answer other : Answer) → is_ok answer → Agree answer other → answer ≡ other
 no_parser answer other ok (inl same) = same
-no_parser answer other (reply, is) (inr both) = let wrong : false ≡ true = sym (ap is_parsers is) ∙ both.0 in absurd (cc)
+no_parser answer other (reply, is) (inr both) = let wrong : false ≡ true = sym (ap is_choice is) ∙ both.0 in absurd (cc)
 
 heads : (e f : Event) (es fs : List Event) → map (λ (x : Event). x.line) (f ∷ fs) ≡ map (λ (x : Event). x.line) (e ∷ es) → (f.line ≡ e.line) × (map (λ (x : Event). x.line) fs ≡ map (λ (x : Event). x.line) es)
 heads e f es fs is = (cc, cc)
 
 module _ (determined : IsDetermined) where
   runs_one : (old new other : EngineState) (es fs : List Event) → Run old es new → Run old fs other → map (λ (x : Event). x.line) fs ≡ map (λ (x : Event). x.line) es
-      → AllByRecursion (λ (x : Event). is_ok x.answer) es → AllByRecursion (λ (x : Event). HasRoom x.answer) fs → (fs ≡ es) × (other ≡ new)
+      → AllByRecursion (λ (x : Event). is_ok x.answer) es → AllByRecursion (λ (x : Event). IsBound x.answer) fs → (fs ≡ es) × (other ≡ new)
   runs_one old new other [] [] run again lines ok room = (refl, again ∙ sym run)
   runs_one old new other [] (f ∷ fs) run again lines ok room = absurd (cc)
   runs_one old new other (e ∷ es) [] run again lines ok room = absurd (cc)
   runs_one old new other (e ∷ es) (f ∷ fs) (mid, step, run) (mid_2, step_2, again) lines ok room =
       let line = heads e f es fs lines in
       let step_of_e : Step old e.line f.answer f.entries mid_2 = subst (λ (l : List ℕ). Step old l f.answer f.entries mid_2) line.0 step_2 in
-      let one = determined old mid mid_2 e.line e.answer f.answer e.entries f.entries step step_of_e (has_room e.answer ok.0) room.0 in
+      let one = determined old mid mid_2 e.line e.answer f.answer e.entries f.entries step step_of_e (is_bound e.answer ok.0) room.0 in
       let answer : e.answer ≡ f.answer = no_parser e.answer f.answer ok.0 one.0 in
       let entries : e.entries ≡ f.entries = one.1 in
       let rest = runs_one mid new other es fs run (subst (λ (s : EngineState). Run s fs other) (sym one.2) again) line.1 ok.1 room.1 in
       let event : f ≡ e = λ i. record { line = line.0 i; answer = sym answer i; entries = sym entries i } in
       ((λ i. event i ∷ rest.0 i), rest.1)
 
-  pub traces : (old new other : EngineState) (events alone : List Event) → Run old events new → Run old alone other
-      → map (λ (x : Event). x.line) alone ≡ map (λ (x : Event). x.line) (accepted events) → AllByRecursion (λ (x : Event). HasRoom x.answer) alone
-      → (alone ≡ accepted events) × (other ≡ new)
-  traces old new other events alone run again lines room = runs_one old new other (accepted events) alone (run_accepted old new events run) again lines (all_accepted events) room
+  pub traces : (old new : EngineState) (events : List Event) → Run old events new → OnlySo old (accepted events) new
+  traces old new events run = record {
+    run = run_accepted old new events run;
+    only = λ other alone again lines bound. runs_one old new other (accepted events) alone (run_accepted old new events run) again lines (all_accepted events) bound;
+  }

@@ -28,11 +28,13 @@ use Rattle.cy_engine.specs.declared.faults.Fault.TheVariants as fault
 use Rattle.cy_engine.specs.declared.views.Registered.{Registered}
 use Rattle.cy_engine.specs.declared.replies.Reply.TheVariants as reply
 use Rattle.cy_engine.specs.Faults.{code_of, offset_of}
+use Rattle.cy_feeds.specs.Feeds.{new_history}
 use Rattle.cy_engine.specs.Requests.{request, StatementOf, ViewOf, RowsOf, IndexOf, Refused, without_end}
 use Rattle.cy_engine.specs.Model.{machine_of, new_machine, state_of}
 use Rattle.cy_engine.specs.State.{EngineState, Entries, View, entry_at, last_tick, rows_of, view_at}
-use Rattle.cy_engine.specs.Runs.{Event, accepted, entries_of}
-use Rattle.cy_engine.specs.Verdicts.{carry_verdict, statement_verdict, query_verdict, rows_verdict, index_verdict, view_verdict}
+use Rattle.cy_engine.specs.Headline.{entries_of}
+use Rattle.cy_engine.specs.Runs.{Event, accepted}
+use Rattle.cy_engine.specs.Verdicts.{carry_verdict, statement_verdict, query_verdict, rows_verdict, since_verdict, index_verdict, view_verdict}
 use Rattle.cy_engine.proofs.WorkedLines.{mark, letter, create_tree, create_tokens, view_line, view_tokens, query_tokens, query_tree, rows_line, rows_tokens, set_tree, bare_tree}
 
 -- ---- what a line asks for
@@ -146,7 +148,7 @@ last_tick_stays : carry_verdict (set_to 7) three last_tick ≡ Ok (record { outc
 last_tick_stays = refl
 
 abbrev view : View
-view = record { name = codes "v"; query = keys; made = 2 }
+view = record { name = codes "v"; query = keys; made = 2; feed = new_history 64 2 }
 
 abbrev with_view : EngineState
 with_view = record { graph = three; indexes = (record { label = codes "A"; key = codes "k" }) ∷ []; views = view ∷ []; tick = 2; history = 64 }
@@ -163,8 +165,18 @@ update_as_view = refl
 name_is_taken : view_verdict query_tree (codes "v") with_view ≡ Err fault.ViewNameTaken
 name_is_taken = refl
 
-another_is_made : view_verdict query_tree (codes "w") with_view ≡ Ok (record { name = codes "w"; query = keys; made = 3 })
+another_is_made : view_verdict query_tree (codes "w") with_view ≡ Ok (record { name = codes "w"; query = keys; made = 3; feed = new_history 64 3 })
 another_is_made = refl
+
+-- what changed since a tick: there is no such view, then no such tick
+since_no_view : since_verdict (codes "w") 9 with_view ≡ Err fault.NoSuchView
+since_no_view = refl
+
+since_no_tick : since_verdict (codes "v") 3 with_view ≡ Err fault.FutureTick
+since_no_tick = refl
+
+since_then : since_verdict (codes "v") 2 with_view ≡ Ok view
+since_then = refl
 
 no_such_view : rows_verdict (codes "w") with_view ≡ Err fault.NoSuchView
 no_such_view = refl
@@ -183,10 +195,10 @@ new_engine : machine_of (record { graph = record { now = empty_state 1 1; was = 
 new_engine = refl
 
 -- one with nodes, an index and a view, which is registered under its name
-engine_with_view : (name : String Global) (r : Registered) → string_bytes name ≡ codes "v" → statement_of r.network.query ≡ keys → r.made ≡ 2
+engine_with_view : (name : String Global) (r : Registered) → string_bytes name ≡ codes "v" → statement_of r.network.query ≡ keys → r.made ≡ 2 → r.feed.history ≡ new_history 64 2
     → state_of (machine_of (record { graph = record { now = three; was = None }; chosen = with_view.indexes }) ((name, r) ∷ []) 2 64 []) ≡ with_view
-engine_with_view name r is query made =
-    λ i. record { graph = three; indexes = with_view.indexes; views = (record { name = is i; query = query i; made = made i }) ∷ []; tick = 2; history = 64 }
+engine_with_view name r is query made fed =
+    λ i. record { graph = three; indexes = with_view.indexes; views = (record { name = is i; query = query i; made = made i; feed = fed i }) ∷ []; tick = 2; history = 64 }
 
 view_is_found : view_at (codes "v") with_view ≡ Some view
 view_is_found = refl

@@ -23,6 +23,7 @@ use Rattle.cy_graph.specs.declared.nodes.Node.{Node}
 use Rattle.cy_engine.specs.declared.faults.Fault.TheVariants as fault
 use Rattle.cy_engine.specs.declared.replies.Reply.TheVariants as reply
 use Rattle.cy_bags.specs.Difference.{IsDifference}
+use Rattle.cy_bags.specs.declared.changes.Entry.{Entry}
 use Rattle.cy_engine.specs.Requests.{request}
 use Rattle.cy_engine.specs.Runs.{Event, Run}
 use Rattle.cy_engine.specs.State.{EngineState, Entries, View, empty_engine}
@@ -45,8 +46,9 @@ bare = record { labels = (codes "A", tt) ∷ []; props = [] }
 abbrev keys : Statement
 keys = resolved_statement query_tree
 
-abbrev view : View
-view = record { name = codes "v"; query = keys; made = 2 }
+-- with the entries that went into its feed
+abbrev view : List Entry → View
+view entries = record { name = codes "v"; query = keys; made = 2; feed = record { limit = 64; base = 2; entries = entries } }
 
 -- an engine with one node, of this number, or with none
 abbrev one : ℕ → Node → ℕ → List View → EngineState
@@ -69,8 +71,25 @@ row v = cell.Value v ∷ []
 abbrev counted : Value → List (List Cell × ℕ)
 counted v = (row v, 1) ∷ []
 
+abbrev change_at : ℕ → List (List Cell × ℕ) → List (List Cell × ℕ) → Entry
+change_at tick removed added = record { tick = tick; change = record { removed = removed; added = added } }
+
 abbrev entry : ℕ → List (List Cell × ℕ) → List (List Cell × ℕ) → Entries
-entry tick removed added = (codes "v", record { tick = tick; change = record { removed = removed; added = added } }) ∷ []
+entry tick removed added = (codes "v", change_at tick removed added) ∷ []
+
+-- the entries in its feed after each of the lines that make one
+abbrev fed_set : List Entry
+fed_set = change_at 3 (counted (int 7)) (counted (int 8)) ∷ []
+
+abbrev fed_null : List Entry
+fed_null = change_at 3 (counted (int 7)) (counted (int 8)) ∷ change_at 4 (counted (int 8)) (counted value.Null) ∷ []
+
+abbrev fed_deleted : List Entry
+fed_deleted = change_at 3 (counted (int 7)) (counted (int 8)) ∷ change_at 4 (counted (int 8)) (counted value.Null) ∷ change_at 5 (counted value.Null) [] ∷ []
+
+abbrev fed_created : List Entry
+fed_created =
+    change_at 3 (counted (int 7)) (counted (int 8)) ∷ change_at 4 (counted (int 8)) (counted value.Null) ∷ change_at 5 (counted value.Null) [] ∷ change_at 6 [] (counted value.Null) ∷ []
 
 -- ---- steps
 
@@ -85,9 +104,9 @@ created = lexed (empty_engine 64) (one 1 (node (int 7)) 1 []) create_line create
     (inl (create_tree, create_spelt, record { answered = refl; entries_are = refl; left = refl }))
 
 -- `:view v MATCH (n:A) RETURN n.k`
-made : Step (one 1 (node (int 7)) 1 []) view_line (Ok (reply.Made (codes "n.k" ∷ []) 2 (codes "v"))) [] (one 1 (node (int 7)) 2 (view ∷ []))
+made : Step (one 1 (node (int 7)) 1 []) view_line (Ok (reply.Made (codes "n.k" ∷ []) 2 (codes "v"))) [] (one 1 (node (int 7)) 2 (view [] ∷ []))
 unfolding denotes slice_in chars encode_utf8
-made = lexed (one 1 (node (int 7)) 1 []) (one 1 (node (int 7)) 2 (view ∷ [])) view_line view_tokens (Ok (reply.Made (codes "n.k" ∷ []) 2 (codes "v"))) [] view_lexed
+made = lexed (one 1 (node (int 7)) 1 []) (one 1 (node (int 7)) 2 (view [] ∷ [])) view_line view_tokens (Ok (reply.Made (codes "n.k" ∷ []) 2 (codes "v"))) [] view_lexed
     (inl (query_tree, query_spelt, record { answered = refl; no_entries = refl; left = refl }))
 
 -- `MATCH (n:A) SET m.k = 9`
@@ -126,14 +145,14 @@ module _ (total : IsTotalOrder row_cmp) (same : (x y : List Cell) → row_cmp x 
       }
 
   -- `:rows v`
-  shown : Step (one 1 (node (int 7)) 2 (view ∷ [])) rows_line (Ok (reply.Rows (counted (int 7)) 2 (codes "v"))) [] (one 1 (node (int 7)) 2 (view ∷ []))
+  shown : Step (one 1 (node (int 7)) 2 (view [] ∷ [])) rows_line (Ok (reply.Rows (counted (int 7)) 2 (codes "v"))) [] (one 1 (node (int 7)) 2 (view [] ∷ []))
   unfolding denotes slice_in chars encode_utf8
-  shown = lexed (one 1 (node (int 7)) 2 (view ∷ [])) (one 1 (node (int 7)) 2 (view ∷ [])) rows_line rows_tokens (Ok (reply.Rows (counted (int 7)) 2 (codes "v"))) [] rows_lexed
+  shown = lexed (one 1 (node (int 7)) 2 (view [] ∷ [])) (one 1 (node (int 7)) 2 (view [] ∷ [])) rows_line rows_tokens (Ok (reply.Rows (counted (int 7)) 2 (codes "v"))) [] rows_lexed
       (counted (int 7), record { bag = bag_of_counted total same (row (int 7) ∷ []); canonical = counts_once }, record { answered = refl; no_entries = refl; left = refl })
 
   -- `MATCH (n:A) SET n.k = 8`
-  set_once : Step (one 1 (node (int 7)) 2 (view ∷ [])) set_line (statement 0 0) (entry 3 (counted (int 7)) (counted (int 8))) (one 1 (node (int 8)) 3 (view ∷ []))
-  set_once = lexed (one 1 (node (int 7)) 2 (view ∷ [])) (one 1 (node (int 8)) 3 (view ∷ [])) set_line (set_tokens (digit 8 22 ∷ [])) (statement 0 0) (entry 3 (counted (int 7)) (counted (int 8))) set_lexed
+  set_once : Step (one 1 (node (int 7)) 2 (view [] ∷ [])) set_line (statement 0 0) (entry 3 (counted (int 7)) (counted (int 8))) (one 1 (node (int 8)) 3 (view fed_set ∷ []))
+  set_once = lexed (one 1 (node (int 7)) 2 (view [] ∷ [])) (one 1 (node (int 8)) 3 (view fed_set ∷ [])) set_line (set_tokens (digit 8 22 ∷ [])) (statement 0 0) (entry 3 (counted (int 7)) (counted (int 8))) set_lexed
       (inl (
         set_tree (codes "n") (integer (pos 8)),
         set_spelt,
@@ -155,13 +174,13 @@ module _ (total : IsTotalOrder row_cmp) (same : (x y : List Cell) → row_cmp x 
       ))
 
   -- the same again
-  set_again : Step (one 1 (node (int 8)) 3 (view ∷ [])) set_line (statement 0 0) [] (one 1 (node (int 8)) 3 (view ∷ []))
-  set_again = lexed (one 1 (node (int 8)) 3 (view ∷ [])) (one 1 (node (int 8)) 3 (view ∷ [])) set_line (set_tokens (digit 8 22 ∷ [])) (statement 0 0) [] set_lexed
+  set_again : Step (one 1 (node (int 8)) 3 (view fed_set ∷ [])) set_line (statement 0 0) [] (one 1 (node (int 8)) 3 (view fed_set ∷ []))
+  set_again = lexed (one 1 (node (int 8)) 3 (view fed_set ∷ [])) (one 1 (node (int 8)) 3 (view fed_set ∷ [])) set_line (set_tokens (digit 8 22 ∷ [])) (statement 0 0) [] set_lexed
       (inl (set_tree (codes "n") (integer (pos 8)), set_spelt, record { answered = refl; entries_are = inl ((λ r. refl), refl); left = refl }))
 
   -- `MATCH (n:A) SET n.k = null`
-  set_null : Step (one 1 (node (int 8)) 3 (view ∷ [])) null_line (statement 0 0) (entry 4 (counted (int 8)) (counted value.Null)) (one 1 bare 4 (view ∷ []))
-  set_null = lexed (one 1 (node (int 8)) 3 (view ∷ [])) (one 1 bare 4 (view ∷ [])) null_line (set_tokens (keyword word.Null 22 26 ∷ [])) (statement 0 0) (entry 4 (counted (int 8)) (counted value.Null)) null_lexed
+  set_null : Step (one 1 (node (int 8)) 3 (view fed_set ∷ [])) null_line (statement 0 0) (entry 4 (counted (int 8)) (counted value.Null)) (one 1 bare 4 (view fed_null ∷ []))
+  set_null = lexed (one 1 (node (int 8)) 3 (view fed_set ∷ [])) (one 1 bare 4 (view fed_null ∷ [])) null_line (set_tokens (keyword word.Null 22 26 ∷ [])) (statement 0 0) (entry 4 (counted (int 8)) (counted value.Null)) null_lexed
       (inl (
         set_tree (codes "n") null,
         null_spelt_whole,
@@ -183,8 +202,8 @@ module _ (total : IsTotalOrder row_cmp) (same : (x y : List Cell) → row_cmp x 
       ))
 
   -- `MATCH (n:A) DETACH DELETE n`
-  deleted : Step (one 1 bare 4 (view ∷ [])) delete_line (statement 0 1) (entry 5 (counted value.Null) []) (none 5 (view ∷ []))
-  deleted = lexed (one 1 bare 4 (view ∷ [])) (none 5 (view ∷ [])) delete_line delete_tokens (statement 0 1) (entry 5 (counted value.Null) []) delete_lexed
+  deleted : Step (one 1 bare 4 (view fed_null ∷ [])) delete_line (statement 0 1) (entry 5 (counted value.Null) []) (none 5 (view fed_deleted ∷ []))
+  deleted = lexed (one 1 bare 4 (view fed_null ∷ [])) (none 5 (view fed_deleted ∷ [])) delete_line delete_tokens (statement 0 1) (entry 5 (counted value.Null) []) delete_lexed
       (inl (
         delete_tree,
         delete_spelt,
@@ -206,8 +225,8 @@ module _ (total : IsTotalOrder row_cmp) (same : (x y : List Cell) → row_cmp x 
       ))
 
   -- `CREATE (:A)`: the node has the next number
-  created_again : Step (none 5 (view ∷ [])) bare_line (statement 1 0) (entry 6 [] (counted value.Null)) (one 2 bare 6 (view ∷ []))
-  created_again = lexed (none 5 (view ∷ [])) (one 2 bare 6 (view ∷ [])) bare_line bare_tokens (statement 1 0) (entry 6 [] (counted value.Null)) bare_lexed
+  created_again : Step (none 5 (view fed_deleted ∷ [])) bare_line (statement 1 0) (entry 6 [] (counted value.Null)) (one 2 bare 6 (view fed_created ∷ []))
+  created_again = lexed (none 5 (view fed_deleted ∷ [])) (one 2 bare 6 (view fed_created ∷ [])) bare_line bare_tokens (statement 1 0) (entry 6 [] (counted value.Null)) bare_lexed
       (inl (
         bare_tree,
         bare_spelt,
@@ -229,6 +248,6 @@ module _ (total : IsTotalOrder row_cmp) (same : (x y : List Cell) → row_cmp x 
       ))
 
   -- the lines one after another
-  worked_run : Run (empty_engine 64) worked_lines (one 2 bare 6 (view ∷ []))
+  worked_run : Run (empty_engine 64) worked_lines (one 2 bare 6 (view fed_created ∷ []))
   worked_run =
-      (_, created, (_, made, (_, shown, (_, set_once, (_, set_again, (_, unknown 3 (view ∷ []), (_, set_null, (_, deleted, (_, created_again, refl)))))))))
+      (_, created, (_, made, (_, shown, (_, set_once, (_, set_again, (_, unknown 3 (view fed_set ∷ []), (_, set_null, (_, deleted, (_, created_again, refl)))))))))

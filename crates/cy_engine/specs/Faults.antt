@@ -19,7 +19,7 @@ use Rattle.cy_updates.specs.declared.faults.UpdateFault.{UpdateFault}
 use Rattle.cy_updates.specs.declared.faults.UpdateFault.TheVariants as update
 use Rattle.cy_updates.specs.Faults as updates
 use Rattle.cy_engine.specs.declared.faults.Fault.{Fault}
-use Rattle.cy_engine.specs.declared.faults.Fault.TheVariants.{Lex, Parse, Scope, View, Update, Full, ViewNameTaken, NoSuchView, TooManyViews, UnknownCommand, IndexThere, BadArgument, NoMemory}
+use Rattle.cy_engine.specs.declared.faults.Fault.TheVariants.{Lex, Parse, Scope, View, Update, Full, ViewNameTaken, NoSuchView, TooManyViews, UnknownCommand, IndexThere, BadArgument, FutureTick, NoMemory}
 
 abbrev pub code_of : Fault → ℕ
 code_of (Lex fault) = lexer.code_of fault
@@ -34,6 +34,7 @@ code_of TooManyViews = 68
 code_of UnknownCommand = 70
 code_of IndexThere = 71
 code_of BadArgument = 72
+code_of FutureTick = 73
 code_of NoMemory = 90
 
 -- a byte of the line, where the fault points at one

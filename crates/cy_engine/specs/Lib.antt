@@ -1,4 +1,6 @@
 pub mod Faults
+pub mod Followers
+pub mod Headline
 pub mod Model
 pub mod Requests
 pub mod Runs

@@ -7,6 +7,7 @@ use Rattle.cy_trees.specs.Views.{statement_of}
 use Rattle.cy_graph.specs.Graph.{State, empty_state}
 use Rattle.cy_index.specs.Index.{StoreState}
 use Rattle.cy_index.specs.declared.keys.Pair.{Pair}
+use Rattle.cy_feeds.specs.Feeds.{History}
 use Rattle.cy_engine.specs.declared.views.Registered.{Registered}
 use Rattle.cy_engine.specs.State.{View, EngineState, Entries}
 
@@ -15,6 +16,7 @@ pub record Held : Type 0 where
   pub name : List ℕ
   pub query : coded.Statement
   pub made : ℕ
+  pub feed : History
 
 -- an engine between two lines, with the entries that the last line made
 pub record Machine : Type 0 where
@@ -27,7 +29,7 @@ pub record Machine : Type 0 where
 
 -- the view of a query as the code has it
 abbrev pub view_of : Held → View
-view_of h = record { name = h.name; query = statement_of h.query; made = h.made }
+view_of h = record { name = h.name; query = statement_of h.query; made = h.made; feed = h.feed }
 
 -- the state of an engine
 abbrev pub state_of : Machine → EngineState
@@ -35,7 +37,7 @@ state_of m = record { graph = m.graph; indexes = m.indexes; views = map view_of 
 
 -- what is registered under a name
 abbrev pub held : String Global × Registered → Held
-held e = record { name = string_bytes e.0; query = e.1.network.query; made = e.1.made }
+held e = record { name = string_bytes e.0; query = e.1.network.query; made = e.1.made; feed = e.1.feed.history }
 
 -- the graph as it is with its indexes, and the views in the order of the map
 abbrev pub machine_of : StoreState → List (String Global × Registered) → ℕ → ℕ → Entries → Machine

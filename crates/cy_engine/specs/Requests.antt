@@ -1,11 +1,12 @@
 -- What a line asks for, by its tokens (own).
-use Rattle.std.specs.Prelude.{ℕ, Bool, true, false, ◌&&◌, List, [], ◌∷◌, codes, if◌then◌else◌}
+use Rattle.std.specs.Prelude.{◌≡◌, ℕ, nat_lt, Bool, true, false, ◌&&◌, List, [], ◌∷◌, Option, None, Some, Ok, codes, if◌then◌else◌}
 use Rattle.cy_lexer.specs.declared.tokens.Kind.{Kind}
 use Rattle.cy_lexer.specs.declared.tokens.Kind.TheVariants as kind
 use Rattle.cy_lexer.specs.declared.tokens.Token.{Token}
 use Rattle.cy_lexer.specs.declared.symbols.Symbol.TheVariants as sign
 use Rattle.cy_lexer.specs.Keywords.{same_word}
-use Rattle.cy_parser.specs.Words.{is_word, denotes, slice_in}
+use Rattle.cy_lexer.specs.Tokens.{tokens_of}
+use Rattle.cy_parser.specs.Words.{is_word, denotes, number_limit, slice_in}
 use Rattle.cy_engine.specs.declared.faults.Fault.{Fault}
 use Rattle.cy_engine.specs.declared.faults.Fault.TheVariants.{UnknownCommand, BadArgument}
 
@@ -18,6 +19,12 @@ pub data Request : Type 0 where
   ViewOf : (name : List ℕ) → (query : List Token) → Request
   -- `:rows NAME`
   RowsOf : (name : List ℕ) → Request
+  -- `:since NAME TICK`
+  SinceOf : (name : List ℕ) → (tick : ℕ) → Request
+  -- `:views`
+  ListOfViews : Request
+  -- `:drop NAME`
+  DropOf : (name : List ℕ) → Request
   -- `:index LABEL KEY`
   IndexOf : (label : List ℕ) → (key : List ℕ) → Request
   -- a command that is refused
@@ -52,6 +59,30 @@ abbrev pub rows_request : List ℕ → List Token → Request
 rows_request line (name ∷ []) = if is_word name.kind then RowsOf (denotes line name) else Refused BadArgument
 rows_request line _ = Refused BadArgument
 
+-- the tick that a token denotes: a number that an integer of 64 bits holds
+abbrev pub tick_in : Kind → Option ℕ
+tick_in (kind.Number n) = if nat_lt n number_limit then Some n else None
+tick_in _ = None
+
+abbrev pub since_from : List ℕ → Option ℕ → Request
+since_from name (Some tick) = SinceOf name tick
+since_from name None = Refused BadArgument
+
+-- a name, a tick and no more
+abbrev pub since_request : List ℕ → List Token → Request
+since_request line (name ∷ tick ∷ []) = if is_word name.kind then since_from (denotes line name) (tick_in tick.kind) else Refused BadArgument
+since_request line _ = Refused BadArgument
+
+-- nothing more
+abbrev pub views_request : List Token → Request
+views_request [] = ListOfViews
+views_request (t ∷ ts) = Refused BadArgument
+
+-- one name and no more
+abbrev pub drop_request : List ℕ → List Token → Request
+drop_request line (name ∷ []) = if is_word name.kind then DropOf (denotes line name) else Refused BadArgument
+drop_request line _ = Refused BadArgument
+
 -- two names and no more
 abbrev pub index_request : List ℕ → List Token → Request
 index_request line (label ∷ key ∷ []) =
@@ -68,6 +99,9 @@ command_request line [] = Refused UnknownCommand
 command_request line (word ∷ arguments) =
     if is_command (codes "VIEW") line word then view_request line arguments
     else if is_command (codes "ROWS") line word then rows_request line (without_end arguments)
+    else if is_command (codes "SINCE") line word then since_request line (without_end arguments)
+    else if is_command (codes "VIEWS") line word then views_request (without_end arguments)
+    else if is_command (codes "DROP") line word then drop_request line (without_end arguments)
     else if is_command (codes "INDEX") line word then index_request line (without_end arguments)
     else Refused UnknownCommand
 
@@ -75,3 +109,9 @@ command_request line (word ∷ arguments) =
 abbrev pub request : List ℕ → List Token → Request
 request line [] = Nothing
 request line (t ∷ ts) = if is_colon t.kind then command_request line ts else StatementOf (t ∷ ts)
+
+-- a line asks for this
+pub record Asks (line : List ℕ) (asked : Request) : Type 0 where
+  pub tokens : List Token
+  pub lexed : tokens_of line ≡ Ok tokens
+  pub is : request line tokens ≡ asked

@@ -9,13 +9,15 @@ use Rattle.cy_graph.specs.Graph.{Content, State, empty_state}
 use Rattle.cy_index.specs.declared.keys.Pair.{Pair}
 use Rattle.cy_oneshot.specs.Queries.{query_rows}
 use Rattle.cy_bags.specs.declared.changes.Entry.{Entry}
+use Rattle.cy_feeds.specs.Feeds.{History}
 
--- a view: its name, its query and the tick at which it was made. Its rows are no part of it: they are what its
--- query means on the graph
+-- a view: its name, its query, the tick at which it was made, and its feed: the last entries that lines made for it. Its rows are no
+-- part of it: they are what its query means on the graph
 pub record View : Type 0 where
   pub name : List ℕ
   pub query : Statement
   pub made : ℕ
+  pub feed : History
 
 -- The rows that the query of a view means on a graph, as a bag. Such a query has rows on every graph, and no fault: that is a law
 -- of queries (`view_queries`), and part of the headline.

@@ -1,5 +1,7 @@
 -- The engine as a machine: the steps that a line allows (own).
-use Rattle.std.specs.Prelude.{◌≡◌, ◌≢◌, ℕ, ◌≤◌, ◌⊎◌, List, [], ◌∷◌, ◌++◌, length, Result, Ok, Err}
+use Rattle.std.specs.Prelude.{◌≡◌, ◌≢◌, ℕ, ◌≤◌, ◌⊎◌, not, List, [], ◌∷◌, ◌++◌, filter, length, map, Result, Ok, Err}
+use Rattle.std.specs.Option.{option_map_or}
+use Rattle.std.specs.Str.{bytes_eq}
 use Rattle.cy_lexer.specs.declared.faults.LexFault.{LexFault}
 use Rattle.cy_lexer.specs.declared.tokens.Token.{Token}
 use Rattle.cy_lexer.specs.Line.{longest_line}
@@ -16,15 +18,19 @@ use Rattle.cy_index.specs.declared.keys.Pair.{Pair}
 use Rattle.cy_oneshot.specs.Queries.{query_columns}
 use Rattle.cy_updates.specs.Counts.{Counts}
 use Rattle.cy_bags.specs.declared.changes.Entry.{Entry}
+use Rattle.cy_feeds.specs.declared.feeds.Answer as feeds
+use Rattle.cy_feeds.specs.declared.feeds.Answer.TheVariants.{Entries as Since, Lagged}
+use Rattle.cy_feeds.specs.Feeds.{answer_since, pushed}
 use Rattle.cy_engine.specs.declared.faults.Fault.{Fault}
 use Rattle.cy_engine.specs.declared.faults.Fault.TheVariants as fault
 use Rattle.cy_engine.specs.declared.replies.Changed.{Changed}
 use Rattle.cy_engine.specs.declared.replies.Reply.{Reply}
+use Rattle.cy_engine.specs.declared.replies.ViewListing.{ViewListing}
 use Rattle.cy_engine.specs.declared.replies.Reply.TheVariants as reply
 use Rattle.cy_bags.specs.Difference.{IsDifference}
-use Rattle.cy_engine.specs.Requests.{Request, Nothing, StatementOf, ViewOf, RowsOf, IndexOf, Refused, request}
-use Rattle.cy_engine.specs.State.{EngineState, Entries, View, rows_of}
-use Rattle.cy_engine.specs.Verdicts.{Carried, statement_verdict, view_verdict, rows_verdict, index_verdict}
+use Rattle.cy_engine.specs.Requests.{Request, Nothing, StatementOf, ViewOf, RowsOf, SinceOf, ListOfViews, DropOf, IndexOf, Refused, request}
+use Rattle.cy_engine.specs.State.{EngineState, Entries, View, entry_at, rows_of}
+use Rattle.cy_engine.specs.Verdicts.{Carried, statement_verdict, view_verdict, rows_verdict, since_verdict, index_verdict}
 
 -- ---- what is answered
 
@@ -68,15 +74,29 @@ pub record IsReplied (reply : Reply) (old : EngineState) (answer : Answer) (entr
 abbrev pub changed_by : Counts → Changed
 changed_by counts = record { nodes_made = counts.made_nodes; nodes_gone = counts.gone_nodes; rels_made = counts.made_rels; rels_gone = counts.gone_rels }
 
+-- a view with the entry that it gets, if it gets one, in its feed
+abbrev pub fed : Entries → View → View
+fed entries view = option_map_or (λ entry. record view { feed = pushed entry view.feed }) (entry_at view.name entries) view
+
 pub record IsCarried (carried : Carried) (old : EngineState) (answer : Answer) (entries : Entries) (new : EngineState) : Type 0 where
   pub answered : answer ≡ Ok (reply.Statement (changed_by carried.outcome.counts) carried.outcome.columns carried.outcome.rows)
   pub entries_are : AreEntries old.views old.graph.content carried.outcome.graph.content carried.tick entries
-  pub left : new ≡ record old { graph = carried.outcome.graph; tick = carried.tick }
+  pub left : new ≡ record old { graph = carried.outcome.graph; views = map (fed entries) old.views; tick = carried.tick }
 
 pub record IsMade (view : View) (old : EngineState) (answer : Answer) (entries : Entries) (new : EngineState) : Type 0 where
   pub answered : answer ≡ Ok (reply.Made (query_columns view.query) view.made view.name)
   pub no_entries : entries ≡ []
   pub left : new ≡ record old { views = old.views ++ view ∷ []; tick = view.made }
+
+-- the views without the one of a name
+abbrev pub without : List ℕ → List View → List View
+without name views = filter (λ v. not (bytes_eq name v.name)) views
+
+-- the view of the name is gone, and nothing else differs
+pub record IsDropped (view : View) (old : EngineState) (answer : Answer) (entries : Entries) (new : EngineState) : Type 0 where
+  pub answered : answer ≡ Ok (reply.Dropped view.name)
+  pub no_entries : entries ≡ []
+  pub left : new ≡ record old { views = without view.name old.views }
 
 -- the label and the key have an index, and nothing else differs
 pub record IsIndexed (pair : Pair) (old : EngineState) (answer : Answer) (entries : Entries) (new : EngineState) : Type 0 where
@@ -99,11 +119,30 @@ abbrev pub Indexes : Result Pair Fault → EngineState → Answer → Entries �
 Indexes (Ok pair) = IsIndexed pair
 Indexes (Err why) = IsRefused why
 
+-- a view goes, or there is no such view
+abbrev pub Drops : Result View Fault → EngineState → Answer → Entries → EngineState → Type 0
+Drops (Ok view) = IsDropped view
+Drops (Err why) = IsRefused why
+
+-- the columns, the tick made and the name of a view
+abbrev pub listed : View → ViewListing
+listed view = record { columns = query_columns view.query; made = view.made; name = view.name }
+
 -- the rows of a view are shown, or there is no such view
 abbrev pub Shows : List ℕ → Result View Fault → EngineState → Answer → Entries → EngineState → Type 0
 Shows name (Ok view) old answer entries new =
     (rows : List (List Cell × ℕ)) × AreRows old view rows × IsReplied (reply.Rows rows old.tick name) old answer entries new
 Shows name (Err why) old answer entries new = IsRefused why old answer entries new
+
+-- what a feed says of a tick is answered: the entries above it; or, where some of these may be gone, the rows
+abbrev pub Follows : List ℕ → View → feeds.Answer → EngineState → Answer → Entries → EngineState → Type 0
+Follows name view (Since changes) old = IsReplied (reply.Entries changes old.tick name) old
+Follows name view Lagged old = Shows name (Ok view) old
+
+-- what changed in a view since a tick, or there is no such view or tick
+abbrev pub Tells : List ℕ → ℕ → Result View Fault → EngineState → Answer → Entries → EngineState → Type 0
+Tells name tick (Ok view) old = Follows name view (answer_since tick view.feed) old
+Tells name tick (Err why) old = IsRefused why old
 
 -- the parser may refuse tokens with this fault: they spell no statement, and it points at one of them or at the line's end. No
 -- tokens at all are unexpected there; and want of memory is none of its faults
@@ -125,6 +164,9 @@ Answers line Nothing old = IsReplied reply.Nothing old
 Answers line (StatementOf tokens) old = Reads line tokens (λ tree. Carries (statement_verdict tree old)) old
 Answers line (ViewOf name tokens) old = Reads line tokens (λ tree. Makes (view_verdict tree name old)) old
 Answers line (RowsOf name) old = Shows name (rows_verdict name old) old
+Answers line (SinceOf name tick) old = Tells name tick (since_verdict name tick old) old
+Answers line ListOfViews old = IsReplied (reply.Views (map listed old.views)) old
+Answers line (DropOf name) old = Drops (rows_verdict name old) old
 Answers line (IndexOf label key) old = Indexes (index_verdict label key old) old
 Answers line (Refused why) old = IsRefused why old
 

@@ -1,6 +1,6 @@
 -- Verdicts (own). The verdict on a statement, on a query that is to be a view's, or on a command is what is done with it, or the
 -- first reason against it. Each order of reasons stands here, and nowhere else.
-use Rattle.std.specs.Prelude.{ℕ, Bool, true, false, ◌+◌, ◌==◌, ◌&&◌, not, List, length, Option, Some, None, Result, Ok, Err, if◌then◌else◌, nat_lt}
+use Rattle.std.specs.Prelude.{ℕ, Bool, true, false, ◌+◌, ◌==◌, ◌&&◌, not, List, length, Option, Some, None, Result, Ok, Err, if◌then◌else◌, nat_le, nat_lt}
 use Rattle.std.specs.Ordering.{eq_by_cmp}
 use Rattle.std.specs.Cmp.Lexicographic.{pointwise}
 use Rattle.std.specs.Result.{result_map_both}
@@ -23,6 +23,7 @@ use Rattle.cy_engine.specs.declared.faults.Fault.TheVariants as fault
 use Rattle.cy_updates.specs.Faults.{◌>>=◌}
 use Rattle.cy_updates.specs.Statements.{Outcome, statement_outcome}
 use Rattle.cy_engine.specs.Faults.{of_update}
+use Rattle.cy_feeds.specs.Feeds.{new_history}
 use Rattle.cy_engine.specs.State.{EngineState, View, view_at, last_tick, view_limit}
 
 -- nothing is against it, or this is
@@ -120,13 +121,20 @@ abbrev pub view_verdict : Statement → List ℕ → EngineState → Result View
 view_verdict tree name state =
     query_verdict tree >>= λ query.
     making_verdict name state >>= λ made.
-    Ok (record { name = name; query = query; made = made })
+    Ok (record { name = name; query = query; made = made; feed = new_history state.history made })
 
 -- ---- commands
 
--- the view whose rows are asked for
+-- the view of a name: the one whose rows are asked for, or that is to go
 abbrev pub rows_verdict : List ℕ → EngineState → Result View Fault
 rows_verdict name state = there fault.NoSuchView (view_at name state)
+
+-- the view that changed since a tick which has been
+abbrev pub since_verdict : List ℕ → ℕ → EngineState → Result View Fault
+since_verdict name tick state =
+    rows_verdict name state >>= λ view.
+    needs (nat_le tick state.tick) fault.FutureTick >>= λ _.
+    Ok view
 
 -- the label and the key that get an index, unless there is one for them
 abbrev pub index_verdict : List ℕ → List ℕ → EngineState → Result Pair Fault

@@ -1,17 +1,17 @@
 //! The engine: one line at a time.
 
-ghost use Rattle.std.specs.Prelude.{◌≡◌, ◌≤◌, ◌⊎◌, [], IfErr, IfOk, IfSome, IsOk, IsSome, Ok, Err, OnOk, map};
+ghost use Rattle.std.specs.Prelude.{◌≡◌, ◌≤◌, ◌⊎◌, [], IfErr, IfOk, IfSome, IsOk, IsSome, Ok, Err, map};
 ghost use Rattle.std.specs.Option.{option_copied};
 ghost use Rattle.cy_updates.specs.Answers.{outcome_seen};
 ghost use Rattle.cy_graph.specs.Graph.{State};
 ghost use Rattle.cy_engine.specs.Model.{new_machine, state_of};
 ghost use Rattle.cy_engine.specs.Requests.{StatementOf, ViewOf};
 ghost use Rattle.cy_engine.specs.State.{View, entry_at, last_tick};
-ghost use Rattle.cy_engine.specs.Step.{AreRows, Step, changed_by};
+ghost use Rattle.cy_engine.specs.Step.{AreRows, Drops, Step, changed_by};
 ghost use Rattle.cy_engine.specs.Verdicts.{making_verdict, next_tick, rows_verdict, tick_after};
-ghost use Rattle.cy_engine.specs.internal.Network.{AllStand, abandoned_one, settled_one};
-ghost use Rattle.cy_engine.specs.internal.Representation.{views_in};
-ghost use Rattle.cy_engine.specs.internal.Stages.{AddsIndex, AnswersOrWants, HasEffect, ShowsRows};
+ghost use Rattle.cy_engine.specs.internal.Network.{AllStand, AllTake, pending_entries, resting_one, settled_one};
+ghost use Rattle.cy_engine.specs.internal.Representation.{AllInTime, views_in};
+ghost use Rattle.cy_engine.specs.internal.Stages.{AddsIndex, AnswersOrWants, HasEffect, ListsViews, ShowsRows, ShowsSince};
 
 use crate::entries::entries_of;
 use crate::faults::Fault;
@@ -19,8 +19,9 @@ use crate::network::Network;
 use crate::reading::{read_query, read_statement};
 use crate::replies::{Changed, Reply};
 use crate::requests::{Request, read_request};
-use crate::views::{Registered, abandon, made_reply, prepare, register, settle};
+use crate::views::{Registered, abandon, listings, made_reply, prepare, register, settle};
 use cy_bags::{Entry, copied};
+use cy_feeds::{Answer, Feed};
 use cy_index::Store;
 use cy_lexer::{Token, lex};
 use cy_oneshot::Table;
@@ -70,7 +71,7 @@ impl Model for Engine {
 
     ghost view = { λ e. machine_of e.store e.views.entries e.tick e.history e.entries };
 
-    ghost invariant = { λ e. IsAtRest e.store.graph e.views.entries e.tick };
+    ghost invariant = { λ e. IsAtRest e.store.graph e.views.entries e.tick e.history };
 }
 
 impl Engine {
@@ -95,8 +96,9 @@ impl Engine {
     /// The line is made of tokens, or `Lex`. A colon begins a command: `UnknownCommand` or `BadArgument` where it isn't one. A
     /// statement is, in this order, `Parse`, `Scope`, `Update` where its meaning on the graph is a fault, or `Full` where it would
     /// change the content of the graph and the tick is the last. A view is, in this order, `Parse`, `Scope`, `View`,
-    /// `ViewNameTaken`, `TooManyViews`, or `Full` where the last tick was given out. Rows are refused as `NoSuchView`, an index as
-    /// `IndexThere`. `NoMemory` may come of any line that isn't too long.
+    /// `ViewNameTaken`, `TooManyViews`, or `Full` where the last tick was given out. Rows, what changed since a tick and the end of
+    /// a view are refused as `NoSuchView`, a tick above the current one then as `FutureTick`, an index as `IndexThere`. `NoMemory`
+    /// may come of any line that isn't too long.
     pub fn line(&mut self, line: &str) -> Result<Reply, Fault>
         ensures { Step (state_of self.old) line.now result self.new.entries (state_of self.new) }
     {
@@ -157,6 +159,9 @@ impl Engine {
             Request::Statement(tokens) => self.answer_statement(line, tokens, entries),
             Request::View { name, query } => self.make_view(line, name.as_str(), query),
             Request::Rows { name } => self.show_rows(name.as_str()),
+            Request::Since { name, tick } => self.show_since(name.as_str(), tick),
+            Request::ListOfViews => self.list_views(),
+            Request::Drop { name } => self.drop_view(name),
             Request::Index { label, key } => self.add_index(label, key),
         }
     }
@@ -181,7 +186,7 @@ impl Engine {
                 },
             ) => {
                 self.store.commit();
-                settle(&mut self.views);
+                settle(&mut self.views, tick);
                 self.tick = tick;
                 *entries = made;
                 Ok(statement_reply(outcome))
@@ -202,11 +207,16 @@ impl Engine {
         let made = self.next_view(name)?;
         let reply = made_reply(self.alloc, &query, made, name)?;
         let network = Network::build(self.alloc, query, &self.store)?;
+        let feed = Feed::new(self.alloc, self.history, made);
         register(
             self.alloc,
             &mut self.views,
             name,
-            Registered { network, made },
+            Registered {
+                network,
+                made,
+                feed,
+            },
         )?;
         self.tick = made;
         Ok(reply)
@@ -248,6 +258,46 @@ impl Engine {
             tick: self.tick,
             view: Text::from_str(self.alloc, name)?,
         })
+    }
+
+    // Shows what changed in a view since a tick; or its rows, where some of that may be gone.
+    fn show_since(&self, name: &str, tick: u64) -> Result<Reply, Fault>
+        ensures { ShowsSince (state_of self.now) name.now tick result }
+    {
+        let Some(view) = self.views.get(name) else {
+            return Err(Fault::NoSuchView);
+        };
+        if tick > self.tick {
+            return Err(Fault::FutureTick);
+        }
+        match view.feed.since(tick)? {
+            Answer::Entries(entries) => Ok(Reply::Entries {
+                entries,
+                tick: self.tick,
+                view: Text::from_str(self.alloc, name)?,
+            }),
+            Answer::Lagged => self.show_rows(name),
+        }
+    }
+
+    // Lists the views.
+    fn list_views(&self) -> Result<Reply, Fault>
+        ensures { ListsViews (state_of self.now) result }
+    {
+        Ok(Reply::Views {
+            views: Sequence::new(listings(self.alloc, &self.views)?),
+        })
+    }
+
+    // Takes a view out.
+    fn drop_view(&mut self, name: Text) -> Result<Reply, Fault>
+        ensures { Drops (rows_verdict name (state_of self.old)) (state_of self.old) result [] (state_of self.new) }
+    {
+        let gone = self.views.shift_remove(name.as_str());
+        if gone.is_none() {
+            return Err(Fault::NoSuchView);
+        }
+        Ok(Reply::Dropped { view: name })
     }
 }
 
@@ -298,10 +348,14 @@ fn effect_of(
     requires open { IsSome store.old.graph.was }
     requires stand { IfSome store.old.graph.was (λ before. AllStand before.content views.old.entries) }
     requires in_time { tick ≤ last_tick }
+    requires fed { AllInTime tick views.old.entries }
     ensures effect { IfOk result (λ effect. IfSome store.old.graph.was (λ before. HasEffect (views_in views.old.entries) before.content store.old.graph.now.content tick effect)) }
     ensures refused { IfErr result (λ fault. (fault ≡ Fault.NoMemory) ⊎ IfSome store.old.graph.was (λ before. tick_after before.content store.old.graph.now.content tick ≡ Err fault)) }
-    ensures on { OnOk result (AllStand store.old.graph.now.content (map settled_one views.new.entries)) }
-    ensures back { map abandoned_one views.new.entries ≡ views.old.entries }
+    ensures on { IfOk result (λ effect. AllStand store.old.graph.now.content (map (settled_one effect.tick) views.new.entries)) }
+    ensures pending { IfOk result (λ effect. effect.entries ≡ pending_entries effect.tick views.new.entries) }
+    ensures takes { IfOk result (λ effect. AllTake effect.tick views.new.entries) }
+    ensures fed { IfOk result (λ effect. AllInTime effect.tick (map (settled_one effect.tick) views.new.entries)) }
+    ensures back { map resting_one views.new.entries ≡ map resting_one views.old.entries }
     ensures in_time { IfOk result (λ effect. effect.tick ≤ last_tick) }
     ensures same { store.new ≡ store.old }
 {
@@ -320,10 +374,14 @@ fn view_effect(
     requires open { IsSome store.now.graph.was }
     requires stand { IfSome store.now.graph.was (λ before. AllStand before.content views.old.entries) }
     requires in_time { tick ≤ last_tick }
+    requires fed { AllInTime tick views.old.entries }
     ensures effect { IfOk result (λ effect. IfSome store.now.graph.was (λ before. HasEffect (views_in views.old.entries) before.content store.now.graph.now.content tick effect)) }
     ensures refused { IfErr result (λ fault. (fault ≡ Fault.NoMemory) ⊎ IfSome store.now.graph.was (λ before. tick_after before.content store.now.graph.now.content tick ≡ Err fault)) }
-    ensures on { OnOk result (AllStand store.now.graph.now.content (map settled_one views.new.entries)) }
-    ensures back { map abandoned_one views.new.entries ≡ views.old.entries }
+    ensures on { IfOk result (λ effect. AllStand store.now.graph.now.content (map (settled_one effect.tick) views.new.entries)) }
+    ensures pending { IfOk result (λ effect. effect.entries ≡ pending_entries effect.tick views.new.entries) }
+    ensures takes { IfOk result (λ effect. AllTake effect.tick views.new.entries) }
+    ensures fed { IfOk result (λ effect. AllInTime effect.tick (map (settled_one effect.tick) views.new.entries)) }
+    ensures back { map resting_one views.new.entries ≡ map resting_one views.old.entries }
     ensures in_time { IfOk result (λ effect. effect.tick ≤ last_tick) }
 {
     let touched = store.touched(alloc)?;

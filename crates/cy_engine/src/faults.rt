@@ -51,6 +51,9 @@ pub enum Fault {
     /// An argument of a command is missing, wrong or one too many.
     #[error("bad argument")]
     BadArgument,
+    /// The tick of `:since` is above the current one.
+    #[error("the tick is above the current one")]
+    FutureTick,
     /// No memory was left.
     #[error("no memory")]
     NoMemory,
@@ -74,6 +77,7 @@ impl Fault {
             Fault::UnknownCommand => 70,
             Fault::IndexThere => 71,
             Fault::BadArgument => 72,
+            Fault::FutureTick => 73,
             Fault::NoMemory => 90,
         }
     }

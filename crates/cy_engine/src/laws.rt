@@ -1,12 +1,15 @@
 //! What holds of every run, by the step relation alone.
 
-ghost use Rattle.cy_engine.specs.Runs.{EntriesAreExact, IsDetermined, RefusedLinesLeaveNoTrace, ViewsAreMaintained};
+ghost use Rattle.cy_engine.specs.Followers.{FollowersAgree};
+ghost use Rattle.cy_engine.specs.Headline.{EntriesAreExact, HeadlineHolds};
+ghost use Rattle.cy_engine.specs.Runs.{IsDetermined, RefusedLinesLeaveNoTrace};
 
+use cy_feeds::laws::{feeds_tell, followers_go_on};
 use cy_oneshot::laws::view_queries;
 use cy_parser::trees_and_texts;
 use cy_values::row_order_laws;
 
-/// What becomes of a line is determined, but for want of memory and the parser's choice among its faults.
+/// What becomes of a line is determined, but for what is free: want of memory, and the parser's choice among its faults.
 pub fn determined()
     ensures { IsDetermined }
 {
@@ -22,13 +25,21 @@ pub fn no_trace()
     determined();
 }
 
-/// The headline. After any list of lines, each view's query has rows on the graph, and no fault, and they are, as a bag, those that it
-/// had when the view was made, changed by every later entry of its own; each entry is the exact difference of the rows before and
-/// after its line. That refused lines leave no trace is said by `no_trace`, and what the rows are by `Engine::rows` and
-/// `Engine::line`: what the view's query means on the current graph.
+/// The headline, of every run from an empty engine; `answer_all` has it as a clause of its own. The entries of each line are the exact
+/// differences that it makes in the rows of the views.
 pub fn headline()
-    ensures views { ViewsAreMaintained }
+    ensures holds { HeadlineHolds }
     ensures entries { EntriesAreExact }
 {
     view_queries();
+    no_trace();
+}
+
+/// Followers agree. In every run from an empty engine, whatever sessions its lines came from, a follower that polls a view by its name,
+/// with the tick of its copy, has after each answered poll exactly the rows that the view has then.
+pub fn followers()
+    ensures { FollowersAgree }
+{
+    followers_go_on();
+    feeds_tell();
 }

@@ -15,5 +15,5 @@ mod views;
 pub use cy_bags::{Change, Entry};
 pub use engine::Engine;
 pub use faults::Fault;
-pub use replies::{Changed, Reply};
+pub use replies::{Changed, Reply, ViewListing};
 pub use runs::answer_all;

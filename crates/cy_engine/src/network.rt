@@ -1,6 +1,7 @@
 //! What is kept of a view, so that its rows follow the graph.
 
 ghost use Rattle.std.specs.Prelude.{◌≡◌, IfErr, IfOk, IfSome, IsSome, None, OnErr, OnOk};
+ghost use Rattle.std.specs.Option.{option_map};
 ghost use Rattle.cy_trees.specs.Views.{statement_of};
 ghost use Rattle.cy_values.specs.Bag.{IsBagOf, IsCanonical};
 ghost use Rattle.cy_engine.specs.State.{rows_of};
@@ -70,13 +71,14 @@ impl Network {
         &prepared.change
     }
 
-    /// The change was committed: takes over what was prepared for it.
-    pub(crate) fn settle(&mut self)
-        ensures { self.new ≡ settled self.old }
+    /// The change was committed: takes over what was prepared for it. What it did to the rows is handed out.
+    pub(crate) fn settle(&mut self) -> Option<Change>
+        ensures settled { self.new ≡ settled self.old }
+        ensures change { result ≡ option_map (λ prepared. prepared.change) self.old.prepared }
     {
-        if let Some(prepared) = self.prepared.take() {
-            self.rows = prepared.rows;
-        }
+        let Prepared { rows, change } = self.prepared.take()?;
+        self.rows = rows;
+        Some(change)
     }
 
     /// The change is rolled back: drops what was prepared for it.

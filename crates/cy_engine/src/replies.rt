@@ -1,5 +1,6 @@
 //! What a line is answered with.
 
+use cy_bags::Entry;
 use cy_values::{Row, Sequence, Text};
 
 /// How many nodes and relationships a line made and removed.
@@ -9,6 +10,15 @@ pub struct Changed {
     pub nodes_gone: u64,
     pub rels_made: u64,
     pub rels_gone: u64,
+}
+
+/// A view in the list of views.
+#[derive(Debug, Drop)]
+pub struct ViewListing {
+    pub columns: Sequence<Text>,
+    /// The tick at which the view was made.
+    pub made: u64,
+    pub name: Text,
 }
 
 /// The answer to a line that is carried out.
@@ -33,6 +43,21 @@ pub enum Reply {
         rows: Sequence<(Row, u64)>,
         tick: u64,
         view: Text,
+    },
+    /// What changed in the rows of a view since a tick, in the order of the ticks.
+    Entries {
+        entries: Sequence<Entry>,
+        /// The tick now.
+        tick: u64,
+        view: Text,
+    },
+    /// A view is gone.
+    Dropped {
+        view: Text,
+    },
+    /// The views, in the order in which they were made.
+    Views {
+        views: Sequence<ViewListing>,
     },
     /// An index was made.
     Index {

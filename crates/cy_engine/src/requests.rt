@@ -21,9 +21,18 @@ pub(crate) enum Request<'a> {
     View { name: Text, query: &'a [Token] },
     /// `:rows NAME`.
     Rows { name: Text },
+    /// `:since NAME TICK`.
+    Since { name: Text, tick: u64 },
+    /// `:views`.
+    ListOfViews,
+    /// `:drop NAME`.
+    Drop { name: Text },
     /// `:index LABEL KEY`.
     Index { label: Text, key: Text },
 }
+
+/// No integer of 64 bits is this number or above, so no tick is.
+const TICK_LIMIT: u64 = 9223372036854775808;
 
 /// What the tokens of a line ask for: a colon begins a command, any other token a statement. A command whose word is missing,
 /// quoted or unknown is `UnknownCommand`, one with a missing, wrong or extra argument `BadArgument`.
@@ -58,6 +67,12 @@ fn command_request<'a>(
         view_request(alloc, arguments, line)
     } else if is_command("ROWS", line, word) {
         rows_request(alloc, without_end(arguments), line)
+    } else if is_command("SINCE", line, word) {
+        since_request(alloc, without_end(arguments), line)
+    } else if is_command("VIEWS", line, word) {
+        views_request(without_end(arguments))
+    } else if is_command("DROP", line, word) {
+        drop_request(alloc, without_end(arguments), line)
     } else if is_command("INDEX", line, word) {
         index_request(alloc, without_end(arguments), line)
     } else {
@@ -88,6 +103,45 @@ fn rows_request<'a>(alloc: Global, arguments: &'a [Token], line: &str) -> Result
     }
 }
 
+fn since_request<'a>(
+    alloc: Global,
+    arguments: &'a [Token],
+    line: &str,
+) -> Result<Request<'a>, Fault>
+    ensures { MatchResult result (λ request. spec.since_request line.now arguments.now ≡ shown request) (λ fault. (fault ≡ Fault.NoMemory) ⊎ (spec.since_request line.now arguments.now ≡ spec.Refused fault)) }
+{
+    match arguments {
+        [name, tick] if is_word(name.kind) => {
+            let tick = tick_in(tick.kind).ok_or(Fault::BadArgument)?;
+            Ok(Request::Since {
+                name: denoted_text(alloc, line, name)?,
+                tick,
+            })
+        }
+        _ => Err(Fault::BadArgument),
+    }
+}
+
+fn views_request<'a>(arguments: &[Token]) -> Result<Request<'a>, Fault>
+    ensures { MatchResult result (λ request. spec.views_request arguments.now ≡ shown request) (λ fault. spec.views_request arguments.now ≡ spec.Refused fault) }
+{
+    match arguments {
+        [] => Ok(Request::ListOfViews),
+        _ => Err(Fault::BadArgument),
+    }
+}
+
+fn drop_request<'a>(alloc: Global, arguments: &'a [Token], line: &str) -> Result<Request<'a>, Fault>
+    ensures { MatchResult result (λ request. spec.drop_request line.now arguments.now ≡ shown request) (λ fault. (fault ≡ Fault.NoMemory) ⊎ (spec.drop_request line.now arguments.now ≡ spec.Refused fault)) }
+{
+    match arguments {
+        [name] if is_word(name.kind) => Ok(Request::Drop {
+            name: denoted_text(alloc, line, name)?,
+        }),
+        _ => Err(Fault::BadArgument),
+    }
+}
+
 fn index_request<'a>(
     alloc: Global,
     arguments: &'a [Token],
@@ -101,6 +155,16 @@ fn index_request<'a>(
             key: denoted_text(alloc, line, key)?,
         }),
         _ => Err(Fault::BadArgument),
+    }
+}
+
+// The tick that a token denotes.
+fn tick_in(kind: Kind) -> Option<u64>
+    ensures { result ≡ spec.tick_in kind }
+{
+    match kind {
+        Kind::Number(number) if number < TICK_LIMIT => Some(number),
+        _ => None,
     }
 }
 

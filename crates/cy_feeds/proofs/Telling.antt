@@ -39,7 +39,7 @@ last_there (x ∷ es) e =
       | false ↦ last_there es e
     ]
 
-latest_in_time : (base now : ℕ) (es : List Entry) → base ≤ now → AllByRecursion (λ (e : Entry). e.tick ≤ now) es → latest base es ≤ now
+pub latest_in_time : (base now : ℕ) (es : List Entry) → base ≤ now → AllByRecursion (λ (e : Entry). e.tick ≤ now) es → latest base es ≤ now
 latest_in_time base now [] le all = le
 latest_in_time base now (e ∷ es) le all = latest_in_time e.tick now es all.0 all.1
 
@@ -50,7 +50,7 @@ all_drop P zero es all = all
 all_drop P (suc k) [] all = tt
 all_drop P (suc k) (e ∷ es) all = all_drop P k es all.1
 
-latest_above : (base k : ℕ) (es : List Entry) → IsRising base es → base ≤ latest base (take k es)
+pub latest_above : (base k : ℕ) (es : List Entry) → IsRising base es → base ≤ latest base (take k es)
 latest_above base zero es rising = omega arith
 latest_above base (suc k) [] rising = omega arith
 latest_above base (suc k) (e ∷ es) rising = omega (arith, rising.0, latest_above e.tick k es rising.1)

@@ -1,11 +1,12 @@
--- What is kept of a view: when it stands for a graph, and when it is ready for the end of a change.
-use Rattle.std.specs.Prelude.{◌≡◌, ℕ, List, [], ◌∷◌, ◌++◌, Option, None, Some, IsSome, IfSome, if◌then◌else◌, string_bytes}
+-- What is kept of a view: when it stands for a graph, when it is ready for the end of a change, and what then becomes of it.
+use Rattle.std.specs.Prelude.{◌≡◌, ℕ, ◌<◌, List, [], ◌∷◌, ◌++◌, Option, None, Some, IsSome, IfSome, if◌then◌else◌, string_bytes}
 use Rattle.std.specs.List.{AllByRecursion}
 use Rattle.std.specs.declared.alloc.Global.{Global}
 use Rattle.std.specs.declared.string.String.{String}
 use Rattle.cy_trees.specs.Views.{statement_of}
 use Rattle.cy_values.specs.Bag.{IsBagOf, IsCanonical}
 use Rattle.cy_graph.specs.Graph.{Content}
+use Rattle.cy_feeds.specs.Feeds.{Kept, IsReserved, latest, pushed}
 use Rattle.cy_engine.specs.declared.network.Network.{Network}
 use Rattle.cy_engine.specs.declared.network.Prepared.{Prepared}
 use Rattle.cy_engine.specs.declared.views.Registered.{Registered}
@@ -39,6 +40,28 @@ pub record IsReady (network : Network) (before after : Content) : Type 0 where
   pub back : StandsFor (abandoned network) before
   pub on : StandsFor (settled network) after
 
+-- ---- one view
+
+-- an entry of this tick can be put into a feed
+abbrev pub Takes : ℕ → Kept → Type 0
+Takes tick feed = IsReserved feed × (latest feed.history.base feed.history.entries < tick)
+
+-- a feed once the change is committed: with an entry where the rows are another bag
+abbrev pub with_change : ℕ → Option Prepared → Kept → Kept
+with_change tick None feed = feed
+with_change tick (Some p) feed =
+    if is_nothing p.change then feed else record feed { history = pushed (record { tick = tick; change = p.change }) feed.history }
+
+abbrev pub settled_view : ℕ → Registered → Registered
+settled_view tick view = record view { network = settled view.network; feed = with_change tick view.network.prepared view.feed }
+
+abbrev pub abandoned_view : Registered → Registered
+abandoned_view view = record view { network = abandoned view.network }
+
+-- a view with nothing prepared, whatever room its feed has
+abbrev pub resting_view : Registered → Registered
+resting_view view = record view { network = abandoned view.network; feed = record view.feed { room = 0 } }
+
 -- ---- all views, by name
 
 abbrev pub AllStand : Content → List (String Global × Registered) → Type 0
@@ -50,18 +73,23 @@ AllPrepared entries = AllByRecursion (λ (e : String Global × Registered). IsSo
 abbrev pub AllReady : Content → Content → List (String Global × Registered) → Type 0
 AllReady before after entries = AllByRecursion (λ (e : String Global × Registered). IsReady e.1.network before after) entries
 
-abbrev pub settled_view : Registered → Registered
-settled_view view = record view { network = settled view.network }
+-- the feed of each of them has room for one more entry
+abbrev pub AllReserved : List (String Global × Registered) → Type 0
+AllReserved entries = AllByRecursion (λ (e : String Global × Registered). IsReserved e.1.feed) entries
 
-abbrev pub abandoned_view : Registered → Registered
-abandoned_view view = record view { network = abandoned view.network }
+-- where something is prepared, an entry of this tick can be put into the feed
+abbrev pub AllTake : ℕ → List (String Global × Registered) → Type 0
+AllTake tick entries = AllByRecursion (λ (e : String Global × Registered). IfSome e.1.network.prepared (λ p. Takes tick e.1.feed)) entries
 
--- each of them settled, or abandoned
-abbrev pub settled_one : String Global × Registered → String Global × Registered
-settled_one e = (e.0, settled_view e.1)
+-- each of them settled, abandoned, or at rest
+abbrev pub settled_one : ℕ → String Global × Registered → String Global × Registered
+settled_one tick e = (e.0, settled_view tick e.1)
 
 abbrev pub abandoned_one : String Global × Registered → String Global × Registered
 abandoned_one e = (e.0, abandoned_view e.1)
+
+abbrev pub resting_one : String Global × Registered → String Global × Registered
+resting_one e = (e.0, resting_view e.1)
 
 -- ---- what is pending
 

@@ -1,5 +1,5 @@
 -- What the stages of the engine's work on a line promise one another.
-use Rattle.std.specs.Prelude.{◌≡◌, ℕ, ◌⊎◌, List, Result, Ok, Err}
+use Rattle.std.specs.Prelude.{◌≡◌, ℕ, ◌⊎◌, List, map, Result, Ok, Err}
 use Rattle.cy_lexer.specs.declared.tokens.Token.{Token}
 use Rattle.cy_parser.specs.SpellsClauses.{SpellsStatement}
 use Rattle.cy_parser.specs.declared.faults.ParseFault.{ParseFault}
@@ -12,10 +12,12 @@ use Rattle.cy_engine.specs.declared.replies.Reply.{Reply}
 use Rattle.cy_engine.specs.declared.replies.Reply.TheVariants as reply
 use Rattle.cy_engine.specs.declared.requests.Request.{Request as Code}
 use Rattle.cy_engine.specs.declared.requests.Request.TheVariants as code
-use Rattle.cy_engine.specs.Requests.{Request, Nothing, StatementOf, ViewOf, RowsOf, IndexOf}
+use Rattle.cy_feeds.specs.declared.feeds.Answer.TheVariants.{Entries as Since, Lagged}
+use Rattle.cy_feeds.specs.Feeds.{answer_since}
+use Rattle.cy_engine.specs.Requests.{Request, Nothing, StatementOf, ViewOf, RowsOf, SinceOf, ListOfViews, DropOf, IndexOf}
 use Rattle.cy_engine.specs.State.{EngineState, Entries, View}
-use Rattle.cy_engine.specs.Step.{Answer, Answers, AreEntries, AreRows, Indexes, IsRefused, IsUnspelt}
-use Rattle.cy_engine.specs.Verdicts.{index_verdict, rows_verdict, tick_after}
+use Rattle.cy_engine.specs.Step.{Answer, Answers, AreEntries, AreRows, Indexes, IsRefused, IsUnspelt, listed}
+use Rattle.cy_engine.specs.Verdicts.{index_verdict, rows_verdict, since_verdict, tick_after}
 
 -- the request that the code has
 abbrev pub shown : Code → Request
@@ -23,6 +25,9 @@ shown code.Nothing = Nothing
 shown (code.Statement tokens) = StatementOf tokens.now
 shown (code.View name query) = ViewOf name query.now
 shown (code.Rows name) = RowsOf name
+shown (code.Since name tick) = SinceOf name tick
+shown code.ListOfViews = ListOfViews
+shown (code.Drop name) = DropOf name
 shown (code.Index label key) = IndexOf label key
 
 -- a tree that the tokens spell
@@ -60,3 +65,19 @@ abbrev pub ShowsRows : EngineState → List ℕ → Result Reply Fault → Type 
 ShowsRows state name (Ok (reply.Rows rows tick view)) = (found : View) × (rows_verdict name state ≡ Ok found) × AreRows state found rows × (tick ≡ state.tick) × (view ≡ name)
 ShowsRows state name (Ok _) = ⊥
 ShowsRows state name (Err why) = (why ≡ fault.NoMemory) ⊎ (rows_verdict name state ≡ Err why)
+
+-- what is answered to `:since`, where there is such a view and such a tick: the entries above it where none is gone, else the rows
+abbrev pub ShowsChanges : EngineState → List ℕ → ℕ → View → Reply → Type 0
+ShowsChanges state name since found (reply.Entries entries tick view) = (answer_since since found.feed ≡ Since entries) × (tick ≡ state.tick) × (view ≡ name)
+ShowsChanges state name since found (reply.Rows rows tick view) = (answer_since since found.feed ≡ Lagged) × AreRows state found rows × (tick ≡ state.tick) × (view ≡ name)
+ShowsChanges state name since found _ = ⊥
+
+-- what is answered to `:since`
+abbrev pub ShowsSince : EngineState → List ℕ → ℕ → Result Reply Fault → Type 0
+ShowsSince state name since (Ok given) = (found : View) × (since_verdict name since state ≡ Ok found) × ShowsChanges state name since found given
+ShowsSince state name since (Err why) = (why ≡ fault.NoMemory) ⊎ (since_verdict name since state ≡ Err why)
+
+-- what is answered to `:views`
+abbrev pub ListsViews : EngineState → Result Reply Fault → Type 0
+ListsViews state (Ok given) = given ≡ reply.Views (map listed state.views)
+ListsViews state (Err why) = why ≡ fault.NoMemory

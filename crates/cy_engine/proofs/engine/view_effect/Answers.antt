@@ -1,7 +1,11 @@
-use Rattle.std.proofs.Common.{sym, ◌∙◌, inr}
+use Rattle.std.proofs.Common.{ℕ, sym, subst, ◌∙◌, inr}
 use Rattle.std.proofs.lemmas.Result.{err_from_is_err_and}
-use Rattle.cy_engine.proofs.ChangeEffects.{have_prepared, none_prepared, ready_stand, touched_effect, touched_late, untouched, untouched_stand}
+use Rattle.cy_engine.specs.internal.Network.{AllTake}
+use Rattle.cy_engine.specs.internal.Representation.{AllInTime}
+use Rattle.cy_engine.proofs.ChangeEffects.{have_prepared, pending_before, ready_stand, take_before, touched_effect, touched_late, untouched, untouched_stand}
+use Rattle.cy_engine.proofs.FedViews.{can_take, in_time_later, in_time_same, settled_in_time}
 use Rattle.cy_engine.proofs.NetworkLemmas.{views_same}
+use Rattle.cy_engine.proofs.Queries.{risen}
 use Rattle.cy_engine.proofs.engine.view_effect.Goals as goal
 
 pub returns-then-is_empty-clause-effect : goal.returns-then-is_empty-clause-effect
@@ -30,26 +34,34 @@ returns-clause-effect c =
     c.in_ok-touched.ensures.ok c.in_ok-prepare.ensures.ready
 
 pub returns-clause-on : goal.returns-clause-on
-returns-clause-on c = ready_stand c.args.store.now.graph.was c.args.store.now.graph.now c.prepare.new.views.entries c.requires.open c.in_ok-prepare.ensures.ready
+returns-clause-on c = ready_stand c.args.store.now.graph.was c.args.store.now.graph.now c.prepare.new.views.entries c.requires.open c.in_ok-prepare.ensures.ready c.in_ok-tick.tick
 
 pub entries_of-requires : goal.entries_of-requires
 entries_of-requires c = have_prepared c.args.store.now.graph.was c.args.store.now.graph.now c.prepare.new.views.entries c.requires.open c.in_ok-prepare.ensures.ready
 
--- the views had nothing prepared
-pub returns-in_err-touched-clause-back : goal.returns-in_err-touched-clause-back
-returns-in_err-touched-clause-back c = none_prepared c.args.store.now.graph.was c.args.views.now.entries c.requires.open c.requires.stand
+-- where nothing was touched, nothing is prepared
+pub returns-then-is_empty-clause-pending : goal.returns-then-is_empty-clause-pending
+returns-then-is_empty-clause-pending c =
+    (c.new-then-is_empty.ensures ∙ c.new.ensures.items) ∙ sym (pending_before c.args.store.now.graph.was c.args.views.now.entries c.args.tick c.requires.open c.requires.stand)
 
-pub returns-then-is_empty-clause-back : goal.returns-then-is_empty-clause-back
-returns-then-is_empty-clause-back c = none_prepared c.args.store.now.graph.was c.args.views.now.entries c.requires.open c.requires.stand
+pub returns-then-is_empty-clause-takes : goal.returns-then-is_empty-clause-takes
+returns-then-is_empty-clause-takes c = take_before c.args.store.now.graph.was c.args.views.now.entries c.args.tick c.requires.open c.requires.stand
 
-pub returns-in_err-tick-clause-back : goal.returns-in_err-tick-clause-back
-returns-in_err-tick-clause-back c = none_prepared c.args.store.now.graph.was c.args.views.now.entries c.requires.open c.requires.stand
+pub returns-then-is_empty-clause-fed : goal.returns-then-is_empty-clause-fed
+returns-then-is_empty-clause-fed c = settled_in_time c.args.tick c.args.views.now.entries c.requires.fed
 
-pub returns-in_err-prepare-clause-back : goal.returns-in_err-prepare-clause-back
-returns-in_err-prepare-clause-back c = c.prepare.ensures.same ∙ none_prepared c.args.store.now.graph.was c.args.views.now.entries c.requires.open c.requires.stand
+-- else each feed can take an entry of the next tick
+pub returns-clause-pending : goal.returns-clause-pending
+returns-clause-pending c = c.new-2.ensures ∙ c.in_ok-entries.ensures.entries
 
-pub returns-in_err-entries-clause-back : goal.returns-in_err-entries-clause-back
-returns-in_err-entries-clause-back c = c.prepare.ensures.same ∙ none_prepared c.args.store.now.graph.was c.args.views.now.entries c.requires.open c.requires.stand
+pub returns-clause-takes : goal.returns-clause-takes
+returns-clause-takes c =
+    let ready = c.prepare.new.views.entries in
+    subst (λ (t : ℕ). AllTake t ready) (sym (risen c.args.tick c.in_ok-tick.tick (sym c.in_ok-tick.ensures.next)))
+    (can_take c.args.tick ready c.in_ok-prepare.ensures.reserved (in_time_same c.args.tick c.args.views.now.entries ready c.prepare.ensures.same c.requires.fed))
 
-pub returns-clause-back : goal.returns-clause-back
-returns-clause-back c = c.prepare.ensures.same ∙ none_prepared c.args.store.now.graph.was c.args.views.now.entries c.requires.open c.requires.stand
+pub returns-clause-fed : goal.returns-clause-fed
+returns-clause-fed c =
+    let ready = c.prepare.new.views.entries in
+    settled_in_time c.in_ok-tick.tick ready (subst (λ (t : ℕ). AllInTime t ready) (sym (risen c.args.tick c.in_ok-tick.tick (sym c.in_ok-tick.ensures.next)))
+    (in_time_later c.args.tick ready (in_time_same c.args.tick c.args.views.now.entries ready c.prepare.ensures.same c.requires.fed)))

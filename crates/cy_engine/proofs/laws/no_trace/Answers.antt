@@ -1,5 +1,5 @@
-use Rattle.cy_engine.proofs.Traces.{run_accepted, traces}
+use Rattle.cy_engine.proofs.Traces.{traces}
 use Rattle.cy_engine.proofs.laws.no_trace.Goals as goal
 
 pub returns : goal.returns
-returns c = λ old new events run. (run_accepted old new events run, λ other alone again lines room. traces c.determined.ensures old new other events alone run again lines room)
+returns c = λ old new events run. traces c.determined.ensures old new events run

@@ -2,8 +2,8 @@ use Rattle.std.proofs.Common.{◌≡◌, ◌∷◌, [], ◌++◌, List, ℕ, Non
 use Rattle.std.specs.String.{string_eq}
 use Rattle.indexmap.proofs.CallerLemmas.{insert_entry-new}
 use Rattle.cy_engine.specs.internal.Network.{AllStand}
-use Rattle.cy_engine.specs.internal.Representation.{registered_at, views_in}
-use Rattle.cy_engine.proofs.NetworkLemmas.{stand_more}
+use Rattle.cy_engine.specs.internal.Representation.{AllInTime, registered_at, views_in}
+use Rattle.cy_engine.proofs.NetworkLemmas.{in_time_more, stand_more}
 use Rattle.cy_engine.proofs.Registry.{push_view}
 use Rattle.cy_engine.proofs.views.register.Goals as goal
 use Rattle.cy_engine.proofs.views.register.Goals.{In_ok-insert}
@@ -25,3 +25,7 @@ returns-clause-len c = ap length (pushed (goal.at.returns-clause-len c).In_ok-in
 pub returns-clause-stand : goal.returns-clause-stand
 returns-clause-stand c = λ graph stand one.
     subst (AllStand graph) (sym (pushed (goal.at.returns-clause-stand c).In_ok-insert)) (stand_more graph c.args.views.now.entries (c.in_ok-from_str.field-0, c.args.view) stand one)
+
+pub returns-clause-in_time : goal.returns-clause-in_time
+returns-clause-in_time c = λ tick all one.
+    subst (AllInTime tick) (sym (pushed (goal.at.returns-clause-in_time c).In_ok-insert)) (in_time_more tick c.args.views.now.entries (c.in_ok-from_str.field-0, c.args.view) all one)

@@ -2,10 +2,11 @@ use Rattle.std.proofs.Common.{◌≡◌, List, ℕ, refl, sym, ap, subst, ◌∙
 use Rattle.std.proofs.lemmas.Result.{err_from_is_err_and}
 use Rattle.cy_lexer.specs.Tokens.{tokens_of}
 use Rattle.cy_engine.specs.internal.Stages.{AnswersOrWants, shown}
-use Rattle.cy_engine.specs.Requests.{Nothing, StatementOf, ViewOf, RowsOf, request}
+use Rattle.cy_engine.specs.Requests.{Nothing, StatementOf, ViewOf, RowsOf, SinceOf, ListOfViews, DropOf, request}
 use Rattle.cy_engine.specs.Model.{state_of}
 use Rattle.cy_engine.specs.State.{Entries}
-use Rattle.cy_engine.proofs.Lines.{lex_refused, line_step, request_refused, rows_answered, no_error, same_error}
+use Rattle.cy_engine.specs.Step.{Answers}
+use Rattle.cy_engine.proofs.Lines.{lex_refused, line_step, request_refused, rows_answered, since_answered, views_answered, no_error, same_error}
 use Rattle.cy_engine.proofs.engine.Engine.reply_to.Goals as goal
 
 pub returns-in_err-tokens : goal.returns-in_err-tokens
@@ -50,3 +51,25 @@ returns-in-Rows c =
     c.in_ok-read_request.ensures ∙ ap shown c.in-Rows.is ∙ ap RowsOf (sym c.as_str-in-Rows.ensures) in
     line_step c.args.line.now (state_of c.args.self.now) c.args.entries.now _ _ c.as_slice.result.now (RowsOf c.as_str-in-Rows.result.now) made (λ long. no_error _ _ (c.in_ok-tokens.ensures.long long)) asks
     (rows_answered c.args.line.now c.as_str-in-Rows.result.now (state_of c.args.self.now) c.args.entries.now c.show_rows.result c.requires.none c.show_rows.ensures)
+
+pub returns-in-Since : goal.returns-in-Since
+returns-in-Since c =
+    let made : tokens_of c.args.line.now ≡ Ok c.as_slice.result.now = c.in_ok-tokens.ensures.tokens ∙ ap Ok (sym c.as_slice.ensures.value) in
+    let asks : request c.args.line.now c.as_slice.result.now ≡ SinceOf c.as_str-in-Since.result.now c.in-Since.tick =
+    c.in_ok-read_request.ensures ∙ ap shown c.in-Since.is ∙ ap (λ (n : List ℕ). SinceOf n c.in-Since.tick) (sym c.as_str-in-Since.ensures) in
+    line_step c.args.line.now (state_of c.args.self.now) c.args.entries.now _ _ c.as_slice.result.now (SinceOf c.as_str-in-Since.result.now c.in-Since.tick) made (λ long. no_error _ _ (c.in_ok-tokens.ensures.long long)) asks
+    (since_answered c.args.line.now c.as_str-in-Since.result.now c.in-Since.tick (state_of c.args.self.now) c.args.entries.now c.show_since.result c.requires.none c.show_since.ensures)
+
+pub returns-in-ListOfViews : goal.returns-in-ListOfViews
+returns-in-ListOfViews c =
+    let made : tokens_of c.args.line.now ≡ Ok c.as_slice.result.now = c.in_ok-tokens.ensures.tokens ∙ ap Ok (sym c.as_slice.ensures.value) in
+    let asks : request c.args.line.now c.as_slice.result.now ≡ ListOfViews = c.in_ok-read_request.ensures ∙ ap shown c.in-ListOfViews.is in
+    line_step c.args.line.now (state_of c.args.self.now) c.args.entries.now _ _ c.as_slice.result.now ListOfViews made (λ long. no_error _ _ (c.in_ok-tokens.ensures.long long)) asks
+    (views_answered c.args.line.now (state_of c.args.self.now) c.args.entries.now c.list_views.result c.requires.none c.list_views.ensures)
+
+pub returns-in-Drop : goal.returns-in-Drop
+returns-in-Drop c =
+    let made : tokens_of c.args.line.now ≡ Ok c.as_slice.result.now = c.in_ok-tokens.ensures.tokens ∙ ap Ok (sym c.as_slice.ensures.value) in
+    let asks : request c.args.line.now c.as_slice.result.now ≡ DropOf c.in-Drop.name = c.in_ok-read_request.ensures ∙ ap shown c.in-Drop.is in
+    line_step c.args.line.now (state_of c.args.self.now) _ _ _ c.as_slice.result.now (DropOf c.in-Drop.name) made (λ long. no_error _ _ (c.in_ok-tokens.ensures.long long)) asks
+    (inr (subst (λ (es : Entries). Answers c.args.line.now (DropOf c.in-Drop.name) (state_of c.args.self.now) c.drop_view.result es (state_of c.drop_view.new.self)) (sym c.requires.none) c.drop_view.ensures))

@@ -5,6 +5,7 @@ use Rattle.cy_values.specs.declared.rows.Cell.{Cell}
 use Rattle.cy_bags.specs.declared.changes.Entry.{Entry}
 use Rattle.cy_engine.specs.declared.replies.Changed.{Changed}
 use Rattle.cy_engine.specs.declared.replies.Reply.{Reply}
+use Rattle.cy_engine.specs.declared.replies.ViewListing.{ViewListing}
 use Rattle.cy_engine.specs.declared.replies.Reply.TheVariants as reply
 use Rattle.cy_shell.specs.Json.{keyed, list_json, row_json, counted_json}
 use Rattle.cy_shell.specs.Words.{word_of}
@@ -36,6 +37,32 @@ rows_json rows tick name =
     object (member (codes "rows") (list_json counted_json rows) (member (codes "tick") (number (unsigned tick))
     (member (codes "view") (string name) no_members)))
 
+-- {"added":[..],"removed":[..],"tick":t}
+abbrev pub change_json : Entry → Data
+change_json entry =
+    object (member (codes "added") (list_json counted_json entry.change.added) (member (codes "removed") (list_json counted_json entry.change.removed)
+    (member (codes "tick") (number (unsigned entry.tick)) no_members)))
+
+-- {"entries":[..],"tick":t,"view":name}
+abbrev pub entries_json : List Entry → ℕ → List ℕ → Data
+entries_json entries tick name =
+    object (member (codes "entries") (list_json change_json entries) (member (codes "tick") (number (unsigned tick))
+    (member (codes "view") (string name) no_members)))
+
+-- {"dropped":name}
+abbrev pub dropped_json : List ℕ → Data
+dropped_json name = keyed (codes "dropped") (string name)
+
+-- {"columns":[..],"made":t,"name":name}
+abbrev pub listing_json : ViewListing → Data
+listing_json listing =
+    object (member (codes "columns") (columns_json listing.columns) (member (codes "made") (number (unsigned listing.made))
+    (member (codes "name") (string listing.name) no_members)))
+
+-- {"views":[..]}
+abbrev pub views_json : List ViewListing → Data
+views_json views = keyed (codes "views") (list_json listing_json views)
+
 -- {"index":[label,key]}
 abbrev pub index_json : List ℕ → List ℕ → Data
 index_json label key = keyed (codes "index") (array (item (string label) (item (string key) no_items)))
@@ -46,6 +73,9 @@ reply_json reply.Nothing = None
 reply_json (reply.Statement changed columns rows) = Some (statement_json changed columns rows)
 reply_json (reply.Made columns tick name) = Some (made_json columns tick name)
 reply_json (reply.Rows rows tick name) = Some (rows_json rows tick name)
+reply_json (reply.Entries entries tick name) = Some (entries_json entries tick name)
+reply_json (reply.Dropped name) = Some (dropped_json name)
+reply_json (reply.Views views) = Some (views_json views)
 reply_json (reply.Index label key) = Some (index_json label key)
 
 -- {"added":[..],"removed":[..],"tick":t,"view":name}

@@ -1,12 +1,12 @@
 //! The JSON of replies, entries and faults, written token by token.
 
 ghost use Rattle.std.specs.Prelude.{◌≡◌, ◌++◌, OnOk};
-ghost use Rattle.cy_shell.specs.Replies.{changed_json, statement_json, made_json, rows_json, index_json, offset_json};
+ghost use Rattle.cy_shell.specs.Replies.{changed_json, statement_json, made_json, rows_json, entries_json, dropped_json, views_json, index_json, offset_json};
 ghost use Rattle.cy_shell.specs.internal.Tokens.{tokens_of};
 
 use crate::json_values::{WriteJson, write_field};
 use crate::words::word;
-use cy_engine::{Changed, Entry, Reply};
+use cy_engine::{Changed, Entry, Reply, ViewListing};
 use cy_values::{Row, Sequence, Text};
 use json::{Token, Writer};
 use std::alloc::AllocError;
@@ -31,6 +31,13 @@ impl WriteJson for Reply {
                 view,
             } => write_made(out, columns, *tick, view),
             Reply::Rows { rows, tick, view } => write_rows(out, rows, *tick, view),
+            Reply::Entries {
+                entries,
+                tick,
+                view,
+            } => write_entries(out, entries, *tick, view),
+            Reply::Dropped { view } => write_dropped(out, view),
+            Reply::Views { views } => write_views(out, views),
             Reply::Index { label, key } => write_index(out, label, key),
         }
     }
@@ -95,6 +102,69 @@ fn write_rows(
     write_field(out, "tick", &tick)?;
     write_field(out, "view", name)?;
     out.end_object()
+}
+
+fn write_entries(
+    out: &mut Writer,
+    entries: &Sequence<Entry>,
+    tick: u64,
+    name: &Text,
+) -> Result<(), AllocError>
+    ensures tokens { OnOk result (out.new.tokens ≡ out.old.tokens ++ tokens_of (entries_json entries.now tick name.now)) }
+    ensures before { out.new.before ≡ out.old.before }
+{
+    out.begin_object()?;
+    write_field(out, "entries", entries)?;
+    write_field(out, "tick", &tick)?;
+    write_field(out, "view", name)?;
+    out.end_object()
+}
+
+/// An entry of one view, whose name stands beside all of them.
+impl WriteJson for Entry {
+    ghost use Rattle.cy_shell.specs.Replies.{change_json};
+
+    ghost json = { change_json };
+
+    fn write_json(&self, out: &mut Writer) -> Result<(), AllocError> {
+        out.begin_object()?;
+        write_field(out, "added", &self.change.added)?;
+        write_field(out, "removed", &self.change.removed)?;
+        write_field(out, "tick", &self.tick)?;
+        out.end_object()
+    }
+}
+
+fn write_dropped(out: &mut Writer, name: &Text) -> Result<(), AllocError>
+    ensures tokens { OnOk result (out.new.tokens ≡ out.old.tokens ++ tokens_of (dropped_json name.now)) }
+    ensures before { out.new.before ≡ out.old.before }
+{
+    out.begin_object()?;
+    write_field(out, "dropped", name)?;
+    out.end_object()
+}
+
+fn write_views(out: &mut Writer, views: &Sequence<ViewListing>) -> Result<(), AllocError>
+    ensures tokens { OnOk result (out.new.tokens ≡ out.old.tokens ++ tokens_of (views_json views.now)) }
+    ensures before { out.new.before ≡ out.old.before }
+{
+    out.begin_object()?;
+    write_field(out, "views", views)?;
+    out.end_object()
+}
+
+impl WriteJson for ViewListing {
+    ghost use Rattle.cy_shell.specs.Replies.{listing_json};
+
+    ghost json = { listing_json };
+
+    fn write_json(&self, out: &mut Writer) -> Result<(), AllocError> {
+        out.begin_object()?;
+        write_field(out, "columns", &self.columns)?;
+        write_field(out, "made", &self.made)?;
+        write_field(out, "name", &self.name)?;
+        out.end_object()
+    }
 }
 
 fn write_index(out: &mut Writer, label: &Text, key: &Text) -> Result<(), AllocError>

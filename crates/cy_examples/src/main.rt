@@ -2,6 +2,8 @@
 //! its query gives.
 #![tactic(auto)]
 
+ghost use Rattle.std.specs.Prelude.{◌≤◌};
+
 mod replay;
 mod transcript;
 mod views;
@@ -9,11 +11,12 @@ mod views;
 use crate::replay::{Way, difference};
 use crate::transcript::{Session, sessions};
 use crate::views::compared;
+use cy_shell::Settings;
 use std::rt::Files;
 use std::{fs, io};
 
 /// The transcripts, and whether entries follow the answers.
-const TRANSCRIPTS: [(&str, bool); 19] = [
+const TRANSCRIPTS: [(&str, bool); 20] = [
     ("start.session", true),
     ("commands.session", true),
     ("dashboard.session", true),
@@ -33,23 +36,35 @@ const TRANSCRIPTS: [(&str, bool); 19] = [
     ("views.session", false),
     ("clauses.session", false),
     ("updates.session", true),
+    ("feeds.session", true),
 ];
 
 fn main(rt: HostRuntime) -> io::Result<()> {
     for (name, feed) in TRANSCRIPTS {
-        replay_file(&rt, name, feed)?;
+        replay_file(&rt, name, Settings { history: 64, feed })?;
     }
-    Ok(())
+    let short = Settings {
+        history: 2,
+        feed: false,
+    };
+    replay_file(&rt, "history.session", short)
 }
 
 // Runs the sessions of a file.
-fn replay_file<R: Files + Print + AllocGlobal>(rt: &R, name: &str, feed: bool) -> io::Result<()> {
+fn replay_file<R: Files + Print + AllocGlobal>(
+    rt: &R,
+    name: &str,
+    settings: Settings,
+) -> io::Result<()>
+    requires from { 1 ≤ settings.history }
+    requires to { settings.history ≤ 4096 }
+{
     let text = fs::read_to_string(rt, name)?;
     let sessions = sessions(rt.alloc(), text.as_str())?;
     let mut as_written = 0usize;
     let mut views = 0usize;
     for session in &sessions {
-        if is_as_written(rt, name, session, feed)? {
+        if is_as_written(rt, name, session, settings)? {
             as_written = as_written.saturating_add(1);
         }
         views = views.saturating_add(views_as_queried(rt, name, session)?);
@@ -79,10 +94,13 @@ fn is_as_written<R: Print + AllocGlobal>(
     rt: &R,
     name: &str,
     session: &Session,
-    feed: bool,
-) -> io::Result<bool> {
+    settings: Settings,
+) -> io::Result<bool>
+    requires from { 1 ≤ settings.history }
+    requires to { settings.history ≤ 4096 }
+{
     for way in [Way::Whole, Way::WithoutRefused, Way::WithoutFeed] {
-        if let Some(output) = difference(rt.alloc(), session, way, feed)? {
+        if let Some(output) = difference(rt.alloc(), session, way, settings)? {
             print_difference(rt, name, session.place, way, output.as_str())?;
             return Ok(false);
         }

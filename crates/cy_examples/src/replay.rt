@@ -1,5 +1,7 @@
 //! Sessions are run again, and what is written is compared with what stands in the transcript.
 
+ghost use Rattle.std.specs.Prelude.{◌≤◌};
+
 use crate::transcript::{Exchange, Session};
 use cy_shell::{MemorySource, OutputSink, Settings, run};
 use std::alloc::{AllocError, Global};
@@ -41,8 +43,11 @@ pub(crate) fn difference(
     alloc: Global,
     session: &Session,
     way: Way,
-    feed: bool,
-) -> io::Result<Option<String>> {
+    settings: Settings,
+) -> io::Result<Option<String>>
+    requires from { 1 ≤ settings.history }
+    requires to { settings.history ≤ 4096 }
+{
     let mut input = String::new(alloc);
     let mut expected = String::new(alloc);
     for exchange in &session.exchanges {
@@ -51,7 +56,8 @@ pub(crate) fn difference(
             add_answers(&mut expected, exchange, way)?;
         }
     }
-    let output = written(alloc, input.as_str(), feed && way != Way::WithoutFeed)?;
+    let feed = settings.feed && way != Way::WithoutFeed;
+    let output = written(alloc, input.as_str(), Settings { feed, ..settings })?;
     if output.as_str() == expected.as_str() {
         Ok(None)
     } else {
@@ -74,11 +80,13 @@ fn add_line(text: &mut String, line: &str) -> Result<(), AllocError> {
 }
 
 // What a fresh engine writes for an input.
-fn written(alloc: Global, input: &str, feed: bool) -> io::Result<String> {
+fn written(alloc: Global, input: &str, settings: Settings) -> io::Result<String>
+    requires from { 1 ≤ settings.history }
+    requires to { settings.history ≤ 4096 }
+{
     let mut output = Vec::new(alloc);
     let mut source = MemorySource::new(input.as_bytes());
     let mut sink = OutputSink::new(&mut output);
-    let settings = Settings { history: 64, feed };
     run(alloc, &mut source, &mut sink, settings).map_err(|_| io::Error::from(ErrorKind::Other))?;
     match str::from_utf8(output.as_slice()) {
         Ok(text) => Ok(String::from_str(alloc, text)?),

@@ -4,7 +4,7 @@ use crate::transcript::Session;
 use cy_engine::{Engine, Reply};
 use cy_lexer::lex;
 use cy_values::{Row, Text};
-use std::alloc::Global;
+use std::alloc::{AllocError, Global};
 use std::io::{self, ErrorKind};
 
 // A view that stands, and its query as it was sent.
@@ -14,20 +14,42 @@ struct View<'a> {
     query: &'a str,
 }
 
+// The views that stand, and how many were made.
+#[derive(Drop)]
+struct Views<'a> {
+    standing: Vec<View<'a>>,
+    made: usize,
+}
+
+impl<'a> Views<'a> {
+    fn add(&mut self, view: View<'a>) -> Result<(), AllocError> {
+        self.standing.push(view)?;
+        self.made = self.made.saturating_add(1);
+        Ok(())
+    }
+
+    fn remove(&mut self, name: &str) {
+        self.standing.retain(|view| view.name.as_str() != name);
+    }
+}
+
 /// How many views a session makes, and the first line after which the rows of one of them aren't those of its query.
 pub(crate) fn compared<'a>(
     alloc: Global,
     session: &Session<'a>,
 ) -> io::Result<(usize, Option<&'a str>)> {
-    let mut views = Vec::new(alloc);
+    let mut views = Views {
+        standing: Vec::new(alloc),
+        made: 0,
+    };
     let line = first_difference(alloc, session, &mut views)?;
-    Ok((views.len(), line))
+    Ok((views.made, line))
 }
 
 fn first_difference<'a>(
     alloc: Global,
     session: &Session<'a>,
-    views: &mut Vec<View<'a>>,
+    views: &mut Views<'a>,
 ) -> io::Result<Option<&'a str>> {
     let mut engine = Engine::new(alloc, 64);
     differing_line(alloc, &mut engine, session, views)
@@ -38,35 +60,33 @@ fn differing_line<'a>(
     alloc: Global,
     engine: &mut Engine,
     session: &Session<'a>,
-    views: &mut Vec<View<'a>>,
+    views: &mut Views<'a>,
 ) -> io::Result<Option<&'a str>> {
     for exchange in &session.exchanges {
-        if let Some(view) = view_made(alloc, engine, exchange.line)? {
-            views.push(view)?;
-        }
-        if !are_as_queried(engine, views)? {
+        send(alloc, engine, exchange.line, views)?;
+        if !are_as_queried(engine, &views.standing)? {
             return Ok(Some(exchange.line));
         }
     }
     Ok(None)
 }
 
-// Sends a line: the view that it makes, if it makes one.
-fn view_made<'a>(
+// Sends a line. It may make a view, or drop one.
+fn send<'a>(
     alloc: Global,
     engine: &mut Engine,
     line: &'a str,
-) -> io::Result<Option<View<'a>>> {
-    let Ok(reply) = engine.line(line) else {
-        return Ok(None);
-    };
-    match reply {
-        Reply::Made { view, .. } => Ok(Some(View {
-            name: view,
-            query: query_of(alloc, line)?,
-        })),
-        _ => Ok(None),
+    views: &mut Views<'a>,
+) -> io::Result<()> {
+    match engine.line(line) {
+        Ok(Reply::Made { view, .. }) => {
+            let query = query_of(alloc, line)?;
+            views.add(View { name: view, query })?;
+        }
+        Ok(Reply::Dropped { view }) => views.remove(view.as_str()),
+        _ => {}
     }
+    Ok(())
 }
 
 // The query of a line that makes a view: it begins with the fourth token, after the colon, the word and the name.

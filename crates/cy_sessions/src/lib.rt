@@ -1,9 +1,11 @@
-//! What no transcript holds of sessions: calls of the engine, invalid UTF-8, very long lines, options, and streams that fail.
-//! There is nothing here but tests.
+//! What no transcript holds of sessions: calls of the engine, bags and feeds, invalid UTF-8, very long lines, options, and streams
+//! that fail. There is nothing here but tests.
 #![tactic(auto)]
 
 #[cfg(test)]
 mod engine;
+#[cfg(test)]
+mod feeds;
 #[cfg(test)]
 mod lines;
 #[cfg(test)]

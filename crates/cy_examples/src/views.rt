@@ -78,13 +78,16 @@ fn send<'a>(
     line: &'a str,
     views: &mut Views<'a>,
 ) -> io::Result<()> {
-    match engine.line(line) {
-        Ok(Reply::Made { view, .. }) => {
+    let Ok(reply) = engine.line(line) else {
+        return Ok(());
+    };
+    match reply {
+        Reply::Made { view, .. } => {
             let query = query_of(alloc, line)?;
             views.add(View { name: view, query })?;
         }
-        Ok(Reply::Dropped { view }) => views.remove(view.as_str()),
-        _ => {}
+        Reply::Dropped { view } => views.remove(view.as_str()),
+        _other => {}
     }
     Ok(())
 }

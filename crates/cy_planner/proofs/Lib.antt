@@ -1,1 +1,7 @@
+pub mod ClausePlans
+pub mod ClauseSteps
+pub mod GoingOn
+pub mod PatternPremises
 pub mod Sums
+pub mod UnderWay
+pub mod ViewClauses

@@ -1,5 +1,5 @@
 -- The sum of numbers that follow one another, in closed form.
-use Rattle.std.proofs.Common.{◌≡◌, ℕ, zero, suc, ◌+◌, ◌-◌, ◌*◌, ◌/◌, ◌≤◌, ◌<◌, arith, sym, ap, ◌∙◌}
+use Rattle.std.proofs.Common.{◌≡◌, ℕ, zero, suc, ◌+◌, ◌-◌, ◌*◌, ◌/◌, ◌≤◌, arith, sym, ap, ◌∙◌}
 use Rattle.cy_planner.specs.Weight.{sum_between, sum_from}
 
 twice_from : (first count : ℕ) → 2 * sum_from first count + count ≡ count * (2 * first + count)

@@ -1,5 +1,3 @@
-use Rattle.std.proofs.Common.{◌≡◌, ◌+◌, ◌-◌, ◌*◌, ◌/◌, ap, ◌∙◌, arith}
-use Rattle.cy_planner.specs.Weight.{sum_between}
 use Rattle.cy_planner.proofs.Sums.{closed_form}
 use Rattle.cy_planner.proofs.weight.sum_between.Goals as goal
 

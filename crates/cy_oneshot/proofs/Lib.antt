@@ -10,9 +10,11 @@ mod Sifted
 mod Totals
 mod Aggregated
 pub mod QueryLemmas
-mod Reaching
 mod AggregateAnswers
 mod ClauseAnswers
+mod Carried
+mod CarriedRows
+mod Marked
 mod Failing
 mod NewNames
 mod SumLemmas

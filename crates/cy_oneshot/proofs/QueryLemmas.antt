@@ -56,25 +56,22 @@ module _ (total : IsTotalOrder row_cmp) (graph : Content) where
 
   -- ---- one clause more
 
-  from_same : (cs : List Clause) (made : List (List Cell)) (o all : Result (List (List Cell)) EvalFault) → IsSameOutcome (Ok made) o
+  -- the rows that a clause gave, and those of the clauses after it
+  pub from_same : (cs : List Clause) (made : List (List Cell)) (o all : Result (List (List Cell)) EvalFault) → IsSameOutcome (Ok made) o
       → IsSameOutcome (on_one (rows_after_all graph cs) o) all → IsSameOutcome (rows_after_all graph cs made) all
   from_same cs made (Ok rows) all same before = same_both (rows_after_all graph cs made) (rows_after_all graph cs rows) all (same_clauses total graph cs made rows same) before
   from_same cs made (Err f) all same before = absurd same
-
-  -- the rows that a clause gave, and those of the clauses after it
-  pub rows_more : (c : Clause) (cs : List Clause) (rows made : List (List Cell)) (all : Result (List (List Cell)) EvalFault) → IsSameOutcome (Ok made) (rows_after graph c rows)
-      → IsSameOutcome (rows_after_all graph (c ∷ cs) rows) all → IsSameOutcome (rows_after_all graph cs made) all
-  rows_more c cs rows made all same before = from_same cs made (rows_after graph c rows) all same before
 
   ends_from : (cs : List Clause) → ends_with_return cs ≡ true → (made : List (List Cell)) (o all : Result (List (List Cell)) EvalFault) → IsSameOutcome (Ok made) o
       → on_one (rows_after_all graph cs) o ≡ all → rows_after_all graph cs made ≡ all
   ends_from cs ends made (Ok rows) all same before = ends_same cs ends made rows same ∙ before
   ends_from cs ends made (Err f) all same before = absurd same
 
-  pub ordered_more : (c : Clause) (cs : List Clause) (rows made : List (List Cell)) (all : Result (List (List Cell)) EvalFault) → IsSameOutcome (Ok made) (rows_after graph c rows)
-      → ends_with_return (c ∷ cs) ≡ true → (is_return c ≡ true → rows_after graph c rows ≡ Ok made) → rows_after_all graph (c ∷ cs) rows ≡ all → rows_after_all graph cs made ≡ all
-  ordered_more c [] rows made all same ends exact before = ap (on_one (rows_after_all graph [])) (sym (exact (sym (last_one c) ∙ ends))) ∙ before
-  ordered_more c (d ∷ cs) rows made all same ends exact before = ends_from (d ∷ cs) (sym (last_later c d cs) ∙ ends) made (rows_after graph c rows) all same before
+  pub ordered_more : (c : Clause) (cs : List Clause) (rows made : List (List Cell)) (o all : Result (List (List Cell)) EvalFault) → IsSameOutcome (Ok made) o
+      → ends_with_return (c ∷ cs) ≡ true → (is_return c ≡ true → rows_after graph c rows ≡ Ok made) → on_one (rows_after_all graph cs) o ≡ rows_after_all graph (c ∷ cs) rows
+      → rows_after_all graph (c ∷ cs) rows ≡ all → rows_after_all graph cs made ≡ all
+  ordered_more c [] rows made o all same ends exact on before = ap (on_one (rows_after_all graph [])) (sym (exact (sym (last_one c) ∙ ends))) ∙ before
+  ordered_more c (d ∷ cs) rows made o all same ends exact on before = ends_from (d ∷ cs) (sym (last_later c d cs) ∙ ends) made o all same (on ∙ before)
 
   -- what holds of the rows of a clause holds of the bag that it gave
   pub each_of_bag : (P : List Cell → Type 0) (made : List (List Cell)) (o : Result (List (List Cell)) EvalFault) → IsSameOutcome (Ok made) o → IfOk o (AllByRecursion P) → AllByRecursion P made

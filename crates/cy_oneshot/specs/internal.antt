@@ -1,4 +1,5 @@
 -- What proofs alone need.
+pub mod Carried
 pub mod Grouping
 pub mod KeyPlaces
 pub mod Keys

@@ -7,6 +7,7 @@ mod groups;
 mod key_places;
 pub mod laws;
 mod names;
+mod needed;
 mod order;
 mod projection;
 mod table;

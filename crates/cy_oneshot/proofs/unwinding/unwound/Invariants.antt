@@ -4,10 +4,11 @@ use Rattle.cy_trees.specs.Views.{expression_of}
 use Rattle.cy_patterns.specs.Matching.{unwound}
 use Rattle.cy_patterns.specs.Outcomes.{together, joined}
 use Rattle.cy_matching.specs.Reading.{AreInGraph}
+use Rattle.cy_oneshot.specs.internal.Carried.{carried}
 use Rattle.cy_oneshot.proofs.unwinding.unwound.Given as goal
 
 -- the rows so far, and those that are left
 abbrev pub invariant-loop-row : goal.invariant-loop-row
 invariant-loop-row l =
-    (together l.unwound (joined (map (unwound l.store.graph.now.content (expression_of l.list)) (into_iter_items l.row-iterator))) ≡ joined (map (unwound l.store.graph.now.content (expression_of l.list)) l.fn.rows.items))
+    (together l.unwound (carried l.needed (joined (map (unwound l.store.graph.now.content (expression_of l.list)) (into_iter_items l.row-iterator)))) ≡ carried l.needed (joined (map (unwound l.store.graph.now.content (expression_of l.list)) l.fn.rows.items)))
     × AreInGraph l.store.graph.now.content (into_iter_items l.row-iterator)

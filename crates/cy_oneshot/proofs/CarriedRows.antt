@@ -1,0 +1,250 @@
+-- A projection without keys gives the same of rows in which the cells that it doesn't read are null.
+use Rattle.std.proofs.Common.{◌≡◌, inl, inr, ℕ, Bool, true, false, cond, List, [], ◌∷◌, ◌++◌, filter, map, refl, sym, ap, ◌∙◌}
+use Rattle.std.specs.Prelude.{Result, Ok, Err, not, pos}
+use Rattle.std.specs.List.{AllByRecursion}
+use Rattle.std.specs.Ordering.{eq_by_cmp}
+use Rattle.std.proofs.lemmas.List.{length-map}
+use Rattle.std.proofs.lemmas.Simd.{map-map}
+use Rattle.cy_values.specs.declared.scalars.Value.TheVariants as value
+use Rattle.cy_values.specs.declared.rows.Cell.{Cell}
+use Rattle.cy_values.specs.Order.{row_cmp}
+use Rattle.cy_trees.specs.Trees.{Expression, null, boolean, integer, text, variable, property, has_labels, unary, binary, comparison, list, case, call, call_star, no_more, more, Item, Key, Projection, Clause, «match», unwind, «with», «return», create, set, remove, delete}
+use Rattle.cy_graph.specs.Graph.{Content}
+use Rattle.cy_kinds.specs.Aggregates.{has_aggregates, is_aggregate_call}
+use Rattle.cy_kinds.specs.Functions.{function_named}
+use Rattle.cy_expr.specs.declared.faults.EvalFault.{EvalFault}
+use Rattle.cy_expr.specs.Evaluation.{as_cell, cell_of}
+use Rattle.cy_expr.specs.Faults.{on_one}
+use Rattle.cy_expr.specs.Graphs.{lookups}
+use Rattle.cy_matching.specs.Order.{Keyed, each_once}
+use Rattle.cy_patterns.specs.Matching.{selected}
+use Rattle.cy_patterns.specs.Outcomes.{gathered, joined, together}
+use Rattle.cy_columns.specs.Columns.{columns_read}
+use Rattle.cy_columns.proofs.Agreeing.{cell-same}
+use Rattle.cy_oneshot.specs.Groups.{Grouped, aggregate_if, aggregated, and_also, cells_on, group_cells, group_keys, group_rows, grouped, grouping, over_rows, rows_of_group, taken, values_among}
+use Rattle.cy_oneshot.specs.Projection.{Projected, cut, distinct_rows, item_of_key, item_rows, key_cell, keyed, project, projection_rows, with_columns_alone}
+use Rattle.cy_oneshot.specs.Queries.{rows_after_all}
+use Rattle.cy_oneshot.specs.internal.Carried.{AreNeeded, IsEnough, IsEnoughFor, carried, carried_from}
+use Rattle.cy_matching.specs.internal.Answers.{on_value}
+use Rattle.cy_oneshot.proofs.Carried.{agree_carried, all_carried}
+use Rattle.cy_oneshot.proofs.SeenRows.{gathered_values}
+
+-- ---- outcomes
+
+made : {A B : Type 0} (f : A → B) (o : Result A EvalFault) → on_one (λ x. Ok (f x)) o ≡ on_value f o
+made f (Ok x) = refl
+made f (Err fault) = refl
+
+-- what the second of two outcomes gives, where the first is seen by a function
+and_also_seen : {A B C : Type 0} (f : A → B) (o : Result A EvalFault) (q : Result C EvalFault) → and_also (on_value f o) q ≡ and_also o q
+and_also_seen f (Ok x) q = refl
+and_also_seen f (Err fault) (Ok y) = refl
+and_also_seen f (Err fault) (Err other) = refl
+
+values_more : {A B : Type 0} (f : A → B) (o : Result A EvalFault) (qs : List (Result B EvalFault)) (os : List (Result A EvalFault))
+    → values_among qs ≡ map f (values_among os) → values_among (on_value f o ∷ qs) ≡ map f (values_among (o ∷ os))
+values_more f (Ok x) qs os is = ap (λ ys. f x ∷ ys) is
+values_more f (Err fault) qs os is = is
+
+values_seen : {X A B : Type 0} (f : A → B) (g : X → Result A EvalFault) (xs : List X) → values_among (map (λ x. on_value f (g x)) xs) ≡ map f (values_among (map g xs))
+values_seen f g [] = refl
+values_seen f g (x ∷ xs) = values_more f (g x) (map (λ x. on_value f (g x)) xs) (map g xs) (values_seen f g xs)
+
+module _ (graph : Content) (needed : List Bool) where
+  abbrev less : List Cell → List Cell
+  less row = carried_from needed 0 row
+
+  abbrev AreRead : List Item → Type 0
+  AreRead items = AllByRecursion (λ i. AreNeeded needed (columns_read i.expression)) items
+
+  -- an expression that reads what is needed
+  cell_less : (e : Expression) (row : List Cell) → AreNeeded needed (columns_read e) → cell_of (lookups graph) (less row) e ≡ cell_of (lookups graph) row e
+  cell_less e row read = cell-same (lookups graph) (less row) row e (agree_carried needed (columns_read e) row read)
+
+  cells_less : (items : List Item) (row : List Cell) → AreRead items → map (λ i. cell_of (lookups graph) (less row) i.expression) items ≡ map (λ i. cell_of (lookups graph) row i.expression) items
+  cells_less [] row read = refl
+  cells_less (i ∷ items) row read = λ j. cell_less i.expression row read.0 j ∷ cells_less items row read.1 j
+
+  on_less : (items : List Item) (row : List Cell) → AreRead items → cells_on graph items (less row) ≡ cells_on graph items row
+  on_less items row read = ap gathered (cells_less items row read)
+
+  -- an expression on each row
+  each_less : (e : Expression) (rows : List (List Cell)) → AreNeeded needed (columns_read e) → map (λ row. cell_of (lookups graph) row e) (map less rows) ≡ map (λ row. cell_of (lookups graph) row e) rows
+  each_less e [] read = refl
+  each_less e (row ∷ rows) read = λ j. cell_less e row read j ∷ each_less e rows read j
+
+  -- ---- groups
+
+  first_read : (columns : List ℕ) → AreNeeded needed (columns ++ []) → AreNeeded needed columns
+  first_read [] read = tt
+  first_read (c ∷ columns) read = (read.0, first_read columns read.1)
+
+  over_less : (e : Expression) (rows : List (List Cell)) → AreNeeded needed (columns_read e) → over_rows graph e (map less rows) ≡ over_rows graph e rows
+  over_less (call f distinct (more e no_more)) rows read =
+      ap (λ os. on_one (λ cells. aggregate_if (function_named f) (taken distinct cells)) (gathered os)) (each_less e rows (first_read (columns_read e) read))
+  over_less (call_star f) rows read = ap (λ n. Ok (value.Int (pos n))) (length-map rows less)
+  over_less (call f distinct no_more) rows read = refl
+  over_less (call f distinct (more e (more d es))) rows read = refl
+  over_less null rows read = refl
+  over_less (boolean b) rows read = refl
+  over_less (integer n) rows read = refl
+  over_less (text t) rows read = refl
+  over_less (variable v) rows read = refl
+  over_less (property e key) rows read = refl
+  over_less (has_labels e labels) rows read = refl
+  over_less (unary operator e) rows read = refl
+  over_less (binary operator a b) rows read = refl
+  over_less (comparison e links) rows read = refl
+  over_less (list es) rows read = refl
+  over_less (case arms e) rows read = refl
+
+  group_less : (items : List Item) (key : List Cell) (rows : List (List Cell)) → AreRead items → group_cells graph items key (map less rows) ≡ group_cells graph items key rows
+  group_less [] key rows read = refl
+  group_less (i ∷ items) [] rows read = λ j. as_cell (over_less i.expression rows read.0 j) ∷ group_less items [] rows read.1 j
+  group_less (i ∷ items) (c ∷ key) rows read =
+      λ j. cond (is_aggregate_call i.expression) (as_cell (over_less i.expression rows read.0 j) ∷ group_less items (c ∷ key) rows read.1 j) (Ok c ∷ group_less items key rows read.1 j)
+
+  abbrev grouped_less : Grouped → Grouped
+  grouped_less g = record { key = g.key; row = less g.row }
+
+  rows_less : (key : List Cell) (gs : List Grouped) → rows_of_group key (map grouped_less gs) ≡ map less (rows_of_group key gs)
+  rows_less key [] = refl
+  rows_less key (g ∷ gs) =
+      elim (eq_by_cmp row_cmp key g.key) as (λ b. map (λ (g : Grouped). g.row) (cond b (grouped_less g ∷ filter (λ g. eq_by_cmp row_cmp key g.key) (map grouped_less gs)) (filter (λ g. eq_by_cmp row_cmp key g.key) (map grouped_less gs)))
+      ≡ map less (map (λ (g : Grouped). g.row) (cond b (g ∷ filter (λ g. eq_by_cmp row_cmp key g.key) gs) (filter (λ g. eq_by_cmp row_cmp key g.key) gs)))) [
+        | true ↦ ap (λ rows. less g.row ∷ rows) (rows_less key gs)
+        | false ↦ rows_less key gs
+      ]
+
+  keys_less : (items : List Item) (gs : List Grouped) → group_keys items (map grouped_less gs) ≡ group_keys items gs
+  keys_less [] gs = refl
+  keys_less (i ∷ items) gs = ap (each_once row_cmp) (map-map (λ (g : Grouped). g.key) grouped_less gs)
+
+  group_rows_less : (items : List Item) (gs : List Grouped) → AreRead items → group_rows graph items (map grouped_less gs) ≡ group_rows graph items gs
+  group_rows_less items gs read =
+      ap (λ keys. gathered (map (λ key. gathered (group_cells graph items key (rows_of_group key (map grouped_less gs)))) keys)) (keys_less (grouping items) gs)
+      ∙ (λ j. gathered (map (λ key. gathered ((ap (group_cells graph items key) (rows_less key gs) ∙ group_less items key (rows_of_group key gs) read) j)) (group_keys (grouping items) gs)))
+
+  grouping_read : (items : List Item) → AreRead items → AreRead (grouping items)
+  grouping_read [] read = tt
+  grouping_read (i ∷ items) read =
+      elim (not (is_aggregate_call i.expression)) as (λ b. AreRead (cond b (i ∷ grouping items) (grouping items))) [
+        | true ↦ (read.0, grouping_read items read.1)
+        | false ↦ grouping_read items read.1
+      ]
+
+  key_less : (row : List Cell) (o : Result (List Cell) EvalFault) → on_one (λ key. Ok (record { key = key; row = less row })) o ≡ on_value grouped_less (on_one (λ key. Ok (record { key = key; row = row })) o)
+  key_less row (Ok key) = refl
+  key_less row (Err fault) = refl
+
+  grouped_is : (items : List Item) (row : List Cell) → AreRead items → grouped graph items (less row) ≡ on_value grouped_less (grouped graph items row)
+  grouped_is items row read =
+      ap (on_one (λ key. Ok (record { key = key; row = less row }))) (on_less (grouping items) row (grouping_read items read))
+      ∙ key_less row (cells_on graph (grouping items) row)
+
+  all_grouped : (items : List Item) (rows : List (List Cell)) → AreRead items → map (grouped graph items) (map less rows) ≡ map (λ row. on_value grouped_less (grouped graph items row)) rows
+  all_grouped items [] read = refl
+  all_grouped items (row ∷ rows) read = λ j. grouped_is items row read j ∷ all_grouped items rows read j
+
+  aggregated_less : (items : List Item) (rows : List (List Cell)) → AreRead items → aggregated graph items (map less rows) ≡ aggregated graph items rows
+  aggregated_less items rows read =
+      ap (λ os. and_also (gathered os) (group_rows graph items (values_among os))) (all_grouped items rows read)
+      ∙ ap (λ o. and_also o (group_rows graph items (values_among (map (λ row. on_value grouped_less (grouped graph items row)) rows)))) (gathered_values grouped_less (grouped graph items) rows)
+      ∙ and_also_seen (map grouped_less) (gathered (map (grouped graph items) rows)) (group_rows graph items (values_among (map (λ row. on_value grouped_less (grouped graph items row)) rows)))
+      ∙ ap (λ gs. and_also (gathered (map (grouped graph items) rows)) (group_rows graph items gs)) (values_seen grouped_less (grouped graph items) rows)
+      ∙ ap (and_also (gathered (map (grouped graph items) rows))) (group_rows_less items (values_among (map (grouped graph items) rows)) read)
+
+  -- ---- the rows that are projected
+
+  abbrev row_of : Projected → List Cell
+  row_of r = r.row
+
+  abbrev rows_in : Result (List Projected) EvalFault → Result (List (List Cell)) EvalFault
+  rows_in o = on_value (map row_of) o
+
+  row_alone : (before : List Cell) (o : Result (List Cell) EvalFault) → on_value row_of (on_one (λ row. Ok (record { row = row; seen = row ++ before })) o) ≡ o
+  row_alone before (Ok row) = refl
+  row_alone before (Err fault) = refl
+
+  rows_each : (items : List Item) (rows : List (List Cell)) → rows_in (gathered (map (project graph items) rows)) ≡ gathered (map (cells_on graph items) rows)
+  rows_each items rows =
+      sym (gathered_values row_of (project graph items) rows)
+      ∙ (λ j. gathered (map (λ row. row_alone row (cells_on graph items row) j) rows))
+
+  all_cells_less : (items : List Item) (rows : List (List Cell)) → AreRead items → map (cells_on graph items) (map less rows) ≡ map (cells_on graph items) rows
+  all_cells_less items [] read = refl
+  all_cells_less items (row ∷ rows) read = λ j. on_less items row read j ∷ all_cells_less items rows read j
+
+  items_less : (p : Projection) (rows : List (List Cell)) → AreRead p.items → rows_in (item_rows graph p (map less rows)) ≡ rows_in (item_rows graph p rows)
+  items_less p rows read =
+      elim (has_aggregates p) as (λ b. rows_in (cond b (on_one (λ rows. Ok (map with_columns_alone rows)) (aggregated graph p.items (map less rows))) (gathered (map (project graph p.items) (map less rows))))
+      ≡ rows_in (cond b (on_one (λ rows. Ok (map with_columns_alone rows)) (aggregated graph p.items rows)) (gathered (map (project graph p.items) rows)))) [
+        | true ↦ ap (λ o. rows_in (on_one (λ rows. Ok (map with_columns_alone rows)) o)) (aggregated_less p.items rows read)
+        | false ↦ rows_each p.items (map less rows) ∙ ap gathered (all_cells_less p.items rows read) ∙ sym (rows_each p.items rows)
+      ]
+
+  -- ---- without keys the rows alone count
+
+  module _ (p : Projection) (no_keys : p.order ≡ []) where
+    abbrev plain : List Cell → Keyed
+    plain row = record { row = row; keys = [] }
+
+    keyed_plain : (r : Projected) → keyed graph p r ≡ Ok (plain r.row)
+    keyed_plain r = ap (λ (ks : List Key). on_one (λ keys. Ok (record { row = r.row; keys = keys })) (gathered (map (λ key. key_cell graph r (item_of_key p.items key) key.expression) ks))) no_keys
+
+    all_plain : (rs : List Projected) → gathered (map (keyed graph p) rs) ≡ Ok (map plain (map row_of rs))
+    all_plain [] = refl
+    all_plain (r ∷ rs) = λ j. together (on_one (λ (k : Keyed). Ok (k ∷ [])) (keyed_plain r j)) (all_plain rs j)
+
+    abbrev end : List Projected → Result (List (List Cell)) EvalFault
+    end rs = on_one (λ ks. Ok (cut p ks)) (gathered (map (keyed graph p) rs))
+
+    abbrev once : List Projected → List Projected
+    once rs = cond p.distinct (distinct_rows rs) rs
+
+    once_rows : (rs qs : List Projected) → map row_of rs ≡ map row_of qs → map row_of (once rs) ≡ map row_of (once qs)
+    once_rows rs qs same =
+        elim p.distinct as (λ b. map row_of (cond b (distinct_rows rs) rs) ≡ map row_of (cond b (distinct_rows qs) qs)) [
+          | true ↦ ap (λ rows. map row_of (map with_columns_alone (each_once row_cmp rows))) same
+          | false ↦ same
+        ]
+
+    end_rows : (rs qs : List Projected) → map row_of rs ≡ map row_of qs → end rs ≡ end qs
+    end_rows rs qs same =
+        ap (on_one (λ ks. Ok (cut p ks))) (all_plain rs ∙ ap (λ rows. Ok (map plain rows)) same ∙ sym (all_plain qs))
+
+    abbrev whole : Result (List Projected) EvalFault → Result (List (List Cell)) EvalFault
+    whole o = on_one end (on_one (λ rs. Ok (once rs)) o)
+
+    ends_same : (o q : Result (List Projected) EvalFault) → rows_in o ≡ rows_in q → whole o ≡ whole q
+    ends_same (Ok rs) (Ok qs) same = end_rows (once rs) (once qs) (once_rows rs qs (let e : map row_of rs ≡ map row_of qs = cc same in e))
+    ends_same (Ok rs) (Err g) same = absurd (let e : ⊥ = cc same in e)
+    ends_same (Err f) (Ok qs) same = absurd (let e : ⊥ = cc same in e)
+    ends_same (Err f) (Err g) same = let e : f ≡ g = cc same in ap Err e
+
+    projection_less : (rows : List (List Cell)) → AreRead p.items → projection_rows graph p (map less rows) ≡ projection_rows graph p rows
+    projection_less rows read = ends_same (item_rows graph p (map less rows)) (item_rows graph p rows) (items_less p rows read)
+
+  -- ---- the clauses that are left
+
+  same_rows : (clauses : List Clause) → needed ≡ [] → (o : Result (List (List Cell)) EvalFault) → on_one (rows_after_all graph clauses) (carried needed o) ≡ on_one (rows_after_all graph clauses) o
+  same_rows clauses none o = ap (on_one (rows_after_all graph clauses)) (ap (λ n. carried n o) none ∙ all_carried o)
+
+  projected_less : (p : Projection) (f : Result (List (List Cell)) EvalFault → Result (List (List Cell)) EvalFault) → IsEnoughFor needed p → (rows : List (List Cell))
+      → f (projection_rows graph p (map less rows)) ≡ f (projection_rows graph p rows)
+  projected_less p f enough rows = ap f (projection_less p enough.0 rows enough.1)
+
+  -- what is left makes the same of the rows that are carried along
+  pub goes_on_same : (clauses : List Clause) → IsEnough needed clauses → (o : Result (List (List Cell)) EvalFault) → on_one (rows_after_all graph clauses) (carried needed o) ≡ on_one (rows_after_all graph clauses) o
+  goes_on_same clauses enough (Err fault) = refl
+  goes_on_same [] enough (Ok rows) = same_rows [] enough (Ok rows)
+  goes_on_same («match» optional paths test ∷ cs) enough (Ok rows) = same_rows («match» optional paths test ∷ cs) enough (Ok rows)
+  goes_on_same (unwind e v ∷ cs) enough (Ok rows) = same_rows (unwind e v ∷ cs) enough (Ok rows)
+  goes_on_same («with» p test ∷ cs) (inl none) (Ok rows) = same_rows («with» p test ∷ cs) none (Ok rows)
+  goes_on_same («with» p test ∷ cs) (inr enough) (Ok rows) = projected_less p (λ o. on_one (rows_after_all graph cs) (on_one (λ made. joined (map (selected graph test) made)) o)) enough rows
+  goes_on_same («return» p ∷ cs) (inl none) (Ok rows) = same_rows («return» p ∷ cs) none (Ok rows)
+  goes_on_same («return» p ∷ cs) (inr enough) (Ok rows) = projected_less p (on_one (rows_after_all graph cs)) enough rows
+  goes_on_same (create paths ∷ cs) enough (Ok rows) = same_rows (create paths ∷ cs) enough (Ok rows)
+  goes_on_same (set items ∷ cs) enough (Ok rows) = same_rows (set items ∷ cs) enough (Ok rows)
+  goes_on_same (remove items ∷ cs) enough (Ok rows) = same_rows (remove items ∷ cs) enough (Ok rows)
+  goes_on_same (delete detach variables ∷ cs) enough (Ok rows) = same_rows (delete detach variables ∷ cs) enough (Ok rows)

@@ -1,7 +1,7 @@
 //! Statements: clauses one after another, and what a statement answers.
 
-ghost use Rattle.std.specs.Prelude.{◌≡◌, ◌⊎◌, [], length, map, IfErr, IfOk, IsNone, IsSome, IsTrue, Ok, Err, OnErr, OnOk, Some, None, if◌then◌else◌};
-ghost use Rattle.std.specs.List.{AllByRecursion};
+ghost use Rattle.std.specs.Prelude.{◌≡◌, ◌⊎◌, [], length, map, IfErr, IfOk, IsNone, IsSome, IsTrue, Ok, Err, OnErr, OnOk, Some, None, false, if◌then◌else◌};
+ghost use Rattle.std.specs.List.{AllByRecursion, list_any};
 ghost use Rattle.cy_trees.specs.Views.{clause_of, statement_of};
 ghost use Rattle.cy_graph.specs.Graph.{IsGraph};
 ghost use Rattle.cy_scope.specs.Checked.{IsChecked};
@@ -21,8 +21,8 @@ use crate::deleting::Gone;
 use crate::faults::UpdateFault;
 use crate::laws::counts_agree;
 use cy_index::Store;
-use cy_oneshot::{Table, read_clause, unit};
-use cy_scope::{Checked, ends_with_return, is_update};
+use cy_oneshot::{Table, answer, read_clause, unit};
+use cy_scope::{Checked, ends_with_return, has_update, is_update};
 use cy_trees::Clause;
 use cy_values::row_order_laws;
 use std::alloc::Global;
@@ -73,9 +73,12 @@ fn carry_out(
     ensures open { store.new.graph.was ≡ store.old.graph.was }
     ensures indexes { store.new.chosen ≡ store.old.chosen }
 {
+    let clauses = checked.statement().clauses.as_slice();
+    if !has_update(clauses) {
+        return read_alone(alloc, store, checked);
+    }
     store.laws();
     let (first_node, first_rel) = store.next_numbers();
-    let clauses = &checked.statement().clauses;
     let reached = each_clause(alloc, store, clauses)?;
     let Updated { table, gone } = reached;
     counts_agree();
@@ -87,6 +90,26 @@ fn carry_out(
         gone_nodes: gone.nodes,
         made_rels,
         gone_rels: gone.rels,
+        table: answered(alloc, clauses, table),
+    })
+}
+
+// What a statement without an updating clause answers: the table of its query.
+fn read_alone(
+    alloc: Global,
+    store: &Store,
+    checked: &Checked,
+) -> Result<StatementAnswer, UpdateFault>
+    requires { list_any scopes.is_update (statement_of checked.now).clauses ≡ false }
+    ensures { IsAnswer result (outcome_seen store.now.graph.now) (statement_outcome store.now.graph.now (statement_of checked.now)) }
+{
+    let table = answer(alloc, store, checked)?;
+    let clauses = checked.statement().clauses.as_slice();
+    Ok(StatementAnswer {
+        made_nodes: 0,
+        gone_nodes: 0,
+        made_rels: 0,
+        gone_rels: 0,
         table: answered(alloc, clauses, table),
     })
 }

@@ -1,5 +1,6 @@
 #!/usr/bin/env python3
-"""Counts the instructions of queries on graphs of 10,000 and of 100,000 nodes, by valgrind.
+"""Counts the instructions of queries on graphs of 10,000 and of 100,000 nodes, and of UNWIND over lists of 3,000 and of 30,000 elements, by
+valgrind, and the memory of UNWIND.
 
 Run it at the top of the repository. It builds the program by `rt run` in crates/cypher_live, or takes the one that is named
 after it. Each node has five relationships, and a value of its own at `k`, which has an index. For each cost the script
@@ -9,13 +10,15 @@ and so does a query that isn't answered as it should be.
 import sys
 
 from graph_cost import GROUP, SIZES, built, graph, index, joined
-from session import Session, report
+from session import Session, peak, report
 
 LIMIT = 1.3
 # For ten times the rows, n log n takes less than this many times a row.
 SORT_LIMIT = 1.4
 # How many lines are counted for a cost.
 TIMES = 20
+# How many elements a list has: a line has room for the longer one.
+ELEMENTS = 3_000, 30_000
 
 
 def answer(text, columns, *rows):
@@ -100,11 +103,21 @@ def row_costs(program, size):
             yield name, session.count([answer(text, ["n"], [count])]) / size, True
 
 
+def list_costs(program, count):
+    """Names of costs of UNWIND over a list of so many elements that stands in the row, each for an element."""
+    line = answer(f"WITH [{','.join('1' * count)}] AS l UNWIND l AS x RETURN count(*) AS n", ["n"], [count])
+    with Session(program) as session:
+        yield "UNWIND over a list that stands in the row, an element", session.count([line]) / count, True
+    least = peak([program], [answer("RETURN 1 AS n", ["n"], [1])])
+    yield "the same, bytes of memory", (peak([program], [line]) - least) / count, True
+
+
 def main():
     program = sys.argv[1] if len(sys.argv) > 1 else built()
     is_flat = report(lambda size: costs(program, size), *SIZES, LIMIT)
     is_sorted = report(lambda size: row_costs(program, size), *SIZES, SORT_LIMIT)
-    return 0 if is_flat and is_sorted else 1
+    is_linear = report(lambda count: list_costs(program, count), *ELEMENTS, LIMIT)
+    return 0 if is_flat and is_sorted and is_linear else 1
 
 
 if __name__ == "__main__":

@@ -10,7 +10,7 @@ use Rattle.cy_lexer.specs.declared.faults.LexFault.TheVariants as lex
 use Rattle.cy_parser.specs.declared.faults.ParseFault.{ParseFault}
 use Rattle.cy_parser.specs.declared.faults.ParseFault.TheVariants as parse
 use Rattle.cy_parser.specs.Faults.{PointsAtPlace}
-use Rattle.cy_parser.specs.SpellsClauses.{SpellsStatement}
+use Rattle.cy_grammar.specs.SpellsClauses.{SpellsStatement}
 use Rattle.cy_kinds.specs.declared.faults.ScopeFault.{ScopeFault}
 use Rattle.cy_kinds.specs.declared.faults.ScopeFault.TheVariants as scope
 use Rattle.cy_kinds.specs.declared.faults.ViewFault.{ViewFault}

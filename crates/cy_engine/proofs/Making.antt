@@ -3,7 +3,7 @@ use Rattle.std.proofs.Common.{◌≡◌, ℕ, List, [], ◌∷◌, ◌++◌, Opt
 use Rattle.cy_lexer.specs.declared.faults.LexFault.{LexFault}
 use Rattle.cy_lexer.specs.declared.tokens.Token.{Token}
 use Rattle.cy_lexer.specs.Tokens.{tokens_of}
-use Rattle.cy_parser.specs.SpellsClauses.{SpellsStatement}
+use Rattle.cy_grammar.specs.SpellsClauses.{SpellsStatement}
 use Rattle.cy_trees.specs.Trees.{Statement}
 use Rattle.cy_kinds.specs.declared.faults.ViewFault.{ViewFault}
 use Rattle.cy_scope.specs.Resolved.{resolved_statement}

@@ -5,7 +5,7 @@ use Rattle.std.specs.Cmp.{IsTotalOrder}
 use Rattle.cy_lexer.specs.declared.faults.LexFault.{LexFault}
 use Rattle.cy_lexer.specs.declared.tokens.Token.{Token}
 use Rattle.cy_lexer.specs.Tokens.{tokens_of}
-use Rattle.cy_parser.specs.SpellsClauses.{SpellsStatement}
+use Rattle.cy_grammar.specs.SpellsClauses.{SpellsStatement}
 use Rattle.cy_trees.specs.Trees.{Statement}
 use Rattle.cy_values.specs.declared.rows.Cell.{Cell}
 use Rattle.cy_values.specs.Bag.{IsSurplus}

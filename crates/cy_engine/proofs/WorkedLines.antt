@@ -15,11 +15,11 @@ use Rattle.cy_lexer.specs.Symbols.{symbol}
 use Rattle.cy_lexer.specs.Tokens.{piece, tokens_from, tokens_of}
 use Rattle.cy_trees.specs.declared.expressions.Variable.{Variable}
 use Rattle.cy_trees.specs.Trees.{Name, Expression, null, integer, variable, property, MapEntry, NodePattern, Path, Item, Projection, set_property, Clause, «match», «return», create, set, delete, Statement}
-use Rattle.cy_parser.specs.Words.{denotes, slice_in, number_limit}
-use Rattle.cy_parser.specs.Spells as spell
-use Rattle.cy_parser.specs.SpellsClauses.{SpellsStatement, SpellsClause, SpellsClauses, SpellsExpression, SpellsNode, most_levels, reading, updating, ended}
-use Rattle.cy_parser.specs.SpellsClauses as spelt
-use Rattle.cy_parser.proofs.ShownExpressions.{as_whole}
+use Rattle.cy_grammar.specs.Words.{denotes, slice_in, number_limit}
+use Rattle.cy_grammar.specs.Spells as spell
+use Rattle.cy_grammar.specs.SpellsClauses.{SpellsStatement, SpellsClause, SpellsClauses, SpellsExpression, SpellsNode, most_levels, reading, updating, ended}
+use Rattle.cy_grammar.specs.SpellsClauses as spelt
+use Rattle.cy_grammar.proofs.ShownExpressions.{as_whole}
 
 -- ---- tokens and trees
 

@@ -7,7 +7,7 @@ use Rattle.cy_lexer.specs.declared.faults.LexFault.TheVariants as lex
 use Rattle.cy_lexer.specs.declared.symbols.Symbol.TheVariants as sign
 use Rattle.cy_lexer.specs.declared.tokens.Kind.TheVariants as kind
 use Rattle.cy_lexer.specs.declared.tokens.Token.{Token}
-use Rattle.cy_parser.specs.Words.{denotes, slice_in}
+use Rattle.cy_grammar.specs.Words.{denotes, slice_in}
 use Rattle.cy_kinds.specs.declared.faults.ScopeFault.TheVariants as scope
 use Rattle.cy_kinds.specs.declared.faults.ViewFault.TheVariants as view_fault
 use Rattle.cy_scope.specs.Resolved.{resolved_statement}

@@ -9,7 +9,7 @@ use Rattle.cy_lexer.specs.declared.faults.LexFault.{LexFault}
 use Rattle.cy_lexer.specs.declared.keywords.Keyword.TheVariants as word
 use Rattle.cy_lexer.specs.declared.tokens.Token.{Token}
 use Rattle.cy_lexer.specs.Tokens.{tokens_of}
-use Rattle.cy_parser.specs.Words.{denotes, slice_in}
+use Rattle.cy_grammar.specs.Words.{denotes, slice_in}
 use Rattle.cy_kinds.specs.declared.faults.ScopeFault.TheVariants as scope
 use Rattle.cy_scope.specs.Resolved.{resolved_statement}
 use Rattle.cy_trees.specs.Trees.{integer, null, Statement}

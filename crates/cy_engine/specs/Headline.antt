@@ -1,7 +1,7 @@
 -- The headline: what holds of the views, their entries and the graph after any list of lines (own).
 use Rattle.std.specs.Prelude.{◌≡◌, ℕ, ◌+◌, ◌-◌, List, [], ◌∷◌, ◌++◌, Contains, Option, Some, None, Ok}
 use Rattle.cy_lexer.specs.declared.tokens.Token.{Token}
-use Rattle.cy_parser.specs.SpellsClauses.{SpellsStatement}
+use Rattle.cy_grammar.specs.SpellsClauses.{SpellsStatement}
 use Rattle.cy_trees.specs.Trees.{Statement}
 use Rattle.cy_scope.specs.Resolved.{resolved_statement}
 use Rattle.cy_values.specs.declared.rows.Cell.{Cell}

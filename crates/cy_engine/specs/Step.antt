@@ -9,7 +9,7 @@ use Rattle.cy_lexer.specs.Tokens.{tokens_of}
 use Rattle.cy_parser.specs.declared.faults.ParseFault.{ParseFault}
 use Rattle.cy_parser.specs.declared.faults.ParseFault.TheVariants as parse
 use Rattle.cy_parser.specs.Faults.{PointsAtPlace}
-use Rattle.cy_parser.specs.SpellsClauses.{SpellsStatement}
+use Rattle.cy_grammar.specs.SpellsClauses.{SpellsStatement}
 use Rattle.cy_trees.specs.Trees.{Statement}
 use Rattle.cy_values.specs.declared.rows.Cell.{Cell}
 use Rattle.cy_values.specs.Bag.{IsBagOf, IsCanonical, IsSameBag}

@@ -1,6 +1,2 @@
 pub mod Faults
-pub mod Words
-pub mod Spells
-pub mod SpellsClauses
-pub mod Shown
 pub mod internal

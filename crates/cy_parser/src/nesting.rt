@@ -1,14 +1,14 @@
 //! Whole expressions, with a bound on the levels that are open at one place.
 
-ghost use Rattle.cy_parser.specs.internal.Expressions as spec;
+ghost use Rattle.cy_grammar.specs.internal.Expressions as spec;
 ghost use Rattle.cy_parser.specs.internal.Operands.{operand_of};
-ghost use Rattle.cy_parser.specs.internal.Reader.{Reads};
+ghost use Rattle.cy_parser.specs.internal.Reads.{Reads};
 
 use crate::cursor::Cursor;
 use crate::grammar::Grammar;
 use crate::operands::Operand;
-use crate::places::Nested;
 use crate::refusals::Refusal;
+use cy_grammar::Nested;
 use std::alloc::Global;
 
 /// An expression with so many levels, its own counted, open at most.

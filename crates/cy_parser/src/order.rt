@@ -1,9 +1,9 @@
 //! The order of clauses.
 
 ghost use Rattle.std.specs.Prelude.{◌≡◌};
-ghost use Rattle.cy_parser.specs.internal.Clauses as spec;
+ghost use Rattle.cy_grammar.specs.internal.Clauses as spec;
 
-use crate::stages::{Opening, Stage};
+use cy_grammar::{Opening, Stage};
 use cy_lexer::{Keyword, Kind};
 
 /// The clause that the token begins.
@@ -25,41 +25,39 @@ pub(crate) fn opening_of(kind: Kind) -> Option<Opening>
     }
 }
 
-impl Stage {
-    /// Whether the clause may follow.
-    pub(crate) fn allows(self, opening: Opening) -> bool
-        ensures { result ≡ spec.allows self opening }
-    {
-        match self {
-            Stage::Reading => true,
-            Stage::Updating => {
-                !matches!(
-                    opening,
-                    Opening::Match | Opening::Optional | Opening::Unwind
-                )
-            }
-            Stage::Ended => false,
+/// Whether the clause may follow, where a statement stands at the stage.
+pub(crate) fn allows(stage: Stage, opening: Opening) -> bool
+    ensures { result ≡ spec.allows stage opening }
+{
+    match stage {
+        Stage::Reading => true,
+        Stage::Updating => {
+            !matches!(
+                opening,
+                Opening::Match | Opening::Optional | Opening::Unwind
+            )
         }
+        Stage::Ended => false,
     }
+}
 
-    /// Whether a statement may end here.
-    pub(crate) fn may_end(self) -> bool
-        ensures { result ≡ spec.may_end self }
-    {
-        match self {
-            Stage::Reading => false,
-            Stage::Updating | Stage::Ended => true,
-        }
+/// Whether a statement may end at the stage.
+pub(crate) fn may_end(stage: Stage) -> bool
+    ensures { result ≡ spec.may_end stage }
+{
+    match stage {
+        Stage::Reading => false,
+        Stage::Updating | Stage::Ended => true,
     }
+}
 
-    /// Where a statement stands after the clause.
-    pub(crate) fn after(opening: Opening) -> Stage
-        ensures { result ≡ spec.stage_after opening }
-    {
-        match opening {
-            Opening::Match | Opening::Optional | Opening::Unwind | Opening::With => Stage::Reading,
-            Opening::Create | Opening::Set | Opening::Remove => Stage::Updating,
-            Opening::Return | Opening::Delete | Opening::Detach => Stage::Ended,
-        }
+/// Where a statement stands after the clause.
+pub(crate) fn stage_after(opening: Opening) -> Stage
+    ensures { result ≡ spec.stage_after opening }
+{
+    match opening {
+        Opening::Match | Opening::Optional | Opening::Unwind | Opening::With => Stage::Reading,
+        Opening::Create | Opening::Set | Opening::Remove => Stage::Updating,
+        Opening::Return | Opening::Delete | Opening::Detach => Stage::Ended,
     }
 }

@@ -2,20 +2,20 @@
 
 ghost use Rattle.std.specs.Prelude.{◌≡◌, map};
 ghost use Rattle.cy_trees.specs.Views.{clause_of, statement_of};
-ghost use Rattle.cy_parser.specs.internal.Clauses as spec;
-ghost use Rattle.cy_parser.specs.internal.Reader.{Reads};
+ghost use Rattle.cy_grammar.specs.internal.Clauses as spec;
+ghost use Rattle.cy_parser.specs.internal.Reads.{Reads};
 
 use crate::cursor::Cursor;
-use crate::order::opening_of;
+use crate::order::{allows, may_end, opening_of, stage_after};
 use crate::refusals::Refusal;
 use crate::source::Source;
-use crate::stages::{Opening, Stage};
+use cy_grammar::{Opening, Stage};
 use cy_lexer::{Keyword, Kind, Symbol};
 use cy_trees::{Clause, Delete, Match, Statement, Unwind, With};
 
 impl<'l> Source<'l> {
     /// A MATCH, after that word.
-    #[tactic(auto, unfolding(crate::specs::internal::Reader::and_then, crate::specs::internal::Clauses::match_read))]
+    #[tactic(auto, unfolding(cy_grammar::specs::internal::Reader::and_then, cy_grammar::specs::internal::Clauses::match_read))]
     fn match_read(&self, tokens: &mut Cursor<'_>, optional: bool) -> Result<Clause, Refusal>
         ensures { Reads clause_of (spec.match_read self.now.line.now optional tokens.old) result tokens.new }
     {
@@ -29,7 +29,7 @@ impl<'l> Source<'l> {
     }
 
     /// An UNWIND, after that word.
-    #[tactic(auto, unfolding(crate::specs::internal::Reader::and_then, crate::specs::internal::Clauses::unwind_read))]
+    #[tactic(auto, unfolding(cy_grammar::specs::internal::Reader::and_then, cy_grammar::specs::internal::Clauses::unwind_read))]
     fn unwind_read(&self, tokens: &mut Cursor<'_>) -> Result<Clause, Refusal>
         ensures { Reads clause_of (spec.unwind_read self.now.line.now tokens.old) result tokens.new }
     {
@@ -40,7 +40,7 @@ impl<'l> Source<'l> {
     }
 
     /// A WITH, after that word.
-    #[tactic(auto, unfolding(crate::specs::internal::Reader::and_then, crate::specs::internal::Clauses::with_read))]
+    #[tactic(auto, unfolding(cy_grammar::specs::internal::Reader::and_then, cy_grammar::specs::internal::Clauses::with_read))]
     fn with_read(&self, tokens: &mut Cursor<'_>) -> Result<Clause, Refusal>
         ensures { Reads clause_of (spec.with_read self.now.line.now tokens.old) result tokens.new }
     {
@@ -50,7 +50,7 @@ impl<'l> Source<'l> {
     }
 
     /// A DELETE, after that word.
-    #[tactic(auto, unfolding(crate::specs::internal::Reader::and_then, crate::specs::internal::Clauses::delete_read))]
+    #[tactic(auto, unfolding(cy_grammar::specs::internal::Reader::and_then, cy_grammar::specs::internal::Clauses::delete_read))]
     fn delete_read(&self, tokens: &mut Cursor<'_>, detach: bool) -> Result<Clause, Refusal>
         ensures { Reads clause_of (spec.delete_read self.now.line.now detach tokens.old) result tokens.new }
     {
@@ -59,7 +59,7 @@ impl<'l> Source<'l> {
     }
 
     /// The clause after its first word.
-    #[tactic(auto, unfolding(crate::specs::internal::Reader::and_then))]
+    #[tactic(auto, unfolding(cy_grammar::specs::internal::Reader::and_then))]
     fn clause(&self, tokens: &mut Cursor<'_>, opening: Opening) -> Result<Clause, Refusal>
         ensures { Reads clause_of (spec.clause_by self.now.line.now opening tokens.old) result tokens.new }
     {
@@ -84,7 +84,7 @@ impl<'l> Source<'l> {
     }
 
     /// The clause that the next token begins, if it may stand here.
-    #[tactic(auto, unfolding(crate::specs::internal::Reader::and_then, crate::specs::internal::Clauses::clause_in))]
+    #[tactic(auto, unfolding(cy_grammar::specs::internal::Reader::and_then, cy_grammar::specs::internal::Clauses::clause_in))]
     fn clause_in(
         &self,
         tokens: &mut Cursor<'_>,
@@ -93,7 +93,7 @@ impl<'l> Source<'l> {
     ) -> Result<Clause, Refusal>
         ensures { Reads clause_of (spec.clause_in self.now.line.now stage opening tokens.old) result tokens.new }
     {
-        if !stage.allows(opening) {
+        if !allows(stage, opening) {
             return Err(Refusal::ClauseOrder(tokens.count()));
         }
         tokens.skip();
@@ -112,14 +112,14 @@ impl<'l> Source<'l> {
                 return Ok(found);
             };
             found.push(self.clause_in(tokens, stage, opening)?)?;
-            stage = Stage::after(opening);
+            stage = stage_after(opening);
         }
         tokens.end(stage)?;
         Ok(found)
     }
 
     /// A statement: all that is left.
-    #[tactic(auto, unfolding(crate::specs::internal::Reader::and_then, crate::specs::internal::Clauses::statement))]
+    #[tactic(auto, unfolding(cy_grammar::specs::internal::Reader::and_then, cy_grammar::specs::internal::Clauses::statement))]
     pub(crate) fn statement(&self, tokens: &mut Cursor<'_>) -> Result<Statement, Refusal>
         ensures { Reads statement_of (spec.statement self.now.line.now tokens.old) result tokens.new }
     {
@@ -130,11 +130,11 @@ impl<'l> Source<'l> {
 
 impl<'a> Cursor<'a> {
     /// The end of a statement, which a `;` may stand before, after clauses that lead to the stage.
-    #[tactic(auto, unfolding(crate::specs::internal::Reader::and_then, crate::specs::internal::Clauses::end_read))]
+    #[tactic(auto, unfolding(cy_grammar::specs::internal::Reader::and_then, cy_grammar::specs::internal::Clauses::end_read))]
     fn end(&mut self, stage: Stage) -> Result<(), Refusal>
         ensures { Reads (λ u. u) (spec.end_read stage self.old) result self.new }
     {
-        if !stage.may_end() {
+        if !may_end(stage) {
             return Err(match self.count() {
                 0 => Refusal::ClauseOrder(0),
                 left => Refusal::Unexpected(left),

@@ -1,7 +1,7 @@
 -- What the stages of the engine's work on a line promise one another.
 use Rattle.std.specs.Prelude.{◌≡◌, ℕ, ◌⊎◌, List, map, Result, Ok, Err}
 use Rattle.cy_lexer.specs.declared.tokens.Token.{Token}
-use Rattle.cy_parser.specs.SpellsClauses.{SpellsStatement}
+use Rattle.cy_grammar.specs.SpellsClauses.{SpellsStatement}
 use Rattle.cy_parser.specs.declared.faults.ParseFault.{ParseFault}
 use Rattle.cy_trees.specs.Trees.{Statement}
 use Rattle.cy_graph.specs.Graph.{Content}

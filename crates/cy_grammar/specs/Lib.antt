@@ -1,0 +1,5 @@
+pub mod Words
+pub mod Spells
+pub mod SpellsClauses
+pub mod Shown
+pub mod internal

@@ -1,0 +1,5 @@
+pub mod Reader
+pub mod Chains
+pub mod Expressions
+pub mod Clauses
+pub mod WellFormed

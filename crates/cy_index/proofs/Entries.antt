@@ -1,5 +1,5 @@
 -- The entries of a posting list: which numbers are present after a step, and that the step can be taken back.
-use Rattle.std.proofs.Common.{◌≡◌, ℕ, ◌+◌, ◌<◌, ◌≤◌, Bool, true, false, cond, not, List, [], ◌∷◌, length, Option, None, Some, is_some, IsTrue, refl, sym, ap, subst, ◌∙◌, arith, nat_eq}
+use Rattle.std.proofs.Common.{◌≡◌, ℕ, ◌+◌, ◌<◌, ◌≤◌, Bool, true, false, cond, not, List, [], ◌∷◌, length, Option, None, Some, IsTrue, refl, sym, ap, subst, ◌∙◌, arith, nat_eq}
 use Rattle.std.specs.BTreeMap.{insert_entry, is_at}
 use Rattle.std.specs.Prelude.{◌↔◌}
 use Rattle.std.specs.List.{AllByRecursion}
@@ -172,17 +172,7 @@ present_removed n (e ∷ es) is =
       ]
     ] is
 
--- a number that is added, or leaves, by its entry from before
-pub set_adds : (n : ℕ) (es : Entries) → Rises 0 (keys_of es) → is_some (lookup (is_at (nat_cmp n)) es) ≡ true → present (set_value (is_at (nat_cmp n)) es true) ≡ with_number n (present es)
-set_adds n es up there = by (lookup (is_at (nat_cmp n)) es) refl there
-  where
-    by : (o : Option Bool) → lookup (is_at (nat_cmp n)) es ≡ o → is_some o ≡ true → present (set_value (is_at (nat_cmp n)) es true) ≡ with_number n (present es)
-    by None is there = cc
-    by (Some was) is there = marked_present n 0 es was up is
-
-pub insert_adds : (n : ℕ) (es : Entries) → Rises 0 (keys_of es) → lookup (is_at (nat_cmp n)) es ≡ None → present (insert_entry nat_cmp es n true) ≡ with_number n (present es)
-insert_adds n es up none = inserted n 0 es up none
-
+-- a number that leaves, by its entry from before
 pub set_leaves : (n : ℕ) (es : Entries) → Rises 0 (keys_of es) → present (set_value (is_at (nat_cmp n)) es false) ≡ without_number n (present es)
 set_leaves n es up = marked_absent n 0 es up
 
@@ -194,5 +184,32 @@ set_restored n es b = by (lookup (is_at (nat_cmp n)) es) refl
     by None is = ap (remove_entry (is_at (nat_cmp n))) (not_set (is_at (nat_cmp n)) es b is) ∙ not_removed (is_at (nat_cmp n)) es is
     by (Some was) is = set_back (is_at (nat_cmp n)) es was b is
 
-pub insert_restored : (n : ℕ) (es : Entries) → lookup (is_at (nat_cmp n)) es ≡ None → restored n None (insert_entry nat_cmp es n true) ≡ es
-insert_restored n es none = inserted_back n es none
+-- what is put under a number that has an entry is set there
+put_here_at : (n low : ℕ) (es : Entries) (was : Bool) → Rises low (keys_of es) → lookup (is_at (nat_cmp n)) es ≡ Some was → insert_entry nat_cmp es n true ≡ set_value (is_at (nat_cmp n)) es true
+put_here_at n low [] was up is = cc
+put_here_at n low (e ∷ es) was up is = by (nat_cmp n e.0) refl (put_here_at n (e.0 + 1) es was up.1) is
+  where
+    by : (o : Ordering) → nat_cmp n e.0 ≡ o → (lookup (is_at (nat_cmp n)) es ≡ Some was → insert_entry nat_cmp es n true ≡ set_value (is_at (nat_cmp n)) es true) → cond (is_eq o) (Some e.1) (lookup (is_at (nat_cmp n)) es) ≡ Some was
+        → match_ordering o ((n, true) ∷ e ∷ es) ((e.0, true) ∷ es) (e ∷ insert_entry nat_cmp es n true) ≡ cond (is_eq o) ((e.0, true) ∷ es) (e ∷ set_value (is_at (nat_cmp n)) es true)
+    by Less is rest there = let none = nothing_below n (e.0 + 1) es (omega (arith, ranked n e.0 Less (sym is))) up.1 in cc
+    by Equal is rest there = refl
+    by Greater is rest there = ap (λ l. e ∷ l) (rest there)
+
+-- the one entry is set
+pub put_here : (n m : ℕ) (b : Bool) → m ≡ n → insert_entry nat_cmp ((m, b) ∷ []) n true ≡ (m, true) ∷ []
+put_here n m b same = ap (λ o. match_ordering o ((n, true) ∷ (m, b) ∷ []) ((m, true) ∷ []) ((m, b) ∷ (n, true) ∷ [])) (sym (nat_cmp_is n m Equal (sym same)))
+
+-- a number that is put, with or without an entry from before
+pub put_adds : (n : ℕ) (es : Entries) → Rises 0 (keys_of es) → present (insert_entry nat_cmp es n true) ≡ with_number n (present es)
+put_adds n es up = by (lookup (is_at (nat_cmp n)) es) refl
+  where
+    by : (o : Option Bool) → lookup (is_at (nat_cmp n)) es ≡ o → present (insert_entry nat_cmp es n true) ≡ with_number n (present es)
+    by None is = inserted n 0 es up is
+    by (Some was) is = ap present (put_here_at n 0 es was up is) ∙ marked_present n 0 es was up is
+
+pub put_restored : (n : ℕ) (es : Entries) → Rises 0 (keys_of es) → restored n (lookup (is_at (nat_cmp n)) es) (insert_entry nat_cmp es n true) ≡ es
+put_restored n es up = by (lookup (is_at (nat_cmp n)) es) refl
+  where
+    by : (o : Option Bool) → lookup (is_at (nat_cmp n)) es ≡ o → restored n o (insert_entry nat_cmp es n true) ≡ es
+    by None is = inserted_back n es is
+    by (Some was) is = ap (λ l. set_value (is_at (nat_cmp n)) l was) (put_here_at n 0 es was up is) ∙ set_back (is_at (nat_cmp n)) es was true is

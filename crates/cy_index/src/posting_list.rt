@@ -11,6 +11,7 @@ use cy_values::{Fault, NodeId};
 use std::alloc::Global;
 use std::collections::BTreeMap;
 use std::marker::Model;
+use std::mem::replace;
 
 /// Numbers, each with whether it is present.
 #[derive(Drop)]
@@ -63,22 +64,13 @@ impl PostingList {
 
     /// The number comes, if it isn't present. Gives its entry from before, with which `restore` takes this back. Fails
     /// only for want of memory.
-    #[tactic(auto, using(crate::proofs::Entries::set_adds, crate::proofs::Entries::insert_adds, crate::proofs::Entries::insert_restored))]
+    #[tactic(auto, using(crate::proofs::Entries::put_adds, crate::proofs::Entries::put_restored))]
     pub(crate) fn add(&mut self, alloc: Global, number: u64) -> Result<Option<bool>, Fault>
         ensures ok { OnOk result (present self.new ≡ with_number number (present self.old)) }
         ensures back { IfOk result (λ before. restored number before self.new ≡ self.old) }
         ensures err { OnErr result (self.new ≡ self.old) }
     {
-        match self.entry(number) {
-            Some(present) => {
-                self.set(number, true);
-                Ok(Some(present))
-            }
-            None => {
-                self.insert(alloc, number)?;
-                Ok(None)
-            }
-        }
+        self.put(alloc, number)
     }
 
     /// The number leaves, if it is present. Gives its entry from before, with which `restore` takes this back.
@@ -87,9 +79,7 @@ impl PostingList {
         ensures present { present self.new ≡ without_number number (present self.old) }
         ensures back { restored number result self.new ≡ self.old }
     {
-        let before = self.entry(number);
-        self.set(number, false);
-        before
+        self.set(number, false)
     }
 
     /// Gives a number the entry from before.
@@ -97,7 +87,9 @@ impl PostingList {
         ensures { self.new ≡ restored number before self.old }
     {
         match before {
-            Some(present) => self.set(number, present),
+            Some(present) => {
+                self.set(number, present);
+            }
             None => self.remove(alloc, number),
         }
     }
@@ -135,39 +127,52 @@ impl PostingList {
         }
     }
 
-    // Adds an entry for a number that is present.
-    fn insert(&mut self, alloc: Global, number: u64) -> Result<(), Fault>
+    // Sets that a number is present, where there is an entry for it, or adds one. Gives the entry from before, which is found on the
+    // way. Fails only for want of memory.
+    #[tactic(auto, using(crate::proofs::Entries::at_itself, crate::proofs::Entries::at_other, crate::proofs::Entries::put_here, crate::proofs::Entries::rises_in_order))]
+    fn put(&mut self, alloc: Global, number: u64) -> Result<Option<bool>, Fault>
+        ensures before { IfOk result (λ before. before ≡ lookup (is_at (nat_cmp number)) self.old) }
         ensures ok { OnOk result (self.new ≡ insert_entry nat_cmp self.old number true) }
         ensures err { OnErr result (self.new ≡ self.old) }
-    {
-        match &mut self.numbers {
-            Numbers::One(only, present) => {
-                let mut map = BTreeMap::new(alloc);
-                map.insert(*only, *present)?;
-                map.insert(number, true)?;
-                self.numbers = Numbers::Many(map);
-            }
-            Numbers::Many(map) => {
-                map.insert(number, true)?;
-            }
-        }
-        Ok(())
-    }
-
-    // Sets whether a number is present, where there is an entry for it.
-    #[tactic(auto, using(crate::proofs::Entries::at_itself, crate::proofs::Entries::at_other, crate::proofs::Entries::not_set))]
-    fn set(&mut self, number: u64, present: bool)
-        ensures { self.new ≡ set_value (is_at (nat_cmp number)) self.old present }
+        ensures rising { Rises 0 (keys_of self.old) }
     {
         match &mut self.numbers {
             Numbers::One(only, entry) => {
                 if *only == number {
-                    *entry = present;
+                    return Ok(Some(replace(entry, true)));
                 }
+                let mut map = BTreeMap::new(alloc);
+                map.insert(*only, *entry)?;
+                map.insert(number, true)?;
+                self.numbers = Numbers::Many(map);
+                Ok(None)
             }
             Numbers::Many(map) => {
-                if let Some(entry) = map.get_mut(&number) {
-                    *entry = present;
+                let _ordered = map.len();
+                Ok(map.insert(number, true)?)
+            }
+        }
+    }
+
+    // Sets whether a number is present, where there is an entry for it, which it gives as it was.
+    #[tactic(auto, using(crate::proofs::Entries::at_itself, crate::proofs::Entries::at_other, crate::proofs::Entries::not_set, crate::proofs::Entries::rises_in_order))]
+    fn set(&mut self, number: u64, present: bool) -> Option<bool>
+        ensures before { result ≡ lookup (is_at (nat_cmp number)) self.old }
+        ensures set { self.new ≡ set_value (is_at (nat_cmp number)) self.old present }
+        ensures rising { Rises 0 (keys_of self.old) }
+    {
+        match &mut self.numbers {
+            Numbers::One(only, entry) => {
+                if *only == number {
+                    return Some(replace(entry, present));
+                }
+                None
+            }
+            Numbers::Many(map) => {
+                let _ordered = map.len();
+                match map.get_mut(&number) {
+                    Some(entry) => Some(replace(entry, present)),
+                    None => None,
                 }
             }
         }

@@ -29,6 +29,9 @@ pub(crate) enum Step {
     Set(Spot, Option<bool>),
 }
 
+// How many steps a change may have whose room the next one takes over.
+const SMALL_CHANGE: usize = 64;
+
 /// Numbers under keys, by rising number. Each change is a step, and the steps since the last `commit` can be taken
 /// back one after the other, which takes no memory.
 #[derive(Drop)]
@@ -222,8 +225,10 @@ impl<K: Eq + Hash + Drop> Postings<K> {
         ensures one { length self.new ≡ 1 }
         ensures numbers { (key : K) → numbers_at K.eq key (latest self.new) ≡ numbers_at K.eq key (latest self.old) }
     {
-        let none = Vec::new(self.allocator());
-        settle(&mut self.lists, replace(&mut self.steps, none));
+        let alloc = self.allocator();
+        let steps = replace(&mut self.steps, Vec::new(alloc));
+        settle(&mut self.lists, &steps);
+        self.steps = emptied(alloc, steps);
         if self.removals > self.lists.len() / 2 {
             drop_empty(&mut self.lists);
             self.removals = 0;
@@ -276,14 +281,25 @@ fn restore_at<K: Eq + Hash>(lists: &mut IndexMap<K, PostingList>, spot: Spot, be
 }
 
 // Takes out the entries of the numbers that left by these steps.
-fn settle<K: Eq + Hash>(lists: &mut IndexMap<K, PostingList>, steps: Vec<Step>)
+fn settle<K: Eq + Hash>(lists: &mut IndexMap<K, PostingList>, steps: &[Step])
     ensures { version_of lists.new.entries ≡ version_of lists.old.entries }
 {
     for step in steps {
-        if let Step::Set(spot, Some(true)) = step {
+        if let Step::Set(spot, Some(true)) = *step {
             purge_at(lists, spot);
         }
     }
+}
+
+// A vector of no steps, which has the room of these, unless it is large.
+fn emptied(alloc: Global, mut steps: Vec<Step>) -> Vec<Step>
+    ensures { result.items ≡ [] }
+{
+    if steps.capacity() > SMALL_CHANGE {
+        return Vec::new(alloc);
+    }
+    steps.clear();
+    steps
 }
 
 // Takes out the entry of a number that left its list.

@@ -1,6 +1,4 @@
 use Rattle.std.proofs.Common.{reverse, sym, ap, ◌∙◌}
-use Rattle.std.specs.Global.{Vec}
-use Rattle.cy_index.specs.declared.postings.Step.{Step}
 use Rattle.cy_index.specs.internal.Postings.{versions, latest, numbers_at}
 use Rattle.cy_index.proofs.Versions.{newest}
 use Rattle.cy_index.proofs.postings.Postings.commit.Goals as goal
@@ -11,7 +9,7 @@ returns-then-self-len-clause-numbers g c = λ key.
     let inside = c.self.inside in
     let eq = g.K.PartialEq.eq in
     let last = newest (reverse inside.steps.items) inside.lists.entries c.args.self.now c.self.view_is in
-    ap (λ l. numbers_at eq key (latest (versions (reverse l) c.drop_empty.new.lists.entries))) (ap (λ (v : Vec Step). v.items) c.replace.ensures.after ∙ c.new-none.ensures.items)
+    ap (λ l. numbers_at eq key (latest (versions (reverse l) c.drop_empty.new.lists.entries))) c.emptied.ensures
     ∙ c.drop_empty.ensures key ∙ ap (numbers_at eq key) c.settle.ensures ∙ sym (ap (numbers_at eq key) last)
 
 pub returns-else-self-len-clause-numbers : goal.returns-else-self-len-clause-numbers
@@ -19,5 +17,5 @@ returns-else-self-len-clause-numbers g c = λ key.
     let inside = c.self.inside in
     let eq = g.K.PartialEq.eq in
     let last = newest (reverse inside.steps.items) inside.lists.entries c.args.self.now c.self.view_is in
-    ap (λ l. numbers_at eq key (latest (versions (reverse l) c.settle.new.lists.entries))) (ap (λ (v : Vec Step). v.items) c.replace.ensures.after ∙ c.new-none.ensures.items)
+    ap (λ l. numbers_at eq key (latest (versions (reverse l) c.settle.new.lists.entries))) c.emptied.ensures
     ∙ ap (numbers_at eq key) c.settle.ensures ∙ sym (ap (numbers_at eq key) last)

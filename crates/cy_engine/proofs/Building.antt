@@ -23,14 +23,14 @@ use Rattle.cy_engine.specs.Requests.{Asks, Request, Nothing, StatementOf, ViewOf
 use Rattle.cy_engine.specs.Runs.{Event, Run}
 use Rattle.cy_engine.specs.State.{EngineState, Entries, View}
 use Rattle.cy_engine.specs.Step.{Answer, Answers, Carries, Drops, Follows, Indexes, Lexed, Makes, Shows, Step, Tells}
-use Rattle.cy_engine.specs.Verdicts.{Carried, carry_verdict, index_verdict, or_fault, rows_verdict, scope_verdict, since_verdict, statement_verdict, tick_after, unless, view_verdict}
+use Rattle.cy_engine.specs.Verdicts.{Carried, carry_verdict, index_verdict, or_fault, rows_verdict, scope_verdict, since_verdict, statement_verdict, tick_after, passes, view_verdict}
 use Rattle.cy_engine.proofs.Queries.{bind_ok, same_ok}
 
 -- what a statement that is carried out means
 pub scoped : (tree resolved : Statement) → scope_verdict tree ≡ Ok resolved → resolved ≡ resolved_statement tree
 scoped tree resolved is = from (statement_fault tree) is
   where
-    from : (o : Option ScopeFault) → (unless fault.Scope o >>= λ _. Ok (resolved_statement tree)) ≡ Ok resolved → resolved ≡ resolved_statement tree
+    from : (o : Option ScopeFault) → (passes fault.Scope o >>= λ _. Ok (resolved_statement tree)) ≡ Ok resolved → resolved ≡ resolved_statement tree
     from None is = sym (same_ok (resolved_statement tree) resolved is)
     from (Some why) is = cc
 

@@ -2,8 +2,8 @@
 use Rattle.std.proofs.Common.{◌≡◌, ◌≢◌, ◌⊎◌, ℕ, List, [], ◌∷◌, ◌++◌, cond, Bool, true, false, Some, None, Result, Ok, length, refl, ap, inl, inr}
 use Rattle.cy_lexer.specs.declared.symbols.Symbol.{Symbol}
 use Rattle.cy_lexer.specs.declared.symbols.Symbol.TheVariants as sign
-use Rattle.cy_lexer.specs.declared.tokens.Kind.{Kind}
-use Rattle.cy_lexer.specs.declared.tokens.Kind.TheVariants as kind
+use Rattle.cy_lexer.specs.declared.tokens.TokenKind.{TokenKind}
+use Rattle.cy_lexer.specs.declared.tokens.TokenKind.TheVariants as kind
 use Rattle.cy_lexer.specs.declared.tokens.Token.{Token}
 use Rattle.cy_lexer.specs.declared.faults.LexFault.{LexFault}
 use Rattle.cy_lexer.specs.declared.faults.LexFault.TheVariants as lex
@@ -38,10 +38,10 @@ end_left [] t is = rw is refl
 end_left (u ∷ []) t is = ap (λ (b : Bool). u ∷ cond b [] (t ∷ [])) is
 end_left (u ∷ v ∷ ts) t is = ap (λ (us : List Token). u ∷ us) (end_left (v ∷ ts) t is)
 
-pub semicolon_is : (k : Kind) → k ≡ kind.Symbol sign.Semicolon → is_semicolon k ≡ true
+pub semicolon_is : (k : TokenKind) → k ≡ kind.Symbol sign.Semicolon → is_semicolon k ≡ true
 semicolon_is k is = ap is_semicolon is
 
-pub semicolon_not : (k : Kind) → (k ≡ kind.Symbol sign.Semicolon → ⊥) → is_semicolon k ≡ false
+pub semicolon_not : (k : TokenKind) → (k ≡ kind.Symbol sign.Semicolon → ⊥) → is_semicolon k ≡ false
 semicolon_not kind.Name other = refl
 semicolon_not kind.QuotedName other = refl
 semicolon_not (kind.Keyword w) other = refl
@@ -49,7 +49,7 @@ semicolon_not (kind.Number n) other = refl
 semicolon_not kind.Text other = refl
 semicolon_not (kind.Symbol s) other = symbol_not s other
   where
-    symbol_not : (s : Symbol) → ((let k : Kind = kind.Symbol s in k) ≡ kind.Symbol sign.Semicolon → ⊥) → is_semicolon (kind.Symbol s) ≡ false
+    symbol_not : (s : Symbol) → ((let k : TokenKind = kind.Symbol s in k) ≡ kind.Symbol sign.Semicolon → ⊥) → is_semicolon (kind.Symbol s) ≡ false
     symbol_not sign.DotDot other = refl
     symbol_not sign.NotEqual other = refl
     symbol_not sign.LessOrEqual other = refl

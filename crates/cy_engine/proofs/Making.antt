@@ -21,17 +21,17 @@ use Rattle.cy_engine.specs.Headline.{AsksForView}
 use Rattle.cy_engine.specs.Requests.{Asks, Request, Nothing, StatementOf, ViewOf, RowsOf, SinceOf, ListOfViews, DropOf, IndexOf, Refused, request}
 use Rattle.cy_engine.specs.State.{EngineState, Entries, View}
 use Rattle.cy_engine.specs.Step.{Answer, Answers, Carries, Drops, Follows, Indexes, IsMade, Lexed, Makes, Shows, Step, Tells}
-use Rattle.cy_engine.specs.Verdicts.{Carried, index_verdict, making_verdict, query_verdict, rows_verdict, scope_verdict, since_verdict, statement_verdict, unless, view_verdict}
+use Rattle.cy_engine.specs.Verdicts.{Carried, index_verdict, making_verdict, query_verdict, rows_verdict, scope_verdict, since_verdict, statement_verdict, passes, view_verdict}
 use Rattle.cy_engine.proofs.Building.{scoped}
 use Rattle.cy_engine.proofs.Queries.{bind_ok, same_ok}
 
 -- the query of a view is the statement that is spelt, with the columns of its variables
 spelt_query : (tree query : Statement) → query_verdict tree ≡ Ok query → query ≡ resolved_statement tree
 spelt_query tree query is =
-    let scope = bind_ok (scope_verdict tree) (λ resolved. unless fault.View (view_fault resolved) >>= λ _. Ok resolved) query is in
+    let scope = bind_ok (scope_verdict tree) (λ resolved. passes fault.View (view_fault resolved) >>= λ _. Ok resolved) query is in
     from scope.0 (view_fault scope.0) scope.2 ∙ scoped tree scope.0 scope.1
   where
-    from : (resolved : Statement) (o : Option ViewFault) → (unless fault.View o >>= λ _. Ok resolved) ≡ Ok query → query ≡ resolved
+    from : (resolved : Statement) (o : Option ViewFault) → (passes fault.View o >>= λ _. Ok resolved) ≡ Ok query → query ≡ resolved
     from resolved None is = sym (same_ok resolved query is)
     from resolved (Some why) is = cc
 

@@ -23,7 +23,7 @@ use Rattle.cy_updates.specs.Faults.{◌>>=◌}
 use Rattle.cy_engine.specs.declared.faults.Fault.{Fault}
 use Rattle.cy_engine.specs.declared.faults.Fault.TheVariants as fault
 use Rattle.cy_engine.specs.State.{EngineState, View, last_tick, view_at, view_limit}
-use Rattle.cy_engine.specs.Verdicts.{making_verdict, needs, next_tick, query_verdict, scope_verdict, unless, view_verdict}
+use Rattle.cy_engine.specs.Verdicts.{making_verdict, needs, next_tick, query_verdict, scope_verdict, passes, view_verdict}
 
 pub bind_ok : {A B : Type 0} (r : Result A Fault) (f : A → Result B Fault) (y : B) → (r >>= f) ≡ Ok y → (x : A) × (r ≡ Ok x) × (f x ≡ Ok y)
 bind_ok (Ok x) f y is = (x, refl, is)
@@ -36,16 +36,16 @@ same_ok a b is = cc
 checked : (tree resolved : Statement) → scope_verdict tree ≡ Ok resolved → IsChecked resolved
 checked tree resolved is = from (statement_fault tree) refl is
   where
-    from : (o : Option ScopeFault) → statement_fault tree ≡ o → (unless fault.Scope o >>= λ _. Ok (resolved_statement tree)) ≡ Ok resolved → IsChecked resolved
+    from : (o : Option ScopeFault) → statement_fault tree ≡ o → (passes fault.Scope o >>= λ _. Ok (resolved_statement tree)) ≡ Ok resolved → IsChecked resolved
     from None good is = (tree, good, sym (same_ok (resolved_statement tree) resolved is))
     from (Some why) bad is = cc
 
 query_checked : (tree query : Statement) → query_verdict tree ≡ Ok query → IsViewQuery query
 query_checked tree query is =
-    let scoped = bind_ok (scope_verdict tree) (λ resolved. unless fault.View (view_fault resolved) >>= λ _. Ok resolved) query is in
+    let scoped = bind_ok (scope_verdict tree) (λ resolved. passes fault.View (view_fault resolved) >>= λ _. Ok resolved) query is in
     from scoped.0 (checked tree scoped.0 scoped.1) (view_fault scoped.0) refl scoped.2
   where
-    from : (resolved : Statement) → IsChecked resolved → (o : Option ViewFault) → view_fault resolved ≡ o → (unless fault.View o >>= λ _. Ok resolved) ≡ Ok query → IsViewQuery query
+    from : (resolved : Statement) → IsChecked resolved → (o : Option ViewFault) → view_fault resolved ≡ o → (passes fault.View o >>= λ _. Ok resolved) ≡ Ok query → IsViewQuery query
     from resolved of None good is = subst IsViewQuery (same_ok resolved query is) (of, good)
     from resolved of (Some why) bad is = cc
 
@@ -67,7 +67,7 @@ module _ (name : List ℕ) (state : EngineState) (made : ℕ) (is : making_verdi
       room true few is = (few, risen state.tick made is)
       room false few is = cc
 
-      from : (o : Option View) → view_at name state ≡ o → (unless (λ _. fault.ViewNameTaken) o >>= λ _. needs (nat_lt (length state.views) view_limit) fault.TooManyViews >>= λ _. next_tick state.tick) ≡ Ok made
+      from : (o : Option View) → view_at name state ≡ o → (passes (λ _. fault.ViewNameTaken) o >>= λ _. needs (nat_lt (length state.views) view_limit) fault.TooManyViews >>= λ _. next_tick state.tick) ≡ Ok made
           → (view_at name state ≡ None) × (nat_lt (length state.views) view_limit ≡ true) × (made ≡ state.tick + 1)
       from None free is = let limit = room (nat_lt (length state.views) view_limit) refl is in (free, limit.0, limit.1)
       from (Some v) taken is = cc

@@ -25,7 +25,7 @@ use Rattle.cy_engine.specs.Model.{machine_of, state_of}
 use Rattle.cy_engine.specs.Requests.{Request, StatementOf, ViewOf}
 use Rattle.cy_engine.specs.State.{EngineState, Entries, View, view_at, view_limit}
 use Rattle.cy_engine.specs.Step.{Answer, IsCarried, IsMade, IsRefused, changed_by, fed}
-use Rattle.cy_engine.specs.Verdicts.{Carried, carry_verdict, making_verdict, needs, next_tick, query_verdict, scope_verdict, tick_after, unless}
+use Rattle.cy_engine.specs.Verdicts.{Carried, carry_verdict, making_verdict, needs, next_tick, query_verdict, scope_verdict, tick_after, passes}
 
 -- ---- what carrying a statement out comes to
 
@@ -90,7 +90,7 @@ module _ (line : List ℕ) (tokens : List Token) (old : EngineState) (answer : A
 module _ (name : List ℕ) (state : EngineState) where
   pub name_taken : is_some (view_at name state) ≡ true → making_verdict name state ≡ Err fault.ViewNameTaken
   name_taken some =
-      elim (view_at name state) as (λ o. is_some o ≡ true → (unless (λ _. fault.ViewNameTaken) o >>= λ _. needs (nat_lt (length state.views) view_limit) fault.TooManyViews >>= λ _. next_tick state.tick) ≡ Err fault.ViewNameTaken) [
+      elim (view_at name state) as (λ o. is_some o ≡ true → (passes (λ _. fault.ViewNameTaken) o >>= λ _. needs (nat_lt (length state.views) view_limit) fault.TooManyViews >>= λ _. next_tick state.tick) ≡ Err fault.ViewNameTaken) [
         | Some v ↦ λ h. refl
         | None ↦ λ h. cc
       ] some

@@ -8,14 +8,15 @@ use Rattle.cy_lexer.specs.declared.keywords.Keyword.{Keyword}
 use Rattle.cy_lexer.specs.declared.keywords.Keyword.TheVariants as word
 use Rattle.cy_lexer.specs.declared.symbols.Symbol.{Symbol}
 use Rattle.cy_lexer.specs.declared.symbols.Symbol.TheVariants as sign
-use Rattle.cy_lexer.specs.declared.tokens.Kind.TheVariants as kind
+use Rattle.cy_lexer.specs.declared.tokens.TokenKind.TheVariants as kind
 use Rattle.cy_lexer.specs.declared.tokens.Token.{Token}
 use Rattle.cy_lexer.specs.Keywords.{keyword_of}
 use Rattle.cy_lexer.specs.Symbols.{symbol}
 use Rattle.cy_lexer.specs.Tokens.{piece, tokens_from, tokens_of}
 use Rattle.cy_trees.specs.declared.expressions.Variable.{Variable}
 use Rattle.cy_trees.specs.Trees.{Name, Expression, null, integer, variable, property, MapEntry, NodePattern, Path, Item, Projection, set_property, Clause, «match», «return», create, set, delete, Statement}
-use Rattle.cy_grammar.specs.Words.{denotes, slice_in, number_limit}
+use Rattle.cy_grammar.specs.Words.{denotes, slice_in}
+use Rattle.cy_lexer.specs.Numbers.{greatest_number}
 use Rattle.cy_grammar.specs.Spells as spell
 use Rattle.cy_grammar.specs.SpellsClauses.{SpellsStatement, SpellsClause, SpellsClauses, SpellsExpression, SpellsNode, most_levels, reading, updating, ended}
 use Rattle.cy_grammar.specs.SpellsClauses as spelt
@@ -56,7 +57,7 @@ matching n label = «match» false (alone (named_node n label)) None
 -- ---- what one rule after another spells
 
 module _ (line : List ℕ) where
-  number_spelt : (n at : ℕ) (rest : List Token) → n < number_limit → SpellsExpression line (integer (pos n)) (digit n at ∷ rest) rest
+  number_spelt : (n at : ℕ) (rest : List Token) → n < greatest_number → SpellsExpression line (integer (pos n)) (digit n at ∷ rest) rest
   number_spelt n at rest small = record {
     spells = as_whole line most_levels (integer (pos n)) (digit n at ∷ rest) rest
         (spell.is_postfix most_levels (integer (pos n)) (digit n at ∷ rest) rest (spell.number 256 n (digit n at) rest refl small));

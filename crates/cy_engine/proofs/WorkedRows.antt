@@ -5,7 +5,7 @@ use Rattle.std.specs.Str.{chars}
 use Rattle.std.specs.Char.{encode_utf8}
 use Rattle.cy_lexer.specs.declared.faults.LexFault.TheVariants as lex
 use Rattle.cy_lexer.specs.declared.symbols.Symbol.TheVariants as sign
-use Rattle.cy_lexer.specs.declared.tokens.Kind.TheVariants as kind
+use Rattle.cy_lexer.specs.declared.tokens.TokenKind.TheVariants as kind
 use Rattle.cy_lexer.specs.declared.tokens.Token.{Token}
 use Rattle.cy_grammar.specs.Words.{denotes, slice_in}
 use Rattle.cy_kinds.specs.declared.faults.ScopeFault.TheVariants as scope

@@ -1,12 +1,13 @@
 -- What a line asks for, by its tokens (own).
 use Rattle.std.specs.Prelude.{◌≡◌, ℕ, nat_lt, Bool, true, false, ◌&&◌, List, [], ◌∷◌, Option, None, Some, Ok, codes, if◌then◌else◌}
-use Rattle.cy_lexer.specs.declared.tokens.Kind.{Kind}
-use Rattle.cy_lexer.specs.declared.tokens.Kind.TheVariants as kind
+use Rattle.cy_lexer.specs.declared.tokens.TokenKind.{TokenKind}
+use Rattle.cy_lexer.specs.declared.tokens.TokenKind.TheVariants as kind
 use Rattle.cy_lexer.specs.declared.tokens.Token.{Token}
 use Rattle.cy_lexer.specs.declared.symbols.Symbol.TheVariants as sign
 use Rattle.cy_lexer.specs.Keywords.{same_word}
 use Rattle.cy_lexer.specs.Tokens.{tokens_of}
-use Rattle.cy_grammar.specs.Words.{is_word, denotes, number_limit, slice_in}
+use Rattle.cy_grammar.specs.Words.{is_word, denotes, slice_in}
+use Rattle.cy_lexer.specs.Numbers.{greatest_number}
 use Rattle.cy_engine.specs.declared.faults.Fault.{Fault}
 use Rattle.cy_engine.specs.declared.faults.Fault.TheVariants.{UnknownCommand, BadArgument}
 
@@ -30,16 +31,16 @@ pub data Request : Type 0 where
   -- a command that is refused
   Refused : Fault → Request
 
-abbrev pub is_colon : Kind → Bool
+abbrev pub is_colon : TokenKind → Bool
 is_colon (kind.Symbol sign.Colon) = true
 is_colon _ = false
 
-abbrev pub is_semicolon : Kind → Bool
+abbrev pub is_semicolon : TokenKind → Bool
 is_semicolon (kind.Symbol sign.Semicolon) = true
 is_semicolon _ = false
 
 -- a name without quotes
-abbrev pub is_unquoted : Kind → Bool
+abbrev pub is_unquoted : TokenKind → Bool
 is_unquoted kind.Name = true
 is_unquoted _ = false
 
@@ -60,8 +61,8 @@ rows_request line (name ∷ []) = if is_word name.kind then RowsOf (denotes line
 rows_request line _ = Refused BadArgument
 
 -- the tick that a token denotes: a number that an integer of 64 bits holds
-abbrev pub tick_in : Kind → Option ℕ
-tick_in (kind.Number n) = if nat_lt n number_limit then Some n else None
+abbrev pub tick_in : TokenKind → Option ℕ
+tick_in (kind.Number n) = if nat_lt n greatest_number then Some n else None
 tick_in _ = None
 
 abbrev pub since_from : List ℕ → Option ℕ → Request

@@ -27,9 +27,9 @@ use Rattle.cy_feeds.specs.Feeds.{new_history}
 use Rattle.cy_engine.specs.State.{EngineState, View, view_at, last_tick, view_limit}
 
 -- nothing is against it, or this is
-abbrev pub unless : {F : Type 0} → (F → Fault) → Option F → Result (Unit {0}) Fault
-unless why None = Ok tt
-unless why (Some fault) = Err (why fault)
+abbrev pub passes : {F : Type 0} → (F → Fault) → Option F → Result (Unit {0}) Fault
+passes why None = Ok tt
+passes why (Some fault) = Err (why fault)
 
 -- what a layer below gives, its fault as one of the engine
 abbrev pub or_fault : {A F : Type 0} → (F → Fault) → Result A F → Result A Fault
@@ -72,7 +72,7 @@ same_relationship m n = (m.0.0 == n.0.0) && same_link m.1 n.1
 abbrev pub same_content : Content → Content → Bool
 same_content c d = pointwise same_node c.nodes d.nodes && pointwise same_relationship c.rels d.rels
 
--- the tick rises, unless it is the last one
+-- the tick rises, passes it is the last one
 abbrev pub next_tick : ℕ → Result ℕ Fault
 next_tick tick = if tick == last_tick then Err fault.Full else Ok (tick + 1)
 
@@ -84,7 +84,7 @@ tick_after before after tick = if same_content before after then Ok tick else ne
 
 -- the statement with the columns of its variables, or its fault of scope
 abbrev pub scope_verdict : Statement → Result Statement Fault
-scope_verdict tree = unless fault.Scope (statement_fault tree) >>= λ _. Ok (resolved_statement tree)
+scope_verdict tree = passes fault.Scope (statement_fault tree) >>= λ _. Ok (resolved_statement tree)
 
 -- what a statement leaves and says, and the tick after it
 pub record Carried : Type 0 where
@@ -107,13 +107,13 @@ statement_verdict tree state = scope_verdict tree >>= λ resolved. carry_verdict
 abbrev pub query_verdict : Statement → Result Statement Fault
 query_verdict tree =
     scope_verdict tree >>= λ resolved.
-    unless fault.View (view_fault resolved) >>= λ _.
+    passes fault.View (view_fault resolved) >>= λ _.
     Ok resolved
 
 -- the tick of a view of this name that is made next; or a view of the name is there, or too many views are, or the tick is the last
 abbrev pub making_verdict : List ℕ → EngineState → Result ℕ Fault
 making_verdict name state =
-    unless (λ _. fault.ViewNameTaken) (view_at name state) >>= λ _.
+    passes (λ _. fault.ViewNameTaken) (view_at name state) >>= λ _.
     needs (nat_lt (length state.views) view_limit) fault.TooManyViews >>= λ _.
     next_tick state.tick
 
@@ -136,7 +136,7 @@ since_verdict name tick state =
     needs (nat_le tick state.tick) fault.FutureTick >>= λ _.
     Ok view
 
--- the label and the key that get an index, unless there is one for them
+-- the label and the key that get an index, passes there is one for them
 abbrev pub index_verdict : List ℕ → List ℕ → EngineState → Result Pair Fault
 index_verdict label key state =
     needs (not (has_pair label key state.indexes)) fault.IndexThere >>= λ _.

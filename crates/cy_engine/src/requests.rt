@@ -5,7 +5,7 @@ ghost use Rattle.cy_engine.specs.Requests as spec;
 ghost use Rattle.cy_engine.specs.internal.Stages.{shown};
 
 use crate::faults::Fault;
-use cy_lexer::{Kind, Symbol, Token, is_same_word};
+use cy_lexer::{Symbol, Token, TokenKind, is_same_word};
 use cy_parser::{denoted_text, is_word, slice_in};
 use cy_values::Text;
 use std::alloc::Global;
@@ -159,11 +159,11 @@ fn index_request<'a>(
 }
 
 // The tick that a token denotes.
-fn tick_in(kind: Kind) -> Option<u64>
+fn tick_in(kind: TokenKind) -> Option<u64>
     ensures { result ≡ spec.tick_in kind }
 {
     match kind {
-        Kind::Number(number) if number < TICK_LIMIT => Some(number),
+        TokenKind::Number(number) if number < TICK_LIMIT => Some(number),
         _ => None,
     }
 }
@@ -186,5 +186,5 @@ fn without_end(tokens: &[Token]) -> &[Token]
 fn is_command(spelling: &str, line: &str, word: &Token) -> bool
     ensures { result ≡ spec.is_command spelling.now line.now word.now }
 {
-    word.kind == Kind::Name && is_same_word(spelling, slice_in(line, word))
+    word.kind == TokenKind::Name && is_same_word(spelling, slice_in(line, word))
 }

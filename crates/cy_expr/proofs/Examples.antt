@@ -16,7 +16,7 @@ use Rattle.cy_expr.specs.Predicates.{text_starts, text_ends, text_contains}
 use Rattle.cy_expr.specs.Arithmetic.{least, greatest, sum, quotient, remainder, negated}
 use Rattle.cy_expr.specs.Lists.{list_of, membership}
 use Rattle.cy_expr.specs.Choice.{coalesce, choice}
-use Rattle.cy_expr.specs.Lookups.{rises}
+use Rattle.cy_expr.specs.Lookups.{names_rise}
 
 -- the integers n and -(n + 1), and lists of elements
 abbrev int : ℕ → Value
@@ -181,11 +181,11 @@ starts_with_null : text_starts (value.Text (codes "abc")) value.Null ≡ Unknown
 starts_with_null = refl
 
 -- names by rising bytes, each once
-names_that_rise : rises (codes "A" ∷ codes "AB" ∷ codes "B" ∷ []) ≡ true
+names_that_rise : names_rise (codes "A" ∷ codes "AB" ∷ codes "B" ∷ []) ≡ true
 names_that_rise = refl
 
-name_that_stands_twice : rises (codes "A" ∷ codes "A" ∷ []) ≡ false
+name_that_stands_twice : names_rise (codes "A" ∷ codes "A" ∷ []) ≡ false
 name_that_stands_twice = refl
 
-names_that_fall : rises (codes "A" ∷ codes "C" ∷ codes "B" ∷ []) ≡ false
+names_that_fall : names_rise (codes "A" ∷ codes "C" ∷ codes "B" ∷ []) ≡ false
 names_that_fall = refl

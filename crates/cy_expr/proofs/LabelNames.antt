@@ -13,7 +13,7 @@ use Rattle.cy_values.specs.declared.scalars.Scalar.{Scalar}
 use Rattle.cy_values.specs.declared.scalars.Scalar.TheVariants as scalar
 use Rattle.cy_trees.specs.Trees.{Name}
 use Rattle.cy_graph.specs.Maps as maps
-use Rattle.cy_expr.specs.Lookups.{rises}
+use Rattle.cy_expr.specs.Lookups.{names_rise}
 
 same_tests : (name : Name) (names : List Name) → list_any (eq_by_cmp maps.text_order name) names ≡ list_any (bytes_eq name) names
 same_tests name [] = refl
@@ -33,13 +33,13 @@ module _ {V : Type 0} where
   below_names name [] = refl
   below_names name (label ∷ labels) = ap (λ b. is_lt (slice_cmp nat_cmp name label.0) && b) (below_names name labels)
 
-  names_alike : (labels : List (Name × V)) → rises (map (λ l. l.0) labels) ≡ maps.rises labels
+  names_alike : (labels : List (Name × V)) → names_rise (map (λ l. l.0) labels) ≡ maps.rises labels
   names_alike [] = refl
   names_alike (label ∷ labels) = λ i. below_names label.0 labels i && names_alike labels i
 
   -- the keys of a map rise
-  pub names_rise : (labels : List (Name × V)) → maps.rises labels ≡ true → rises (map (λ l. l.0) labels) ≡ true
-  names_rise labels rising = names_alike labels ∙ rising
+  pub labels_rise : (labels : List (Name × V)) → maps.rises labels ≡ true → names_rise (map (λ l. l.0) labels) ≡ true
+  labels_rise labels rising = names_alike labels ∙ rising
 
   -- and as texts
   texts_of : (labels : List (Name × V)) → map (λ l. scalar.Text l.0) labels ≡ map (λ l. scalar.Text l) (map (λ l. l.0) labels)

@@ -7,10 +7,10 @@ use Rattle.cy_expr.specs.declared.faults.EvalFault.{EvalFault}
 use Rattle.cy_expr.specs.declared.faults.EvalFault.TheVariants.{WrongType}
 
 -- toString: an integer in decimal, `true` or `false`, a text itself
-abbrev pub text_of : Value → Result Value EvalFault
-text_of (value.Int n) = Ok (value.Text (signed_decimal n))
-text_of (value.Bool true) = Ok (value.Text (codes "true"))
-text_of (value.Bool false) = Ok (value.Text (codes "false"))
-text_of (value.Text t) = Ok (value.Text t)
-text_of value.Null = Ok value.Null
-text_of (value.List es) = Err WrongType
+abbrev pub as_text : Value → Result Value EvalFault
+as_text (value.Int n) = Ok (value.Text (signed_decimal n))
+as_text (value.Bool true) = Ok (value.Text (codes "true"))
+as_text (value.Bool false) = Ok (value.Text (codes "false"))
+as_text (value.Text t) = Ok (value.Text t)
+as_text value.Null = Ok value.Null
+as_text (value.List es) = Err WrongType

@@ -18,7 +18,7 @@ use Rattle.cy_expr.specs.Faults.{on_one, on_two}
 use Rattle.cy_expr.specs.Logic.{value_of}
 use Rattle.cy_expr.specs.Arithmetic.{absolute}
 use Rattle.cy_expr.specs.Lists.{list_of, cell_size}
-use Rattle.cy_expr.specs.Conversions.{text_of}
+use Rattle.cy_expr.specs.Conversions.{as_text}
 use Rattle.cy_expr.specs.Choice.{coalesce, choice}
 use Rattle.cy_expr.specs.Operators.{binary_value, unary_value, value_in_cell, compared}
 use Rattle.cy_expr.specs.Lookups.{Lookups, property_value, existence, labels_test, labels_value, type_value, id_value}
@@ -41,7 +41,7 @@ function_value graph function.Type c = type_value graph c
 function_value graph function.Labels c = labels_value graph c
 function_value graph function.Size c = cell_size c
 function_value graph function.Abs c = on_one absolute (value_in_cell c)
-function_value graph function.ToString c = on_one text_of (value_in_cell c)
+function_value graph function.ToString c = on_one as_text (value_in_cell c)
 function_value graph f c = Err WrongType
 
 abbrev pub called : Lookups → Option Function → List Cell → Result Value EvalFault

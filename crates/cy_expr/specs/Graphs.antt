@@ -1,25 +1,13 @@
 -- What expressions look up in the content of a graph. (Francis et al., property graphs)
-use Rattle.std.specs.Prelude.{List, [], Option, map}
+use Rattle.std.specs.Prelude.{List, [], map}
 use Rattle.std.specs.Option.{option_map_or}
-use Rattle.std.specs.FinMap.Entries as entries
-use Rattle.cy_values.specs.declared.numbers.NodeId.{NodeId}
-use Rattle.cy_values.specs.declared.numbers.RelId.{RelId}
 use Rattle.cy_values.specs.declared.numbers.Entity.{Entity}
 use Rattle.cy_values.specs.declared.numbers.Entity.TheVariants as entity
 use Rattle.cy_values.specs.declared.scalars.Value.{Value}
 use Rattle.cy_trees.specs.Trees.{Name}
-use Rattle.cy_graph.specs.Graph.{Content, node_order, rel_order}
+use Rattle.cy_graph.specs.Graph.{Content, node_in, relationship_in}
 use Rattle.cy_graph.specs.Maps.{value_at}
-use Rattle.cy_graph.specs.declared.nodes.Node.{Node}
-use Rattle.cy_graph.specs.declared.nodes.Rel.{Rel}
 use Rattle.cy_expr.specs.Lookups.{Lookups}
-
--- the node, and the relationship, under a number
-abbrev pub node_in : Content → NodeId → Option Node
-node_in graph id = entries.find node_order id graph.nodes
-
-abbrev pub relationship_in : Content → RelId → Option Rel
-relationship_in graph id = entries.find rel_order id graph.rels
 
 -- the properties of an entity; one that isn't there has none
 abbrev pub properties_in : Content → Entity → List (Name × Value)

@@ -25,9 +25,9 @@ pub record Lookups : Type 0 where
   pub type_of : RelId → Name
 
 -- whether names rise by their bytes, so that each is there once
-abbrev pub rises : List Name → Bool
-rises [] = true
-rises (l ∷ ls) = list_all (λ m. is_lt (slice_cmp nat_cmp l m)) ls && rises ls
+abbrev pub names_rise : List Name → Bool
+names_rise [] = true
+names_rise (l ∷ ls) = list_all (λ m. is_lt (slice_cmp nat_cmp l m)) ls && names_rise ls
 
 -- a cell that names no entity, where an entity is asked: null gives null
 abbrev pub no_entity : Value → Result Value EvalFault

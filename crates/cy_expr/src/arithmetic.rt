@@ -9,20 +9,24 @@ ghost use Rattle.cy_expr.specs.Arithmetic as spec;
 ghost use Rattle.cy_expr.specs.internal.Joins.{joins};
 
 use crate::faults::EvalFault;
-use cy_values::{Duplicate, Scalar, Sequence, Text, Value, View};
+use cy_values::{Duplicate, Scalar, Sequence, Text, Value, ValueRef};
 use std::alloc::Global;
 
 /// `+`: the sum of two integers, or two texts or two lists joined, which alone take memory.
 /// (openCypher 9, Mathematical operators, String operators, List operators; the faults: own)
-pub(crate) fn add(alloc: Global, left: View<'_>, right: View<'_>) -> Result<Value, EvalFault>
+pub(crate) fn add(
+    alloc: Global,
+    left: ValueRef<'_>,
+    right: ValueRef<'_>,
+) -> Result<Value, EvalFault>
     ensures { (result ≡ spec.sum (lent left.entry) (lent right.entry)) ⊎ ((result ≡ Err NoMemory) × IsTrue (joins (lent left.entry) (lent right.entry))) }
 {
     match (left, right) {
-        (View::Int(left), View::Int(right)) => integer(left.checked_add(right)),
-        (View::Text(left), View::Text(right)) => {
+        (ValueRef::Int(left), ValueRef::Int(right)) => integer(left.checked_add(right)),
+        (ValueRef::Text(left), ValueRef::Text(right)) => {
             Ok(Value::Text(joined_texts(alloc, left, right)?))
         }
-        (View::List(left), View::List(right)) => {
+        (ValueRef::List(left), ValueRef::List(right)) => {
             Ok(Value::List(joined_lists(alloc, left, right)?))
         }
         _ => other_operands(left, right),
@@ -30,73 +34,73 @@ pub(crate) fn add(alloc: Global, left: View<'_>, right: View<'_>) -> Result<Valu
 }
 
 /// `-` of two integers.
-pub(crate) fn subtract(left: View<'_>, right: View<'_>) -> Result<Value, EvalFault>
+pub(crate) fn subtract(left: ValueRef<'_>, right: ValueRef<'_>) -> Result<Value, EvalFault>
     ensures { result ≡ spec.difference (lent left.entry) (lent right.entry) }
 {
     match (left, right) {
-        (View::Int(left), View::Int(right)) => integer(left.checked_sub(right)),
+        (ValueRef::Int(left), ValueRef::Int(right)) => integer(left.checked_sub(right)),
         _ => other_operands(left, right),
     }
 }
 
 /// `*` of two integers.
-pub(crate) fn multiply(left: View<'_>, right: View<'_>) -> Result<Value, EvalFault>
+pub(crate) fn multiply(left: ValueRef<'_>, right: ValueRef<'_>) -> Result<Value, EvalFault>
     ensures { result ≡ spec.product (lent left.entry) (lent right.entry) }
 {
     match (left, right) {
-        (View::Int(left), View::Int(right)) => integer(left.checked_mul(right)),
+        (ValueRef::Int(left), ValueRef::Int(right)) => integer(left.checked_mul(right)),
         _ => other_operands(left, right),
     }
 }
 
 /// `/` of two integers, which truncates towards zero; `DivisionByZero` where the right one is zero.
-pub(crate) fn divide(left: View<'_>, right: View<'_>) -> Result<Value, EvalFault>
+pub(crate) fn divide(left: ValueRef<'_>, right: ValueRef<'_>) -> Result<Value, EvalFault>
     ensures { result ≡ spec.quotient (lent left.entry) (lent right.entry) }
 {
     match (left, right) {
-        (View::Int(_), View::Int(0)) => Err(EvalFault::DivisionByZero),
-        (View::Int(left), View::Int(right)) => integer(left.checked_div(right)),
+        (ValueRef::Int(_), ValueRef::Int(0)) => Err(EvalFault::DivisionByZero),
+        (ValueRef::Int(left), ValueRef::Int(right)) => integer(left.checked_div(right)),
         _ => other_operands(left, right),
     }
 }
 
 /// `%` of two integers, with the sign of the left one; `DivisionByZero` where the right one is zero.
-pub(crate) fn remainder(left: View<'_>, right: View<'_>) -> Result<Value, EvalFault>
+pub(crate) fn remainder(left: ValueRef<'_>, right: ValueRef<'_>) -> Result<Value, EvalFault>
     ensures { result ≡ spec.remainder (lent left.entry) (lent right.entry) }
 {
     match (left, right) {
-        (View::Int(_), View::Int(0)) => Err(EvalFault::DivisionByZero),
-        (View::Int(left), View::Int(right)) => Ok(Value::Int(left.wrapping_rem(right))),
+        (ValueRef::Int(_), ValueRef::Int(0)) => Err(EvalFault::DivisionByZero),
+        (ValueRef::Int(left), ValueRef::Int(right)) => Ok(Value::Int(left.wrapping_rem(right))),
         _ => other_operands(left, right),
     }
 }
 
 /// The sign `-`.
-pub(crate) fn negate(operand: View<'_>) -> Result<Value, EvalFault>
+pub(crate) fn negate(operand: ValueRef<'_>) -> Result<Value, EvalFault>
     ensures { result ≡ spec.negated (lent operand.entry) }
 {
     match operand {
-        View::Int(number) => integer(number.checked_neg()),
+        ValueRef::Int(number) => integer(number.checked_neg()),
         _ => other_operand(operand),
     }
 }
 
 /// The sign `+`.
-pub(crate) fn plus(operand: View<'_>) -> Result<Value, EvalFault>
+pub(crate) fn plus(operand: ValueRef<'_>) -> Result<Value, EvalFault>
     ensures { result ≡ spec.unchanged (lent operand.entry) }
 {
     match operand {
-        View::Int(number) => Ok(Value::Int(number)),
+        ValueRef::Int(number) => Ok(Value::Int(number)),
         _ => other_operand(operand),
     }
 }
 
 /// `abs`: how far an integer is from zero. (openCypher 9, Mathematical functions)
-pub(crate) fn absolute(operand: View<'_>) -> Result<Value, EvalFault>
+pub(crate) fn absolute(operand: ValueRef<'_>) -> Result<Value, EvalFault>
     ensures { result ≡ spec.absolute (lent operand.entry) }
 {
     match operand {
-        View::Int(number) => distance(number),
+        ValueRef::Int(number) => distance(number),
         _ => other_operand(operand),
     }
 }
@@ -119,21 +123,21 @@ fn integer(number: Option<i64>) -> Result<Value, EvalFault>
 }
 
 // What an operator gives for an operand that it doesn't take: null for null.
-fn other_operand(operand: View<'_>) -> Result<Value, EvalFault>
+fn other_operand(operand: ValueRef<'_>) -> Result<Value, EvalFault>
     ensures { result ≡ spec.other_operand (lent operand.entry) }
 {
     match operand {
-        View::Null => Ok(Value::Null),
+        ValueRef::Null => Ok(Value::Null),
         _ => Err(EvalFault::WrongType),
     }
 }
 
 // What an operator gives for two operands that it doesn't take together: null where one of them is null.
-fn other_operands(left: View<'_>, right: View<'_>) -> Result<Value, EvalFault>
+fn other_operands(left: ValueRef<'_>, right: ValueRef<'_>) -> Result<Value, EvalFault>
     ensures { result ≡ spec.other_operands (lent left.entry) (lent right.entry) }
 {
     match (left, right) {
-        (View::Null, _) | (_, View::Null) => Ok(Value::Null),
+        (ValueRef::Null, _) | (_, ValueRef::Null) => Ok(Value::Null),
         _ => Err(EvalFault::WrongType),
     }
 }

@@ -6,13 +6,13 @@ ghost use Rattle.cy_expr.specs.internal.Lent.{lent_cell};
 ghost use Rattle.cy_expr.specs.Comparison as spec;
 
 use crate::views::CellView;
-use cy_values::{Truth, View};
+use cy_values::{Truth, ValueRef};
 
 /// Whether a cell is null, as an entity is that isn't there.
 pub(crate) fn is_null(cell: CellView<'_>) -> bool
     ensures { result ≡ spec.is_null_cell (lent_cell cell.entry) }
 {
-    matches!(cell, CellView::Value(View::Null))
+    matches!(cell, CellView::Value(ValueRef::Null))
 }
 
 /// `=`: entities are equal by number. (openCypher 9, Comparison operators; lists and different types: own)
@@ -23,7 +23,8 @@ pub(crate) fn equal(left: CellView<'_>, right: CellView<'_>) -> Truth
         (CellView::Node(left), CellView::Node(right)) => Truth::known(left.0 == right.0),
         (CellView::Rel(left), CellView::Rel(right)) => Truth::known(left.0 == right.0),
         (CellView::Value(left), CellView::Value(right)) => left.equal(right),
-        (CellView::Value(View::Null), _) | (_, CellView::Value(View::Null)) => Truth::Unknown,
+        (CellView::Value(ValueRef::Null), _) | (_, CellView::Value(ValueRef::Null)) =>
+            Truth::Unknown,
         _ => Truth::No,
     }
 }
@@ -36,14 +37,14 @@ pub(crate) fn unequal(left: CellView<'_>, right: CellView<'_>) -> Truth
 }
 
 /// `<=`: whether the left value is less or equal, unknown between different types. `>=` is this turned round. (own)
-pub(crate) fn less_or_equal(left: View<'_>, right: View<'_>) -> Truth
+pub(crate) fn less_or_equal(left: ValueRef<'_>, right: ValueRef<'_>) -> Truth
     ensures { result ≡ spec.less_or_equal (lent left.entry) (lent right.entry) }
 {
     match (left, right) {
-        (View::List(_), View::List(_))
-        | (View::Text(_), View::Text(_))
-        | (View::Bool(_), View::Bool(_))
-        | (View::Int(_), View::Int(_)) => left.less(right).or(left.equal(right)),
+        (ValueRef::List(_), ValueRef::List(_))
+        | (ValueRef::Text(_), ValueRef::Text(_))
+        | (ValueRef::Bool(_), ValueRef::Bool(_))
+        | (ValueRef::Int(_), ValueRef::Int(_)) => left.less(right).or(left.equal(right)),
         _ => Truth::Unknown,
     }
 }

@@ -6,20 +6,20 @@ ghost use Rattle.cy_expr.specs.declared.faults.EvalFault.TheVariants.{NoMemory};
 ghost use Rattle.cy_expr.specs.Conversions as spec;
 
 use crate::faults::EvalFault;
-use cy_values::{Text, Value, View};
+use cy_values::{Text, Value, ValueRef};
 use std::alloc::Global;
 
 /// `toString`: an integer in decimal, `true` or `false`, or a text itself; `WrongType` for a list.
 /// (openCypher 9, String functions; the fault: own)
-pub(crate) fn to_text(alloc: Global, value: View<'_>) -> Result<Value, EvalFault>
-    ensures { (result ≡ spec.text_of (lent value.entry)) ⊎ (result ≡ Err NoMemory) }
+pub(crate) fn to_text(alloc: Global, value: ValueRef<'_>) -> Result<Value, EvalFault>
+    ensures { (result ≡ spec.as_text (lent value.entry)) ⊎ (result ≡ Err NoMemory) }
 {
     match value {
-        View::Int(number) => Ok(Value::Text(Text::new(number.to_string(alloc)?))),
-        View::Bool(true) => Ok(Value::Text(Text::from_str(alloc, "true")?)),
-        View::Bool(false) => Ok(Value::Text(Text::from_str(alloc, "false")?)),
-        View::Text(text) => Ok(Value::Text(Text::from_str(alloc, text)?)),
-        View::Null => Ok(Value::Null),
-        View::List(_) => Err(EvalFault::WrongType),
+        ValueRef::Int(number) => Ok(Value::Text(Text::new(number.to_string(alloc)?))),
+        ValueRef::Bool(true) => Ok(Value::Text(Text::from_str(alloc, "true")?)),
+        ValueRef::Bool(false) => Ok(Value::Text(Text::from_str(alloc, "false")?)),
+        ValueRef::Text(text) => Ok(Value::Text(Text::from_str(alloc, text)?)),
+        ValueRef::Null => Ok(Value::Null),
+        ValueRef::List(_) => Err(EvalFault::WrongType),
     }
 }

@@ -25,7 +25,7 @@ use crate::lookups::Lookups;
 use crate::views::{CellView, view_of};
 use cy_kinds::Function;
 use cy_trees::{Arm, BinaryOperator, Expr, Link};
-use cy_values::{Cell, Truth, View};
+use cy_values::{Cell, Truth, ValueRef};
 use std::alloc::Global;
 
 /// The cell of an expression, on a row whose numbers are at most 2^40. Fails with the fault that the expression has, or
@@ -42,10 +42,10 @@ pub(crate) fn evaluate<'a, G: Lookups>(
     ensures { GivesOrWants result (spec.cell_of (G.lookups graph.now) row.now (expression_of expression.now)) }
 {
     match expression {
-        Expr::Null => Ok(Held::lent(View::Null)),
-        Expr::Boolean(truth) => Ok(Held::lent(View::Bool(*truth))),
-        Expr::Integer(number) => Ok(Held::lent(View::Int(*number))),
-        Expr::Text(text) => Ok(Held::lent(View::Text(text.as_str()))),
+        Expr::Null => Ok(Held::lent(ValueRef::Null)),
+        Expr::Boolean(truth) => Ok(Held::lent(ValueRef::Bool(*truth))),
+        Expr::Integer(number) => Ok(Held::lent(ValueRef::Int(*number))),
+        Expr::Text(text) => Ok(Held::lent(ValueRef::Text(text.as_str()))),
         Expr::Variable(variable) => Ok(Held::Lent(column(variable.column, row))),
         Expr::Property(owner, key) => {
             evaluate(alloc, owner, row, graph)?.property(graph, key.as_str())
@@ -69,7 +69,7 @@ pub(crate) fn evaluate<'a, G: Lookups>(
             }
             match otherwise {
                 Some(otherwise) => evaluate(alloc, otherwise, row, graph)?.only_value(),
-                None => Ok(Held::lent(View::Null)),
+                None => Ok(Held::lent(ValueRef::Null)),
             }
         }
         Expr::Call(name, _, arguments) => {
@@ -85,7 +85,7 @@ fn column<'a>(column: Option<usize>, row: &'a [Cell]) -> CellView<'a>
 {
     match column {
         Some(column) if column < row.len() => view_of(&row[column]),
-        _ => CellView::Value(View::Null),
+        _ => CellView::Value(ValueRef::Null),
     }
 }
 
@@ -115,7 +115,7 @@ fn evaluate_binary<'a, G: Lookups>(
 #[cycle(evaluation)]
 fn evaluate_membership<'a, G: Lookups>(
     alloc: Global,
-    value: View<'_>,
+    value: ValueRef<'_>,
     elements: &'a [Expr],
     row: &'a [Cell],
     graph: &'a G,
@@ -232,7 +232,7 @@ fn evaluate_first<'a, G: Lookups>(
             return Ok(argument);
         }
     }
-    Ok(Held::lent(View::Null))
+    Ok(Held::lent(ValueRef::Null))
 }
 
 /// Whether the property that is asked for is there. `WrongType` for other arguments.

@@ -9,7 +9,7 @@ ghost use Rattle.cy_expr.specs.Operators as spec;
 use crate::faults::EvalFault;
 use crate::operators::value_in;
 use crate::views::{CellView, copy, copy_items};
-use cy_values::{Cell, Value, View};
+use cy_values::{Cell, Value, ValueRef};
 use std::alloc::Global;
 
 /// A cell, lent or made.
@@ -29,7 +29,7 @@ impl Drop for Held<'_> {
 
 impl<'a> Held<'a> {
     /// A value that stands where it is.
-    pub(crate) fn lent(value: View<'a>) -> Held<'a>
+    pub(crate) fn lent(value: ValueRef<'a>) -> Held<'a>
         ensures { result ≡ Held.Lent (CellView.Value value.entry) }
     {
         Held::Lent(CellView::Value(value))
@@ -46,7 +46,7 @@ impl<'a> Held<'a> {
     }
 
     /// The value in the cell, lent. `WrongType` for what is no value.
-    pub(crate) fn value(&self) -> Result<View<'_>, EvalFault>
+    pub(crate) fn value(&self) -> Result<ValueRef<'_>, EvalFault>
         ensures { MatchResult result (λ v. spec.value_in_cell (held_cell self.now) ≡ Ok (lent v)) (λ fault. spec.value_in_cell (held_cell self.now) ≡ Err fault) }
     {
         value_in(self.view())

@@ -10,7 +10,7 @@ ghost use Rattle.cy_expr.specs.internal.Membership.{equals_also};
 use crate::faults::EvalFault;
 use crate::logic::value_of;
 use crate::views::CellView;
-use cy_values::{Scalar, Sequence, Truth, Value, View};
+use cy_values::{Scalar, Sequence, Truth, Value, ValueRef};
 use std::alloc::Global;
 
 /// `[..]`: the list of the values, which it takes over. `NestedList` where one of them is a list.
@@ -41,17 +41,17 @@ fn element(value: Value) -> Result<Scalar, EvalFault>
 /// Whether a value equals one of the elements so far, or this one too; `NestedList` once one of them is a list.
 pub(crate) fn equals_also(
     any: Result<Truth, EvalFault>,
-    value: View<'_>,
-    element: View<'_>,
+    value: ValueRef<'_>,
+    element: ValueRef<'_>,
 ) -> Result<Truth, EvalFault>
     ensures { result ≡ equals_also any (lent value.entry) (lent element.entry) }
 {
     match element {
-        View::List(_) => {
+        ValueRef::List(_) => {
             any?;
             Err(EvalFault::NestedList)
         }
-        View::Text(_) | View::Bool(_) | View::Int(_) | View::Null => {
+        ValueRef::Text(_) | ValueRef::Bool(_) | ValueRef::Int(_) | ValueRef::Null => {
             Ok(any?.or(value.equal(element)))
         }
     }
@@ -59,18 +59,18 @@ pub(crate) fn equals_also(
 
 /// `IN`: whether the value equals an element of the list; null for a null list, and `WrongType` for what is no list.
 /// (openCypher 9, List operators; the fault: own)
-pub(crate) fn is_in(value: View<'_>, list: View<'_>) -> Result<Value, EvalFault>
+pub(crate) fn is_in(value: ValueRef<'_>, list: ValueRef<'_>) -> Result<Value, EvalFault>
     ensures { result ≡ spec.membership (lent value.entry) (lent list.entry) }
 {
     match list {
-        View::List(elements) => Ok(value_of(equals_one(value, elements))),
-        View::Null => Ok(Value::Null),
-        View::Text(_) | View::Bool(_) | View::Int(_) => Err(EvalFault::WrongType),
+        ValueRef::List(elements) => Ok(value_of(equals_one(value, elements))),
+        ValueRef::Null => Ok(Value::Null),
+        ValueRef::Text(_) | ValueRef::Bool(_) | ValueRef::Int(_) => Err(EvalFault::WrongType),
     }
 }
 
 // The OR of `=` over the elements.
-fn equals_one(value: View<'_>, elements: &[Scalar]) -> Truth
+fn equals_one(value: ValueRef<'_>, elements: &[Scalar]) -> Truth
     ensures { result ≡ spec.equals_one (lent value.entry) elements.now }
 {
     let mut any = Truth::No;
@@ -85,10 +85,10 @@ pub(crate) fn size(cell: CellView<'_>) -> Result<Value, EvalFault>
     ensures { result ≡ spec.cell_size (lent_cell cell.entry) }
 {
     match cell {
-        CellView::Value(View::Text(text)) => Ok(Value::Int(text.chars().count() as i64)),
-        CellView::Value(View::List(elements)) => Ok(Value::Int(elements.len() as i64)),
+        CellView::Value(ValueRef::Text(text)) => Ok(Value::Int(text.chars().count() as i64)),
+        CellView::Value(ValueRef::List(elements)) => Ok(Value::Int(elements.len() as i64)),
         CellView::Rels(numbers) => Ok(Value::Int(numbers.len() as i64)),
-        CellView::Value(View::Null) => Ok(Value::Null),
+        CellView::Value(ValueRef::Null) => Ok(Value::Null),
         _ => Err(EvalFault::WrongType),
     }
 }

@@ -5,17 +5,17 @@ ghost use Rattle.cy_values.specs.Compare.{lent};
 ghost use Rattle.cy_expr.specs.Logic as spec;
 
 use crate::faults::EvalFault;
-use cy_values::{Truth, Value, View};
+use cy_values::{Truth, Value, ValueRef};
 
 /// The truth that a value stands for: null is unknown. `NotBoolean` for what is neither boolean nor null.
 /// (openCypher 9, Boolean operators; the fault: own)
-pub(crate) fn truth_of(value: View<'_>) -> Result<Truth, EvalFault>
+pub(crate) fn truth_of(value: ValueRef<'_>) -> Result<Truth, EvalFault>
     ensures { result ≡ spec.truth_of (lent value.entry) }
 {
     match value {
-        View::Bool(holds) => Ok(Truth::known(holds)),
-        View::Null => Ok(Truth::Unknown),
-        View::List(_) | View::Text(_) | View::Int(_) => Err(EvalFault::NotBoolean),
+        ValueRef::Bool(holds) => Ok(Truth::known(holds)),
+        ValueRef::Null => Ok(Truth::Unknown),
+        ValueRef::List(_) | ValueRef::Text(_) | ValueRef::Int(_) => Err(EvalFault::NotBoolean),
     }
 }
 
@@ -31,28 +31,28 @@ pub(crate) fn value_of(truth: Truth) -> Value
 }
 
 /// `AND`.
-pub(crate) fn and(left: View<'_>, right: View<'_>) -> Result<Value, EvalFault>
+pub(crate) fn and(left: ValueRef<'_>, right: ValueRef<'_>) -> Result<Value, EvalFault>
     ensures { result ≡ spec.conjunction (lent left.entry) (lent right.entry) }
 {
     Ok(value_of(truth_of(left)?.and(truth_of(right)?)))
 }
 
 /// `OR`.
-pub(crate) fn or(left: View<'_>, right: View<'_>) -> Result<Value, EvalFault>
+pub(crate) fn or(left: ValueRef<'_>, right: ValueRef<'_>) -> Result<Value, EvalFault>
     ensures { result ≡ spec.disjunction (lent left.entry) (lent right.entry) }
 {
     Ok(value_of(truth_of(left)?.or(truth_of(right)?)))
 }
 
 /// `XOR`.
-pub(crate) fn xor(left: View<'_>, right: View<'_>) -> Result<Value, EvalFault>
+pub(crate) fn xor(left: ValueRef<'_>, right: ValueRef<'_>) -> Result<Value, EvalFault>
     ensures { result ≡ spec.exclusive_disjunction (lent left.entry) (lent right.entry) }
 {
     Ok(value_of(truth_of(left)?.xor(truth_of(right)?)))
 }
 
 /// `NOT`.
-pub(crate) fn not(operand: View<'_>) -> Result<Value, EvalFault>
+pub(crate) fn not(operand: ValueRef<'_>) -> Result<Value, EvalFault>
     ensures { result ≡ spec.negation (lent operand.entry) }
 {
     Ok(value_of(truth_of(operand)?.not()))

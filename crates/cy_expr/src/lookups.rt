@@ -14,7 +14,7 @@ ghost use Rattle.cy_expr.specs.internal.Empty.{empty};
 
 use crate::faults::EvalFault;
 use crate::views::CellView;
-use cy_values::{Entity, Fault, NodeId, RelId, Scalar, Sequence, Text, Value, View};
+use cy_values::{Entity, Fault, NodeId, RelId, Scalar, Sequence, Text, Value, ValueRef};
 use std::alloc::Global;
 
 /// A graph, as far as expressions read it (Francis et al., property graphs). Its ghost member `lookups` is what it answers.
@@ -31,7 +31,7 @@ pub trait Lookups {
 
     /// The labels of a node by rising bytes, each once, as the elements of a list. Fails only for want of memory.
     fn labels(&self, alloc: Global, node: NodeId) -> Result<Vec<Scalar>, Fault>
-        ensures rising { IsTrue (spec.rises ((lookups self.now).labels_of node)) }
+        ensures rising { IsTrue (spec.names_rise ((lookups self.now).labels_of node)) }
         ensures all { IfOk result (λ labels. labels.items ≡ map (λ l. scalar.Text l) ((lookups self.now).labels_of node)) };
 
     /// The type of a relationship.
@@ -68,18 +68,18 @@ pub(crate) fn property<'a, G: Lookups>(
     graph: &'a G,
     key: &str,
     cell: CellView<'_>,
-) -> Result<View<'a>, EvalFault>
+) -> Result<ValueRef<'a>, EvalFault>
     ensures { MatchResult result (λ v. spec.property_value (G.lookups graph.now) key.now (lent_cell cell.entry) ≡ Ok (lent v)) (λ fault. spec.property_value (G.lookups graph.now) key.now (lent_cell cell.entry) ≡ Err fault) }
 {
     let entity = match cell {
         CellView::Node(number) => Entity::Node(number),
         CellView::Rel(number) => Entity::Rel(number),
-        CellView::Value(View::Null) => return Ok(View::Null),
+        CellView::Value(ValueRef::Null) => return Ok(ValueRef::Null),
         CellView::Value(_) | CellView::Rels(_) => return Err(EvalFault::WrongType),
     };
     match graph.property(entity, key) {
         Some(value) => Ok(value.view()),
-        None => Ok(View::Null),
+        None => Ok(ValueRef::Null),
     }
 }
 
@@ -98,7 +98,7 @@ pub(crate) fn has_property<G: Lookups>(
         CellView::Rel(number) => Ok(Value::Bool(
             graph.property(Entity::Rel(number), key).is_some(),
         )),
-        CellView::Value(View::Null) => Ok(Value::Null),
+        CellView::Value(ValueRef::Null) => Ok(Value::Null),
         CellView::Value(_) | CellView::Rels(_) => Err(EvalFault::WrongType),
     }
 }
@@ -107,12 +107,12 @@ pub(crate) fn has_property<G: Lookups>(
 pub(crate) fn type_in<'a, G: Lookups>(
     graph: &'a G,
     cell: CellView<'_>,
-) -> Result<View<'a>, EvalFault>
+) -> Result<ValueRef<'a>, EvalFault>
     ensures { MatchResult result (λ v. spec.type_value (G.lookups graph.now) (lent_cell cell.entry) ≡ Ok (lent v)) (λ fault. spec.type_value (G.lookups graph.now) (lent_cell cell.entry) ≡ Err fault) }
 {
     match cell {
-        CellView::Rel(number) => Ok(View::Text(graph.type_of(number))),
-        CellView::Value(View::Null) => Ok(View::Null),
+        CellView::Rel(number) => Ok(ValueRef::Text(graph.type_of(number))),
+        CellView::Value(ValueRef::Null) => Ok(ValueRef::Null),
         CellView::Value(_) | CellView::Node(_) | CellView::Rels(_) => Err(EvalFault::WrongType),
     }
 }
@@ -127,7 +127,7 @@ pub(crate) fn labels_in<G: Lookups>(
 {
     match cell {
         CellView::Node(number) => Ok(Value::List(Sequence::new(graph.labels(alloc, number)?))),
-        CellView::Value(View::Null) => Ok(Value::Null),
+        CellView::Value(ValueRef::Null) => Ok(Value::Null),
         CellView::Value(_) | CellView::Rel(_) | CellView::Rels(_) => Err(EvalFault::WrongType),
     }
 }
@@ -140,7 +140,7 @@ pub(crate) fn number_in(cell: CellView<'_>) -> Result<Value, EvalFault>
     match cell {
         CellView::Node(number) => Ok(Value::Int(number.0 as i64)),
         CellView::Rel(number) => Ok(Value::Int(number.0 as i64)),
-        CellView::Value(View::Null) => Ok(Value::Null),
+        CellView::Value(ValueRef::Null) => Ok(Value::Null),
         CellView::Value(_) | CellView::Rels(_) => Err(EvalFault::WrongType),
     }
 }
@@ -155,7 +155,7 @@ pub(crate) fn has_labels<G: Lookups>(
 {
     match cell {
         CellView::Node(number) => Ok(Value::Bool(has_each(graph, number, labels))),
-        CellView::Value(View::Null) => Ok(Value::Null),
+        CellView::Value(ValueRef::Null) => Ok(Value::Null),
         CellView::Value(_) | CellView::Rel(_) | CellView::Rels(_) => Err(EvalFault::WrongType),
     }
 }

@@ -18,7 +18,7 @@ use crate::logic::truth_of;
 use crate::lookups::{Lookups, has_labels, has_property, property};
 use crate::operators::{binary, compare, unary};
 use cy_trees::{BinaryOperator, Comparator, UnaryOperator};
-use cy_values::{Text, Truth, View};
+use cy_values::{Text, Truth, ValueRef};
 use std::alloc::Global;
 
 impl<'a> Held<'a> {
@@ -56,7 +56,7 @@ impl<'a> Held<'a> {
         self,
         alloc: Global,
         operator: BinaryOperator,
-        left: View<'_>,
+        left: ValueRef<'_>,
     ) -> Result<Held<'a>, EvalFault>
         ensures { GivesOrWants result (as_cell (on_two (spec.binary_value operator) (Ok (lent left.entry)) (spec.value_in_cell (held_cell self.entry)))) }
     {

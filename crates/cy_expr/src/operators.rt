@@ -16,15 +16,15 @@ use crate::logic::{and, not, or, value_of, xor};
 use crate::predicates::{contains, ends_with, starts_with};
 use crate::views::CellView;
 use cy_trees::{BinaryOperator, Comparator, UnaryOperator};
-use cy_values::{Truth, Value, View};
+use cy_values::{Truth, Value, ValueRef};
 use std::alloc::Global;
 
 /// An operator with two values. Only `+` of two texts or two lists takes memory.
 pub(crate) fn binary(
     alloc: Global,
     operator: BinaryOperator,
-    left: View<'_>,
-    right: View<'_>,
+    left: ValueRef<'_>,
+    right: ValueRef<'_>,
 ) -> Result<Value, EvalFault>
     ensures { (result ≡ spec.binary_value operator (lent left.entry) (lent right.entry)) ⊎ ((result ≡ Err NoMemory) × IsTrue (makes operator (lent left.entry) (lent right.entry))) }
 {
@@ -73,7 +73,7 @@ pub(crate) fn compare(
 }
 
 // The same of two values.
-fn compare_values(comparator: Comparator, left: View<'_>, right: View<'_>) -> Truth
+fn compare_values(comparator: Comparator, left: ValueRef<'_>, right: ValueRef<'_>) -> Truth
     ensures { spec.compared comparator (cell.Value (lent left.entry)) (cell.Value (lent right.entry)) ≡ Ok result }
 {
     match comparator {
@@ -87,7 +87,7 @@ fn compare_values(comparator: Comparator, left: View<'_>, right: View<'_>) -> Tr
 }
 
 /// The value in a cell; an entity and a list of relationships are none.
-pub(crate) fn value_in<'a>(cell: CellView<'a>) -> Result<View<'a>, EvalFault>
+pub(crate) fn value_in<'a>(cell: CellView<'a>) -> Result<ValueRef<'a>, EvalFault>
     ensures { MatchResult result (λ v. spec.value_in_cell (lent_cell cell.entry) ≡ Ok (lent v)) (λ fault. spec.value_in_cell (lent_cell cell.entry) ≡ Err fault) }
 {
     match cell {

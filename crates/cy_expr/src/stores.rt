@@ -3,7 +3,7 @@
 ghost use Rattle.std.specs.Prelude.{◌≡◌, IfOk, IsTrue, map};
 ghost use Rattle.cy_values.specs.declared.scalars.Scalar.TheVariants as scalar;
 ghost use Rattle.cy_expr.specs.Graphs as graphs;
-ghost use Rattle.cy_expr.specs.Lookups.{rises};
+ghost use Rattle.cy_expr.specs.Lookups.{names_rise};
 
 use crate::lookups::Lookups;
 use cy_graph::Node;
@@ -46,7 +46,7 @@ impl Lookups for Store {
 // The labels of a node, as the elements of a list.
 #[tactic(auto, using(crate::proofs::LabelNames::names_rise))]
 fn labels_of(alloc: Global, node: &Node) -> Result<Vec<Scalar>, Fault>
-    ensures rising { IsTrue (rises (map (λ l. l.0) node.now.labels)) }
+    ensures rising { IsTrue (names_rise (map (λ l. l.0) node.now.labels)) }
     ensures all { IfOk result (λ labels. labels.items ≡ map (λ l. scalar.Text l) (map (λ l. l.0) node.now.labels)) }
 {
     let entries = node.labels.entries();

@@ -6,7 +6,7 @@ ghost use Rattle.cy_expr.specs.declared.faults.EvalFault.TheVariants.{NoMemory};
 ghost use Rattle.cy_expr.specs.internal.Lent.{lent_cell};
 
 use crate::faults::EvalFault;
-use cy_values::{Cell, Duplicate, NodeId, RelId, Scalar, Sequence, Text, Value, View};
+use cy_values::{Cell, Duplicate, NodeId, RelId, Scalar, Sequence, Text, Value, ValueRef};
 use std::alloc::Global;
 
 /// A cell that is lent: what it holds stays where it is.
@@ -15,7 +15,7 @@ pub(crate) enum CellView<'a> {
     Node(NodeId),
     Rel(RelId),
     Rels(&'a [RelId]),
-    Value(View<'a>),
+    Value(ValueRef<'a>),
 }
 
 /// This cell, lent.
@@ -31,15 +31,15 @@ pub(crate) fn view_of(cell: &Cell) -> CellView<'_>
 }
 
 /// The value that is lent, as one of its own.
-pub(crate) fn copy(alloc: Global, value: View<'_>) -> Result<Value, EvalFault>
+pub(crate) fn copy(alloc: Global, value: ValueRef<'_>) -> Result<Value, EvalFault>
     ensures { (result ≡ Ok (lent value.entry)) ⊎ (result ≡ Err NoMemory) }
 {
     match value {
-        View::List(elements) => Ok(Value::List(copy_items(alloc, elements)?)),
-        View::Text(text) => Ok(Value::Text(Text::from_str(alloc, text)?)),
-        View::Bool(truth) => Ok(Value::Bool(truth)),
-        View::Int(number) => Ok(Value::Int(number)),
-        View::Null => Ok(Value::Null),
+        ValueRef::List(elements) => Ok(Value::List(copy_items(alloc, elements)?)),
+        ValueRef::Text(text) => Ok(Value::Text(Text::from_str(alloc, text)?)),
+        ValueRef::Bool(truth) => Ok(Value::Bool(truth)),
+        ValueRef::Int(number) => Ok(Value::Int(number)),
+        ValueRef::Null => Ok(Value::Null),
     }
 }
 

@@ -8,7 +8,7 @@ use Rattle.cy_bags.specs.declared.changes.Change.{Change}
 use Rattle.cy_bags.specs.Difference.{IsDifference}
 use Rattle.cy_bags.specs.declared.changes.Entry.{Entry}
 use Rattle.cy_feeds.specs.Feeds.{IsRising, entries_after}
-use Rattle.cy_feeds.specs.Following.{CopiesChange, Follows, FollowersGoOn, IsChangedBy, IsCopy, has_entry}
+use Rattle.cy_feeds.specs.Following.{CopiesChange, Follows, FollowersGoOn, IsChangedBy, IsCopy, has_tick}
 
 -- ---- one entry
 
@@ -30,15 +30,15 @@ same_copy before after copy same is = record { bag = λ row. is.bag row ∙ same
 
 -- ---- ticks without an entry
 
-pub other_tick : (e : Entry) (tick : ℕ) (es : List Entry) → e.tick ≢ tick → has_entry tick es ≡ false → has_entry tick (e ∷ es) ≡ false
+pub other_tick : (e : Entry) (tick : ℕ) (es : List Entry) → e.tick ≢ tick → has_tick tick es ≡ false → has_tick tick (e ∷ es) ≡ false
 other_tick e tick es other none =
-    elim (e.tick == tick) as (λ b. (e.tick == tick) ≡ b → cond b true (has_entry tick es) ≡ false) [
+    elim (e.tick == tick) as (λ b. (e.tick == tick) ≡ b → cond b true (has_tick tick es) ≡ false) [
       | true ↦ λ h. absurd (other (grind (arith, nat_tests)))
       | false ↦ λ h. none
     ] refl
 
 -- there is none up to the tick that a rising list begins above
-none_before : (tick from : ℕ) (es : List Entry) → IsRising from es → tick ≤ from → has_entry tick es ≡ false
+none_before : (tick from : ℕ) (es : List Entry) → IsRising from es → tick ≤ from → has_tick tick es ≡ false
 none_before tick from [] rising le = refl
 none_before tick from (e ∷ es) rising le =
     let above : from < e.tick = rising.0 in
@@ -67,7 +67,7 @@ module _ (rows : ℕ → List (List Cell)) (now : ℕ) where
   InTime es = AllByRecursion (λ (e : Entry). e.tick ≤ now) es
 
   abbrev pub Silent : ℕ → List Entry → Type 0
-  Silent from es = (tick : ℕ) → from < tick → tick ≤ now → has_entry tick es ≡ false → Quiet tick
+  Silent from es = (tick : ℕ) → from < tick → tick ≤ now → has_tick tick es ≡ false → Quiet tick
 
   goes_on : (from : ℕ) (es : List Entry) (copy next : List (List Cell × ℕ)) → IsRising from es → Differ es → Silent from es → InTime es → from ≤ now
       → IsCopy copy (rows from) → Follows copy es next → IsCopy next (rows now)
@@ -83,7 +83,7 @@ module _ (rows : ℕ → List (List Cell)) (now : ℕ) where
       goes_on e.tick es follows.0 next rising.1 differ.1 (λ tick low high none. silent tick (omega (arith, above)) high (other_tick e tick es (λ same. omega (arith, same, low)) none)) in_time.1 until
       (changed_copy (rows (e.tick - 1)) (rows e.tick) copy follows.0 e.change before differ.0 follows.1) follows.2
     where
-      not_yet : (tick : ℕ) → tick < e.tick → has_entry tick (e ∷ es) ≡ false
+      not_yet : (tick : ℕ) → tick < e.tick → has_tick tick (e ∷ es) ≡ false
       not_yet tick less = other_tick e tick es (λ same. omega (arith, same)) (none_before tick e.tick es rising.1 (omega arith))
 
   -- ---- the entries above a tick

@@ -6,7 +6,7 @@ use Rattle.cy_values.specs.Bag.{IsSameBag}
 use Rattle.cy_bags.specs.Difference.{IsDifference}
 use Rattle.cy_bags.specs.declared.changes.Entry.{Entry}
 use Rattle.cy_feeds.specs.Feeds.{History, IsRising, latest}
-use Rattle.cy_feeds.specs.Following.{NewFeedsTell, PushedFeedsTell, QuietFeedsTell, Tells, has_entry}
+use Rattle.cy_feeds.specs.Following.{NewFeedsTell, PushedFeedsTell, QuietFeedsTell, Tells, has_tick}
 use Rattle.cy_feeds.proofs.GoingOn.{other_tick}
 use Rattle.cy_feeds.proofs.Pushes.{rising_drop, rising_more}
 
@@ -23,18 +23,18 @@ later : (now : ℕ) (es : List Entry) → AllByRecursion (λ (e : Entry). e.tick
 later now [] all = tt
 later now (e ∷ es) all = (omega (arith, all.0), later now es all.1)
 
-less_entries : (tick : ℕ) (es : List Entry) (e : Entry) → has_entry tick (es ++ e ∷ []) ≡ false → has_entry tick es ≡ false
+less_entries : (tick : ℕ) (es : List Entry) (e : Entry) → has_tick tick (es ++ e ∷ []) ≡ false → has_tick tick es ≡ false
 less_entries tick [] e none = refl
 less_entries tick (x ∷ es) e none =
-    elim (x.tick == tick) as (λ b. cond b true (has_entry tick (es ++ e ∷ [])) ≡ false → cond b true (has_entry tick es) ≡ false) [
+    elim (x.tick == tick) as (λ b. cond b true (has_tick tick (es ++ e ∷ [])) ≡ false → cond b true (has_tick tick es) ≡ false) [
       | true ↦ λ h. h
       | false ↦ λ h. less_entries tick es e h
     ] none
 
-last_there : (es : List Entry) (e : Entry) → has_entry e.tick (es ++ e ∷ []) ≡ true
+last_there : (es : List Entry) (e : Entry) → has_tick e.tick (es ++ e ∷ []) ≡ true
 last_there [] e = grind arith
 last_there (x ∷ es) e =
-    elim (x.tick == e.tick) as (λ b. cond b true (has_entry e.tick (es ++ e ∷ [])) ≡ true) [
+    elim (x.tick == e.tick) as (λ b. cond b true (has_tick e.tick (es ++ e ∷ [])) ≡ true) [
       | true ↦ refl
       | false ↦ last_there es e
     ]
@@ -56,7 +56,7 @@ latest_above base (suc k) [] rising = omega arith
 latest_above base (suc k) (e ∷ es) rising = omega (arith, rising.0, latest_above e.tick k es rising.1)
 
 -- above the tick of the last one that went, a tick without an entry had none before
-none_gone : (base k tick : ℕ) (es : List Entry) → IsRising base es → latest base (take k es) < tick → has_entry tick (drop k es) ≡ false → has_entry tick es ≡ false
+none_gone : (base k tick : ℕ) (es : List Entry) → IsRising base es → latest base (take k es) < tick → has_tick tick (drop k es) ≡ false → has_tick tick es ≡ false
 none_gone base zero tick es rising above none = none
 none_gone base (suc k) tick [] rising above none = refl
 none_gone base (suc k) tick (e ∷ es) rising above none =
@@ -86,12 +86,12 @@ longer_tell feed rows now entry tells low is difference =
       in_time = more _ feed.entries entry (later now feed.entries tells.in_time) (omega (arith, is));
     }
   where
-    at_tick : (tick : ℕ) → feed.base < tick → tick ≤ now + 1 → has_entry tick (feed.entries ++ entry ∷ []) ≡ false → IsSameBag (rows (tick - 1)) (rows tick)
+    at_tick : (tick : ℕ) → feed.base < tick → tick ≤ now + 1 → has_tick tick (feed.entries ++ entry ∷ []) ≡ false → IsSameBag (rows (tick - 1)) (rows tick)
     at_tick tick above high none =
         elim (tick == entry.tick) as (λ b. (tick == entry.tick) ≡ b → IsSameBag (rows (tick - 1)) (rows tick)) [
           | true ↦ λ h.
               let same : tick ≡ entry.tick = grind (arith, h) in
-              let there : has_entry tick (feed.entries ++ entry ∷ []) ≡ true = subst (λ (t : ℕ). has_entry t (feed.entries ++ entry ∷ []) ≡ true) (sym same) (last_there feed.entries entry) in
+              let there : has_tick tick (feed.entries ++ entry ∷ []) ≡ true = subst (λ (t : ℕ). has_tick t (feed.entries ++ entry ∷ []) ≡ true) (sym same) (last_there feed.entries entry) in
               absurd (cc)
           | false ↦ λ h.
               let other : tick ≢ entry.tick = grind (arith, h) in
@@ -110,7 +110,7 @@ quiet_feeds_tell feed rows now tells same = record {
   in_time = later now feed.entries tells.in_time;
 }
   where
-    at_tick : (tick : ℕ) → feed.base < tick → tick ≤ now + 1 → has_entry tick feed.entries ≡ false → IsSameBag (rows (tick - 1)) (rows tick)
+    at_tick : (tick : ℕ) → feed.base < tick → tick ≤ now + 1 → has_tick tick feed.entries ≡ false → IsSameBag (rows (tick - 1)) (rows tick)
     at_tick tick above high none =
         elim (tick == now + 1) as (λ b. (tick == now + 1) ≡ b → IsSameBag (rows (tick - 1)) (rows tick)) [
           | true ↦ λ h.

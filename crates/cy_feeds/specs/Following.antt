@@ -39,16 +39,16 @@ pub record IsCopy (pairs : List (List Cell × ℕ)) (rows : List (List Cell)) : 
   pub canonical : IsCanonical pairs
 
 -- whether there is an entry of this tick
-abbrev pub has_entry : ℕ → List Entry → Bool
-has_entry tick [] = false
-has_entry tick (e ∷ es) = if e.tick == tick then true else has_entry tick es
+abbrev pub has_tick : ℕ → List Entry → Bool
+has_tick tick [] = false
+has_tick tick (e ∷ es) = if e.tick == tick then true else has_tick tick es
 
 -- A feed tells what the rows of its view were at each tick from its base to now: an entry is the difference that its tick made, and
 -- a tick without an entry left the bag as it was.
 pub record Tells (feed : History) (rows : ℕ → List (List Cell)) (now : ℕ) : Type 0 where
   pub rising : IsRising feed.base feed.entries
   pub differences : AllByRecursion (λ (e : Entry). IsDifference (rows (e.tick - 1)) (rows e.tick) e.change) feed.entries
-  pub silent : (tick : ℕ) → feed.base < tick → tick ≤ now → has_entry tick feed.entries ≡ false → IsSameBag (rows (tick - 1)) (rows tick)
+  pub silent : (tick : ℕ) → feed.base < tick → tick ≤ now → has_tick tick feed.entries ≡ false → IsSameBag (rows (tick - 1)) (rows tick)
   pub in_time : AllByRecursion (λ (e : Entry). e.tick ≤ now) feed.entries
 
 -- ---- laws

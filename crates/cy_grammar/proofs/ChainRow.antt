@@ -4,22 +4,23 @@ use Rattle.std.specs.Prelude.{codes, encode_utf8_all}
 use Rattle.std.proofs.lemmas.Str.{chars-encodes}
 use lib.Utf8.{encode}
 use Rattle.cy_lexer.specs.declared.tokens.Token.{Token}
-use Rattle.cy_lexer.specs.declared.tokens.Kind.{Kind}
-use Rattle.cy_lexer.specs.declared.tokens.Kind.TheVariants as kind
+use Rattle.cy_lexer.specs.declared.tokens.TokenKind.{TokenKind}
+use Rattle.cy_lexer.specs.declared.tokens.TokenKind.TheVariants as kind
 use Rattle.cy_lexer.specs.declared.keywords.Keyword.TheVariants as word
 use Rattle.cy_lexer.specs.declared.symbols.Symbol.TheVariants as sign
 use Rattle.cy_trees.specs.declared.expressions.BinaryOperator.TheVariants as operator
 use Rattle.cy_trees.specs.declared.expressions.Comparator.TheVariants as comparator
 use Rattle.cy_trees.specs.Trees.{Name, Statement, «match», «return», integer, variable as named, binary, comparison, link, no_links, Expression}
-use Rattle.cy_grammar.specs.Words.{denotes, slice_in, number_limit}
+use Rattle.cy_grammar.specs.Words.{denotes, slice_in}
+use Rattle.cy_lexer.specs.Numbers.{greatest_number}
 use Rattle.cy_grammar.specs.Spells.{Spells, IsNumber, whole, predicate, signed, head, is_exclusion, is_conjunction, is_negation, is_comparison, is_predicate, is_sum, is_product, is_signed, is_postfix, is_owner, is_head, number, name, bracket, add, compare, last_link, next_link}
-use Rattle.cy_grammar.specs.SpellsClauses.{SpellsStatement, SpellsExpression, column_of, reading, ended, next_clause, no_more_clauses, nothing_more, match_, return_, projection, not_distinct, last, next, item, no_order, no_count, path, node, a_variable, variable, no_labels, no_map, no_steps, filter}
+use Rattle.cy_grammar.specs.SpellsClauses.{SpellsStatement, SpellsExpression, column_name, reading, ended, next_clause, no_more_clauses, nothing_more, match_, return_, projection, not_distinct, last, next, item, no_order, no_count, path, node, a_variable, variable, no_labels, no_map, no_steps, filter}
 use Rattle.cy_grammar.proofs.ShownTokens.{denotes_within}
 
 line : List ℕ
 line = codes "MATCH (n) WHERE 1<2<3 RETURN 1 + 2, (n)"
 
-abbrev token : Kind → ℕ → ℕ → Token
+abbrev token : TokenKind → ℕ → ℕ → Token
 token k start end = record { kind = k; start = start; end = end }
 
 abbrev keyword_match : Token
@@ -116,14 +117,14 @@ unfolding line encode
 item_is = denotes_within line item_name refl ∙ ap encode_utf8_all (chars-encodes (110 ∷ []) refl)
 
 -- the column is written as in the line, its spaces too
-column_is : column_of line total (left ∷ plus ∷ right ∷ []) ≡ codes "1 + 2"
+column_is : column_name line total (left ∷ plus ∷ right ∷ []) ≡ codes "1 + 2"
 unfolding line slice_in
 column_is = refl
 
-digit : (n : ℕ) (t : Token) (rest : List Token) → IsNumber n t → n < number_limit → Spells line 257 signed (integer (pos n)) (t ∷ rest) rest
+digit : (n : ℕ) (t : Token) (rest : List Token) → IsNumber n t → n < greatest_number → Spells line 257 signed (integer (pos n)) (t ∷ rest) rest
 digit n t rest is small = is_postfix _ _ _ _ (number 256 n t rest is small)
 
-operand : (n : ℕ) (t : Token) (rest : List Token) → IsNumber n t → n < number_limit → Spells line 257 predicate (integer (pos n)) (t ∷ rest) rest
+operand : (n : ℕ) (t : Token) (rest : List Token) → IsNumber n t → n < greatest_number → Spells line 257 predicate (integer (pos n)) (t ∷ rest) rest
 operand n t rest is small = is_sum _ _ _ _ (is_product _ _ _ _ (is_signed _ _ _ _ (digit n t rest is small)))
 
 chain_is_spelt : SpellsExpression line chain (one ∷ first_less ∷ two ∷ second_less ∷ three ∷ from_return) from_return
@@ -154,7 +155,7 @@ item_is_spelt = record {
   shallow = omega arith;
 }
 
-as_written : SpellsStatement line (row (denotes line node_name) (denotes line item_name) (column_of line total (left ∷ plus ∷ right ∷ []))) tokens
+as_written : SpellsStatement line (row (denotes line node_name) (denotes line item_name) (column_name line total (left ∷ plus ∷ right ∷ []))) tokens
 as_written = next_clause reading _ _ _ _ refl
     (match_ _ _ keyword_match _ _ _ refl
     (last _ _ _ (path _ _ _ _ _ (node _ _ _ opening closing _ _ _ _ refl (a_variable _ _ _ (variable node_name _ refl)) (no_labels _) (no_map _) refl) (no_steps _)))

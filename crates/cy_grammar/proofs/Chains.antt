@@ -1,7 +1,7 @@
 -- What an expression that is spelt does to its readers: chains of operators, of predicates and of properties.
 use Rattle.std.proofs.Common.{◌≡◌, ℕ, zero, suc, ◌≤◌, Bool, true, ◌&&◌, List, [], ◌∷◌, length, Option, Some, None, refl, ◌∙◌, arith}
 use Rattle.cy_lexer.specs.declared.tokens.Token.{Token}
-use Rattle.cy_lexer.specs.declared.tokens.Kind.{Kind}
+use Rattle.cy_lexer.specs.declared.tokens.TokenKind.{TokenKind}
 use Rattle.cy_trees.specs.declared.expressions.BinaryOperator.{BinaryOperator}
 use Rattle.cy_trees.specs.Trees.{Expression, binary}
 use Rattle.cy_trees.specs.Depth.{depth, greatest_depth}
@@ -11,34 +11,34 @@ use Rattle.cy_grammar.proofs.Stops.{lacks, lacking, both_left, both_right}
 use Rattle.cy_grammar.proofs.Takes.{after, passes}
 
 -- the reader answers the expression, where it may end at what is left
-pub record Reading (n : ℕ) (first stops : Option Kind → Bool) (read : Reader Expression) (e : Expression) (ts rest : List Token) : Type 0 where
+pub record Reading (n : ℕ) (first stops : Option TokenKind → Bool) (read : Reader Expression) (e : Expression) (ts rest : List Token) : Type 0 where
   pub positive : (m : ℕ) × (n ≡ suc m)
   pub begins : first (kind_ahead ts) ≡ true
   pub shortens : suc (length rest) ≤ length ts
   pub reads : depth e ≤ greatest_depth → stops (kind_ahead rest) ≡ true → read ts ≡ Some (e, rest)
 
 -- the reader comes to the expression, and goes on from there with turns enough for what is left
-pub record Chaining (n : ℕ) (first stops : Option Kind → Bool) (read : Reader Expression) (from : ℕ → Expression → Reader Expression)
+pub record Chaining (n : ℕ) (first stops : Option TokenKind → Bool) (read : Reader Expression) (from : ℕ → Expression → Reader Expression)
     (e : Expression) (ts rest : List Token) : Type 0 where
   pub positive : (m : ℕ) × (n ≡ suc m)
   pub begins : first (kind_ahead ts) ≡ true
   pub shortens : suc (length rest) ≤ length ts
   pub reads : depth e ≤ greatest_depth → stops (kind_ahead rest) ≡ true → (k : ℕ) × (length rest ≤ k) × (read ts ≡ from k e rest)
 
-pub chain_end : (operators : Kind → Option BinaryOperator) (operand : Reader Expression) (k : ℕ) (e : Expression) (ts : List Token) →
+pub chain_end : (operators : TokenKind → Option BinaryOperator) (operand : Reader Expression) (k : ℕ) (e : Expression) (ts : List Token) →
     at_kind operators (kind_ahead ts) ≡ None → chain_from operators operand k e ts ≡ Some (e, ts)
 unfolding chain_from and_then
 chain_end operators operand zero e ts stop = refl
 chain_end operators operand (suc k) e [] stop = refl
 chain_end operators operand (suc k) e (t ∷ ts) stop = rw stop refl
 
-chain_step : (operators : Kind → Option BinaryOperator) (operand : Reader Expression) (k : ℕ) (o : BinaryOperator) (a b : Expression) (t : Token) (mid rest : List Token) →
+chain_step : (operators : TokenKind → Option BinaryOperator) (operand : Reader Expression) (k : ℕ) (o : BinaryOperator) (a b : Expression) (t : Token) (mid rest : List Token) →
     operators t.kind ≡ Some o → operand mid ≡ Some (b, rest) → depth (binary o a b) ≤ greatest_depth →
     chain_from operators operand (suc k) a (t ∷ mid) ≡ chain_from operators operand k (binary o a b) rest
 unfolding chain_from and_then
 chain_step operators operand k o a b t mid rest is reads shallow = rw (is, reads, passes (binary o a b) rest shallow) refl
 
-module _ (n : ℕ) (first stops : Option Kind → Bool) (operators : Kind → Option BinaryOperator) (operand : Reader Expression) where
+module _ (n : ℕ) (first stops : Option TokenKind → Bool) (operators : TokenKind → Option BinaryOperator) (operand : Reader Expression) where
   abbrev pub Chained : Expression → List Token → List Token → Type 0
   Chained e ts rest = Chaining n first stops (chain operators operand) (chain_from operators operand) e ts rest
 

@@ -1,7 +1,7 @@
 -- Clauses and statements that are spelt are read.
 use Rattle.std.proofs.Common.{◌≡◌, ℕ, zero, suc, ◌≤◌, true, false, IsTrue, not, List, [], ◌∷◌, ◌++◌, length, Option, Some, None, refl, sym, ap, ◌∙◌, append_assoc, append-nil, arith, if◌then◌else◌}
 use Rattle.cy_lexer.specs.declared.tokens.Token.{Token}
-use Rattle.cy_lexer.specs.declared.tokens.Kind.{Kind}
+use Rattle.cy_lexer.specs.declared.tokens.TokenKind.{TokenKind}
 use Rattle.cy_lexer.specs.declared.keywords.Keyword.TheVariants as word
 use Rattle.cy_lexer.specs.declared.symbols.Symbol.TheVariants as sign
 use Rattle.cy_trees.specs.declared.expressions.Variable.{Variable}
@@ -187,10 +187,10 @@ module _ (line : List ℕ) where
   filter_begins _ _ rest (spells.no_filter _) stop = projection_ends (kind_ahead rest) stop
   filter_begins _ _ rest (spells.filter e where_ ts _ is s) stop = at_keyword ends_projection word.Where true where_ is refl
 
-  after_projection : (k : Option Kind) → ends_projection k ≡ true → ends_items k ≡ true
+  after_projection : (k : Option TokenKind) → ends_projection k ≡ true → ends_items k ≡ true
   after_projection k e = items_end k (order_ends k (skip_ends k e))
 
-  after_clause : (k : Option Kind) → ends_clause k ≡ true → ends_items k ≡ true
+  after_clause : (k : Option TokenKind) → ends_clause k ≡ true → ends_items k ≡ true
   after_clause k e = after_projection k (projection_ends k e)
 
   clause_opens : (c : Clause) (ts rest : List Token) → SpellsClause line c ts rest → at_kind read.opening_of (kind_ahead ts) ≡ Some (opening_for c)

@@ -2,8 +2,8 @@
 use Rattle.std.proofs.Common.{◌≡◌, ℕ, zero, suc, ◌≤◌, ◌<◌, Bool, true, false, not, IsTrue, List, [], ◌∷◌, ◌++◌, length, Option, Some, None, refl, ap, ◌∙◌, append_assoc, arith, nat_lt, nat_le, pos}
 use Rattle.std.proofs.lemmas.Bool.Decides.{nat_tests}
 use Rattle.cy_lexer.specs.declared.tokens.Token.{Token}
-use Rattle.cy_lexer.specs.declared.tokens.Kind.{Kind}
-use Rattle.cy_lexer.specs.declared.tokens.Kind.TheVariants as kind
+use Rattle.cy_lexer.specs.declared.tokens.TokenKind.{TokenKind}
+use Rattle.cy_lexer.specs.declared.tokens.TokenKind.TheVariants as kind
 use Rattle.cy_lexer.specs.declared.keywords.Keyword.{Keyword}
 use Rattle.cy_lexer.specs.declared.keywords.Keyword.TheVariants as word
 use Rattle.cy_lexer.specs.declared.symbols.Symbol.TheVariants as sign
@@ -16,7 +16,8 @@ use Rattle.cy_grammar.specs.declared.places.Nested.TheVariants as nested
 use Rattle.cy_trees.specs.Trees.{Name, Expression, Expressions, list, no_more, more, call, call_star, variable, property, has_labels, unary, binary, boolean, integer, null, text, Links, no_links, link, comparison, Arms, arm, no_arms, Otherwise, nothing, otherwise, case}
 use Rattle.cy_trees.specs.Depth.{depth, deepest, links_depth, arms_depth, otherwise_depth, greatest_depth}
 use Rattle.cy_trees.specs.Views.{expressions_from, arms_from, links_from}
-use Rattle.cy_grammar.specs.Words.{is_word, is_name, denotes, lowered, number_limit, negated, product_operator, sum_operator, comparator_of}
+use Rattle.cy_grammar.specs.Words.{is_word, is_name, denotes, lowered, negated, product_operator, sum_operator, comparator_of}
+use Rattle.cy_lexer.specs.Numbers.{greatest_number}
 use Rattle.cy_grammar.specs.internal.Chains.{conjunction_operator, exclusion_operator, disjunction_operator}
 use Rattle.cy_grammar.specs.internal.Reader.{Reader, and_then, checked, at_kind, is_symbol, is_keyword, ◌>>◌, expect_symbol, expect_keyword, refuse, ◌>>=◌, kind_ahead}
 use Rattle.cy_grammar.specs.internal.Expressions as read
@@ -39,7 +40,7 @@ module _ (line : List ℕ) where
   levels_at zero = zero
   levels_at (suc n) = n
 
-  abbrev ends_head : Option Kind → Bool
+  abbrev ends_head : Option TokenKind → Bool
   ends_head k = not (is_symbol sign.LeftParenthesis k)
 
   -- what a derivation at the level gives
@@ -315,7 +316,7 @@ module _ (line : List ℕ) where
         (after _ (leaves_symbol sign.Plus ts (no_plus _ c.begins)) (c.reads shallow stop));
   }
 
-  signed_number : (n m : ℕ) (minus_ number_ : Token) (rest : List Token) → IsSymbol sign.Minus minus_ → IsNumber m number_ → m ≤ number_limit →
+  signed_number : (n m : ℕ) (minus_ number_ : Token) (rest : List Token) → IsSymbol sign.Minus minus_ → IsNumber m number_ → m ≤ greatest_number →
       Claim (suc n) signed (integer (negated m)) (minus_ ∷ number_ ∷ rest) rest
   unfolding read.signed read.minus
   signed_number n m minus_ number_ rest is counts small = record {
@@ -323,7 +324,7 @@ module _ (line : List ℕ) where
     begins = ap (λ k. begins_signed (Some k)) is;
     shortens = omega arith;
     reads = λ shallow stop.
-        let fits : nat_le m number_limit ≡ true = grind (arith, nat_tests) in
+        let fits : nat_le m greatest_number ≡ true = grind (arith, nat_tests) in
         after _ (eats_symbol sign.Minus minus_ (number_ ∷ rest) is) (after_peek _ (number_ ∷ rest)
         ∙ ap (λ k. read.minus_by line (inner_at (suc n)) (Some k) (number_ ∷ rest)) counts
         ∙ then_branch _ _ _ (number_ ∷ rest) fits ∙ after _ refl refl);
@@ -334,7 +335,7 @@ module _ (line : List ℕ) where
   minus_other n [] other = refl
   minus_other n (t ∷ ts) other = by_kind t.kind other
     where
-      by_kind : (k : Kind) → is_number k ≡ false →
+      by_kind : (k : TokenKind) → is_number k ≡ false →
           read.minus_by line (inner_at (suc n)) (Some k) ≡ (inner_at (suc n) nested.Sign >>= (λ e. checked (unary unary_operator.Minus e)))
       by_kind (kind.Number m) e = cc
       by_kind _ e = refl
@@ -432,7 +433,7 @@ module _ (line : List ℕ) where
 
   -- ---- literals
 
-  literal_word : (n : ℕ) (e : Expression) (k : Kind) (t : Token) (rest : List Token) → t.kind ≡ k → begins_postfix (Some k) ≡ true →
+  literal_word : (n : ℕ) (e : Expression) (k : TokenKind) (t : Token) (rest : List Token) → t.kind ≡ k → begins_postfix (Some k) ≡ true →
       read.postfix_by line (levels_at (suc n)) (inner_at (suc n)) (Some k) ≡ read.literal line → read.literal_by line (Some k) (t ∷ rest) ≡ Some (e, rest) →
       Claim (suc n) postfix e (t ∷ rest) rest
   unfolding read.postfix read.literal
@@ -444,10 +445,10 @@ module _ (line : List ℕ) where
         ∙ ap (λ p. p (t ∷ rest)) by_literal ∙ after_peek _ (t ∷ rest) ∙ ap (λ z. read.literal_by line (Some z) (t ∷ rest)) is ∙ reads;
   }
 
-  literal_number : (n m : ℕ) (t : Token) (rest : List Token) → IsNumber m t → m < number_limit → Claim (suc n) postfix (integer (pos m)) (t ∷ rest) rest
+  literal_number : (n m : ℕ) (t : Token) (rest : List Token) → IsNumber m t → m < greatest_number → Claim (suc n) postfix (integer (pos m)) (t ∷ rest) rest
   unfolding read.counted
   literal_number n m t rest is small =
-      let fits : nat_lt m number_limit ≡ true = grind (arith, nat_tests) in
+      let fits : nat_lt m greatest_number ≡ true = grind (arith, nat_tests) in
       literal_word n (integer (pos m)) (kind.Number m) t rest is refl refl (after _ refl (then_branch _ _ _ rest fits))
 
   literal_text : (n : ℕ) (t : Token) (rest : List Token) → t.kind ≡ kind.Text → Claim (suc n) postfix (text (denotes line t)) (t ∷ rest) rest
@@ -456,7 +457,7 @@ module _ (line : List ℕ) where
 
   -- ---- heads
 
-  named_by : (n : ℕ) (k : Kind) → is_name k ≡ true → read.postfix_by line (levels_at n) (inner_at n) (Some k) ≡ (read.named line (levels_at n) (inner_at n) >>= read.attributes line)
+  named_by : (n : ℕ) (k : TokenKind) → is_name k ≡ true → read.postfix_by line (levels_at n) (inner_at n) (Some k) ≡ (read.named line (levels_at n) (inner_at n) >>= read.attributes line)
   named_by n kind.Name e = refl
   named_by n kind.QuotedName e = refl
   named_by n _ e = cc

@@ -1,8 +1,8 @@
 -- Where no operator goes on after a first operand, that operand is all that is read.
 use Rattle.std.proofs.Common.{◌≡◌, ℕ, zero, suc, false, List, [], Option, Some, None, length, refl, ◌∙◌}
 use Rattle.cy_lexer.specs.declared.tokens.Token.{Token}
-use Rattle.cy_lexer.specs.declared.tokens.Kind.{Kind}
-use Rattle.cy_lexer.specs.declared.tokens.Kind.TheVariants as kind
+use Rattle.cy_lexer.specs.declared.tokens.TokenKind.{TokenKind}
+use Rattle.cy_lexer.specs.declared.tokens.TokenKind.TheVariants as kind
 use Rattle.cy_lexer.specs.declared.keywords.Keyword.TheVariants as word
 use Rattle.cy_lexer.specs.declared.symbols.Symbol.TheVariants as sign
 use Rattle.cy_trees.specs.declared.expressions.Comparator.{Comparator}
@@ -15,18 +15,18 @@ use Rattle.cy_grammar.specs.internal.Expressions.{begins_predicate, continues_pr
 use Rattle.cy_grammar.proofs.Chains.{chain_end}
 use Rattle.cy_grammar.proofs.Takes.{after, after_peek, else_branch, none_branch, leaves_symbol}
 
-no_product : (k : Option Kind) → continues_predicate k ≡ false → at_kind product_operator k ≡ None
+no_product : (k : Option TokenKind) → continues_predicate k ≡ false → at_kind product_operator k ≡ None
 no_product (Some (kind.Symbol sign.Star)) e = cc
 no_product (Some (kind.Symbol sign.Slash)) e = cc
 no_product (Some (kind.Symbol sign.Percent)) e = cc
 no_product _ e = refl
 
-no_sum : (k : Option Kind) → continues_predicate k ≡ false → at_kind sum_operator k ≡ None
+no_sum : (k : Option TokenKind) → continues_predicate k ≡ false → at_kind sum_operator k ≡ None
 no_sum (Some (kind.Symbol sign.Plus)) e = cc
 no_sum (Some (kind.Symbol sign.Minus)) e = cc
 no_sum _ e = refl
 
-no_predicate : (k : Option Kind) → continues_predicate k ≡ false → begins_predicate k ≡ false
+no_predicate : (k : Option TokenKind) → continues_predicate k ≡ false → begins_predicate k ≡ false
 no_predicate (Some (kind.Keyword word.Is)) e = e
 no_predicate (Some (kind.Keyword word.In)) e = e
 no_predicate (Some (kind.Keyword word.Contains)) e = e
@@ -34,7 +34,7 @@ no_predicate (Some (kind.Keyword word.Starts)) e = e
 no_predicate (Some (kind.Keyword word.Ends)) e = e
 no_predicate _ e = refl
 
-no_comparator : (k : Option Kind) → continues_comparison k ≡ false → at_kind comparator_of k ≡ None
+no_comparator : (k : Option TokenKind) → continues_comparison k ≡ false → at_kind comparator_of k ≡ None
 no_comparator (Some (kind.Symbol sign.Equal)) e = cc
 no_comparator (Some (kind.Symbol sign.NotEqual)) e = cc
 no_comparator (Some (kind.Symbol sign.Less)) e = cc
@@ -43,7 +43,7 @@ no_comparator (Some (kind.Symbol sign.Greater)) e = cc
 no_comparator (Some (kind.Symbol sign.GreaterOrEqual)) e = cc
 no_comparator _ e = refl
 
-no_more : (k : Option Kind) → continues_comparison k ≡ false → continues_predicate k ≡ false
+no_more : (k : Option TokenKind) → continues_comparison k ≡ false → continues_predicate k ≡ false
 no_more (Some (kind.Symbol sign.Equal)) e = refl
 no_more (Some (kind.Symbol sign.NotEqual)) e = refl
 no_more (Some (kind.Symbol sign.Less)) e = refl
@@ -52,23 +52,23 @@ no_more (Some (kind.Symbol sign.Greater)) e = refl
 no_more (Some (kind.Symbol sign.GreaterOrEqual)) e = refl
 no_more _ e = e
 
-no_conjunction : (k : Option Kind) → continues_whole k ≡ false → at_kind conjunction_operator k ≡ None
+no_conjunction : (k : Option TokenKind) → continues_whole k ≡ false → at_kind conjunction_operator k ≡ None
 no_conjunction (Some (kind.Keyword word.And)) e = cc
 no_conjunction _ e = refl
 
-no_exclusion : (k : Option Kind) → continues_whole k ≡ false → at_kind exclusion_operator k ≡ None
+no_exclusion : (k : Option TokenKind) → continues_whole k ≡ false → at_kind exclusion_operator k ≡ None
 no_exclusion (Some (kind.Keyword word.Xor)) e = cc
 no_exclusion _ e = refl
 
-no_disjunction : (k : Option Kind) → continues_whole k ≡ false → at_kind disjunction_operator k ≡ None
+no_disjunction : (k : Option TokenKind) → continues_whole k ≡ false → at_kind disjunction_operator k ≡ None
 no_disjunction (Some (kind.Keyword word.Or)) e = cc
 no_disjunction _ e = refl
 
-no_dot : (k : Option Kind) → continues_owner k ≡ false → is_symbol sign.Dot k ≡ false
+no_dot : (k : Option TokenKind) → continues_owner k ≡ false → is_symbol sign.Dot k ≡ false
 no_dot (Some (kind.Symbol sign.Dot)) e = cc
 no_dot _ e = refl
 
-no_colon : (k : Option Kind) → continues_owner k ≡ false → is_symbol sign.Colon k ≡ false
+no_colon : (k : Option TokenKind) → continues_owner k ≡ false → is_symbol sign.Colon k ≡ false
 no_colon (Some (kind.Symbol sign.Colon)) e = cc
 no_colon _ e = refl
 

@@ -6,8 +6,8 @@ use Rattle.cy_lexer.specs.contracts.keywords.Keyword as keyword_type
 use Rattle.cy_lexer.specs.contracts.symbols.Symbol as symbol_type
 use Rattle.cy_lexer.specs.declared.keywords.Keyword.{Keyword}
 use Rattle.cy_lexer.specs.declared.symbols.Symbol.{Symbol}
-use Rattle.cy_lexer.specs.declared.tokens.Kind.{Kind}
-use Rattle.cy_lexer.specs.declared.tokens.Kind.TheVariants as kind
+use Rattle.cy_lexer.specs.declared.tokens.TokenKind.{TokenKind}
+use Rattle.cy_lexer.specs.declared.tokens.TokenKind.TheVariants as kind
 use Rattle.cy_lexer.specs.declared.tokens.Token.{Token}
 use Rattle.cy_trees.specs.Trees.{Expression}
 use Rattle.cy_trees.specs.Depth.{depth, greatest_depth}
@@ -50,7 +50,7 @@ pub record AteKeyword (k : Keyword) (ts : List Token) (found : Bool) (rest : Lis
   pub there : found ≡ true → (t : Token) × (ts ≡ t ∷ rest) × IsKeyword k t
   pub absent : found ≡ false → rest ≡ ts
 
-symbol_is : (s : Symbol) (k : Kind) → is_symbol s (Some k) ≡ true → k ≡ kind.Symbol s
+symbol_is : (s : Symbol) (k : TokenKind) → is_symbol s (Some k) ≡ true → k ≡ kind.Symbol s
 symbol_is s (kind.Symbol found) e = ap kind.Symbol (same_true symbol_type.the_type (search) found s e)
 symbol_is s kind.Name e = cc
 symbol_is s kind.QuotedName e = cc
@@ -58,7 +58,7 @@ symbol_is s (kind.Keyword k) e = cc
 symbol_is s (kind.Number n) e = cc
 symbol_is s kind.Text e = cc
 
-keyword_is : (w : Keyword) (k : Kind) → is_keyword w (Some k) ≡ true → k ≡ kind.Keyword w
+keyword_is : (w : Keyword) (k : TokenKind) → is_keyword w (Some k) ≡ true → k ≡ kind.Keyword w
 keyword_is w (kind.Keyword found) e = ap kind.Keyword (same_true keyword_type.the_type (search) found w e)
 keyword_is w kind.Name e = cc
 keyword_is w kind.QuotedName e = cc
@@ -112,12 +112,12 @@ unfolding expect_keyword
 keyword_there k ts = expected_keyword k ts (sees_keyword k ts) refl
 
 -- a name or a word that has to come next
-denoting_if : (test : Kind → Bool) (line : List ℕ) (t : Token) (ts : List Token) (b : Bool) → test t.kind ≡ b →
+denoting_if : (test : TokenKind → Bool) (line : List ℕ) (t : Token) (ts : List Token) (b : Bool) → test t.kind ≡ b →
     Gives (if b then Some (denotes line t, ts) else None) (λ n rest. (u : Token) × (t ∷ ts ≡ u ∷ rest) × IsTrue (test u.kind) × (n ≡ denotes line u))
 denoting_if test line t ts true e = answer _ _ _ (t, refl, e, refl)
 denoting_if test line t ts false e = refused _
 
-pub denoting_there : (test : Kind → Bool) (line : List ℕ) (ts : List Token) →
+pub denoting_there : (test : TokenKind → Bool) (line : List ℕ) (ts : List Token) →
     Gives (denoting test line ts) (λ n rest. (u : Token) × (ts ≡ u ∷ rest) × IsTrue (test u.kind) × (n ≡ denotes line u))
 unfolding denoting
 denoting_there test line [] = refused _
@@ -140,7 +140,7 @@ by_test p q true ts holds at_true at_false = at_true refl
 by_test p q false ts holds at_true at_false = at_false refl
 
 -- looking at the next token, and passing it
-pub bind_peek : {B : Type 0} (f : Option Kind → Reader B) {holds : B → List Token → Type 0} (ts : List Token) →
+pub bind_peek : {B : Type 0} (f : Option TokenKind → Reader B) {holds : B → List Token → Type 0} (ts : List Token) →
     Gives (f (kind_ahead ts) ts) holds → Gives (and_then (peek ts) f) holds
 unfolding and_then
 bind_peek f ts g = g
@@ -150,11 +150,11 @@ pub bind_skip : {B : Type 0} (f : Unit {0} → Reader B) {holds : B → List Tok
 unfolding and_then
 bind_skip f ts g = g
 
-pub ahead : (ts : List Token) (k : Kind) → kind_ahead ts ≡ Some k → (t : Token) × (ts ≡ t ∷ past ts) × (t.kind ≡ k)
+pub ahead : (ts : List Token) (k : TokenKind) → kind_ahead ts ≡ Some k → (t : Token) × (ts ≡ t ∷ past ts) × (t.kind ≡ k)
 ahead [] k e = cc
 ahead (t ∷ ts) k e = let same : t.kind ≡ k = cc in (t, refl, same)
 
-pub ahead_by : {A : Type 0} (f : Kind → Option A) (ts : List Token) (a : A) → at_kind f (kind_ahead ts) ≡ Some a →
+pub ahead_by : {A : Type 0} (f : TokenKind → Option A) (ts : List Token) (a : A) → at_kind f (kind_ahead ts) ≡ Some a →
     (t : Token) × (ts ≡ t ∷ past ts) × (f t.kind ≡ Some a)
 ahead_by f [] a e = cc
 ahead_by f (t ∷ ts) a e = (t, refl, e)

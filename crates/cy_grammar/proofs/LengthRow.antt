@@ -4,8 +4,8 @@ use Rattle.std.specs.Prelude.{codes, encode_utf8_all}
 use Rattle.std.proofs.lemmas.Str.{chars-encodes}
 use lib.Utf8.{encode}
 use Rattle.cy_lexer.specs.declared.tokens.Token.{Token}
-use Rattle.cy_lexer.specs.declared.tokens.Kind.{Kind}
-use Rattle.cy_lexer.specs.declared.tokens.Kind.TheVariants as kind
+use Rattle.cy_lexer.specs.declared.tokens.TokenKind.{TokenKind}
+use Rattle.cy_lexer.specs.declared.tokens.TokenKind.TheVariants as kind
 use Rattle.cy_lexer.specs.declared.keywords.Keyword.TheVariants as word
 use Rattle.cy_lexer.specs.declared.symbols.Symbol.TheVariants as sign
 use Rattle.cy_trees.specs.declared.clauses.Direction.TheVariants as direction
@@ -17,7 +17,7 @@ use Rattle.cy_grammar.proofs.ShownTokens.{denotes_within}
 line : List ℕ
 line = codes "MATCH (a)<-[*2..]-(b) DELETE b"
 
-abbrev token : Kind → ℕ → ℕ → Token
+abbrev token : TokenKind → ℕ → ℕ → Token
 token k start end = record { kind = k; start = start; end = end }
 
 abbrev keyword_match : Token

@@ -2,8 +2,8 @@
 use Rattle.std.proofs.Common.{◌≡◌, ℕ, zero, suc, ◌≤◌, Bool, true, false, not, ◌&&◌, List, [], ◌∷◌, ◌++◌, length, Option, Some, None, refl, sym, ap, ◌∙◌, append_assoc, append-nil, arith, nat_lt, nat_le, if◌then◌else◌}
 use Rattle.std.proofs.lemmas.Bool.Decides.{nat_tests}
 use Rattle.cy_lexer.specs.declared.tokens.Token.{Token}
-use Rattle.cy_lexer.specs.declared.tokens.Kind.{Kind}
-use Rattle.cy_lexer.specs.declared.tokens.Kind.TheVariants as kind
+use Rattle.cy_lexer.specs.declared.tokens.TokenKind.{TokenKind}
+use Rattle.cy_lexer.specs.declared.tokens.TokenKind.TheVariants as kind
 use Rattle.cy_lexer.specs.declared.symbols.Symbol.{Symbol}
 use Rattle.cy_lexer.specs.declared.symbols.Symbol.TheVariants as sign
 use Rattle.cy_trees.specs.declared.expressions.Variable.{Variable}
@@ -11,7 +11,8 @@ use Rattle.cy_trees.specs.declared.clauses.Direction.{Direction}
 use Rattle.cy_trees.specs.declared.clauses.Direction.TheVariants as direction
 use Rattle.cy_trees.specs.declared.clauses.Length.{Length}
 use Rattle.cy_trees.specs.Trees.{Name, Expression, MapEntry, NodePattern, RelationshipPattern, Step, Path}
-use Rattle.cy_grammar.specs.Words.{is_word, is_name, denotes, number_limit}
+use Rattle.cy_grammar.specs.Words.{is_word, is_name, denotes}
+use Rattle.cy_lexer.specs.Numbers.{greatest_number}
 use Rattle.cy_grammar.specs.internal.Reader.{Reader, and_then, kind_ahead, is_symbol, eat_symbol, skip, refuse, ◌>>◌, ◌>>=◌, ◌<$>◌, pure}
 use Rattle.cy_grammar.specs.internal.Expressions.{expression}
 use Rattle.cy_grammar.specs.internal.Clauses as read
@@ -24,11 +25,11 @@ use Rattle.cy_grammar.proofs.Complete.{expression-complete}
 use Rattle.cy_grammar.proofs.LabelsComplete.{labels_shorten, labels_read}
 
 -- what holds of a symbol holds of the token that is it
-pub at_symbol : (test : Option Kind → Bool) (s : Symbol) (b : Bool) (t : Token) → IsSymbol s t → test (Some (kind.Symbol s)) ≡ b → test (Some t.kind) ≡ b
+pub at_symbol : (test : Option TokenKind → Bool) (s : Symbol) (b : Bool) (t : Token) → IsSymbol s t → test (Some (kind.Symbol s)) ≡ b → test (Some t.kind) ≡ b
 at_symbol test s b t is holds = ap (λ k. test (Some k)) is ∙ holds
 
 -- trees with a comma between, each of which ends at such tokens, the comma among them
-module _ {A : Type 0} (item : Reader A) (each : A → List Token → List Token → Type 0) (stops : Option Kind → Bool)
+module _ {A : Type 0} (item : Reader A) (each : A → List Token → List Token → Type 0) (stops : Option TokenKind → Bool)
     (at_comma : stops (Some (kind.Symbol sign.Comma)) ≡ true)
     (shortens : (a : A) (ts rest : List Token) → each a ts rest → suc (length rest) ≤ length ts)
     (reads : (a : A) (ts rest : List Token) → each a ts rest → stops (kind_ahead rest) ≡ true → item ts ≡ Some (a, rest)) where
@@ -55,24 +56,24 @@ module _ {A : Type 0} (item : Reader A) (each : A → List Token → List Token 
       is_symbol sign.Comma (kind_ahead rest) ≡ false → read.separated item ts ≡ Some (all, rest)
   separated_read all ts rest s stop no_comma = separated_read_from (length ts) [] all ts rest s stop no_comma (omega arith)
 
-pub each_begins : {A : Type 0} (each : A → List Token → List Token → Type 0) (test : Option Kind → Bool) (b : Bool) →
+pub each_begins : {A : Type 0} (each : A → List Token → List Token → Type 0) (test : Option TokenKind → Bool) (b : Bool) →
     ((a : A) (ts rest : List Token) → each a ts rest → test (kind_ahead ts) ≡ b) →
     (all : List A) (ts rest : List Token) → SpellsEach each all ts rest → test (kind_ahead ts) ≡ b
 each_begins each test b begins _ ts rest (last a _ _ s) = begins a ts rest s
 each_begins each test b begins _ ts rest (next a more comma _ mid _ s is others) = begins a ts (comma ∷ mid) s
 
 -- a word is no symbol
-pub no_word : (s : Symbol) (k : Kind) → is_word k ≡ true → is_symbol s (Some k) ≡ false
+pub no_word : (s : Symbol) (k : TokenKind) → is_word k ≡ true → is_symbol s (Some k) ≡ false
 no_word s (kind.Keyword w) e = refl
 no_word s kind.Name e = refl
 no_word s kind.QuotedName e = refl
 no_word s _ e = cc
 
-abbrev pub begins_name : Option Kind → Bool
+abbrev pub begins_name : Option TokenKind → Bool
 begins_name None = false
 begins_name (Some k) = is_name k
 
-abbrev pub begins_number : Option Kind → Bool
+abbrev pub begins_number : Option TokenKind → Bool
 begins_number (Some (kind.Number n)) = true
 begins_number _ = false
 
@@ -83,12 +84,12 @@ module _ (line : List ℕ) where
   pub variable_reads : (v : Variable) (ts rest : List Token) → SpellsVariable line v ts rest → read.variable_read line ts ≡ Some (v, rest)
   variable_reads _ _ rest (variable t _ is) = after _ (takes is_name line t rest is) refl
 
-  variable_at : (k : Kind) (ts : List Token) → is_name k ≡ true → read.variable_by line (Some k) ts ≡ (Some <$> read.variable_read line) ts
+  variable_at : (k : TokenKind) (ts : List Token) → is_name k ≡ true → read.variable_by line (Some k) ts ≡ (Some <$> read.variable_read line) ts
   variable_at kind.Name ts e = refl
   variable_at kind.QuotedName ts e = refl
   variable_at _ ts e = cc
 
-  no_variable_at : (k : Option Kind) (ts : List Token) → begins_name k ≡ false → read.variable_by line k ts ≡ Some (None, ts)
+  no_variable_at : (k : Option TokenKind) (ts : List Token) → begins_name k ≡ false → read.variable_by line k ts ≡ Some (None, ts)
   no_variable_at (Some kind.Name) ts e = cc
   no_variable_at (Some kind.QuotedName) ts e = cc
   no_variable_at _ ts e = refl
@@ -106,7 +107,7 @@ module _ (line : List ℕ) where
   variable_if_any_reads _ _ rest (no_variable _) stop = after _ refl (no_variable_at (kind_ahead rest) rest stop)
   variable_if_any_reads _ ts rest (a_variable v _ _ s) stop = after _ refl (some_variable v ts rest s)
 
-  labels_begin : (test : Option Kind → Bool) (b : Bool) → test (Some (kind.Symbol sign.Colon)) ≡ b →
+  labels_begin : (test : Option TokenKind → Bool) (b : Bool) → test (Some (kind.Symbol sign.Colon)) ≡ b →
       (ls : List Name) (ts rest : List Token) → SpellsLabelsIfAny line ls ts rest → test (kind_ahead rest) ≡ b → test (kind_ahead ts) ≡ b
   labels_begin test b at _ _ rest (no_labels _) stop = stop
   labels_begin test b at ls _ rest (labels _ colon ts _ is s) stop = at_symbol test sign.Colon b colon is at
@@ -146,7 +147,7 @@ module _ (line : List ℕ) where
       after _ (takes is_word line t (bar ∷ colon ∷ mid) is) (after _ (eats_symbol sign.Bar bar (colon ∷ mid) is_bar) (after _ (eats_symbol sign.Colon colon mid is_colon)
       (types_read_from k (found ++ denotes line t ∷ []) ns mid rest s stop fewer ∙ ap (λ z. Some (z, rest)) (append_assoc found (denotes line t ∷ []) ns))))
 
-  types_begin : (test : Option Kind → Bool) (b : Bool) → test (Some (kind.Symbol sign.Colon)) ≡ b →
+  types_begin : (test : Option TokenKind → Bool) (b : Bool) → test (Some (kind.Symbol sign.Colon)) ≡ b →
       (ns : List Name) (ts rest : List Token) → SpellsTypesIfAny line ns ts rest → test (kind_ahead rest) ≡ b → test (kind_ahead ts) ≡ b
   types_begin test b at _ _ rest (no_types _) stop = stop
   types_begin test b at ns _ rest (types _ colon ts _ is s) stop = at_symbol test sign.Colon b colon is at
@@ -167,10 +168,10 @@ module _ (line : List ℕ) where
 number_taken : (n : ℕ) (t : Token) (rest : List Token) → IsNumber n t → n ≤ greatest_bound → read.number_if_any (t ∷ rest) ≡ Some (Some n, rest)
 unfolding read.number_if_any and_then
 number_taken n t rest is small =
-    let below : nat_lt n number_limit ≡ true = grind (arith, nat_tests) in
+    let below : nat_lt n greatest_number ≡ true = grind (arith, nat_tests) in
     ap (λ k. read.number_by (Some k) (t ∷ rest)) is ∙ ap (λ b. (if b then skip >> pure (Some n) else refuse) (t ∷ rest)) below
 
-no_number_at : (k : Option Kind) (ts : List Token) → begins_number k ≡ false → read.number_by k ts ≡ Some (None, ts)
+no_number_at : (k : Option TokenKind) (ts : List Token) → begins_number k ≡ false → read.number_by k ts ≡ Some (None, ts)
 no_number_at (Some (kind.Number n)) ts e = cc
 no_number_at _ ts e = refl
 
@@ -218,7 +219,7 @@ bounds_shorten _ _ rest (at_least m t dots _ is is_dots small) = omega arith
 bounds_shorten _ _ rest (at_most n dots t _ is_dots is ordered small) = omega arith
 bounds_shorten _ _ rest (between m n t dots u _ is is_dots is_second ordered small) = omega arith
 
-length_begins : (test : Option Kind → Bool) (b : Bool) → test (Some (kind.Symbol sign.Star)) ≡ b →
+length_begins : (test : Option TokenKind → Bool) (b : Bool) → test (Some (kind.Symbol sign.Star)) ≡ b →
     (l : Option Length) (ts rest : List Token) → SpellsLengthIfAny l ts rest → test (kind_ahead rest) ≡ b → test (kind_ahead ts) ≡ b
 length_begins test b at _ _ rest (no_length _) stop = stop
 length_begins test b at _ _ rest (a_length l star ts _ is s) stop = at_symbol test sign.Star b star is at
@@ -236,7 +237,7 @@ length_if_any_reads _ _ rest (a_length l star ts _ is s) no_star no_number no_do
 
 -- ---- arrows
 
-arrow_begins : (test : Option Kind → Bool) (b : Bool) (s : Symbol) → test (Some (kind.Symbol s)) ≡ b →
+arrow_begins : (test : Option TokenKind → Bool) (b : Bool) (s : Symbol) → test (Some (kind.Symbol s)) ≡ b →
     (found : Bool) (ts rest : List Token) → SpellsArrow s found ts rest → test (kind_ahead rest) ≡ b → test (kind_ahead ts) ≡ b
 arrow_begins test b s at _ _ rest (arrow t _ is) stop = at_symbol test s b t is at
 arrow_begins test b s at _ _ rest (no_arrow _) stop = stop
@@ -278,7 +279,7 @@ module _ (line : List ℕ) where
   unfolding read.entries
   entries_read es ts rest s stop no_comma = separated_read (read.entry line) (SpellsEntry line) ends_whole refl entry_shortens entry_reads es ts rest s stop no_comma
 
-  map_begins : (test : Option Kind → Bool) (b : Bool) → test (Some (kind.Symbol sign.LeftBrace)) ≡ b →
+  map_begins : (test : Option TokenKind → Bool) (b : Bool) → test (Some (kind.Symbol sign.LeftBrace)) ≡ b →
       (m : Option (List MapEntry)) (ts rest : List Token) → SpellsMapIfAny line m ts rest → test (kind_ahead rest) ≡ b → test (kind_ahead ts) ≡ b
   map_begins test b at _ _ rest (no_map _) stop = stop
   map_begins test b at _ _ rest (empty_map opening closing _ is is_closing) stop = at_symbol test sign.LeftBrace b opening is at
@@ -317,7 +318,7 @@ module _ (line : List ℕ) where
       let z = map_if_any_shortens m mid (closing ∷ rest) of_map in
       omega (arith, x, y, z)
 
-  node_begins : (test : Option Kind → Bool) (b : Bool) → test (Some (kind.Symbol sign.LeftParenthesis)) ≡ b →
+  node_begins : (test : Option TokenKind → Bool) (b : Bool) → test (Some (kind.Symbol sign.LeftParenthesis)) ≡ b →
       (n : NodePattern) (ts rest : List Token) → SpellsNode line n ts rest → test (kind_ahead ts) ≡ b
   node_begins test b at _ _ rest (node v ls m opening closing ts from mid _ is of_variable of_labels of_map is_closing) =
       at_symbol test sign.LeftParenthesis b opening is at
@@ -348,10 +349,10 @@ module _ (line : List ℕ) where
       omega (arith, x, y, z, w)
 
   -- neither a map that begins nor the bracket that closes passes the test
-  abbrev IsOutside : (Option Kind → Bool) → Type 0
+  abbrev IsOutside : (Option TokenKind → Bool) → Type 0
   IsOutside test = (test (Some (kind.Symbol sign.LeftBrace)) ≡ false) × (test (Some (kind.Symbol sign.RightBracket)) ≡ false)
 
-  before_map : (test : Option Kind → Bool) → IsOutside test → (m : Option (List MapEntry)) (closing : Token) (ts rest : List Token) →
+  before_map : (test : Option TokenKind → Bool) → IsOutside test → (m : Option (List MapEntry)) (closing : Token) (ts rest : List Token) →
       SpellsMapIfAny line m ts (closing ∷ rest) → IsSymbol sign.RightBracket closing → test (kind_ahead ts) ≡ false
   before_map test out m closing ts rest of_map is = map_begins test false out.0 m ts (closing ∷ rest) of_map (at_symbol test sign.RightBracket false closing is out.1)
 
@@ -449,7 +450,7 @@ module _ (line : List ℕ) where
       omega (arith, x, y)
 
   -- where a path has ended
-  abbrev pub ends_path : Option Kind → Bool
+  abbrev pub ends_path : Option TokenKind → Bool
   ends_path k = not (read.begins_step k)
 
   path_reads : (p : Path) (ts rest : List Token) → SpellsPath line p ts rest → ends_path (kind_ahead rest) ≡ true → read.path line ts ≡ Some (p, rest)

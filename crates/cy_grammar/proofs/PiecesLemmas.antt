@@ -18,7 +18,7 @@ use Rattle.cy_lexer.specs.Words.{Word, signs}
 use Rattle.cy_lexer.specs.Words as words
 use Rattle.cy_lexer.specs.internal.SpacedWords.{is_word, may_touch, space, written, may_touch_next, are_words, IsTokenOf, AreTokensOf, characters}
 use Rattle.cy_lexer.proofs.WordsPiecesLemmas.{decimal-front}
-use Rattle.cy_trees.specs.Show.{Piece, word_text, piece_text, text_of}
+use Rattle.cy_trees.specs.Show.{Piece, word_text, piece_text, pieces_text}
 use Rattle.cy_trees.specs.internal.PieceWords.{words_of}
 use Rattle.cy_trees.specs.Show as piece
 
@@ -254,10 +254,10 @@ free_first [] h = refl
 free_first (piece.word w ∷ ps) h = refl
 free_first (piece.space ∷ ps) h = absurd cc
 
-after_space : (ps : List Piece) → stands free ps ≡ true → space (is_spaced ps) ++ encode_utf8_all (written (spaced ps)) ≡ text_of ps → 32 ∷ encode_utf8_all (written (spaced ps)) ≡ 32 ∷ text_of ps
+after_space : (ps : List Piece) → stands free ps ≡ true → space (is_spaced ps) ++ encode_utf8_all (written (spaced ps)) ≡ pieces_text ps → 32 ∷ encode_utf8_all (written (spaced ps)) ≡ 32 ∷ pieces_text ps
 after_space ps h known = ap (λ (x : List ℕ). 32 ∷ x) (ap (λ (f : Bool). space f ++ encode_utf8_all (written (spaced ps))) (sym (free_first ps h)) ∙ known)
 
-pub spaced-text : (b : Before) (ps : List Piece) → stands b ps ≡ true → space (is_spaced ps) ++ encode_utf8_all (written (spaced ps)) ≡ text_of ps
+pub spaced-text : (b : Before) (ps : List Piece) → stands b ps ≡ true → space (is_spaced ps) ++ encode_utf8_all (written (spaced ps)) ≡ pieces_text ps
 spaced-text b [] h = refl
 spaced-text b (piece.word w ∷ ps) h =
     let parts = and_parts (is_word w) (stands (after w) ps) (and_parts (touches b w) (is_word w && stands (after w) ps) h).1 in

@@ -2,12 +2,13 @@
 use Rattle.std.proofs.Common.{◌≡◌, ℕ, suc, ◌≤◌, ◌<◌, ◌⊎◌, inl, inr, Bool, true, false, List, ◌∷◌, length, Option, Some, refl, ap, ◌∙◌, arith, nat_lt, if◌then◌else◌}
 use Rattle.std.proofs.lemmas.Bool.Decides.{nat_tests}
 use Rattle.cy_lexer.specs.declared.tokens.Token.{Token}
-use Rattle.cy_lexer.specs.declared.tokens.Kind.{Kind}
-use Rattle.cy_lexer.specs.declared.tokens.Kind.TheVariants as kind
+use Rattle.cy_lexer.specs.declared.tokens.TokenKind.{TokenKind}
+use Rattle.cy_lexer.specs.declared.tokens.TokenKind.TheVariants as kind
 use Rattle.cy_lexer.specs.declared.keywords.Keyword.{Keyword}
 use Rattle.cy_lexer.specs.declared.keywords.Keyword.TheVariants as word
 use Rattle.cy_trees.specs.Trees.{Expression, Item, Key, Projection}
-use Rattle.cy_grammar.specs.Words.{is_name, number_limit}
+use Rattle.cy_grammar.specs.Words.{is_name}
+use Rattle.cy_lexer.specs.Numbers.{greatest_number}
 use Rattle.cy_grammar.specs.internal.Reader.{and_then, kind_ahead, is_keyword, eat_keyword, skip, refuse, ◌>>◌, pure}
 use Rattle.cy_grammar.specs.internal.Clauses as read
 use Rattle.cy_grammar.specs.Spells.{IsKeyword, IsNumber}
@@ -45,10 +46,10 @@ whole_ends_at v w t at_first at_second (inr is) = at_keyword ends_whole w true t
 
 -- ---- counts
 
-count_taken : (n : ℕ) (t : Token) (rest : List Token) → IsNumber n t → n < number_limit → read.count (t ∷ rest) ≡ Some (n, rest)
+count_taken : (n : ℕ) (t : Token) (rest : List Token) → IsNumber n t → n < greatest_number → read.count (t ∷ rest) ≡ Some (n, rest)
 unfolding read.count and_then
 count_taken n t rest is small =
-    let below : nat_lt n number_limit ≡ true = grind (arith, nat_tests) in
+    let below : nat_lt n greatest_number ≡ true = grind (arith, nat_tests) in
     ap (λ k. read.count_by (Some k) (t ∷ rest)) is ∙ ap (λ b. (if b then skip >> pure n else refuse) (t ∷ rest)) below
 
 module _ (line : List ℕ) where
@@ -59,7 +60,7 @@ module _ (line : List ℕ) where
   count_reads k _ _ rest (a_count n t number _ is is_number small) stop =
       after _ (eats_keyword k t (number ∷ rest) is) (after _ (count_taken n number rest is_number small) refl)
 
-  count_begins : (test : Option Kind → Bool) (b : Bool) (k : Keyword) → test (Some (kind.Keyword k)) ≡ b →
+  count_begins : (test : Option TokenKind → Bool) (b : Bool) (k : Keyword) → test (Some (kind.Keyword k)) ≡ b →
       (n : Option ℕ) (ts rest : List Token) → SpellsCountIfAny line k n ts rest → test (kind_ahead rest) ≡ b → test (kind_ahead ts) ≡ b
   count_begins test b k at _ _ rest (no_count _) stop = stop
   count_begins test b k at _ _ rest (a_count n t number _ is is_number small) stop = at_keyword test k b t is at

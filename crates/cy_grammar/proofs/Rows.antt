@@ -8,7 +8,7 @@ use Rattle.cy_trees.specs.Show.{statement_pieces}
 use Rattle.cy_trees.specs.internal.PieceWords.{words_of}
 use Rattle.cy_grammar.proofs.ShownTokens.{denotes_within}
 use Rattle.cy_lexer.specs.declared.tokens.Token.{Token}
-use Rattle.cy_lexer.specs.declared.tokens.Kind.TheVariants as kind
+use Rattle.cy_lexer.specs.declared.tokens.TokenKind.TheVariants as kind
 use Rattle.cy_lexer.specs.declared.keywords.Keyword.TheVariants as word
 use Rattle.cy_lexer.specs.declared.symbols.Symbol.TheVariants as sign
 use Rattle.cy_trees.specs.Trees.{Statement, «return», integer, Expression}

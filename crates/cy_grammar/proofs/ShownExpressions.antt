@@ -14,7 +14,8 @@ use Rattle.cy_trees.specs.Trees.{Name, Expression, Expressions, list, no_more, m
 use Rattle.cy_trees.specs.Depth.{depth, deepest, links_depth, arms_depth, otherwise_depth}
 use Rattle.cy_lexer.specs.Words as words
 use Rattle.cy_trees.specs.Show.{Piece, word as shown_word, space, says, mark, named, bracketed, label_pieces, binary_pieces, comparator_symbol, unary_pieces, is_literal_or_list, owner_pieces, distinct_pieces, expression_pieces, elements_pieces, links_pieces, arms_pieces, otherwise_pieces}
-use Rattle.cy_grammar.specs.Words.{lowered, number_limit, product_operator, sum_operator, comparator_of}
+use Rattle.cy_grammar.specs.Words.{lowered, product_operator, sum_operator, comparator_of}
+use Rattle.cy_lexer.specs.Numbers.{greatest_number}
 use Rattle.cy_grammar.specs.Spells as spell
 use Rattle.cy_grammar.specs.Spells.{Spells, SpellsAll, SpellsLabels, SpellsLinks, SpellsArms, SpellsOtherwise, Level, whole, exclusion, conjunction, negation, comparisons, predicate, sum, product, signed, postfix, owner, head, IsSymbol, IsKeyword}
 use Rattle.cy_grammar.specs.internal.WellFormed.{IsNamed, IsVariable, Every, Several, IsWellFormed, AreWellFormed, LinksAreWellFormed, ArmsAreWellFormed, OtherwiseIsWellFormed}
@@ -187,7 +188,7 @@ module _ (line : List ℕ) where
   ArmsSpelt n no_arms ts rest = Unit {0}
   ArmsSpelt n (arm a b arms) ts rest = SpellsArms line n (arm a b arms) ts rest
 
-  shown_negative : (i : ℕ) → i < number_limit → (n : ℕ) (ts rest : List Token) → Shown line (expression_pieces (integer (negsuc i))) ts rest →
+  shown_negative : (i : ℕ) → i < greatest_number → (n : ℕ) (ts rest : List Token) → Shown line (expression_pieces (integer (negsuc i))) ts rest →
       Spells line (suc n) signed (integer (negsuc i)) ts rest
   shown_negative i small n ts rest s =
       at_symbol line (λ us. Spells line (suc n) signed (integer (negsuc i)) us rest) sign.Minus (shown_word (words.number (suc i)) ∷ []) ts rest s (λ minus mid is after.

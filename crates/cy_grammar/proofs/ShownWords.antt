@@ -26,7 +26,7 @@ use Rattle.cy_trees.specs.declared.clauses.Direction.{Direction}
 use Rattle.cy_trees.specs.declared.clauses.Direction.TheVariants as direction
 use Rattle.cy_trees.specs.declared.clauses.Length.{Length}
 use Rattle.cy_trees.specs.Trees.{Name, Expression, null, boolean, integer, text, variable, property, has_labels, unary, binary, comparison, list, case, call, call_star, Expressions, no_more, more, Links, no_links, link, Arms, no_arms, arm, Otherwise, nothing, otherwise, MapEntry, NodePattern, RelationshipPattern, Step, Path, Item, Key, Projection, SetItem, set_property, set_labels, RemoveItem, remove_property, remove_labels, Clause, «match», unwind, «with», «return», create, set, remove, delete, Statement}
-use Rattle.cy_trees.specs.Show.{Piece, says, mark, named, spelt, bracketed, each_after, separated, comma, list_pieces, binary_pieces, comparator_symbol, unary_pieces, label_pieces, is_literal_or_list, owner_pieces, distinct_pieces, expression_pieces, elements_pieces, further_pieces, links_pieces, arms_pieces, otherwise_pieces, entry_pieces, map_pieces, variable_pieces, node_pieces, type_pieces, bound_pieces, length_pieces, tail_pieces, head_pieces, relationship_pieces, step_pieces, path_pieces, paths_pieces, filter_pieces, item_pieces, descending_pieces, key_pieces, order_pieces, count_pieces, projection_pieces, set_item_pieces, remove_item_pieces, optional_pieces, detach_pieces, clause_pieces, statement_pieces, text_of, show}
+use Rattle.cy_trees.specs.Show.{Piece, says, mark, named, spelt, bracketed, each_after, separated, comma, list_pieces, binary_pieces, comparator_symbol, unary_pieces, label_pieces, is_literal_or_list, owner_pieces, distinct_pieces, expression_pieces, elements_pieces, further_pieces, links_pieces, arms_pieces, otherwise_pieces, entry_pieces, map_pieces, variable_pieces, node_pieces, type_pieces, bound_pieces, length_pieces, tail_pieces, head_pieces, relationship_pieces, step_pieces, path_pieces, paths_pieces, filter_pieces, item_pieces, descending_pieces, key_pieces, order_pieces, count_pieces, projection_pieces, set_item_pieces, remove_item_pieces, optional_pieces, detach_pieces, clause_pieces, statement_pieces, pieces_text, show}
 use Rattle.cy_trees.specs.internal.PieceWords.{words_of}
 use Rattle.cy_trees.specs.Show as piece
 use Rattle.cy_grammar.specs.SpellsClauses.{greatest_bound, Stage, stage_after, reading}
@@ -384,24 +384,24 @@ clauses-stand s (c ∷ cs) are = runs-stands (both (clause-runs c are.1) (clause
 
 -- The tokens of the text of pieces are the words of the pieces, one for each, in order: with the spaces after them, without,
 -- and as tokens that have places in the line.
-pub pieces-are_read : (ps : List Piece) → stands free ps ≡ true → length (text_of ps) ≤ longest_line →
-    (us : List Token) × (tokens_of (text_of ps) ≡ Ok us) × AreTokensOf (text_of ps) us (spaced ps) × AreTokens (text_of ps) us (words_of ps) ×
-    Stands (text_of ps) (words_of ps) us []
+pub pieces-are_read : (ps : List Piece) → stands free ps ≡ true → length (pieces_text ps) ≤ longest_line →
+    (us : List Token) × (tokens_of (pieces_text ps) ≡ Ok us) × AreTokensOf (pieces_text ps) us (spaced ps) × AreTokens (pieces_text ps) us (words_of ps) ×
+    Stands (pieces_text ps) (words_of ps) us []
 pieces-are_read ps h short =
     let ws = spaced ps in
     let us = tokens_at 0 ws in
     let line = encode_utf8_all (written ws) in
-    let same : line ≡ text_of ps = ap (λ (f : Bool). space f ++ line) (sym (free_first ps h)) ∙ spaced-text free ps h in
+    let same : line ≡ pieces_text ps = ap (λ (f : Bool). space f ++ line) (sym (free_first ps h)) ∙ spaced-text free ps h in
     let are = spaced-are_words free ps h in
     let fits = subst (λ (x : List ℕ). length x ≤ longest_line) (sym same) short in
-    let of : AreTokensOf (text_of ps) us ws = subst (λ (x : List ℕ). AreTokensOf x us ws) same (AreTokensOf-words ws) in
-    let all : AreTokens (text_of ps) us (words_of ps) = subst (λ (vs : List Word). AreTokens (text_of ps) us vs) (spaced-words ps) (unspaced (text_of ps) us ws of) in
-    let spans : AreSpansOf (text_of ps) 0 us (length (text_of ps)) = subst (λ (x : List ℕ). AreSpansOf x 0 us (length x)) same (words-have_spans ws are) in (
+    let of : AreTokensOf (pieces_text ps) us ws = subst (λ (x : List ℕ). AreTokensOf x us ws) same (AreTokensOf-words ws) in
+    let all : AreTokens (pieces_text ps) us (words_of ps) = subst (λ (vs : List Word). AreTokens (pieces_text ps) us vs) (spaced-words ps) (unspaced (pieces_text ps) us ws of) in
+    let spans : AreSpansOf (pieces_text ps) 0 us (length (pieces_text ps)) = subst (λ (x : List ℕ). AreSpansOf x 0 us (length x)) same (words-have_spans ws are) in (
       us,
       subst (λ (x : List ℕ). tokens_of x ≡ Ok us) same (tokens_of-words ws are fits),
       of,
       all,
-      words-stand (text_of ps) us (words_of ps) 0 (length (text_of ps)) all spans,
+      words-stand (pieces_text ps) us (words_of ps) 0 (length (pieces_text ps)) all spans,
     )
 
 -- what a tree's text is read as

@@ -2,8 +2,8 @@
 use Rattle.std.proofs.Common.{◌≡◌, ℕ, zero, suc, ◌≤◌, Bool, true, false, IsTrue, List, [], ◌∷◌, ◌++◌, length, Option, Some, None, refl, sym, ap, ◌∙◌, subst, append_assoc, append-nil, arith, nat_lt, nat_le, pos, if◌then◌else◌}
 use Rattle.std.proofs.lemmas.Bool.Decides.{nat_tests}
 use Rattle.cy_lexer.specs.declared.tokens.Token.{Token}
-use Rattle.cy_lexer.specs.declared.tokens.Kind.{Kind}
-use Rattle.cy_lexer.specs.declared.tokens.Kind.TheVariants as kind
+use Rattle.cy_lexer.specs.declared.tokens.TokenKind.{TokenKind}
+use Rattle.cy_lexer.specs.declared.tokens.TokenKind.TheVariants as kind
 use Rattle.cy_lexer.specs.declared.keywords.Keyword.TheVariants as word
 use Rattle.cy_lexer.specs.declared.symbols.Symbol.TheVariants as sign
 use Rattle.cy_trees.specs.declared.expressions.UnaryOperator.TheVariants as unary_operator
@@ -15,7 +15,8 @@ use Rattle.cy_grammar.specs.declared.places.Nested.TheVariants as nested
 use Rattle.cy_trees.specs.Trees.{Name, Expression, list, no_more, call, call_star, variable, property, has_labels, unary, binary, boolean, integer, null, text, comparison, nothing, otherwise, case}
 use Rattle.cy_trees.specs.Depth.{depth, greatest_depth}
 use Rattle.cy_trees.specs.Views.{expressions_from, arms_from, links_from}
-use Rattle.cy_grammar.specs.Words.{is_word, is_name, denotes, lowered, number_limit, negated, product_operator, sum_operator, comparator_of}
+use Rattle.cy_grammar.specs.Words.{is_word, is_name, denotes, lowered, negated, product_operator, sum_operator, comparator_of}
+use Rattle.cy_lexer.specs.Numbers.{greatest_number}
 use Rattle.cy_grammar.specs.internal.Chains.{conjunction_operator, exclusion_operator, disjunction_operator}
 use Rattle.cy_grammar.specs.internal.Reader.{Reader, and_then, checked, skip, at_kind, ◌>>◌, pure, refuse, ◌>>=◌, ◌<$>◌, kind_ahead, past}
 use Rattle.cy_grammar.specs.internal.Expressions.{bracketed, listed, elements, elements_from, labels, labels_from, arguments, called, named, arms, arms_read, else_read, cases, properties, properties_from, labelled as labelled_read, attributes, literal, literal_by, counted, quoted, postfix as postfix_read, postfix_by, minus as minus_read, minus_by, plus as plus_read, chain, chain_from, signed as signed_read, product as product_read, sum as sum_read, null_test, tested, predicate_by, begins_predicate, predicate_step, predicates_from, predicate as predicate_read, links_read, links, compared, comparisons as comparisons_read, negation as negation_read, conjunction as conjunction_read, exclusion as exclusion_read, disjunction, level, nesting, expression, opened}
@@ -316,7 +317,7 @@ module _ (line : List ℕ) (n : ℕ) (inner : Nested → Reader Expression)
       let same : t.kind ≡ kind.Text = cc in
       record { spells = text_ n t ts same; shallow = omega arith })
 
-  literal-at : (ts : List Token) (k : Option Kind) → kind_ahead ts ≡ k → Gives (literal_by line k ts) (Spelt line (suc n) postfix ts)
+  literal-at : (ts : List Token) (k : Option TokenKind) → kind_ahead ts ≡ k → Gives (literal_by line k ts) (Spelt line (suc n) postfix ts)
   unfolding counted
   literal-at ts (Some (kind.Keyword word.True)) e = bind_skip _ ts (answer _ _ _ (
       let x = ahead ts (kind.Keyword word.True) e in
@@ -327,9 +328,9 @@ module _ (line : List ℕ) (n : ℕ) (inner : Nested → Reader Expression)
   literal-at ts (Some (kind.Keyword word.Null)) e = bind_skip _ ts (answer _ _ _ (
       let x = ahead ts (kind.Keyword word.Null) e in
       record { spells = subst (λ z. Spells line (suc n) postfix null z (past ts)) (sym x.1) (null_ n x.0 (past ts) x.2); shallow = omega arith }))
-  literal-at ts (Some (kind.Number m)) e = bind_skip _ ts (counted-at ts m (nat_lt m number_limit) refl e)
+  literal-at ts (Some (kind.Number m)) e = bind_skip _ ts (counted-at ts m (nat_lt m greatest_number) refl e)
     where
-      counted-at : (ts : List Token) (m : ℕ) (b : Bool) → nat_lt m number_limit ≡ b → kind_ahead ts ≡ Some (kind.Number m) →
+      counted-at : (ts : List Token) (m : ℕ) (b : Bool) → nat_lt m greatest_number ≡ b → kind_ahead ts ≡ Some (kind.Number m) →
           Gives ((if b then pure (integer (pos m)) else refuse) (past ts)) (Spelt line (suc n) postfix ts)
       counted-at ts m true h e = answer _ _ _ (
           let x = ahead ts (kind.Number m) e in
@@ -345,7 +346,7 @@ module _ (line : List ℕ) (n : ℕ) (inner : Nested → Reader Expression)
   unfolding literal
   literal-sound ts = bind_peek _ ts (literal-at ts (kind_ahead ts) refl)
 
-  postfix-at : (ts : List Token) (k : Option Kind) → kind_ahead ts ≡ k → Gives (postfix_by line n inner k ts) (Spelt line (suc n) postfix ts)
+  postfix-at : (ts : List Token) (k : Option TokenKind) → kind_ahead ts ≡ k → Gives (postfix_by line n inner k ts) (Spelt line (suc n) postfix ts)
   postfix-at ts (Some kind.Name) e = bind (named-sound ts) (λ x mid s. attributes-sound x ts mid s)
   postfix-at ts (Some kind.QuotedName) e = bind (named-sound ts) (λ x mid s. attributes-sound x ts mid s)
   postfix-at ts (Some (kind.Symbol sign.LeftParenthesis)) e = bind_skip _ ts (
@@ -369,7 +370,7 @@ module _ (line : List ℕ) (n : ℕ) (inner : Nested → Reader Expression)
 
 module _ (line : List ℕ) (n : ℕ) (inner : Nested → Reader Expression)
     (sign-sound : (ts : List Token) → Gives (inner nested.Sign ts) (Spelt line n signed ts)) where
-  abbrev at_number : Option Kind → Bool
+  abbrev at_number : Option TokenKind → Bool
   at_number (Some k) = is_number k
   at_number None = false
 
@@ -384,16 +385,16 @@ module _ (line : List ℕ) (n : ℕ) (inner : Nested → Reader Expression)
         shallow = subst (λ z. depth z ≤ greatest_depth) (sym k.0) k.2;
       }) (checked_there (unary unary_operator.Minus e) mid))
 
-  no_number : (ts : List Token) (k : Option Kind) → kind_ahead ts ≡ k → at_number k ≡ false → begins_with_number ts ≡ false
+  no_number : (ts : List Token) (k : Option TokenKind) → kind_ahead ts ≡ k → at_number k ≡ false → begins_with_number ts ≡ false
   no_number [] k e h = refl
   no_number (t ∷ ts) (Some k) e h = let same : t.kind ≡ k = cc in ap is_number same ∙ h
   no_number (t ∷ ts) None e h = cc
 
-  minus-at : (t : Token) (ts : List Token) (k : Option Kind) → IsSymbol sign.Minus t → kind_ahead ts ≡ k →
+  minus-at : (t : Token) (ts : List Token) (k : Option TokenKind) → IsSymbol sign.Minus t → kind_ahead ts ≡ k →
       Gives (minus_by line inner k ts) (Spelt line (suc n) signed (t ∷ ts))
-  minus-at t ts (Some (kind.Number m)) is e = number-at (nat_le m number_limit) refl
+  minus-at t ts (Some (kind.Number m)) is e = number-at (nat_le m greatest_number) refl
     where
-      number-at : (b : Bool) → nat_le m number_limit ≡ b →
+      number-at : (b : Bool) → nat_le m greatest_number ≡ b →
           Gives ((if b then skip >> pure (integer (negated m)) else refuse) ts) (Spelt line (suc n) signed (t ∷ ts))
       number-at true h = bind_skip _ ts (answer _ _ _ (
           let x = ahead ts (kind.Number m) e in
@@ -424,15 +425,15 @@ module _ (line : List ℕ) (n : ℕ) (inner : Nested → Reader Expression)
       }) (checked_there (unary unary_operator.Plus e) mid))
 
 -- a keyword that stands for an operator
-or_is : (k : Kind) (o : BinaryOperator) → disjunction_operator k ≡ Some o → (k ≡ kind.Keyword word.Or) × (o ≡ operator.Or)
+or_is : (k : TokenKind) (o : BinaryOperator) → disjunction_operator k ≡ Some o → (k ≡ kind.Keyword word.Or) × (o ≡ operator.Or)
 or_is (kind.Keyword word.Or) o e = (refl, cc)
 or_is _ o e = absurd cc
 
-xor_is : (k : Kind) (o : BinaryOperator) → exclusion_operator k ≡ Some o → (k ≡ kind.Keyword word.Xor) × (o ≡ operator.Xor)
+xor_is : (k : TokenKind) (o : BinaryOperator) → exclusion_operator k ≡ Some o → (k ≡ kind.Keyword word.Xor) × (o ≡ operator.Xor)
 xor_is (kind.Keyword word.Xor) o e = (refl, cc)
 xor_is _ o e = absurd cc
 
-and_is : (k : Kind) (o : BinaryOperator) → conjunction_operator k ≡ Some o → (k ≡ kind.Keyword word.And) × (o ≡ operator.And)
+and_is : (k : TokenKind) (o : BinaryOperator) → conjunction_operator k ≡ Some o → (k ≡ kind.Keyword word.And) × (o ≡ operator.And)
 and_is (kind.Keyword word.And) o e = (refl, cc)
 and_is _ o e = absurd cc
 
@@ -455,7 +456,7 @@ and_by {line} n o a b t ts mid rest s by u =
     subst (λ z. Spells line n conjunction (binary z a b) ts rest) (sym found.1) (and n a b t ts mid rest s found.0 u)
 
 -- a chain of operators of one level, from its parts
-module _ (line : List ℕ) (n : ℕ) (upper lower : Level) (operators : Kind → Option BinaryOperator) (operand : Reader Expression)
+module _ (line : List ℕ) (n : ℕ) (upper lower : Level) (operators : TokenKind → Option BinaryOperator) (operand : Reader Expression)
     (operand-sound : (ts : List Token) → Gives (operand ts) (Spelt line n lower ts))
     (one : (e : Expression) (ts rest : List Token) → Spells line n lower e ts rest → Spells line n upper e ts rest)
     (and_more : (o : BinaryOperator) (a b : Expression) (t : Token) (ts mid rest : List Token) → Spells line n upper a ts (t ∷ mid)
@@ -556,7 +557,7 @@ module _ (line : List ℕ) (n : ℕ) (inner : Nested → Reader Expression) (ins
         shallow = subst (λ z. depth z ≤ greatest_depth) (sym k.0) k.2;
       }) (checked_there (binary o left right) mid))
 
-  predicate-at : (left : Expression) (from ts : List Token) (k : Option Kind) → kind_ahead ts ≡ k → Spelt line (suc n) predicate from left ts →
+  predicate-at : (left : Expression) (from ts : List Token) (k : Option TokenKind) → kind_ahead ts ≡ k → Spelt line (suc n) predicate from left ts →
       Gives (predicate_by line n inner left k ts) (Spelt line (suc n) predicate from)
   predicate-at left from ts (Some (kind.Keyword word.Is)) e s = bind_skip _ ts (
       let x = ahead ts (kind.Keyword word.Is) e in

@@ -2,8 +2,8 @@
 use Rattle.std.proofs.Common.{◌≡◌, ℕ, zero, suc, ◌<◌, ◌-◌, inl, inr, Bool, true, false, IsTrue, List, [], ◌∷◌, ◌++◌, length, take, Option, Some, None, refl, sym, ap, ◌∙◌, subst, append_assoc, append-nil, arith, nat_lt, if◌then◌else◌}
 use Rattle.std.proofs.lemmas.Bool.Decides.{nat_tests}
 use Rattle.cy_lexer.specs.declared.tokens.Token.{Token}
-use Rattle.cy_lexer.specs.declared.tokens.Kind.{Kind}
-use Rattle.cy_lexer.specs.declared.tokens.Kind.TheVariants as kind
+use Rattle.cy_lexer.specs.declared.tokens.TokenKind.{TokenKind}
+use Rattle.cy_lexer.specs.declared.tokens.TokenKind.TheVariants as kind
 use Rattle.cy_lexer.specs.declared.keywords.Keyword.{Keyword}
 use Rattle.cy_lexer.specs.declared.keywords.Keyword.TheVariants as word
 use Rattle.cy_lexer.specs.declared.symbols.Symbol.TheVariants as sign
@@ -13,7 +13,8 @@ use Rattle.cy_grammar.specs.declared.stages.Opening.TheVariants as opening
 use Rattle.cy_grammar.specs.declared.stages.Stage.{Stage}
 use Rattle.cy_grammar.specs.declared.stages.Stage.TheVariants as stage
 use Rattle.cy_trees.specs.Trees.{Expression, Path, Projection, SetItem, set_property, RemoveItem, remove_property, Clause, «match», unwind, «with», «return», create, set, remove, delete}
-use Rattle.cy_grammar.specs.Words.{is_word, is_name, number_limit}
+use Rattle.cy_grammar.specs.Words.{is_word, is_name}
+use Rattle.cy_lexer.specs.Numbers.{greatest_number}
 use Rattle.cy_grammar.specs.internal.Reader.{at_kind, kind_ahead, past, skip, refuse, ◌>>◌, pure}
 use Rattle.cy_grammar.specs.internal.Clauses as read
 use Rattle.cy_grammar.specs.Spells.{IsSymbol}
@@ -44,14 +45,14 @@ module _ (line : List ℕ) where
       (item_as e x.0 w.0 ts rest (subst (λ z. SpellsExpression line e ts z) follows s) x.2 w.2))))
       (λ none. answer _ _ _ (
       let same : after ≡ mid = sym (c.absent none) in
-      subst (λ z. SpellsItem line (record { expression = e; column = spells.column_of line e (take (length ts - length z) ts); named = false }) ts mid) (sym same)
+      subst (λ z. SpellsItem line (record { expression = e; column = spells.column_name line e (take (length ts - length z) ts); named = false }) ts mid) (sym same)
       (item e ts mid (subst (λ z. SpellsExpression line e ts z) same s)))))
 
   item-sound : (ts : List Token) → Gives (read.item line ts) (λ i rest. SpellsItem line i ts rest)
   unfolding read.item
   item-sound ts = bind (whole-sound line ts) (λ e mid s. column-sound e ts mid s)
 
-  descends-at : (e : Expression) (ts mid : List Token) (k : Option Kind) → kind_ahead mid ≡ k → SpellsExpression line e ts mid →
+  descends-at : (e : Expression) (ts mid : List Token) (k : Option TokenKind) → kind_ahead mid ≡ k → SpellsExpression line e ts mid →
       Gives (read.descends k mid) (λ down rest. SpellsKey line (record { expression = e; descending = down }) ts rest)
   descends-at e ts mid (Some (kind.Keyword word.Asc)) h s = bind_skip _ mid (answer _ _ _ (
       let x = ahead mid (kind.Keyword word.Asc) h in asc e x.0 ts (past mid) (subst (λ z. SpellsExpression line e ts z) x.1 s) (inl x.2)))
@@ -77,12 +78,12 @@ module _ (line : List ℕ) where
       subst (λ z. SpellsOrderIfAny line ks z rest) (sym begins) (order_by ks x.0 b.0 mid rest x.2 b.2 s))) (separated-sound (read.key line) (SpellsKey line) key-sound mid)))
       (λ none. answer _ _ _ (subst (λ z. SpellsOrderIfAny line [] z after) (c.absent none) (no_order after))))
 
-  count-at : (ts : List Token) (k : Option Kind) → kind_ahead ts ≡ k →
-      Gives (read.count_by k ts) (λ n rest. (t : Token) × (ts ≡ t ∷ rest) × (t.kind ≡ kind.Number n) × (n < number_limit))
-  count-at ts (Some (kind.Number n)) e = counted (nat_lt n number_limit) refl
+  count-at : (ts : List Token) (k : Option TokenKind) → kind_ahead ts ≡ k →
+      Gives (read.count_by k ts) (λ n rest. (t : Token) × (ts ≡ t ∷ rest) × (t.kind ≡ kind.Number n) × (n < greatest_number))
+  count-at ts (Some (kind.Number n)) e = counted (nat_lt n greatest_number) refl
     where
-      counted : (b : Bool) → nat_lt n number_limit ≡ b →
-          Gives ((if b then skip >> pure n else refuse) ts) (λ n rest. (t : Token) × (ts ≡ t ∷ rest) × (t.kind ≡ kind.Number n) × (n < number_limit))
+      counted : (b : Bool) → nat_lt n greatest_number ≡ b →
+          Gives ((if b then skip >> pure n else refuse) ts) (λ n rest. (t : Token) × (ts ≡ t ∷ rest) × (t.kind ≡ kind.Number n) × (n < greatest_number))
       counted true h = bind_skip _ ts (answer _ _ _ (let x = ahead ts (kind.Number n) e in (x.0, x.1, x.2, grind (arith, nat_tests))))
       counted false h = refused _
   count-at ts _ e = refused _
@@ -173,7 +174,7 @@ module _ (line : List ℕ) where
   first_word opening.Delete = word.Delete
   first_word opening.Detach = word.Detach
 
-  opening_is : (k : Kind) (o : Opening) → read.opening_of k ≡ Some o → k ≡ kind.Keyword (first_word o)
+  opening_is : (k : TokenKind) (o : Opening) → read.opening_of k ≡ Some o → k ≡ kind.Keyword (first_word o)
   opening_is (kind.Keyword word.Match) o e = let same : opening.Match ≡ o = cc in ap (λ x. kind.Keyword (first_word x)) same
   opening_is (kind.Keyword word.Optional) o e = let same : opening.Optional ≡ o = cc in ap (λ x. kind.Keyword (first_word x)) same
   opening_is (kind.Keyword word.Unwind) o e = let same : opening.Unwind ≡ o = cc in ap (λ x. kind.Keyword (first_word x)) same

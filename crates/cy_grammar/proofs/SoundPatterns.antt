@@ -2,15 +2,16 @@
 use Rattle.std.proofs.Common.{◌≡◌, ℕ, zero, suc, ◌≤◌, Bool, true, false, IsTrue, List, [], ◌∷◌, ◌++◌, length, Option, Some, None, refl, sym, ap, ◌∙◌, subst, append_assoc, append-nil, arith, nat_lt, nat_le, if◌then◌else◌, ◌&&◌}
 use Rattle.std.proofs.lemmas.Bool.Decides.{nat_tests}
 use Rattle.cy_lexer.specs.declared.tokens.Token.{Token}
-use Rattle.cy_lexer.specs.declared.tokens.Kind.{Kind}
-use Rattle.cy_lexer.specs.declared.tokens.Kind.TheVariants as kind
+use Rattle.cy_lexer.specs.declared.tokens.TokenKind.{TokenKind}
+use Rattle.cy_lexer.specs.declared.tokens.TokenKind.TheVariants as kind
 use Rattle.cy_lexer.specs.declared.symbols.Symbol.{Symbol}
 use Rattle.cy_lexer.specs.declared.symbols.Symbol.TheVariants as sign
 use Rattle.cy_trees.specs.declared.clauses.Direction.{Direction}
 use Rattle.cy_trees.specs.declared.clauses.Direction.TheVariants as direction
 use Rattle.cy_trees.specs.declared.clauses.Length.{Length}
 use Rattle.cy_trees.specs.Trees.{Name, Step}
-use Rattle.cy_grammar.specs.Words.{is_word, is_name, denotes, number_limit}
+use Rattle.cy_grammar.specs.Words.{is_word, is_name, denotes}
+use Rattle.cy_lexer.specs.Numbers.{greatest_number}
 use Rattle.cy_grammar.specs.internal.Reader.{Reader, kind_ahead, past, skip, refuse, ◌>>◌, ◌<$>◌, pure}
 use Rattle.cy_grammar.specs.internal.Expressions.{expression}
 use Rattle.cy_grammar.specs.internal.Clauses as read
@@ -56,7 +57,7 @@ module _ (line : List ℕ) where
   some_variable : (ts : List Token) → Gives ((Some <$> read.variable_read line) ts) (λ v rest. SpellsVariableIfAny line v ts rest)
   some_variable ts = bind (variable-sound ts) (λ v rest s. answer _ _ _ (a_variable v ts rest s))
 
-  variable-at : (ts : List Token) (k : Option Kind) → Gives (read.variable_by line k ts) (λ v rest. SpellsVariableIfAny line v ts rest)
+  variable-at : (ts : List Token) (k : Option TokenKind) → Gives (read.variable_by line k ts) (λ v rest. SpellsVariableIfAny line v ts rest)
   variable-at ts (Some kind.Name) = some_variable ts
   variable-at ts (Some kind.QuotedName) = some_variable ts
   variable-at ts _ = answer _ _ _ (no_variable ts)
@@ -169,8 +170,8 @@ data SpellsNumberIfAny : Option ℕ → List Token → List Token → Type 0 whe
   no_number : (ts : List Token) → SpellsNumberIfAny None ts ts
   a_number : (n : ℕ) (t : Token) (rest : List Token) → t.kind ≡ kind.Number n → SpellsNumberIfAny (Some n) (t ∷ rest) rest
 
-number-at : (ts : List Token) (k : Option Kind) → kind_ahead ts ≡ k → Gives (read.number_by k ts) (λ n rest. SpellsNumberIfAny n ts rest)
-number-at ts (Some (kind.Number n)) e = number-if (nat_lt n number_limit)
+number-at : (ts : List Token) (k : Option TokenKind) → kind_ahead ts ≡ k → Gives (read.number_by k ts) (λ n rest. SpellsNumberIfAny n ts rest)
+number-at ts (Some (kind.Number n)) e = number-if (nat_lt n greatest_number)
   where
     number-if : (b : Bool) → Gives ((if b then skip >> pure (Some n) else refuse) ts) (λ n rest. SpellsNumberIfAny n ts rest)
     number-if true = bind_skip _ ts (answer _ _ _ (

@@ -3,7 +3,7 @@ use Rattle.std.proofs.Common.{◌≡◌, ℕ, ◌≤◌, Bool, true, false, IsTr
 use Rattle.std.proofs.lemmas.Bool.Decides.{nat_tests}
 use Rattle.cy_lexer.specs.declared.keywords.Keyword.{Keyword}
 use Rattle.cy_lexer.specs.declared.symbols.Symbol.{Symbol}
-use Rattle.cy_lexer.specs.declared.tokens.Kind.{Kind}
+use Rattle.cy_lexer.specs.declared.tokens.TokenKind.{TokenKind}
 use Rattle.cy_lexer.specs.declared.tokens.Token.{Token}
 use Rattle.cy_lexer.specs.contracts.keywords.Keyword as keyword_type
 use Rattle.cy_lexer.specs.contracts.symbols.Symbol as symbol_type
@@ -20,7 +20,7 @@ pub after : {A B : Type 0} {o : Outcome A} (f : A → Reader B) {a : A} {mid : L
 unfolding and_then
 after f first second = ap (λ z. and_then z f) first ∙ second
 
-pub after_peek : {B : Type 0} (f : Option Kind → Reader B) (ts : List Token) → and_then (peek ts) f ≡ f (kind_ahead ts) ts
+pub after_peek : {B : Type 0} (f : Option TokenKind → Reader B) (ts : List Token) → and_then (peek ts) f ≡ f (kind_ahead ts) ts
 unfolding and_then
 after_peek f ts = refl
 
@@ -72,7 +72,7 @@ pub expects_keyword : (k : Keyword) (t : Token) (ts : List Token) → IsKeyword 
 unfolding expect_keyword
 expects_keyword k t ts is = ap (λ b. if b then Some (tt, ts) else None) (keyword_seen k t ts is)
 
-pub takes : (test : Kind → Bool) (line : List ℕ) (t : Token) (ts : List Token) → IsTrue (test t.kind) → denoting test line (t ∷ ts) ≡ Some (denotes line t, ts)
+pub takes : (test : TokenKind → Bool) (line : List ℕ) (t : Token) (ts : List Token) → IsTrue (test t.kind) → denoting test line (t ∷ ts) ≡ Some (denotes line t, ts)
 unfolding denoting
 takes test line t ts is = ap (λ b. if b then Some (denotes line t, ts) else None) is
 

@@ -10,13 +10,14 @@ use Rattle.std.proofs.lemmas.Str.{encode_ascii}
 use Rattle.std.proofs.lemmas.List.{map-append}
 use lib.Utf8.{scalar, encode, next, low_scalar}
 use Rattle.cy_lexer.specs.declared.tokens.Token.{Token}
-use Rattle.cy_lexer.specs.declared.tokens.Kind.{Kind}
-use Rattle.cy_lexer.specs.declared.tokens.Kind.TheVariants as kind
+use Rattle.cy_lexer.specs.declared.tokens.TokenKind.{TokenKind}
+use Rattle.cy_lexer.specs.declared.tokens.TokenKind.TheVariants as kind
 use Rattle.cy_lexer.specs.Spans.{slice_of}
 use Rattle.cy_lexer.specs.Tokens.{tokens_of, denoted}
 use Rattle.cy_lexer.proofs.LexedLemmas.{IsLexed, IsMeant, IsMeant-some, tokens_of-lexed, Every-back}
 use Rattle.cy_trees.specs.Trees.{Name, Expression, Expressions, no_more, more, call, integer, Links, no_links, link, comparison, Arms, arm, no_arms, Otherwise, case}
-use Rattle.cy_grammar.specs.Words.{is_word, is_name, denotes, lowered, number_limit, negated}
+use Rattle.cy_grammar.specs.Words.{is_word, is_name, denotes, lowered, negated}
+use Rattle.cy_lexer.specs.Numbers.{greatest_number}
 use Rattle.cy_grammar.specs.Spells as spell
 use Rattle.cy_grammar.specs.Spells.{Spells, SpellsAll, SpellsLabels, SpellsLinks, SpellsArms, SpellsOtherwise, Level}
 use Rattle.cy_grammar.specs.internal.WellFormed.{IsNamed, IsText, IsFunction, Every, Several, IsWellFormed, AreWellFormed, LinksAreWellFormed, ArmsAreWellFormed, OtherwiseIsWellFormed}
@@ -134,11 +135,11 @@ case_well : (arms : Arms) (o : Otherwise) → SomeArms arms → OtherwiseIsWellF
 case_well no_arms o w last_ = absurd w
 case_well (arm a b arms) o w last_ = (w.0, w.1, w.2, last_)
 
-negated_well : (m : ℕ) → m ≤ number_limit → IsWellFormed (integer (negated m))
+negated_well : (m : ℕ) → m ≤ greatest_number → IsWellFormed (integer (negated m))
 negated_well zero small = omega arith
 negated_well (suc m) small = omega (arith, small)
 
-no_text_word : (k : Kind) → is_word k ≡ true → k ≡ kind.Text → ⊥
+no_text_word : (k : TokenKind) → is_word k ≡ true → k ≡ kind.Text → ⊥
 no_text_word kind.Text is same = absurd (let x : false ≡ true = is in cc)
 no_text_word kind.Name is same = absurd cc
 no_text_word kind.QuotedName is same = absurd cc
@@ -146,7 +147,7 @@ no_text_word (kind.Keyword w) is same = absurd cc
 no_text_word (kind.Number n) is same = absurd cc
 no_text_word (kind.Symbol s) is same = absurd cc
 
-pub name_is_word : (k : Kind) → is_name k ≡ true → is_word k ≡ true
+pub name_is_word : (k : TokenKind) → is_name k ≡ true → is_word k ≡ true
 name_is_word kind.Name is = refl
 name_is_word kind.QuotedName is = refl
 name_is_word _ is = cc

@@ -166,7 +166,7 @@ module _ (line : List ℕ) (utf8 : IsUtf8 line) where
   by_length zero ts p some few = absurd (omega (arith, some))
   by_length (suc k) ts p some few = written_named k ts p few
 
-  column_named : (e : Expression) (own : List Token) → IsWhole e → IsNamed (written line own) → IsNamed (spell.column_of line e own)
+  column_named : (e : Expression) (own : List Token) → IsWhole e → IsNamed (written line own) → IsNamed (spell.column_name line e own)
   column_named (variable v) own w n = w.0.0
   column_named _ own w n = n
 

@@ -4,8 +4,8 @@
 -- than the brackets, lists, calls, CASE, NOT and signs that may still open: what opens one leaves one less to what stands
 -- inside, and at 0 nothing is spelt, no leaf either. Each rule is one production. `line` has the tokens' texts.
 use Rattle.std.specs.Prelude.{◌≡◌, ℕ, suc, pos, ◌<◌, ◌≤◌, true, false, IsTrue, List, [], ◌∷◌, Some, None, Bool}
-use Rattle.cy_lexer.specs.declared.tokens.Kind.{Kind}
-use Rattle.cy_lexer.specs.declared.tokens.Kind.TheVariants as kind
+use Rattle.cy_lexer.specs.declared.tokens.TokenKind.{TokenKind}
+use Rattle.cy_lexer.specs.declared.tokens.TokenKind.TheVariants as kind
 use Rattle.cy_lexer.specs.declared.tokens.Token.{Token}
 use Rattle.cy_lexer.specs.declared.keywords.Keyword.{Keyword}
 use Rattle.cy_lexer.specs.declared.keywords.Keyword.TheVariants as word
@@ -16,7 +16,8 @@ use Rattle.cy_trees.specs.declared.expressions.BinaryOperator.{BinaryOperator}
 use Rattle.cy_trees.specs.declared.expressions.BinaryOperator.TheVariants as operator
 use Rattle.cy_trees.specs.declared.expressions.Comparator.{Comparator}
 use Rattle.cy_trees.specs.Trees.{Name, Expression, null, boolean, integer, text, variable, property, has_labels, unary, binary, comparison, list, case, call, call_star, Expressions, no_more, more, Links, no_links, link, Arms, no_arms, arm, Otherwise, nothing, otherwise}
-use Rattle.cy_grammar.specs.Words.{is_name, is_word, lowered, denotes, negated, number_limit, comparator_of, sum_operator, product_operator}
+use Rattle.cy_grammar.specs.Words.{is_name, is_word, lowered, denotes, negated, comparator_of, sum_operator, product_operator}
+use Rattle.cy_lexer.specs.Numbers.{greatest_number}
 
 abbrev pub IsKeyword : Keyword → Token → Type 0
 IsKeyword k t = t.kind ≡ kind.Keyword k
@@ -27,7 +28,7 @@ IsSymbol s t = t.kind ≡ kind.Symbol s
 abbrev pub IsNumber : ℕ → Token → Type 0
 IsNumber n t = t.kind ≡ kind.Number n
 
-abbrev pub is_number : Kind → Bool
+abbrev pub is_number : TokenKind → Bool
 is_number (kind.Number n) = true
 is_number _ = false
 
@@ -126,7 +127,7 @@ mutual
     is_postfix : (n : ℕ) (e : Expression) (ts rest : List Token)
         → Spells line n postfix e ts rest → Spells line n signed e ts rest
     negative : (n m : ℕ) (minus number : Token) (rest : List Token)
-        → IsSymbol sign.Minus minus → IsNumber m number → m ≤ number_limit
+        → IsSymbol sign.Minus minus → IsNumber m number → m ≤ greatest_number
         → Spells line (suc n) signed (integer (negated m)) (minus ∷ number ∷ rest) rest
     minus : (n : ℕ) (e : Expression) (t : Token) (ts rest : List Token)
         → IsSymbol sign.Minus t → begins_with_number ts ≡ false → Spells line n signed e ts rest
@@ -148,7 +149,7 @@ mutual
     true_ : (n : ℕ) (t : Token) (rest : List Token) → IsKeyword word.True t → Spells line (suc n) postfix (boolean true) (t ∷ rest) rest
     false_ : (n : ℕ) (t : Token) (rest : List Token) → IsKeyword word.False t → Spells line (suc n) postfix (boolean false) (t ∷ rest) rest
     null_ : (n : ℕ) (t : Token) (rest : List Token) → IsKeyword word.Null t → Spells line (suc n) postfix null (t ∷ rest) rest
-    number : (n m : ℕ) (t : Token) (rest : List Token) → IsNumber m t → m < number_limit → Spells line (suc n) postfix (integer (pos m)) (t ∷ rest) rest
+    number : (n m : ℕ) (t : Token) (rest : List Token) → IsNumber m t → m < greatest_number → Spells line (suc n) postfix (integer (pos m)) (t ∷ rest) rest
     text_ : (n : ℕ) (t : Token) (rest : List Token) → t.kind ≡ kind.Text → Spells line (suc n) postfix (text (denotes line t)) (t ∷ rest) rest
     -- list = "[" [ expr { "," expr } ] "]", whose bracket is a level, also where nothing stands inside
     empty_list : (n : ℕ) (opening closing : Token) (rest : List Token)

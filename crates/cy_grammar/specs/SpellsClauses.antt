@@ -12,7 +12,8 @@ use Rattle.cy_trees.specs.declared.clauses.Direction.TheVariants as direction
 use Rattle.cy_trees.specs.declared.clauses.Length.{Length}
 use Rattle.cy_trees.specs.Trees.{Name, Expression, variable as variable_tree, MapEntry, NodePattern, RelationshipPattern, Step, Path, Item, Key, Projection, SetItem, set_property, set_labels, RemoveItem, remove_property, remove_labels, Clause, «match», unwind, «with», «return», create, set, remove, delete, Statement}
 use Rattle.cy_trees.specs.Depth.{depth, greatest_depth}
-use Rattle.cy_grammar.specs.Words.{is_name, is_word, denotes, number_limit, written}
+use Rattle.cy_grammar.specs.Words.{is_name, is_word, denotes, written}
+use Rattle.cy_lexer.specs.Numbers.{greatest_number}
 use Rattle.cy_grammar.specs.Spells.{Spells, whole, SpellsLabels, IsKeyword, IsSymbol, IsNumber}
 
 -- trees with a `,` between, one or more
@@ -143,9 +144,9 @@ module _ (line : List ℕ) where
         → SpellsPath (record { start = n; steps = more }) ts rest
 
   -- the column of an item without AS, which these tokens spell
-  abbrev pub column_of : Expression → List Token → Name
-  column_of (variable_tree v) own = v.name
-  column_of _ own = written line own
+  abbrev pub column_name : Expression → List Token → Name
+  column_name (variable_tree v) own = v.name
+  column_name _ own = written line own
 
   -- where = "WHERE" expr
   pub data SpellsFilterIfAny : Option Expression → List Token → List Token → Type 0 where
@@ -159,7 +160,7 @@ module _ (line : List ℕ) where
         → IsKeyword word.As as_ → IsTrue (is_name column.kind)
         → SpellsItem (record { expression = e; column = denotes line column; named = true }) ts rest
     item : (e : Expression) (ts rest : List Token) → SpellsExpression line e ts rest
-        → SpellsItem (record { expression = e; column = column_of e (take (length ts - length rest) ts); named = false }) ts rest
+        → SpellsItem (record { expression = e; column = column_name e (take (length ts - length rest) ts); named = false }) ts rest
 
   -- key = expr [ "ASC" | "ASCENDING" | "DESC" | "DESCENDING" ]
   pub data SpellsKey : Key → List Token → List Token → Type 0 where
@@ -178,7 +179,7 @@ module _ (line : List ℕ) where
   -- [ "SKIP" int ], [ "LIMIT" int ]
   pub data SpellsCountIfAny (k : Keyword) : Option ℕ → List Token → List Token → Type 0 where
     no_count : (ts : List Token) → SpellsCountIfAny k None ts ts
-    a_count : (n : ℕ) (t number : Token) (rest : List Token) → IsKeyword k t → IsNumber n number → n < number_limit
+    a_count : (n : ℕ) (t number : Token) (rest : List Token) → IsKeyword k t → IsNumber n number → n < greatest_number
         → SpellsCountIfAny k (Some n) (t ∷ number ∷ rest) rest
 
   pub data SpellsDistinct : Bool → List Token → List Token → Type 0 where

@@ -1,8 +1,8 @@
 -- What single tokens of a line stand for (openCypher 9, grammar, narrowed to this profile). The line is its bytes.
 use Rattle.std.specs.Prelude.{ℕ, zero, suc, ℤ, pos, negsuc, Bool, true, false, not, ◌&&◌, ◌||◌, if◌then◌else◌, nat_lt, nat_le, ◌-◌, List, [], length, map, slice_index, slice_get, Option, Some, None, chars, encode_utf8_all}
 use Rattle.std.specs.Char.{to_ascii_lowercase}
-use Rattle.cy_lexer.specs.declared.tokens.Kind.{Kind}
-use Rattle.cy_lexer.specs.declared.tokens.Kind.TheVariants as kind
+use Rattle.cy_lexer.specs.declared.tokens.TokenKind.{TokenKind}
+use Rattle.cy_lexer.specs.declared.tokens.TokenKind.TheVariants as kind
 use Rattle.cy_lexer.specs.declared.tokens.Token.{Token}
 use Rattle.cy_lexer.specs.declared.symbols.Symbol.TheVariants as sign
 use Rattle.cy_lexer.specs.Spans.{slice_of}
@@ -28,13 +28,13 @@ unfoldable pub denotes : List ℕ → Token → Name
 denotes line t = if is_within line t then encode_utf8_all (denoted t.kind (chars (slice_of line t))) else []
 
 -- a name that is no keyword, or a quoted name
-abbrev pub is_name : Kind → Bool
+abbrev pub is_name : TokenKind → Bool
 is_name kind.Name = true
 is_name kind.QuotedName = true
 is_name _ = false
 
 -- any name, keywords too
-abbrev pub is_word : Kind → Bool
+abbrev pub is_word : TokenKind → Bool
 is_word (kind.Keyword k) = true
 is_word k = is_name k
 
@@ -47,11 +47,7 @@ abbrev pub negated : ℕ → ℤ
 negated zero = pos 0
 negated (suc n) = negsuc n
 
--- the first number that no literal without a `-` stands for (own: integers have 64 bits)
-abbrev pub number_limit : ℕ
-number_limit = 9223372036854775808
-
-abbrev pub comparator_of : Kind → Option Comparator
+abbrev pub comparator_of : TokenKind → Option Comparator
 comparator_of (kind.Symbol sign.Equal) = Some comparator.Equal
 comparator_of (kind.Symbol sign.NotEqual) = Some comparator.NotEqual
 comparator_of (kind.Symbol sign.Less) = Some comparator.Less
@@ -60,12 +56,12 @@ comparator_of (kind.Symbol sign.Greater) = Some comparator.Greater
 comparator_of (kind.Symbol sign.GreaterOrEqual) = Some comparator.GreaterOrEqual
 comparator_of _ = None
 
-abbrev pub sum_operator : Kind → Option BinaryOperator
+abbrev pub sum_operator : TokenKind → Option BinaryOperator
 sum_operator (kind.Symbol sign.Plus) = Some operator.Add
 sum_operator (kind.Symbol sign.Minus) = Some operator.Subtract
 sum_operator _ = None
 
-abbrev pub product_operator : Kind → Option BinaryOperator
+abbrev pub product_operator : TokenKind → Option BinaryOperator
 product_operator (kind.Symbol sign.Star) = Some operator.Multiply
 product_operator (kind.Symbol sign.Slash) = Some operator.Divide
 product_operator (kind.Symbol sign.Percent) = Some operator.Remainder

@@ -3,24 +3,27 @@
 ghost use Rattle.std.specs.Prelude.{◌≡◌, ◌<◌, IfOk};
 ghost use Rattle.cy_grammar.specs.Words as spec;
 
-use cy_lexer::{Kind, Symbol, Token};
+use cy_lexer::{Symbol, Token, TokenKind};
 use cy_trees::{BinaryOperator, Comparator};
 use cy_values::{Fault, Text};
 use std::alloc::Global;
 
 /// Whether a token of this kind is a name that is no keyword, quoted or not (openCypher 9, grammar of names).
-pub fn is_name(kind: Kind) -> bool
+pub fn is_name(kind: TokenKind) -> bool
     ensures { result ≡ spec.is_name kind }
 {
-    matches!(kind, Kind::Name | Kind::QuotedName)
+    matches!(kind, TokenKind::Name | TokenKind::QuotedName)
 }
 
 /// Whether a token of this kind is a name, quoted or not, or a keyword, which may stand for a name where the grammar has a label,
 /// a type or a key (openCypher 9, grammar of names).
-pub fn is_word(kind: Kind) -> bool
+pub fn is_word(kind: TokenKind) -> bool
     ensures { result ≡ spec.is_word kind }
 {
-    matches!(kind, Kind::Name | Kind::QuotedName | Kind::Keyword(_))
+    matches!(
+        kind,
+        TokenKind::Name | TokenKind::QuotedName | TokenKind::Keyword(_)
+    )
 }
 
 /// The text that the token of the line denotes: that of a quoted name and of a text without their quotes, and any other token as
@@ -36,39 +39,39 @@ pub fn denoted_text(alloc: Global, line: &str, token: &Token) -> Result<Text, Fa
 }
 
 /// The comparator that a token of this kind is, if it is one (openCypher 9, grammar of comparisons).
-pub fn comparator_of(kind: Kind) -> Option<Comparator>
+pub fn comparator_of(kind: TokenKind) -> Option<Comparator>
     ensures { result ≡ spec.comparator_of kind }
 {
     match kind {
-        Kind::Symbol(Symbol::Equal) => Some(Comparator::Equal),
-        Kind::Symbol(Symbol::NotEqual) => Some(Comparator::NotEqual),
-        Kind::Symbol(Symbol::Less) => Some(Comparator::Less),
-        Kind::Symbol(Symbol::LessOrEqual) => Some(Comparator::LessOrEqual),
-        Kind::Symbol(Symbol::Greater) => Some(Comparator::Greater),
-        Kind::Symbol(Symbol::GreaterOrEqual) => Some(Comparator::GreaterOrEqual),
+        TokenKind::Symbol(Symbol::Equal) => Some(Comparator::Equal),
+        TokenKind::Symbol(Symbol::NotEqual) => Some(Comparator::NotEqual),
+        TokenKind::Symbol(Symbol::Less) => Some(Comparator::Less),
+        TokenKind::Symbol(Symbol::LessOrEqual) => Some(Comparator::LessOrEqual),
+        TokenKind::Symbol(Symbol::Greater) => Some(Comparator::Greater),
+        TokenKind::Symbol(Symbol::GreaterOrEqual) => Some(Comparator::GreaterOrEqual),
         _ => None,
     }
 }
 
 /// The operator between the terms of a sum that a token of this kind is, if it is one (openCypher 9, grammar of arithmetic).
-pub fn sum_operator(kind: Kind) -> Option<BinaryOperator>
+pub fn sum_operator(kind: TokenKind) -> Option<BinaryOperator>
     ensures { result ≡ spec.sum_operator kind }
 {
     match kind {
-        Kind::Symbol(Symbol::Plus) => Some(BinaryOperator::Add),
-        Kind::Symbol(Symbol::Minus) => Some(BinaryOperator::Subtract),
+        TokenKind::Symbol(Symbol::Plus) => Some(BinaryOperator::Add),
+        TokenKind::Symbol(Symbol::Minus) => Some(BinaryOperator::Subtract),
         _ => None,
     }
 }
 
 /// The operator between the factors of a product that a token of this kind is, if it is one (openCypher 9, grammar of arithmetic).
-pub fn product_operator(kind: Kind) -> Option<BinaryOperator>
+pub fn product_operator(kind: TokenKind) -> Option<BinaryOperator>
     ensures { result ≡ spec.product_operator kind }
 {
     match kind {
-        Kind::Symbol(Symbol::Star) => Some(BinaryOperator::Multiply),
-        Kind::Symbol(Symbol::Slash) => Some(BinaryOperator::Divide),
-        Kind::Symbol(Symbol::Percent) => Some(BinaryOperator::Remainder),
+        TokenKind::Symbol(Symbol::Star) => Some(BinaryOperator::Multiply),
+        TokenKind::Symbol(Symbol::Slash) => Some(BinaryOperator::Divide),
+        TokenKind::Symbol(Symbol::Percent) => Some(BinaryOperator::Remainder),
         _ => None,
     }
 }

@@ -7,7 +7,7 @@ use Rattle.std.specs.Option.{option_flatten, option_map, option_map_or}
 use Rattle.std.specs.Ordering.{nat_cmp, is_eq, eq_by_cmp}
 use Rattle.std.proofs.lemmas.Bool.Decides.{nat_tests}
 use Rattle.cy_graph.specs.declared.series.Start.{Start}
-use Rattle.cy_graph.specs.internal.Differences.{IsIn, IsDifference, AreNumbersApart, AreDifferences, has_value, was_value, changed_of, was_none, added_of}
+use Rattle.cy_graph.specs.internal.Differences.{IsIn, IsDifference, AreNumbersApart, AreDifferences, has_still, was_value, changed_of, was_none, added_of}
 use Rattle.cy_graph.specs.internal.Series.{numbered_of, numbered_before, IsKeptBefore}
 use Rattle.cy_graph.specs.internal.Slots.{RiseFrom, live, value_under, slot_at, as_it_was, restored}
 use Rattle.cy_graph.specs.Model.{Numbered}
@@ -187,12 +187,12 @@ module _ {V : Type 0} where
         let none = not_in_both 1 next start.slots e.0 slots up some in
         (none, stands_added e.0 none ∙ found)
 
-    differ_kept : (e : ℕ × V) → IsIn e start.before.entries → not (has_value eq now e) ≡ true → IsDifference before now (was_value e)
+    differ_kept : (e : ℕ × V) → IsIn e start.before.entries → not (has_still eq now e) ≡ true → IsDifference before now (was_value e)
     differ_kept e i test =
         let old = stood_kept e.0 e.1 (found_distinct start.before.entries e distinct i) in (
           sym old,
           λ same.
-              let stands : has_value eq now e ≡ true = ap (λ o. option_map_or (λ n. eq n e.1) o false) (sym same ∙ old) ∙ itself e.1 in
+              let stands : has_still eq now e ≡ true = ap (λ o. option_map_or (λ n. eq n e.1) o false) (sym same ∙ old) ∙ itself e.1 in
               let no : false ≡ true = sym (ap not stands) ∙ test in
               cc,
         )
@@ -206,12 +206,12 @@ module _ {V : Type 0} where
     differ : (e : ℕ × Option V) → IsIn e (changed_of eq now start.before.entries ++ added_of added) → IsDifference before now e
     differ e i =
         elim (in_parts e (changed_of eq now start.before.entries) (added_of added) i) as (λ _. IsDifference before now e) [
-          | inl a ↦ let s = source was_value (λ x. not (has_value eq now x)) start.before.entries e a in subst (IsDifference before now) s.gives (differ_kept s.from s.there s.passes)
+          | inl a ↦ let s = source was_value (λ x. not (has_still eq now x)) start.before.entries e a in subst (IsDifference before now) s.gives (differ_kept s.from s.there s.passes)
           | inr b ↦ let s = origin was_none (λ _. true) (live added) e b in subst (IsDifference before now) s.gives (differ_added s.from s.there)
         ]
 
     -- a value that differs from what was kept is found so
-    passes : (id : ℕ) (old : V) → value_under id before.entries ≡ Some old → value_under id before.entries ≢ value_under id now.entries → not (has_value eq now (id, old)) ≡ true
+    passes : (id : ℕ) (old : V) → value_under id before.entries ≡ Some old → value_under id before.entries ≢ value_under id now.entries → not (has_still eq now (id, old)) ≡ true
     passes id old was other =
         elim (value_under id now.entries) as (λ o. value_under id now.entries ≡ o → not (option_map_or (λ n. eq n old) o false) ≡ true) [
           | None ↦ λ is. refl
@@ -227,7 +227,7 @@ module _ {V : Type 0} where
           | Some old ↦ λ is.
               let was = stood_kept id old is in
               let there = in_found id start.before.entries old is in
-              let entry = in_filtered was_value (λ x. not (has_value eq now x)) start.before.entries (id, old) there (passes id old was other) in
+              let entry = in_filtered was_value (λ x. not (has_still eq now x)) start.before.entries (id, old) there (passes id old was other) in
               in_left (id, value_under id before.entries) (changed_of eq now start.before.entries) (added_of added) (subst (λ o. IsIn (id, o) (changed_of eq now start.before.entries)) (sym was) entry)
           | None ↦ λ none. elim (slot_at id first) as (λ o. slot_at id first ≡ o → IsIn (id, value_under id before.entries) (changed_of eq now start.before.entries ++ added_of added)) [
             | Some s ↦ λ is. absurd (other (stood_alike id s none is))
@@ -245,10 +245,10 @@ module _ {V : Type 0} where
     once : AreNumbersApart (changed_of eq now start.before.entries ++ added_of added)
     once =
         apart_append (changed_of eq now start.before.entries) (added_of added)
-        (apart_kept (λ x. not (has_value eq now x)) start.before.entries distinct)
+        (apart_kept (λ x. not (has_still eq now x)) start.before.entries distinct)
         (apart_added 1 next (live added) (live_rises 1 next added (drop_rises 1 next start.slots slots up)))
         (λ x y i j same.
-        let s = source was_value (λ z. not (has_value eq now z)) start.before.entries x i in
+        let s = source was_value (λ z. not (has_still eq now z)) start.before.entries x i in
         let t = origin was_none (λ _. true) (live added) y j in
         let number = ap (λ (z : ℕ × Option V). z.0) s.gives ∙ same ∙ sym (ap (λ (z : ℕ × Option V). z.0) t.gives) in
         let there = all.held s.from.0 (ap is_some (found_distinct start.before.entries s.from distinct s.there)) in

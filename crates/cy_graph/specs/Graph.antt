@@ -1,6 +1,6 @@
 -- The graph and its content, as it is and as it was when the open change began. (Francis et al., property graphs; numbers, and one
 -- change at a time: own)
-use Rattle.std.specs.Prelude.{ℕ, ◌+◌, ◌^◌, ◌≤◌, ◌<◌, not, eqb, ◌||◌, map, filter, List, [], ◌∷◌, ◌++◌, Option, None, Some, IsSome, IsTrue}
+use Rattle.std.specs.Prelude.{ℕ, ◌+◌, ◌^◌, ◌≤◌, ◌<◌, not, eqb, ◌||◌, map, filter, List, [], ◌∷◌, ◌++◌, Option, None, Some, IsSome, IsTrue, Bool, is_some}
 use Rattle.std.specs.Option.{option_map}
 use Rattle.std.specs.List.{AllByRecursion}
 use Rattle.std.specs.declared.cmp.Ordering.{Ordering}
@@ -11,7 +11,7 @@ use Rattle.cy_values.specs.declared.numbers.RelId.{RelId}
 use Rattle.cy_values.specs.declared.numbers.Entity.{Entity}
 use Rattle.cy_values.specs.declared.numbers.Entity.TheVariants as entity
 use Rattle.cy_values.specs.declared.scalars.Value.{Value}
-use Rattle.cy_graph.specs.Maps.{rises, with_value, without}
+use Rattle.cy_graph.specs.Maps.{rises, with_value, without, value_at}
 use Rattle.cy_graph.specs.declared.nodes.Node.{Node}
 use Rattle.cy_graph.specs.declared.nodes.Rel.{Rel}
 use Rattle.cy_graph.specs.Stored.{IsStorable}
@@ -49,13 +49,28 @@ number_end = 2 ^ 40 + 1
 abbrev pub empty_state : ℕ → ℕ → State
 empty_state node rel = record { content = record { nodes = []; rels = [] }; next_node = node; next_rel = rel }
 
--- the node under a number
-abbrev pub node_at : NodeId → State → Option Node
-node_at id state = entries.find node_order id state.content.nodes
+-- the node, and the relationship, under a number
+abbrev pub node_in : Content → NodeId → Option Node
+node_in content id = entries.find node_order id content.nodes
 
--- the relationship under a number
+abbrev pub relationship_in : Content → RelId → Option Rel
+relationship_in content id = entries.find rel_order id content.rels
+
+-- whether the entity is there
+abbrev pub is_entity_in : Content → Entity → Bool
+is_entity_in content (entity.Node id) = is_some (node_in content id)
+is_entity_in content (entity.Rel id) = is_some (relationship_in content id)
+
+-- the same in a graph
+abbrev pub node_at : NodeId → State → Option Node
+node_at id state = node_in state.content id
+
 abbrev pub rel_at : RelId → State → Option Rel
-rel_at id state = entries.find rel_order id state.content.rels
+rel_at id state = relationship_in state.content id
+
+-- whether the node has the label
+abbrev pub has_label : List ℕ → Node → Bool
+has_label label node = is_some (value_at label node.labels)
 
 -- the relationships of which the node is the source, by rising number
 abbrev pub rels_from : NodeId → List (RelId × Rel) → List RelId
@@ -104,10 +119,19 @@ with_label label node = record node { labels = with_value label tt node.labels }
 abbrev pub without_label : List ℕ → Node → Node
 without_label label node = record node { labels = without label node.labels }
 
+module _ {N V : Type 0} (order : N → N → Ordering) where
+  -- the entries with this value under the number; where none is given, as they were
+  abbrev pub put_at : N → Option V → List (N × V) → List (N × V)
+  put_at id None es = es
+  put_at id (Some v) es = entries.put order id v es
+
+  -- the entries without the one under the number
+  abbrev pub without_at : N → List (N × V) → List (N × V)
+  without_at id = entries.where_key order (λ k. not (eq_by_cmp order id k))
+
 -- the nodes with this one under the number, where it has one already
 abbrev pub replaced : NodeId → Option Node → List (NodeId × Node) → List (NodeId × Node)
-replaced id None nodes = nodes
-replaced id (Some node) nodes = entries.put node_order id node nodes
+replaced = put_at node_order
 
 -- the graph with other nodes, and all else as it was
 abbrev pub with_nodes : List (NodeId × Node) → State → State
@@ -123,8 +147,7 @@ with_node_changed id change state = with_nodes (replaced id (option_map change (
 
 -- the relationships with this one under the number, where it has one already
 abbrev pub replaced_rel : RelId → Option Rel → List (RelId × Rel) → List (RelId × Rel)
-replaced_rel id None rels = rels
-replaced_rel id (Some rel) rels = entries.put rel_order id rel rels
+replaced_rel = put_at rel_order
 
 -- the graph with another relationship under the number, made of the one that is there, and all else as it was
 abbrev pub with_rel_changed : RelId → (Rel → Rel) → State → State
@@ -132,8 +155,7 @@ with_rel_changed id change state = with_rels (replaced_rel id (option_map change
 
 -- whether the entity is in the graph
 abbrev pub IsThere : Entity → State → Type 0
-IsThere (entity.Node id) state = IsSome (node_at id state)
-IsThere (entity.Rel id) state = IsSome (rel_at id state)
+IsThere entity state = IsTrue (is_entity_in state.content entity)
 
 -- the graph with the property of the entity set to the value, or with no such property where none is given, and
 -- all else as it was
@@ -143,11 +165,11 @@ with_prop (entity.Rel id) key value state = with_rel_changed id (rel_set_at key 
 
 -- the graph without the node, and all else as it was; its number stays given out
 abbrev pub without_node : NodeId → State → State
-without_node id state = with_nodes (entries.where_key node_order (λ k. not (eq_by_cmp node_order id k)) state.content.nodes) state
+without_node id state = with_nodes (without_at node_order id state.content.nodes) state
 
 -- the graph without the relationship, and all else as it was; its number stays given out
 abbrev pub without_rel : RelId → State → State
-without_rel id state = with_rels (entries.where_key rel_order (λ k. not (eq_by_cmp rel_order id k)) state.content.rels) state
+without_rel id state = with_rels (without_at rel_order id state.content.rels) state
 
 -- every number in use is at least 1 and below the next one, numbers rise, the labels and the keys of each node rise, so
 -- that each content has one form, values are such as can be stored, the ends of each relationship are nodes, and the next

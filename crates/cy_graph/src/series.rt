@@ -5,7 +5,7 @@ ghost use Rattle.std.specs.Option.{option_copied, option_map};
 ghost use Rattle.std.specs.List.{IsDistinct};
 ghost use Rattle.std.specs.Map.{keys_of};
 ghost use Rattle.cy_graph.specs.Graph.{number_end};
-ghost use Rattle.cy_graph.specs.internal.Differences.{AreDifferences, has_value, changed_of, added_of};
+ghost use Rattle.cy_graph.specs.internal.Differences.{AreDifferences, has_still, changed_of, added_of};
 ghost use Rattle.cy_graph.specs.internal.Series.{Keeps, KeepsNothing, Changes, ChangesNothing};
 ghost use Rattle.cy_graph.specs.internal.Slots.{RiseFrom, value_under, live, restored};
 ghost use Rattle.cy_graph.specs.internal.Versions.{IsNumbered, empty_from, with_last, with_edited, without_number};
@@ -309,7 +309,7 @@ impl<V: Duplicate + Eq + Drop> Series<V> {
 
     // Whether the number has this very value.
     fn has(&self, number: u64, value: &V) -> bool
-        ensures { result ≡ has_value V.eq self.now.now (number, value.now) }
+        ensures { result ≡ has_still V.eq self.now.now (number, value.now) }
     {
         self.get(number) == Some(value)
     }

@@ -17,10 +17,10 @@ use Rattle.cy_values.specs.declared.scalars.Value.TheVariants as value
 use Rattle.cy_values.specs.declared.truth.Truth.{Truth}
 use Rattle.cy_values.specs.declared.truth.Truth.TheVariants.{No, Unknown, Yes}
 use Rattle.cy_values.specs.contracts.scalars.ValuePartialEq.TheImpl as value_eq
-use Rattle.cy_values.specs.Compare.{value_in, plain_equality, all_equality, equality}
+use Rattle.cy_values.specs.Compare.{value_in, plain_equality, all_equality, equality, is_null}
 use Rattle.cy_values.specs.Truth.{both, known, is_yes}
 use Rattle.cy_graph.specs.Maps.{text_order, value_at}
-use Rattle.cy_graph.specs.Stored.{is_null, is_storable, IsStorable}
+use Rattle.cy_graph.specs.Stored.{is_storable, IsStorable}
 use Rattle.cy_graph.proofs.Same.{same_values, value_itself}
 use Rattle.cy_index.specs.internal.Under.{is_value}
 use Rattle.cy_index.proofs.Numbers.{itself}
@@ -73,7 +73,7 @@ same_elements scalar.Null (scalar.Bool _) e = cc
 same_elements scalar.Null (scalar.Int _) e = cc
 same_elements scalar.Null scalar.Null e = cc
 
-element_itself : (x : Scalar) → IsTrue (not (is_null x)) → is_yes (plain_equality (value_in x) (value_in x)) ≡ true
+element_itself : (x : Scalar) → IsTrue (not (is_null (value_in x))) → is_yes (plain_equality (value_in x) (value_in x)) ≡ true
 element_itself (scalar.Text s) some = known_yes (bytes_eq s s) ∙ (bytes_decides s s).1 refl
 element_itself (scalar.Bool false) some = refl
 element_itself (scalar.Bool true) some = refl
@@ -91,7 +91,7 @@ all_same (x ∷ xs) (y ∷ ys) long e =
     let rest = all_same xs ys shorter parts.1 in
     λ i. same_elements x y parts.0 i ∷ rest i
 
-all_itself : (xs : List Scalar) → IsTrue (list_all (λ e. not (is_null e)) xs) → is_yes (all_equality xs xs) ≡ true
+all_itself : (xs : List Scalar) → IsTrue (list_all (λ e. not (is_null (value_in e))) xs) → is_yes (all_equality xs xs) ≡ true
 all_itself [] all = refl
 all_itself (x ∷ xs) all =
     both_yes (plain_equality (value_in x) (value_in x)) (all_equality xs xs) ∙ and_from _ _ (element_itself x (and_parts _ _ all).0) (all_itself xs (and_parts _ _ all).1)

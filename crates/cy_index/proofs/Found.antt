@@ -12,10 +12,10 @@ use Rattle.std.proofs.lemmas.Option.{slice_get-get_or}
 use Rattle.cy_values.specs.declared.numbers.NodeId.{NodeId}
 use Rattle.cy_values.specs.declared.scalars.Value.{Value}
 use Rattle.cy_graph.specs.declared.nodes.Node.{Node}
-use Rattle.cy_graph.specs.Graph.{Content, State, IsGraph, node_order, node_at}
+use Rattle.cy_graph.specs.Graph.{Content, State, IsGraph, node_order, node_at, has_label}
 use Rattle.cy_graph.specs.Maps.{value_at}
 use Rattle.cy_graph.specs.Stored.{IsStorable}
-use Rattle.cy_index.specs.Index.{has_label, has_value, nodes_where, labelled_nodes, found_nodes, is_pair, has_pair}
+use Rattle.cy_index.specs.Index.{has_value, nodes_where, labelled_nodes, found_nodes, is_pair, has_pair}
 use Rattle.cy_index.specs.declared.keys.Key.TheVariants as key
 use Rattle.cy_index.specs.declared.keys.Pair.{Pair}
 use Rattle.cy_index.specs.internal.Under.{is_key_of, is_value, by_node}

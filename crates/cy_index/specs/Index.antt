@@ -1,15 +1,12 @@
 -- A store: its graph, the pairs of a label and a key that were chosen for an index, and what its look-ups find (own).
-use Rattle.std.specs.Prelude.{ℕ, Bool, false, ◌&&◌, List, map, filter, is_some}
+use Rattle.std.specs.Prelude.{ℕ, Bool, ◌&&◌, List, map, filter}
 use Rattle.std.specs.List.{list_any}
-use Rattle.std.specs.Option.{option_map_or}
 use Rattle.std.specs.Str.{bytes_eq}
 use Rattle.cy_values.specs.declared.numbers.NodeId.{NodeId}
 use Rattle.cy_values.specs.declared.scalars.Value.{Value}
-use Rattle.cy_values.specs.Compare.{equality}
-use Rattle.cy_values.specs.Truth.{is_yes}
 use Rattle.cy_graph.specs.declared.nodes.Node.{Node}
-use Rattle.cy_graph.specs.Graph.{Content, Versions}
-use Rattle.cy_graph.specs.Maps.{value_at}
+use Rattle.cy_graph.specs.Graph.{Content, Versions, has_label}
+use Rattle.cy_graph.specs.Maps.{is_value_at}
 use Rattle.cy_index.specs.declared.keys.Pair.{Pair}
 
 -- a store: the graph as it is and as it was when the open change began, and the chosen pairs in the order of choosing
@@ -22,13 +19,9 @@ pub record SightState : Type 0 where
   pub graph : Versions
   pub reads : ℕ
 
--- whether the node has the label
-abbrev pub has_label : List ℕ → Node → Bool
-has_label label node = is_some (value_at label node.labels)
-
 -- whether the property of the node at the key is equal to the value, by `=` (openCypher 9; lists: own)
 abbrev pub has_value : List ℕ → Value → Node → Bool
-has_value key value node = option_map_or (λ stored. is_yes (equality stored value)) (value_at key node.props) false
+has_value key value node = is_value_at key value node.props
 
 -- the nodes that pass a test, by rising number
 abbrev pub nodes_where : (Node → Bool) → Content → List NodeId

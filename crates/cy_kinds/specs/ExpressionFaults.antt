@@ -59,15 +59,15 @@ are_taken function scope no_more = true
 are_taken function scope (more e es) = takes function (kind_of scope e) && are_taken function scope es
 
 -- an aggregate stands as a whole item alone
-abbrev pub may_stand : Bool → Function → Bool
-may_stand whole function = whole || not (is_aggregate function)
+abbrev pub is_aggregate_allowed : Bool → Function → Bool
+is_aggregate_allowed whole function = whole || not (is_aggregate function)
 
 -- of a call after its arguments: its form, its place, and the kinds of its arguments
 abbrev pub call_fault : Bool → Scope → Option Function → Bool → Expressions → Option ScopeFault
 call_fault whole scope None distinct es = Some UnknownFunction
 call_fault whole scope (Some function) distinct es =
     first (unless (has_form function distinct es) WrongArguments)
-    (first (unless (may_stand whole function) AggregateHere) (unless (are_taken function scope es) WrongKind))
+    (first (unless (is_aggregate_allowed whole function) AggregateHere) (unless (are_taken function scope es) WrongKind))
 
 -- of a call with a `*`: `count` alone takes it
 abbrev pub counting_fault : Bool → Function → Option ScopeFault

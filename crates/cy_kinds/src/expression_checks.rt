@@ -115,8 +115,8 @@ fn has_form(function: Function, distinct: bool, arguments: &[Expr]) -> bool
 }
 
 /// Whether the function may stand there, which may be a whole item.
-fn may_stand(whole: bool, function: Function) -> bool
-    ensures { result ≡ spec.may_stand whole function }
+fn is_aggregate_allowed(whole: bool, function: Function) -> bool
+    ensures { result ≡ spec.is_aggregate_allowed whole function }
 {
     whole || !function.is_aggregate()
 }
@@ -251,7 +251,10 @@ fn check_call(
         has_form(function, distinct, arguments),
         ScopeFault::WrongArguments,
     )?;
-    demand(may_stand(whole, function), ScopeFault::AggregateHere)?;
+    demand(
+        is_aggregate_allowed(whole, function),
+        ScopeFault::AggregateHere,
+    )?;
     demand(parts.taken, ScopeFault::WrongKind)?;
     Ok(call_kind(Some(function), parts.flags))
 }

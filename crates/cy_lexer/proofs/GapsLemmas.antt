@@ -14,8 +14,8 @@ use Rattle.cy_lexer.specs.declared.characters.Run.TheVariants as run
 use Rattle.cy_lexer.specs.declared.faults.LexFault.{LexFault}
 use Rattle.cy_lexer.specs.declared.faults.LexFault.TheVariants.{BadCharacter, UnclosedText, UnclosedComment, UnclosedName}
 use Rattle.cy_lexer.specs.declared.symbols.Symbol.{Symbol}
-use Rattle.cy_lexer.specs.declared.tokens.Kind.{Kind}
-use Rattle.cy_lexer.specs.declared.tokens.Kind.TheVariants as kind
+use Rattle.cy_lexer.specs.declared.tokens.TokenKind.{TokenKind}
+use Rattle.cy_lexer.specs.declared.tokens.TokenKind.TheVariants as kind
 use Rattle.cy_lexer.specs.declared.tokens.Token.{Token}
 use Rattle.cy_lexer.specs.Characters.{begins_with, starts_name, goes_on}
 use Rattle.cy_lexer.specs.internal.Reading.{offset}
@@ -100,7 +100,7 @@ GapShape c cs n =
 
 -- a piece is a token, or a gap
 abbrev IsShaped : ℕ → List ℕ → Result Piece LexFault → Type 0
-IsShaped c cs (Ok p) = ((k : Kind) × (p.0 ≡ Some k)) ⊎ ((p.0 ≡ None) × GapShape c cs p.1)
+IsShaped c cs (Ok p) = ((k : TokenKind) × (p.0 ≡ Some k)) ⊎ ((p.0 ≡ None) × GapShape c cs p.1)
 IsShaped c cs (Err fault) = Unit {0}
 
 if_shaped : (c : ℕ) (cs : List ℕ) (b : Bool) (one other : Result Piece LexFault) → (b ≡ true → IsShaped c cs one) → (b ≡ false → IsShaped c cs other) → IsShaped c cs (if b then one else other)
@@ -153,7 +153,7 @@ block_comment_shape at c cs opens =
     rw (eqb-true c 47 both.0, star.1) (by_block at star.0 (block_len star.0) (block_shape star.0))
 
 -- a token has a kind
-quoted_shape : (c : ℕ) (cs : List ℕ) (k : Kind) (read : Result ℕ LexFault) → IsShaped c cs (read >>= λ n. Ok (Some k, n))
+quoted_shape : (c : ℕ) (cs : List ℕ) (k : TokenKind) (read : Result ℕ LexFault) → IsShaped c cs (read >>= λ n. Ok (Some k, n))
 quoted_shape c cs k (Ok n) = inl (k, refl)
 quoted_shape c cs k (Err fault) = tt
 
@@ -196,7 +196,7 @@ prepend total part rest (t ∷ ts) fits lift known = (
 )
 
 -- a token stands in front
-with_word : (total : ℕ) (k : Kind) (word rest cs : List ℕ) (ts : List Token) → cs ≡ word ++ rest → length (encode_utf8_all cs) ≤ total → LeavesGaps (offset total rest) rest ts → LeavesGaps (offset total cs) cs (record { kind = k; start = offset total cs; end = offset total rest } ∷ ts)
+with_word : (total : ℕ) (k : TokenKind) (word rest cs : List ℕ) (ts : List Token) → cs ≡ word ++ rest → length (encode_utf8_all cs) ≤ total → LeavesGaps (offset total rest) rest ts → LeavesGaps (offset total cs) cs (record { kind = k; start = offset total cs; end = offset total rest } ∷ ts)
 with_word total k word rest cs ts split fits known = (
   [],
   word,
@@ -274,7 +274,7 @@ by_gap fuel total c cs n ts below less fits (inside, rest, split, taken, lifts) 
     ]
 
 -- after the token's first character the others are passed
-by_word : (fuel total c : ℕ) (cs : List ℕ) (k : Kind) (n : ℕ) (ts : List Token) → LeavesGapsBelow fuel total → length cs ≤ fuel → length (encode_utf8_all (c ∷ cs)) ≤ total → tokens_from (offset total) 0 (drop n cs) ≡ Ok ts → LeavesGaps (offset total (c ∷ cs)) (c ∷ cs) (with_token (offset total) (c ∷ cs) (Some k, n) ts)
+by_word : (fuel total c : ℕ) (cs : List ℕ) (k : TokenKind) (n : ℕ) (ts : List Token) → LeavesGapsBelow fuel total → length cs ≤ fuel → length (encode_utf8_all (c ∷ cs)) ≤ total → tokens_from (offset total) 0 (drop n cs) ≡ Ok ts → LeavesGaps (offset total (c ∷ cs)) (c ∷ cs) (with_token (offset total) (c ∷ cs) (Some k, n) ts)
 by_word fuel total c cs k n ts below less fits e =
     let split : c ∷ cs ≡ (c ∷ take n cs) ++ drop n cs = ap (λ (x : List ℕ). c ∷ x) (sym (take-append-drop n cs)) in
     let fits_both : length (encode_utf8_all ((c ∷ take n cs) ++ drop n cs)) ≤ total = subst (λ (x : List ℕ). length (encode_utf8_all x) ≤ total) split fits in
@@ -285,7 +285,7 @@ by_step : (fuel total c : ℕ) (cs : List ℕ) (ts : List Token) → LeavesGapsB
 by_step fuel total c cs ts below less fits (p, more, shaped, read, is) =
     let rest : tokens_from (offset total) 0 (drop p.1 cs) ≡ Ok more = sym (tokens_from-skip total p.1 cs) ∙ read in
     let P : List Token → Type 0 = λ x. LeavesGaps (offset total (c ∷ cs)) (c ∷ cs) x in
-    let Q : Option Kind → Type 0 = λ x. LeavesGaps (offset total (c ∷ cs)) (c ∷ cs) (with_token (offset total) (c ∷ cs) (x, p.1) more) in
+    let Q : Option TokenKind → Type 0 = λ x. LeavesGaps (offset total (c ∷ cs)) (c ∷ cs) (with_token (offset total) (c ∷ cs) (x, p.1) more) in
     subst P (sym is) (elim shaped [
       | inl (k, some) ↦ subst Q (sym some) (by_word fuel total c cs k p.1 more below less fits rest)
       | inr (none, shape) ↦ subst Q (sym none) (by_gap fuel total c cs p.1 more below less fits shape rest)

@@ -19,8 +19,8 @@ use Rattle.cy_lexer.specs.declared.faults.LexFault.{LexFault}
 use Rattle.cy_lexer.specs.declared.faults.LexFault.TheVariants.{BadCharacter, UnclosedText, UnclosedComment, UnclosedName, LineTooLong}
 use Rattle.cy_lexer.specs.declared.keywords.Keyword.{Keyword}
 use Rattle.cy_lexer.specs.declared.symbols.Symbol.{Symbol}
-use Rattle.cy_lexer.specs.declared.tokens.Kind.{Kind}
-use Rattle.cy_lexer.specs.declared.tokens.Kind.TheVariants as kind
+use Rattle.cy_lexer.specs.declared.tokens.TokenKind.{TokenKind}
+use Rattle.cy_lexer.specs.declared.tokens.TokenKind.TheVariants as kind
 use Rattle.cy_lexer.specs.declared.tokens.Token.{Token}
 use Rattle.cy_lexer.specs.Characters.{offset_in, starts_name, goes_on}
 use Rattle.cy_lexer.specs.internal.Reading.{offset}
@@ -58,7 +58,7 @@ pub record IsStretch (line : List ℕ) (from to : ℕ) : Type 0 where
   pub written : HasCharacters (chars (slice_range line from to))
 
 -- what a token of the kind stands for: characters of Unicode, and nothing at all only as a text
-abbrev pub IsMeant : Kind → List ℕ → Type 0
+abbrev pub IsMeant : TokenKind → List ℕ → Type 0
 IsMeant kind.Text cs = IsTrue (all_scalars cs)
 IsMeant k cs = HasCharacters cs
 
@@ -71,7 +71,7 @@ HasCharacters-scalars : (cs : List ℕ) → HasCharacters cs → all_scalars cs 
 HasCharacters-scalars cs has = subst (λ (x : List ℕ). all_scalars x ≡ true) (sym has.2) has.3
 
 -- what a token stands for has characters of Unicode alone, and where it is no text, one at least
-pub IsMeant-scalars : (k : Kind) (cs : List ℕ) → IsMeant k cs → all_scalars cs ≡ true
+pub IsMeant-scalars : (k : TokenKind) (cs : List ℕ) → IsMeant k cs → all_scalars cs ≡ true
 IsMeant-scalars kind.Text cs meant = meant
 IsMeant-scalars kind.Name cs meant = HasCharacters-scalars cs meant
 IsMeant-scalars kind.QuotedName cs meant = HasCharacters-scalars cs meant
@@ -79,7 +79,7 @@ IsMeant-scalars (kind.Keyword k) cs meant = HasCharacters-scalars cs meant
 IsMeant-scalars (kind.Number n) cs meant = HasCharacters-scalars cs meant
 IsMeant-scalars (kind.Symbol s) cs meant = HasCharacters-scalars cs meant
 
-pub IsMeant-some : (k : Kind) (cs : List ℕ) → (k ≡ kind.Text → ⊥) → IsMeant k cs → HasCharacters cs
+pub IsMeant-some : (k : TokenKind) (cs : List ℕ) → (k ≡ kind.Text → ⊥) → IsMeant k cs → HasCharacters cs
 IsMeant-some kind.Text cs other meant = absurd (other refl)
 IsMeant-some kind.Name cs other meant = meant
 IsMeant-some kind.QuotedName cs other meant = meant
@@ -103,7 +103,7 @@ all_scalars-take n cs are =
 -- ---- pieces
 
 -- characters that are as they are written
-meant_whole : (k : Kind) (c : ℕ) (cs : List ℕ) → all_scalars (c ∷ cs) ≡ true → IsMeant k (c ∷ cs)
+meant_whole : (k : TokenKind) (c : ℕ) (cs : List ℕ) → all_scalars (c ∷ cs) ≡ true → IsMeant k (c ∷ cs)
 meant_whole kind.Text c cs are = are
 meant_whole kind.Name c cs are = (c, cs, refl, are)
 meant_whole kind.QuotedName c cs are = (c, cs, refl, are)
@@ -112,7 +112,7 @@ meant_whole (kind.Number n) c cs are = (c, cs, refl, are)
 meant_whole (kind.Symbol s) c cs are = (c, cs, refl, are)
 
 -- a piece that begins with the character c and goes on with cs: where it is a token, what that stands for
-abbrev IsMeantIf : Option Kind → List ℕ → Type 0
+abbrev IsMeantIf : Option TokenKind → List ℕ → Type 0
 IsMeantIf None word = ⊤
 IsMeantIf (Some k) word = IsMeant k (denoted k word)
 
@@ -216,7 +216,7 @@ offset_behind : (whole front cs : List ℕ) → whole ≡ front ++ cs → offset
 offset_behind whole front cs e =
     omega (arith, ap (λ (x : List ℕ). length (encode_utf8_all x)) e, size_of front cs)
 
-with_placed : (whole front : List ℕ) (c : ℕ) (cs : List ℕ) (k : Option Kind) (n : ℕ) (more : List Token) → whole ≡ front ++ (c ∷ cs) → IsMeantIf k (c ∷ take n cs) → ArePlaced whole (offset (length (encode_utf8_all whole)) (drop n cs)) more → ArePlaced whole (offset (length (encode_utf8_all whole)) (c ∷ cs)) (with_token (offset (length (encode_utf8_all whole))) (c ∷ cs) (k, n) more)
+with_placed : (whole front : List ℕ) (c : ℕ) (cs : List ℕ) (k : Option TokenKind) (n : ℕ) (more : List Token) → whole ≡ front ++ (c ∷ cs) → IsMeantIf k (c ∷ take n cs) → ArePlaced whole (offset (length (encode_utf8_all whole)) (drop n cs)) more → ArePlaced whole (offset (length (encode_utf8_all whole)) (c ∷ cs)) (with_token (offset (length (encode_utf8_all whole))) (c ∷ cs) (k, n) more)
 with_placed whole front c cs k n more split meant known =
     let total = length (encode_utf8_all whole) in
     let parts : whole ≡ front ++ ((c ∷ take n cs) ++ drop n cs) = split ∙ ap (λ (x : List ℕ). front ++ (c ∷ x)) (sym (take-append-drop n cs)) in
@@ -226,7 +226,7 @@ with_placed whole front c cs k n more split meant known =
     let size = size_of front (c ∷ take n cs) in
     by_kind whole front c cs k n more parts from (to ∙ size) meant known
   where
-    by_kind : (whole front : List ℕ) (c : ℕ) (cs : List ℕ) (k : Option Kind) (n : ℕ) (more : List Token) → whole ≡ front ++ ((c ∷ take n cs) ++ drop n cs) → offset (length (encode_utf8_all whole)) (c ∷ cs) ≡ length (encode_utf8_all front) → offset (length (encode_utf8_all whole)) (drop n cs) ≡ length (encode_utf8_all front) + length (encode_utf8_all (c ∷ take n cs)) → IsMeantIf k (c ∷ take n cs) → ArePlaced whole (offset (length (encode_utf8_all whole)) (drop n cs)) more → ArePlaced whole (offset (length (encode_utf8_all whole)) (c ∷ cs)) (with_token (offset (length (encode_utf8_all whole))) (c ∷ cs) (k, n) more)
+    by_kind : (whole front : List ℕ) (c : ℕ) (cs : List ℕ) (k : Option TokenKind) (n : ℕ) (more : List Token) → whole ≡ front ++ ((c ∷ take n cs) ++ drop n cs) → offset (length (encode_utf8_all whole)) (c ∷ cs) ≡ length (encode_utf8_all front) → offset (length (encode_utf8_all whole)) (drop n cs) ≡ length (encode_utf8_all front) + length (encode_utf8_all (c ∷ take n cs)) → IsMeantIf k (c ∷ take n cs) → ArePlaced whole (offset (length (encode_utf8_all whole)) (drop n cs)) more → ArePlaced whole (offset (length (encode_utf8_all whole)) (c ∷ cs)) (with_token (offset (length (encode_utf8_all whole))) (c ∷ cs) (k, n) more)
     by_kind whole front c cs None n more parts from to meant known = placed_earlier whole _ _ more (omega (arith, from, to)) known
     by_kind whole front c cs (Some k) n more parts from to meant known =
         (omega arith, (front, c, take n cs, drop n cs, parts, from, omega (arith, from, to), meant), known)

@@ -8,8 +8,8 @@ use Rattle.std.proofs.lemmas.Bool.{le-ltb, lt-ltb}
 use Rattle.cy_lexer.specs.declared.characters.Run.TheVariants as run
 use Rattle.cy_lexer.specs.declared.faults.LexFault.TheVariants.{NumberTooLarge}
 use Rattle.cy_lexer.specs.declared.keywords.Keyword.{Keyword}
-use Rattle.cy_lexer.specs.declared.tokens.Kind.{Kind}
-use Rattle.cy_lexer.specs.declared.tokens.Kind.TheVariants as kind
+use Rattle.cy_lexer.specs.declared.tokens.TokenKind.{TokenKind}
+use Rattle.cy_lexer.specs.declared.tokens.TokenKind.TheVariants as kind
 use Rattle.cy_lexer.specs.Characters.{goes_on}
 use Rattle.cy_lexer.specs.internal.Reading.{taken, map_ok, offset}
 use Rattle.cy_lexer.specs.Keywords.{keyword_of}
@@ -47,7 +47,7 @@ unfolding piece
 piece-token total c cs w l b = rw (w, ← l, ← b) refl
 
 -- a token that is neither a quoted name nor a text is as it is written
-pub denoted-plain : (k : Kind) (cs : List ℕ) → (k ≡ kind.QuotedName → ⊥) → (k ≡ kind.Text → ⊥) → denoted k cs ≡ cs
+pub denoted-plain : (k : TokenKind) (cs : List ℕ) → (k ≡ kind.QuotedName → ⊥) → (k ≡ kind.Text → ⊥) → denoted k cs ≡ cs
 denoted-plain kind.Name cs q t = refl
 denoted-plain kind.QuotedName cs q t = absurd (q refl)
 denoted-plain (kind.Keyword k) cs q t = refl

@@ -4,8 +4,8 @@ use Rattle.std.specs.Char.{is_whitespace, is_ascii_digit}
 use Rattle.std.specs.Str.{chars, IsUtf8}
 use Rattle.cy_lexer.specs.declared.faults.LexFault.{LexFault}
 use Rattle.cy_lexer.specs.declared.faults.LexFault.TheVariants.{BadCharacter, BadEscape, UnclosedText, UnclosedName}
-use Rattle.cy_lexer.specs.declared.tokens.Kind.{Kind}
-use Rattle.cy_lexer.specs.declared.tokens.Kind.TheVariants as kind
+use Rattle.cy_lexer.specs.declared.tokens.TokenKind.{TokenKind}
+use Rattle.cy_lexer.specs.declared.tokens.TokenKind.TheVariants as kind
 use Rattle.cy_lexer.specs.declared.tokens.Token.{Token}
 use Rattle.cy_lexer.specs.Characters.{offset_in, starts_name}
 use Rattle.cy_lexer.specs.internal.Reading.{offset}
@@ -72,7 +72,7 @@ piece-places f g c cs agree =
 
 -- ---- tokens
 
-with_token-places : (f g : List ℕ → ℕ) (c : ℕ) (cs : List ℕ) (k : Option Kind) (n : ℕ) (ts : List Token) → Agree f g (c ∷ cs) → with_token f (c ∷ cs) (k, n) ts ≡ with_token g (c ∷ cs) (k, n) ts
+with_token-places : (f g : List ℕ → ℕ) (c : ℕ) (cs : List ℕ) (k : Option TokenKind) (n : ℕ) (ts : List Token) → Agree f g (c ∷ cs) → with_token f (c ∷ cs) (k, n) ts ≡ with_token g (c ∷ cs) (k, n) ts
 with_token-places f g c cs None n ts agree = refl
 with_token-places f g c cs (Some k) n ts agree =
     ap (λ (at : ℕ). record { kind = k; start = at; end = f (drop n cs) } ∷ ts) (agree 0)

@@ -8,7 +8,7 @@ use Rattle.std.specs.List.{All}
 use Rattle.std.proofs.lemmas.List.Elements.{All-nil, All-cons}
 use Rattle.cy_lexer.specs.declared.faults.LexFault.{LexFault}
 use Rattle.cy_lexer.specs.declared.faults.LexFault.TheVariants.{LineTooLong}
-use Rattle.cy_lexer.specs.declared.tokens.Kind.{Kind}
+use Rattle.cy_lexer.specs.declared.tokens.TokenKind.{TokenKind}
 use Rattle.cy_lexer.specs.declared.tokens.Token.{Token}
 use Rattle.cy_lexer.specs.Line.{longest_line}
 use Rattle.cy_lexer.specs.internal.Reading.{taken, map_ok, offset}
@@ -26,12 +26,12 @@ tokens_from-skip total (suc skip) [] = refl
 tokens_from-skip total (suc skip) (c ∷ cs) = tokens_from-skip total skip cs
 
 -- the token of a piece between two places, if it has a kind
-abbrev token_of : ℕ → Option Kind → List ℕ → List ℕ → List Token
+abbrev token_of : ℕ → Option TokenKind → List ℕ → List ℕ → List Token
 token_of total (Some k) whole left = record { kind = k; start = offset total whole; end = offset total left } ∷ []
 token_of total None whole left = []
 
 -- the tokens in front, that of a piece, and then the others
-joined : (total n : ℕ) (k : Option Kind) (cs left : List ℕ) (c : ℕ) (front : List Token) (read : Result (List Token) LexFault) → left ≡ drop n cs → map_ok (λ ts. front ++ ts) (read >>= λ ts. Ok (with_token (offset total) (c ∷ cs) (k, n) ts)) ≡ map_ok (λ ts. (front ++ token_of total k (c ∷ cs) left) ++ ts) read
+joined : (total n : ℕ) (k : Option TokenKind) (cs left : List ℕ) (c : ℕ) (front : List Token) (read : Result (List Token) LexFault) → left ≡ drop n cs → map_ok (λ ts. front ++ ts) (read >>= λ ts. Ok (with_token (offset total) (c ∷ cs) (k, n) ts)) ≡ map_ok (λ ts. (front ++ token_of total k (c ∷ cs) left) ++ ts) read
 joined total n (Some k) cs left c front (Ok ts) e = rw e (ap (λ (x : List Token). Ok x) (sym (append_assoc front _ ts)))
 joined total n None cs left c front (Ok ts) e = ap (λ (x : List Token). Ok (x ++ ts)) (sym (append-nil front))
 joined total n (Some k) cs left c front (Err f) e = refl
@@ -43,19 +43,19 @@ done x = Ok x
 pub ok_is : {A : Type 0} (x y : A) → done x ≡ done y → x ≡ y
 ok_is x y e = cc
 
-by_piece : (total c : ℕ) (k : Option Kind) (cs left : List ℕ) (front : List Token) (read : Result Piece LexFault) → Ok (k, left) ≡ map_ok (taken cs) read → map_ok (λ ts. front ++ ts) (read >>= λ p. (tokens_from (offset total) p.1 cs >>= λ ts. Ok (with_token (offset total) (c ∷ cs) p ts))) ≡ map_ok (λ ts. (front ++ token_of total k (c ∷ cs) left) ++ ts) (tokens_from (offset total) 0 left)
+by_piece : (total c : ℕ) (k : Option TokenKind) (cs left : List ℕ) (front : List Token) (read : Result Piece LexFault) → Ok (k, left) ≡ map_ok (taken cs) read → map_ok (λ ts. front ++ ts) (read >>= λ p. (tokens_from (offset total) p.1 cs >>= λ ts. Ok (with_token (offset total) (c ∷ cs) p ts))) ≡ map_ok (λ ts. (front ++ token_of total k (c ∷ cs) left) ++ ts) (tokens_from (offset total) 0 left)
 by_piece total c k cs left front (Ok p) e =
     let both = ok_is (k, left) (taken cs p) e in
-    let left-is : left ≡ drop p.1 cs = ap (λ (x : Option Kind × List ℕ). x.1) both in
-    let k-is : k ≡ p.0 = ap (λ (x : Option Kind × List ℕ). x.0) both in
+    let left-is : left ≡ drop p.1 cs = ap (λ (x : Option TokenKind × List ℕ). x.1) both in
+    let k-is : k ≡ p.0 = ap (λ (x : Option TokenKind × List ℕ). x.0) both in
     let tail : tokens_from (offset total) p.1 cs ≡ tokens_from (offset total) 0 left = tokens_from-skip total p.1 cs ∙ ap (λ (x : List ℕ). tokens_from (offset total) 0 x) (sym left-is) in
     ap (λ (r : Result (List Token) LexFault). map_ok (λ ts. front ++ ts) (r >>= λ ts. Ok (with_token (offset total) (c ∷ cs) p ts))) tail
     ∙ joined total p.1 p.0 cs left c front (tokens_from (offset total) 0 left) left-is
-    ∙ ap (λ (x : Option Kind). map_ok (λ ts. (front ++ token_of total x (c ∷ cs) left) ++ ts) (tokens_from (offset total) 0 left)) (sym k-is)
+    ∙ ap (λ (x : Option TokenKind). map_ok (λ ts. (front ++ token_of total x (c ∷ cs) left) ++ ts) (tokens_from (offset total) 0 left)) (sym k-is)
 by_piece total c k cs left front (Err f) e = absurd cc
 
 -- a piece is read
-tokens_from-piece : (total c : ℕ) (k : Option Kind) (whole cs left : List ℕ) (front : List Token) → whole ≡ c ∷ cs → Ok (k, left) ≡ map_ok (taken cs) (piece (offset total) c cs) → map_ok (λ ts. front ++ ts) (tokens_from (offset total) 0 whole) ≡ map_ok (λ ts. (front ++ token_of total k whole left) ++ ts) (tokens_from (offset total) 0 left)
+tokens_from-piece : (total c : ℕ) (k : Option TokenKind) (whole cs left : List ℕ) (front : List Token) → whole ≡ c ∷ cs → Ok (k, left) ≡ map_ok (taken cs) (piece (offset total) c cs) → map_ok (λ ts. front ++ ts) (tokens_from (offset total) 0 whole) ≡ map_ok (λ ts. (front ++ token_of total k whole left) ++ ts) (tokens_from (offset total) 0 left)
 unfolding tokens_from
 tokens_from-piece total c k whole cs left front e read = rw e (by_piece total c k cs left front (piece (offset total) c cs) read)
 
@@ -74,11 +74,11 @@ unfolding tokens_from
 tokens_from-nil total whole front e = rw e (ap (λ (x : List Token). Ok x) (append-nil front))
 
 -- what a piece leaves is the end of the text
-taken_some : (cs left : List ℕ) (k : Option Kind) (read : Result Piece LexFault) → Ok (k, left) ≡ map_ok (taken cs) read → (n : ℕ) × (left ≡ drop n cs)
-taken_some cs left k (Ok p) e = (p.1, ap (λ (x : Option Kind × List ℕ). x.1) (ok_is (k, left) (taken cs p) e))
+taken_some : (cs left : List ℕ) (k : Option TokenKind) (read : Result Piece LexFault) → Ok (k, left) ≡ map_ok (taken cs) read → (n : ℕ) × (left ≡ drop n cs)
+taken_some cs left k (Ok p) e = (p.1, ap (λ (x : Option TokenKind × List ℕ). x.1) (ok_is (k, left) (taken cs p) e))
 taken_some cs left k (Err f) e = absurd cc
 
-left-drop : (total c : ℕ) (k : Option Kind) (rest left : List ℕ) (cs : List ℕ) → IsUtf8 rest → IsUtf8 left → chars rest ≡ c ∷ cs → Ok (k, chars left) ≡ map_ok (taken cs) (piece (offset total) c cs) → left ≡ drop (length rest - length left) rest
+left-drop : (total c : ℕ) (k : Option TokenKind) (rest left : List ℕ) (cs : List ℕ) → IsUtf8 rest → IsUtf8 left → chars rest ≡ c ∷ cs → Ok (k, chars left) ≡ map_ok (taken cs) (piece (offset total) c cs) → left ≡ drop (length rest - length left) rest
 left-drop total c k rest left cs u v e read =
     let behind = taken_some cs (chars left) k (piece (offset total) c cs) read in
     suffix-drop rest left (suc behind.0) u v (behind.1 ∙ ap (λ (x : List ℕ). drop (suc behind.0) x) (sym e))
@@ -109,13 +109,13 @@ IsRead line rest ts =
     (map_ok (λ more. ts ++ more) (tokens_from (offset (length line)) 0 (chars rest)) ≡ tokens_from (offset (length line)) 0 (chars line)) × (length rest ≤ length line) × (rest ≡ drop (length line - length rest) line) × AreSpansOf line 0 ts (length line - length rest)
 
 -- a token is read, and put after those before it
-pub IsRead-token : (line rest left : List ℕ) (c : ℕ) (cs : List ℕ) (read : Option Kind) (k : Kind) (old new : List Token) → IsUtf8 rest → IsUtf8 left → chars rest ≡ c ∷ cs → Ok (read, chars left) ≡ map_ok (taken cs) (piece (offset (length line)) c cs) → read ≡ Some k → length left < length rest → new ≡ old ++ record { kind = k; start = length line - length rest; end = length line - length left } ∷ [] → IsRead line rest old → IsRead line left new
+pub IsRead-token : (line rest left : List ℕ) (c : ℕ) (cs : List ℕ) (read : Option TokenKind) (k : TokenKind) (old new : List Token) → IsUtf8 rest → IsUtf8 left → chars rest ≡ c ∷ cs → Ok (read, chars left) ≡ map_ok (taken cs) (piece (offset (length line)) c cs) → read ≡ Some k → length left < length rest → new ≡ old ++ record { kind = k; start = length line - length rest; end = length line - length left } ∷ [] → IsRead line rest old → IsRead line left new
 IsRead-token line rest left c cs read k old new u v split value some shorter pushed known =
     let total = length line in
     let t : Token = record { kind = k; start = total - length rest; end = total - length left } in
     let at = drop-further line rest left (omega arith) known.1 known.2 (left-drop total c read rest left cs u v split value) in
     let token-is : t ∷ [] ≡ token_of total read (chars rest) (chars left) =
-    ap (λ (s : ℕ). record { kind = k; start = s; end = total - length left } ∷ []) (sym (offset-chars total rest u)) ∙ ap (λ (e : ℕ). record { kind = k; start = offset total (chars rest); end = e } ∷ []) (sym (offset-chars total left v)) ∙ ap (λ (x : Option Kind). token_of total x (chars rest) (chars left)) (sym some) in
+    ap (λ (s : ℕ). record { kind = k; start = s; end = total - length left } ∷ []) (sym (offset-chars total rest u)) ∙ ap (λ (e : ℕ). record { kind = k; start = offset total (chars rest); end = e } ∷ []) (sym (offset-chars total left v)) ∙ ap (λ (x : Option TokenKind). token_of total x (chars rest) (chars left)) (sym some) in
     let span : IsSpanOf line t = (omega (arith, known.1), boundary-of_rest line rest u known.2, boundary-of_rest line left v at) in (
       ap (λ (x : List Token). map_ok (λ more. x ++ more) (tokens_from (offset total) 0 (chars left))) (pushed ∙ ap (λ (x : List Token). old ++ x) token-is) ∙ sym (tokens_from-piece total c read (chars rest) cs (chars left) old split value) ∙ known.0,
       omega (arith, known.1),
@@ -124,11 +124,11 @@ IsRead-token line rest left c cs read k old new u v split value some shorter pus
     )
 
 -- a gap is passed
-pub IsRead-gap : (line rest left : List ℕ) (c : ℕ) (cs : List ℕ) (read : Option Kind) (old : List Token) → IsUtf8 rest → IsUtf8 left → chars rest ≡ c ∷ cs → Ok (read, chars left) ≡ map_ok (taken cs) (piece (offset (length line)) c cs) → read ≡ None → length left < length rest → IsRead line rest old → IsRead line left old
+pub IsRead-gap : (line rest left : List ℕ) (c : ℕ) (cs : List ℕ) (read : Option TokenKind) (old : List Token) → IsUtf8 rest → IsUtf8 left → chars rest ≡ c ∷ cs → Ok (read, chars left) ≡ map_ok (taken cs) (piece (offset (length line)) c cs) → read ≡ None → length left < length rest → IsRead line rest old → IsRead line left old
 IsRead-gap line rest left c cs read old u v split value none shorter known =
     let total = length line in
     let at = drop-further line rest left (omega arith) known.1 known.2 (left-drop total c read rest left cs u v split value) in
-    let same : old ≡ old ++ token_of total read (chars rest) (chars left) = sym (append-nil old) ∙ ap (λ (x : Option Kind). old ++ token_of total x (chars rest) (chars left)) (sym none) in (
+    let same : old ≡ old ++ token_of total read (chars rest) (chars left) = sym (append-nil old) ∙ ap (λ (x : Option TokenKind). old ++ token_of total x (chars rest) (chars left)) (sym none) in (
       ap (λ (x : List Token). map_ok (λ more. x ++ more) (tokens_from (offset total) 0 (chars left))) same ∙ sym (tokens_from-piece total c read (chars rest) cs (chars left) old split value) ∙ known.0,
       omega (arith, known.1),
       at,

@@ -14,7 +14,7 @@ use Rattle.cy_lexer.specs.declared.keywords.Keyword.{Keyword}
 use Rattle.cy_lexer.specs.declared.keywords.Keyword.TheVariants as keyword
 use Rattle.cy_lexer.specs.declared.symbols.Symbol.{Symbol}
 use Rattle.cy_lexer.specs.declared.symbols.Symbol.TheVariants as sign
-use Rattle.cy_lexer.specs.declared.tokens.Kind.{Kind}
+use Rattle.cy_lexer.specs.declared.tokens.TokenKind.{TokenKind}
 use Rattle.cy_lexer.specs.declared.tokens.Token.{Token}
 use Rattle.cy_lexer.specs.Characters.{begins_with}
 use Rattle.cy_lexer.specs.internal.Reading.{offset}
@@ -190,7 +190,7 @@ tokens_from-space total true cs = past_space (tokens_from (offset total) 0 cs)
 tokens_from-space total false cs = refl
 
 -- a token at the front
-tokens_from-front : (total c : ℕ) (more rest : List ℕ) (k : Kind) (ts : List Token) → piece (offset total) c (more ++ rest) ≡ Ok (Some k, length more) → tokens_from (offset total) 0 rest ≡ Ok ts → tokens_from (offset total) 0 (c ∷ (more ++ rest)) ≡ Ok (record { kind = k; start = offset total (c ∷ (more ++ rest)); end = offset total rest } ∷ ts)
+tokens_from-front : (total c : ℕ) (more rest : List ℕ) (k : TokenKind) (ts : List Token) → piece (offset total) c (more ++ rest) ≡ Ok (Some k, length more) → tokens_from (offset total) 0 rest ≡ Ok ts → tokens_from (offset total) 0 (c ∷ (more ++ rest)) ≡ Ok (record { kind = k; start = offset total (c ∷ (more ++ rest)); end = offset total rest } ∷ ts)
 unfolding tokens_from
 tokens_from-front total c more rest k ts read known =
     let left : drop (length more) (more ++ rest) ≡ rest = drop_at more rest (length more) refl in
@@ -345,8 +345,8 @@ AreTokensOf-kinds line [] [] are = refl
 AreTokensOf-kinds line [] (w ∷ ws) are = absurd are
 AreTokensOf-kinds line (t ∷ ts) [] are = absurd are
 AreTokensOf-kinds line (t ∷ ts) (w ∷ ws) are =
-    ap (λ (k : Kind). k ∷ map (λ x. x.kind) ts) are.0.0
-    ∙ ap (λ (ks : List Kind). kind_of w.0 ∷ ks) (AreTokensOf-kinds line ts ws are.1)
+    ap (λ (k : TokenKind). k ∷ map (λ x. x.kind) ts) are.0.0
+    ∙ ap (λ (ks : List TokenKind). kind_of w.0 ∷ ks) (AreTokensOf-kinds line ts ws are.1)
 
 pub AreTokensOf-slices : (line : List ℕ) (ts : List Token) (ws : List (Word × Bool)) → AreTokensOf line ts ws → map (slice_of line) ts ≡ map (λ w. bytes_of w.0) ws
 AreTokensOf-slices line [] [] are = refl
@@ -369,7 +369,7 @@ denoted-word w is = ap (λ (x : List ℕ). denoted (kind_of w) x) (chars-encodes
 
 pub denoted-token : (line : List ℕ) (t : Token) (w : Word) → is_word w ≡ true → IsTokenOf line t w → denoted t.kind (chars (slice_of line t)) ≡ meant w
 denoted-token line t w is token =
-    ap (λ (k : Kind). denoted k (chars (slice_of line t))) token.0
+    ap (λ (k : TokenKind). denoted k (chars (slice_of line t))) token.0
     ∙ ap (λ (x : List ℕ). denoted (kind_of w) (chars x)) token.1
     ∙ denoted-word w is
 

@@ -8,7 +8,7 @@ use Rattle.unicode_ident.proofs.Computing.{unicode_ident}
 use Rattle.cy_lexer.specs.declared.faults.LexFault.TheVariants.{BadCharacter, UnclosedText, BadEscape, UnclosedComment, UnclosedName, BadNumber}
 use Rattle.cy_lexer.specs.declared.keywords.Keyword.TheVariants as word
 use Rattle.cy_lexer.specs.declared.symbols.Symbol.TheVariants as sign
-use Rattle.cy_lexer.specs.declared.tokens.Kind.TheVariants as kind
+use Rattle.cy_lexer.specs.declared.tokens.TokenKind.TheVariants as kind
 use Rattle.cy_lexer.specs.Keywords.{keyword_of}
 use Rattle.cy_lexer.specs.Symbols as signs
 use Rattle.cy_lexer.specs.Tokens.{piece, tokens_from, tokens_of}

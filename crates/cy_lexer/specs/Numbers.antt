@@ -8,7 +8,7 @@ abbrev pub number_of : ℕ → List ℕ → ℕ
 number_of high [] = high
 number_of high (d ∷ ds) = number_of (high * 10 + (d - 48)) ds
 
--- the greatest number that can be written: the absolute value of the least integer of 64 bits
+-- the greatest number that can be written: the absolute value of the least integer of 64 bits. A literal without a `-` is below it.
 abbrev pub greatest_number : ℕ
 greatest_number = 9223372036854775808
 

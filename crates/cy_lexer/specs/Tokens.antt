@@ -7,8 +7,8 @@ use Rattle.std.specs.List.{prefix_len}
 use Rattle.cy_lexer.specs.declared.characters.Run.TheVariants as run
 use Rattle.cy_lexer.specs.declared.faults.LexFault.{LexFault}
 use Rattle.cy_lexer.specs.declared.faults.LexFault.TheVariants.{BadCharacter, UnclosedText, UnclosedComment, UnclosedName, BadNumber, NumberTooLarge, LineTooLong}
-use Rattle.cy_lexer.specs.declared.tokens.Kind.{Kind}
-use Rattle.cy_lexer.specs.declared.tokens.Kind.TheVariants as kind
+use Rattle.cy_lexer.specs.declared.tokens.TokenKind.{TokenKind}
+use Rattle.cy_lexer.specs.declared.tokens.TokenKind.TheVariants as kind
 use Rattle.cy_lexer.specs.declared.tokens.Token.{Token}
 use Rattle.cy_lexer.specs.Keywords.{keyword_of}
 use Rattle.cy_lexer.specs.Line.{longest_line}
@@ -20,7 +20,7 @@ use Rattle.cy_lexer.specs.Quoted.{closes, quoted_len, between_quotes}
 -- A piece of a text is a token, of a kind, or a gap between tokens, of no kind. It begins with a character, and takes so
 -- many more.
 abbrev pub Piece : Type 0
-Piece = Option Kind × ℕ
+Piece = Option TokenKind × ℕ
 
 infixl 10 ◌>>=◌
 abbrev pub ◌>>=◌ : {A B : Type 0} → Result A LexFault → (A → Result B LexFault) → Result B LexFault
@@ -28,7 +28,7 @@ abbrev pub ◌>>=◌ : {A B : Type 0} → Result A LexFault → (A → Result B 
 (Err e) >>= f = Err e
 
 -- a name is a keyword, whatever the case of its ASCII letters, or not
-abbrev pub word_kind : List ℕ → Kind
+abbrev pub word_kind : List ℕ → TokenKind
 word_kind cs = elim (keyword_of (encode_utf8_all cs)) [ Some k ↦ kind.Keyword k | None ↦ kind.Name ]
 
 -- a name: its characters go on as long as they have XID_Continue
@@ -116,13 +116,13 @@ unfoldable pub tokens_of : List ℕ → Result (List Token) LexFault
 tokens_of line = if nat_lt longest_line (length line) then Err LineTooLong else tokens_from (offset_in (chars line)) 0 (chars line)
 
 -- the number that a token of this kind denotes
-abbrev pub number_in : Kind → Option ℕ
+abbrev pub number_in : TokenKind → Option ℕ
 number_in (kind.Number n) = Some n
 number_in _ = None
 
 -- the characters that a token of this kind stands for, whose characters are cs: a quoted name and a text without their
 -- quotes, each other token as it is written
-abbrev pub denoted : Kind → List ℕ → List ℕ
+abbrev pub denoted : TokenKind → List ℕ → List ℕ
 denoted kind.QuotedName cs = between_quotes cs
 denoted kind.Text cs = between_quotes cs
 denoted _ cs = cs

@@ -17,4 +17,4 @@ pub use keywords::{Keyword, is_same_word};
 pub use line::{LONGEST_LINE, text_of};
 pub use reading::lex;
 pub use symbols::Symbol;
-pub use tokens::{Kind, Token};
+pub use tokens::{Token, TokenKind};

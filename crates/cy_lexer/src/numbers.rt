@@ -10,7 +10,7 @@ ghost use Rattle.std.specs.Char.{is_ascii_digit};
 
 use crate::characters::{Run, after_run, split_first};
 use crate::faults::LexFault;
-use crate::tokens::Kind;
+use crate::tokens::TokenKind;
 
 /// The greatest number that can be written: the absolute value of the least integer of 64 bits.
 const GREATEST_NUMBER: u64 = 9223372036854775808;
@@ -73,7 +73,7 @@ pub(crate) fn number<'a>(
     text: &str,
     first: char,
     after: &'a str,
-) -> Result<(Kind, &'a str), LexFault>
+) -> Result<(TokenKind, &'a str), LexFault>
     requires split { chars text.now ≡ first ∷ chars after.now }
     requires digit { IsTrue (is_ascii_digit first) }
     ensures value { map_ok (λ p. seen_token p.0 p.1) result
@@ -85,7 +85,7 @@ pub(crate) fn number<'a>(
         return Err(LexFault::BadNumber(at));
     }
     match number_at(text) {
-        Some(number) if number <= GREATEST_NUMBER => Ok((Kind::Number(number), left)),
+        Some(number) if number <= GREATEST_NUMBER => Ok((TokenKind::Number(number), left)),
         _ => Err(LexFault::NumberTooLarge(at)),
     }
 }

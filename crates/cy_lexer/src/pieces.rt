@@ -11,10 +11,10 @@ use crate::keywords::keyword_of;
 use crate::numbers::number;
 use crate::quoted::{after_quoted, closes};
 use crate::symbols::{Symbol, pair_symbol, single_symbol};
-use crate::tokens::Kind;
+use crate::tokens::TokenKind;
 
 /// The kind of the name at the front of the text, which goes on after its first character, and what follows the name.
-fn word<'a>(text: &'a str, after: &'a str) -> (Kind, &'a str)
+fn word<'a>(text: &'a str, after: &'a str) -> (TokenKind, &'a str)
     requires split { (c : ℕ) × (chars text.now ≡ c ∷ chars after.now) }
     requires shorter { length after.now ≤ length text.now }
     ensures value { (c : ℕ) → chars text.now ≡ c ∷ chars after.now → seen_token result.0 result.1
@@ -24,8 +24,8 @@ fn word<'a>(text: &'a str, after: &'a str) -> (Kind, &'a str)
     let left = after_run(Run::Name, after);
     let (word, _) = text.split_at(text.len() - left.len());
     let kind = match keyword_of(word) {
-        Some(keyword) => Kind::Keyword(keyword),
-        None => Kind::Name,
+        Some(keyword) => TokenKind::Keyword(keyword),
+        None => TokenKind::Name,
     };
     (kind, left)
 }
@@ -83,7 +83,7 @@ fn symbol(first: char, after: &str) -> Option<(Symbol, &str)>
 /// What follows a quoted name, after its opening backtick.
 fn after_quoted_name(total: usize, at: usize, text: &str) -> Result<&str, LexFault>
     requires { length text.now ≤ total }
-    ensures value { map_ok (seen_token Kind.QuotedName) result
+    ensures value { map_ok (seen_token TokenKind.QuotedName) result
         ≡ map_ok (taken (chars text.now)) (quoted_name (offset total) at (chars text.now)) }
     ensures shorter { IfOk result (λ s. length s.now ≤ length text.now) }
 {
@@ -98,7 +98,7 @@ fn after_quoted_name(total: usize, at: usize, text: &str) -> Result<&str, LexFau
 /// What follows a text, after its opening quote.
 fn after_text(total: usize, at: usize, quote: char, text: &str) -> Result<&str, LexFault>
     requires { length text.now ≤ total }
-    ensures value { map_ok (seen_token Kind.Text) result
+    ensures value { map_ok (seen_token TokenKind.Text) result
         ≡ map_ok (taken (chars text.now)) (text_piece (offset total) at quote (chars text.now)) }
     ensures shorter { IfOk result (λ s. length s.now ≤ length text.now) }
 {
@@ -113,7 +113,7 @@ pub(crate) fn piece<'a>(
     text: &'a str,
     first: char,
     after: &'a str,
-) -> Result<(Option<Kind>, &'a str), LexFault>
+) -> Result<(Option<TokenKind>, &'a str), LexFault>
     requires within { length text.now ≤ total }
     requires shorter { length after.now ≤ length text.now }
     requires split { chars text.now ≡ first ∷ chars after.now }
@@ -140,7 +140,7 @@ fn token<'a>(
     text: &'a str,
     first: char,
     after: &'a str,
-) -> Result<(Kind, &'a str), LexFault>
+) -> Result<(TokenKind, &'a str), LexFault>
     requires within { length text.now ≤ total }
     requires shorter { length after.now ≤ length text.now }
     requires split { chars text.now ≡ first ∷ chars after.now }
@@ -153,11 +153,11 @@ fn token<'a>(
     } else if first.is_ascii_digit() {
         number(at, text, first, after)
     } else if first == '`' {
-        Ok((Kind::QuotedName, after_quoted_name(total, at, after)?))
+        Ok((TokenKind::QuotedName, after_quoted_name(total, at, after)?))
     } else if first == '\'' || first == '"' {
-        Ok((Kind::Text, after_text(total, at, first, after)?))
+        Ok((TokenKind::Text, after_text(total, at, first, after)?))
     } else {
         let (symbol, left) = symbol(first, after).ok_or(LexFault::BadCharacter(at))?;
-        Ok((Kind::Symbol(symbol), left))
+        Ok((TokenKind::Symbol(symbol), left))
     }
 }

@@ -10,7 +10,7 @@ use std::alloc::Global;
 
 /// The kind of a token, with what a keyword, a number and a symbol denote.
 #[derive(Clone, Copy, Debug, PartialEq, Eq)]
-pub enum Kind {
+pub enum TokenKind {
     /// A name without quotes that is no keyword.
     Name,
     /// A name in backticks, which is never a keyword.
@@ -29,7 +29,7 @@ pub enum Kind {
 #[derive(Clone, Copy, Debug, PartialEq, Eq)]
 pub struct Token {
     /// What the token is.
-    pub kind: Kind,
+    pub kind: TokenKind,
     /// The byte offset of its first character.
     pub start: usize,
     /// The byte offset after its last character.
@@ -42,16 +42,16 @@ impl Token {
 
     /// Whether the token is this keyword.
     pub fn is_keyword(&self, keyword: Keyword) -> bool
-        ensures { IsTrue result ↔ (self.now.kind ≡ Kind.Keyword keyword) }
+        ensures { IsTrue result ↔ (self.now.kind ≡ TokenKind.Keyword keyword) }
     {
-        self.kind == Kind::Keyword(keyword)
+        self.kind == TokenKind::Keyword(keyword)
     }
 
     /// Whether the token is this symbol.
     pub fn is_symbol(&self, symbol: Symbol) -> bool
-        ensures { IsTrue result ↔ (self.now.kind ≡ Kind.Symbol symbol) }
+        ensures { IsTrue result ↔ (self.now.kind ≡ TokenKind.Symbol symbol) }
     {
-        self.kind == Kind::Symbol(symbol)
+        self.kind == TokenKind::Symbol(symbol)
     }
 
     /// The number that the token denotes, if it is a number.
@@ -59,7 +59,7 @@ impl Token {
         ensures { result ≡ number_in self.now.kind }
     {
         match self.kind {
-            Kind::Number(number) => Some(number),
+            TokenKind::Number(number) => Some(number),
             _ => None,
         }
     }
@@ -83,7 +83,7 @@ impl Token {
     {
         let slice = self.slice(line);
         match self.kind {
-            Kind::QuotedName | Kind::Text => between_quotes(alloc, slice),
+            TokenKind::QuotedName | TokenKind::Text => between_quotes(alloc, slice),
             _ => Ok(String::from_str(alloc, slice)?),
         }
     }

@@ -2,14 +2,15 @@
 
 ghost use Rattle.cy_parser.specs.declared.refusals.Refusal.TheVariants.{NoMemory};
 ghost use Rattle.std.specs.Prelude.{◌≡◌, ◌≢◌, ◌<◌, ◌≤◌, pos, MatchResult, length, List, Some, None, [], ◌∷◌};
-ghost use Rattle.cy_grammar.specs.Words.{number_limit, negated};
+ghost use Rattle.cy_grammar.specs.Words.{negated};
+ghost use Rattle.cy_lexer.specs.Numbers.{greatest_number};
 ghost use Rattle.cy_grammar.specs.internal.Expressions as spec;
 ghost use Rattle.cy_grammar.specs.internal.Reader as reader;
 ghost use Rattle.cy_parser.specs.internal.Reads.{Reads};
 
 use crate::refusals::Refusal;
 use cy_grammar::{denoted_text, is_name, is_word};
-use cy_lexer::{Keyword, Kind, Symbol, Token};
+use cy_lexer::{Keyword, Symbol, Token, TokenKind};
 use cy_values::Text;
 use std::alloc::Global;
 use std::marker::Model;
@@ -54,7 +55,7 @@ impl<'a> Cursor<'a> {
     }
 
     /// The kind of the next token.
-    pub(crate) fn peek(&self) -> Option<Kind>
+    pub(crate) fn peek(&self) -> Option<TokenKind>
         ensures { result ≡ reader.kind_ahead self.now }
     {
         Some(self.left.first()?.kind)
@@ -76,7 +77,7 @@ impl<'a> Cursor<'a> {
     {
         let is_next = self
             .peek()
-            .is_some_and(|kind| kind == Kind::Keyword(keyword));
+            .is_some_and(|kind| kind == TokenKind::Keyword(keyword));
         if is_next {
             self.skip();
         }
@@ -88,7 +89,9 @@ impl<'a> Cursor<'a> {
     pub(crate) fn eat_symbol(&mut self, symbol: Symbol) -> bool
         ensures { reader.eat_symbol symbol self.old ≡ Some (result, self.new) }
     {
-        let is_next = self.peek().is_some_and(|kind| kind == Kind::Symbol(symbol));
+        let is_next = self
+            .peek()
+            .is_some_and(|kind| kind == TokenKind::Symbol(symbol));
         if is_next {
             self.skip();
         }
@@ -161,7 +164,7 @@ impl<'a> Cursor<'a> {
     /// The number as an integer, if one holds it.
     #[tactic(auto, unfolding(cy_grammar::specs::internal::Reader::and_then, cy_grammar::specs::internal::Expressions::counted))]
     pub(crate) fn integer(&self, number: u64) -> Result<i64, Refusal>
-        ensures { MatchResult result (λ n. (number < number_limit) × (n ≡ pos number)) (λ e. (e ≢ NoMemory) × (number_limit ≤ number)) }
+        ensures { MatchResult result (λ n. (number < greatest_number) × (n ≡ pos number)) (λ e. (e ≢ NoMemory) × (greatest_number ≤ number)) }
     {
         match i64::try_from(number) {
             Ok(integer) => Ok(integer),
@@ -171,7 +174,7 @@ impl<'a> Cursor<'a> {
 
     /// The integer that the number after a `-` makes, if one holds it.
     pub(crate) fn negated(&self, number: u64) -> Result<i64, Refusal>
-        ensures { MatchResult result (λ n. (number ≤ number_limit) × (n ≡ negated number)) (λ e. (e ≢ NoMemory) × (number_limit < number)) }
+        ensures { MatchResult result (λ n. (number ≤ greatest_number) × (n ≡ negated number)) (λ e. (e ≢ NoMemory) × (greatest_number < number)) }
     {
         match i64::try_from(number) {
             Ok(integer) => Ok(-integer),

@@ -6,7 +6,7 @@ ghost use Rattle.cy_parser.specs.internal.Reads.{Reads};
 
 use crate::cursor::{Cursor, NUMBER_LIMIT};
 use crate::refusals::Refusal;
-use cy_lexer::{Keyword, Kind, Symbol};
+use cy_lexer::{Keyword, Symbol, TokenKind};
 use cy_trees::Length;
 
 impl<'a> Cursor<'a> {
@@ -16,11 +16,11 @@ impl<'a> Cursor<'a> {
         ensures { Reads (λ n. n) (spec.number_if_any self.old) result self.new }
     {
         match self.peek() {
-            Some(Kind::Number(number)) if number < NUMBER_LIMIT => {
+            Some(TokenKind::Number(number)) if number < NUMBER_LIMIT => {
                 self.skip();
                 Ok(Some(number))
             }
-            Some(Kind::Number(_)) => Err(Refusal::NumberTooLarge(self.count())),
+            Some(TokenKind::Number(_)) => Err(Refusal::NumberTooLarge(self.count())),
             _ => Ok(None),
         }
     }
@@ -31,11 +31,11 @@ impl<'a> Cursor<'a> {
         ensures { Reads (λ n. n) (spec.count self.old) result self.new }
     {
         match self.peek() {
-            Some(Kind::Number(number)) if number < NUMBER_LIMIT => {
+            Some(TokenKind::Number(number)) if number < NUMBER_LIMIT => {
                 self.skip();
                 Ok(number)
             }
-            Some(Kind::Number(_)) => Err(Refusal::NumberTooLarge(self.count())),
+            Some(TokenKind::Number(_)) => Err(Refusal::NumberTooLarge(self.count())),
             _ => Err(self.unexpected()),
         }
     }

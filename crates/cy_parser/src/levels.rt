@@ -17,7 +17,7 @@ use crate::operands::{Gathered, Operand};
 use crate::operations::chain_after;
 use crate::refusals::Refusal;
 use cy_grammar::{Nested, comparator_of, product_operator, sum_operator};
-use cy_lexer::{Keyword, Kind, Symbol};
+use cy_lexer::{Keyword, Symbol, TokenKind};
 use cy_trees::{BinaryOperator, Expr, Link, UnaryOperator};
 use std::alloc::Global;
 
@@ -31,7 +31,7 @@ impl<'l, F: Fn(Global, &str, &mut Cursor<'_>, usize, Nested) -> Result<Operand, 
         requires { Nests self.now.levels (F.pre self.now.inner) (F.post self.now.inner) }
         ensures { Reads operand_of (spec.minus self.now.line.now (spec.nesting self.now.line.now self.now.levels) tokens.old) result tokens.new }
     {
-        if let Some(Kind::Number(number)) = tokens.peek() {
+        if let Some(TokenKind::Number(number)) = tokens.peek() {
             let integer = tokens.negated(number)?;
             tokens.skip();
             return Ok(leaf(Expr::Integer(integer)));
@@ -149,24 +149,24 @@ impl<'l, F: Fn(Global, &str, &mut Cursor<'_>, usize, Nested) -> Result<Operand, 
         ensures { Reads operand_of (spec.predicate_step self.now.line.now self.now.levels (spec.nesting self.now.line.now self.now.levels) (operand_of left) tokens.old) result tokens.new }
     {
         match tokens.peek() {
-            Some(Kind::Keyword(Keyword::Is)) => {
+            Some(TokenKind::Keyword(Keyword::Is)) => {
                 tokens.skip();
                 self.null_test(tokens, left)
             }
-            Some(Kind::Keyword(Keyword::In)) => {
+            Some(TokenKind::Keyword(Keyword::In)) => {
                 tokens.skip();
                 self.tested(tokens, BinaryOperator::In, left)
             }
-            Some(Kind::Keyword(Keyword::Contains)) => {
+            Some(TokenKind::Keyword(Keyword::Contains)) => {
                 tokens.skip();
                 self.tested(tokens, BinaryOperator::Contains, left)
             }
-            Some(Kind::Keyword(Keyword::Starts)) => {
+            Some(TokenKind::Keyword(Keyword::Starts)) => {
                 tokens.skip();
                 tokens.expect_keyword(Keyword::With)?;
                 self.tested(tokens, BinaryOperator::StartsWith, left)
             }
-            Some(Kind::Keyword(Keyword::Ends)) => {
+            Some(TokenKind::Keyword(Keyword::Ends)) => {
                 tokens.skip();
                 tokens.expect_keyword(Keyword::With)?;
                 self.tested(tokens, BinaryOperator::EndsWith, left)
@@ -386,27 +386,27 @@ impl<'l, F: Fn(Global, &str, &mut Cursor<'_>, usize, Nested) -> Result<Operand, 
 }
 
 /// Whether the token begins a predicate: IS, IN, CONTAINS, STARTS or ENDS.
-fn begins_predicate(next: Option<Kind>) -> bool
+fn begins_predicate(next: Option<TokenKind>) -> bool
     ensures { result ≡ spec.begins_predicate next }
 {
     matches!(
         next,
-        Some(Kind::Keyword(
+        Some(TokenKind::Keyword(
             Keyword::Is | Keyword::In | Keyword::Contains | Keyword::Starts | Keyword::Ends
         ))
     )
 }
 
 /// Whether arithmetic or a predicate goes on with the token.
-fn continues_predicate(next: Option<Kind>) -> bool
+fn continues_predicate(next: Option<TokenKind>) -> bool
     ensures { result ≡ spec.continues_predicate next }
 {
     matches!(
         next,
         Some(
-            Kind::Symbol(
+            TokenKind::Symbol(
                 Symbol::Star | Symbol::Slash | Symbol::Percent | Symbol::Plus | Symbol::Minus
-            ) | Kind::Keyword(
+            ) | TokenKind::Keyword(
                 Keyword::Is | Keyword::In | Keyword::Contains | Keyword::Starts | Keyword::Ends
             )
         )
@@ -414,12 +414,12 @@ fn continues_predicate(next: Option<Kind>) -> bool
 }
 
 /// Whether arithmetic, a predicate or a chain of comparisons goes on with the token.
-fn continues_comparison(next: Option<Kind>) -> bool
+fn continues_comparison(next: Option<TokenKind>) -> bool
     ensures { result ≡ spec.continues_comparison next }
 {
     matches!(
         next,
-        Some(Kind::Symbol(
+        Some(TokenKind::Symbol(
             Symbol::Equal
                 | Symbol::NotEqual
                 | Symbol::Less
@@ -431,11 +431,11 @@ fn continues_comparison(next: Option<Kind>) -> bool
 }
 
 /// Whether AND, XOR or OR comes next.
-fn continues_whole(next: Option<Kind>) -> bool
+fn continues_whole(next: Option<TokenKind>) -> bool
     ensures { result ≡ spec.continues_whole next }
 {
     matches!(
         next,
-        Some(Kind::Keyword(Keyword::And | Keyword::Xor | Keyword::Or))
+        Some(TokenKind::Keyword(Keyword::And | Keyword::Xor | Keyword::Or))
     )
 }

@@ -1,7 +1,7 @@
 //! Operands with operators of one level between.
 
 ghost use Rattle.std.specs.Prelude.{◌≡◌, Option};
-ghost use Rattle.cy_lexer.specs.declared.tokens.Kind.{Kind};
+ghost use Rattle.cy_lexer.specs.declared.tokens.TokenKind.{TokenKind};
 ghost use Rattle.cy_trees.specs.declared.expressions.BinaryOperator.{BinaryOperator};
 ghost use Rattle.cy_trees.specs.Trees.{Expression};
 ghost use Rattle.cy_grammar.specs.internal.Expressions.{chain_after};
@@ -14,13 +14,13 @@ use crate::building::binary;
 use crate::cursor::Cursor;
 use crate::operands::Operand;
 use crate::refusals::Refusal;
-use cy_lexer::Kind;
+use cy_lexer::TokenKind;
 use cy_trees::BinaryOperator;
 use std::alloc::Global;
 
 /// What the operators of one level make of a first operand and those after it, grouped to the left.
 pub(crate) fn chain_after<
-    O: Fn(Kind) -> Option<BinaryOperator>,
+    O: Fn(TokenKind) -> Option<BinaryOperator>,
     R: Fn(&mut Cursor<'_>) -> Result<Operand, Refusal>,
 >(
     alloc: Global,
@@ -31,7 +31,7 @@ pub(crate) fn chain_after<
 ) -> Result<Operand, Refusal>
     requires operators { O.IsAlwaysCallable operator_of }
     requires operands { R.IsAlwaysCallable operand }
-    ensures { (operators : Kind → Option BinaryOperator) (read : Reader Expression) → ReadsOperations operators read (O.post operator_of) (R.post operand) → Reads operand_of (chain_after operators read (operand_of first) tokens.old) result tokens.new }
+    ensures { (operators : TokenKind → Option BinaryOperator) (read : Reader Expression) → ReadsOperations operators read (O.post operator_of) (R.post operand) → Reads operand_of (chain_after operators read (operand_of first) tokens.old) result tokens.new }
 {
     let mut left = first;
     for _turn in 0..tokens.count() {

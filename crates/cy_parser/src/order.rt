@@ -4,23 +4,23 @@ ghost use Rattle.std.specs.Prelude.{◌≡◌};
 ghost use Rattle.cy_grammar.specs.internal.Clauses as spec;
 
 use cy_grammar::{Opening, Stage};
-use cy_lexer::{Keyword, Kind};
+use cy_lexer::{Keyword, TokenKind};
 
 /// The clause that the token begins.
-pub(crate) fn opening_of(kind: Kind) -> Option<Opening>
+pub(crate) fn opening_of(kind: TokenKind) -> Option<Opening>
     ensures { result ≡ spec.opening_of kind }
 {
     match kind {
-        Kind::Keyword(Keyword::Match) => Some(Opening::Match),
-        Kind::Keyword(Keyword::Optional) => Some(Opening::Optional),
-        Kind::Keyword(Keyword::Unwind) => Some(Opening::Unwind),
-        Kind::Keyword(Keyword::With) => Some(Opening::With),
-        Kind::Keyword(Keyword::Return) => Some(Opening::Return),
-        Kind::Keyword(Keyword::Create) => Some(Opening::Create),
-        Kind::Keyword(Keyword::Set) => Some(Opening::Set),
-        Kind::Keyword(Keyword::Remove) => Some(Opening::Remove),
-        Kind::Keyword(Keyword::Delete) => Some(Opening::Delete),
-        Kind::Keyword(Keyword::Detach) => Some(Opening::Detach),
+        TokenKind::Keyword(Keyword::Match) => Some(Opening::Match),
+        TokenKind::Keyword(Keyword::Optional) => Some(Opening::Optional),
+        TokenKind::Keyword(Keyword::Unwind) => Some(Opening::Unwind),
+        TokenKind::Keyword(Keyword::With) => Some(Opening::With),
+        TokenKind::Keyword(Keyword::Return) => Some(Opening::Return),
+        TokenKind::Keyword(Keyword::Create) => Some(Opening::Create),
+        TokenKind::Keyword(Keyword::Set) => Some(Opening::Set),
+        TokenKind::Keyword(Keyword::Remove) => Some(Opening::Remove),
+        TokenKind::Keyword(Keyword::Delete) => Some(Opening::Delete),
+        TokenKind::Keyword(Keyword::Detach) => Some(Opening::Detach),
         _ => None,
     }
 }

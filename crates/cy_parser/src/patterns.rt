@@ -10,7 +10,7 @@ use crate::cursor::Cursor;
 use crate::primary::labels;
 use crate::refusals::Refusal;
 use crate::source::Source;
-use cy_lexer::{Kind, Symbol};
+use cy_lexer::{Symbol, TokenKind};
 use cy_trees::{
     Direction, Length, MapEntry, NodePattern, Path, RelationshipPattern, Step, Variable,
 };
@@ -34,7 +34,7 @@ impl<'l> Source<'l> {
         ensures { Reads (λ v. v) (spec.variable_if_any self.now.line.now tokens.old) result tokens.new }
     {
         match tokens.peek() {
-            Some(Kind::Name | Kind::QuotedName) => Ok(Some(self.variable(tokens)?)),
+            Some(TokenKind::Name | TokenKind::QuotedName) => Ok(Some(self.variable(tokens)?)),
             _ => Ok(None),
         }
     }
@@ -250,8 +250,8 @@ impl<'l> Source<'l> {
 }
 
 /// Whether a relationship begins with the token.
-fn begins_step(next: Option<Kind>) -> bool
+fn begins_step(next: Option<TokenKind>) -> bool
     ensures { result ≡ spec.begins_step next }
 {
-    matches!(next, Some(Kind::Symbol(Symbol::Less | Symbol::Minus)))
+    matches!(next, Some(TokenKind::Symbol(Symbol::Less | Symbol::Minus)))
 }

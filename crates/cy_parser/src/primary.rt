@@ -15,7 +15,7 @@ use crate::grammar::Grammar;
 use crate::operands::{Gathered, Operand};
 use crate::refusals::Refusal;
 use cy_grammar::{Nested, lowered};
-use cy_lexer::{Keyword, Kind, Symbol};
+use cy_lexer::{Keyword, Symbol, TokenKind};
 use cy_trees::{Arm, Expr, Variable};
 use cy_values::Text;
 use std::alloc::Global;
@@ -242,17 +242,17 @@ impl<'l, F: Fn(Global, &str, &mut Cursor<'_>, usize, Nested) -> Result<Operand, 
         ensures { Reads operand_of (spec.postfix self.now.line.now self.now.levels (spec.nesting self.now.line.now self.now.levels) tokens.old) result tokens.new }
     {
         match tokens.peek() {
-            Some(Kind::Name | Kind::QuotedName) => self.named_owner(tokens),
-            Some(Kind::Symbol(Symbol::LeftParenthesis)) => {
+            Some(TokenKind::Name | TokenKind::QuotedName) => self.named_owner(tokens),
+            Some(TokenKind::Symbol(Symbol::LeftParenthesis)) => {
                 tokens.skip();
                 self.bracketed_owner(tokens)
             }
-            Some(Kind::Symbol(Symbol::LeftBracket)) => {
+            Some(TokenKind::Symbol(Symbol::LeftBracket)) => {
                 tokens.skip();
                 self.open_level(tokens)?;
                 self.listed(tokens)
             }
-            Some(Kind::Keyword(Keyword::Case)) => {
+            Some(TokenKind::Keyword(Keyword::Case)) => {
                 tokens.skip();
                 self.open_level(tokens)?;
                 self.cases(tokens)
@@ -268,31 +268,31 @@ fn literal(alloc: Global, line: &str, tokens: &mut Cursor<'_>) -> Result<Operand
     ensures { Reads operand_of (spec.literal line.now tokens.old) result tokens.new }
 {
     match tokens.peek() {
-        Some(Kind::Keyword(Keyword::True)) => {
+        Some(TokenKind::Keyword(Keyword::True)) => {
             tokens.skip();
             Ok(leaf(Expr::Boolean(true)))
         }
-        Some(Kind::Keyword(Keyword::False)) => {
+        Some(TokenKind::Keyword(Keyword::False)) => {
             tokens.skip();
             Ok(leaf(Expr::Boolean(false)))
         }
-        Some(Kind::Keyword(Keyword::Null)) => {
+        Some(TokenKind::Keyword(Keyword::Null)) => {
             tokens.skip();
             Ok(leaf(Expr::Null))
         }
-        Some(Kind::Number(number)) => {
+        Some(TokenKind::Number(number)) => {
             let integer = tokens.integer(number)?;
             tokens.skip();
             Ok(leaf(Expr::Integer(integer)))
         }
-        Some(Kind::Text) => Ok(leaf(Expr::Text(tokens.quoted(alloc, line)?))),
+        Some(TokenKind::Text) => Ok(leaf(Expr::Text(tokens.quoted(alloc, line)?))),
         _ => Err(tokens.unexpected()),
     }
 }
 
 /// Whether a property or a test for labels goes on with the token.
-fn continues_owner(next: Option<Kind>) -> bool
+fn continues_owner(next: Option<TokenKind>) -> bool
     ensures { result ≡ spec.continues_owner next }
 {
-    matches!(next, Some(Kind::Symbol(Symbol::Dot | Symbol::Colon)))
+    matches!(next, Some(TokenKind::Symbol(Symbol::Dot | Symbol::Colon)))
 }

@@ -12,7 +12,7 @@ use crate::cursor::Cursor;
 use crate::refusals::Refusal;
 use crate::source::Source;
 use cy_grammar::slice_in;
-use cy_lexer::{Keyword, Kind, Symbol, Token};
+use cy_lexer::{Keyword, Symbol, Token, TokenKind};
 use cy_trees::{Expr, Item, Key, Projection};
 use cy_values::Text;
 
@@ -22,11 +22,11 @@ fn is_descending(tokens: &mut Cursor<'_>) -> bool
     ensures { spec.is_descending tokens.old ≡ Some (result, tokens.new) }
 {
     match tokens.peek() {
-        Some(Kind::Keyword(Keyword::Asc | Keyword::Ascending)) => {
+        Some(TokenKind::Keyword(Keyword::Asc | Keyword::Ascending)) => {
             tokens.skip();
             false
         }
-        Some(Kind::Keyword(Keyword::Desc | Keyword::Descending)) => {
+        Some(TokenKind::Keyword(Keyword::Desc | Keyword::Descending)) => {
             tokens.skip();
             true
         }
@@ -53,8 +53,13 @@ impl<'l> Source<'l> {
     }
 
     /// The column of an item without AS: a variable's name, or the expression as it is written.
-    fn column_of(&self, expression: &Expr, before: &[Token], after: usize) -> Result<Text, Refusal>
-        ensures value { IfOk result (λ t. t ≡ spells.column_of self.now.line.now (expression_of expression.now) (take (length before.now - after) before.now)) }
+    fn column_name(
+        &self,
+        expression: &Expr,
+        before: &[Token],
+        after: usize,
+    ) -> Result<Text, Refusal>
+        ensures value { IfOk result (λ t. t ≡ spells.column_name self.now.line.now (expression_of expression.now) (take (length before.now - after) before.now)) }
         ensures memory { IfErr result (λ e. e ≡ NoMemory) }
     {
         match expression {
@@ -79,7 +84,7 @@ impl<'l> Source<'l> {
                 named: true,
             });
         }
-        let column = self.column_of(&expression, before, after)?;
+        let column = self.column_name(&expression, before, after)?;
         Ok(Item {
             expression,
             column,

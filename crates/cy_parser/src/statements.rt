@@ -10,7 +10,7 @@ use crate::order::{allows, may_end, opening_of, stage_after};
 use crate::refusals::Refusal;
 use crate::source::Source;
 use cy_grammar::{Opening, Stage};
-use cy_lexer::{Keyword, Kind, Symbol};
+use cy_lexer::{Keyword, Symbol, TokenKind};
 use cy_trees::{Clause, Delete, Match, Statement, Unwind, With};
 
 impl<'l> Source<'l> {

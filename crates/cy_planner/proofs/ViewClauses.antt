@@ -12,7 +12,7 @@ use Rattle.cy_kinds.specs.declared.kinds.Kind.{Kind}
 use Rattle.cy_kinds.specs.Aggregates.{has_aggregates, is_aggregate_call, is_aggregate_if}
 use Rattle.cy_kinds.specs.Kinded.{HasKind, IsAggregate}
 use Rattle.cy_kinds.specs.Scopes.{Scope, with_paths}
-use Rattle.cy_scope.specs.Checked.{ClausesAreKinded, FilterGivesValue, IsChecked, IsViewQuery, ItemIsKinded, ProjectionIsKinded, column_of}
+use Rattle.cy_scope.specs.Checked.{ClausesAreKinded, FilterGivesValue, IsChecked, IsViewQuery, ItemIsKinded, ProjectionIsKinded, item_column}
 use Rattle.cy_scope.specs.ClauseFaults.{clause_fault, clauses_fault, where_fault}
 use Rattle.cy_scope.specs.ClauseScopes.{columns_of, scope_after}
 use Rattle.cy_scope.specs.PatternFaults.{paths_fault}
@@ -176,7 +176,7 @@ module _ (scope : Scope) where
   items_read p kinded alone = each_read p.items (recursion_from_All (ItemIsKinded scope) p.items kinded.0) alone
 
   pub as_many : (p : Projection) → ProjectionIsKinded scope p → length (columns_of scope p.items) ≡ length p.items
-  as_many p kinded = ap length kinded.1 ∙ length-map p.items (column_of scope)
+  as_many p kinded = ap length kinded.1 ∙ length-map p.items (item_column scope)
 
   pub test_read : (test : Option Expression) → FilterGivesValue scope test → IsTestKinded scope test
   test_read None gives = tt

@@ -23,7 +23,7 @@ use Rattle.cy_graph.specs.Touched.{Old, BeforeImage, AreTouched, value_of}
 use Rattle.cy_graph.proofs.Same.{same_node, node_itself, same_rel, rel_itself}
 use Rattle.cy_graph.proofs.Touching.{same_nodes, same_rels}
 use Rattle.cy_scans.specs.Changes.{IsChange, IsImage, Touches, before_change, image_at}
-use Rattle.cy_scans.specs.internal.Images.{come, node_in, rel_in, node_noted, rel_noted, nodes_noted, rels_noted}
+use Rattle.cy_scans.specs.internal.Images.{come, node_of_old, rel_of_old, node_noted, rel_noted, nodes_noted, rels_noted}
 use Rattle.cy_scans.proofs.Keys.{same_number, number_itself}
 
 -- one more at the end
@@ -69,12 +69,12 @@ module _ (n : ℕ) where
 
   -- what holds of each image of the number holds of the one that is noted
   node_holds : (P : Option Node → Type 0) (es : List BeforeImage) (found : Option (Option Node)) → IfSome found P
-      → ((was : Option Old) → Contains es (entity.Node node, was) → P (node_in was)) → IfSome (nodes_noted n es found) P
+      → ((was : Option Old) → Contains es (entity.Node node, was) → P (node_of_old was)) → IfSome (nodes_noted n es found) P
   node_holds P [] found held each = held
   node_holds P ((entity.Node id, was) ∷ es) found held each =
       node_holds P es (node_noted n (entity.Node id, was) found) (step (nat_eq id.0 n) refl) (λ w there. each w (later_there (entity.Node id, was) (entity.Node node, w) es there))
     where
-      step : (b : Bool) → nat_eq id.0 n ≡ b → IfSome (cond b (Some (node_in was)) found) P
+      step : (b : Bool) → nat_eq id.0 n ≡ b → IfSome (cond b (Some (node_of_old was)) found) P
       step true is =
           let same : id ≡ node = ap (λ (k : ℕ). let i : NodeId = record { 0 = k } in i) (same_number id.0 n is) in
           each was (subst (λ (i : NodeId). Contains ((entity.Node id, was) ∷ es) (entity.Node i, was)) same (head_there (entity.Node id, was) es))
@@ -83,12 +83,12 @@ module _ (n : ℕ) where
       node_holds P es found held (λ w there. each w (later_there (entity.Rel id, was) (entity.Node node, w) es there))
 
   rel_holds : (P : Option Rel → Type 0) (es : List BeforeImage) (found : Option (Option Rel)) → IfSome found P
-      → ((was : Option Old) → Contains es (entity.Rel rel, was) → P (rel_in was)) → IfSome (rels_noted n es found) P
+      → ((was : Option Old) → Contains es (entity.Rel rel, was) → P (rel_of_old was)) → IfSome (rels_noted n es found) P
   rel_holds P [] found held each = held
   rel_holds P ((entity.Rel id, was) ∷ es) found held each =
       rel_holds P es (rel_noted n (entity.Rel id, was) found) (step (nat_eq id.0 n) refl) (λ w there. each w (later_there (entity.Rel id, was) (entity.Rel rel, w) es there))
     where
-      step : (b : Bool) → nat_eq id.0 n ≡ b → IfSome (cond b (Some (rel_in was)) found) P
+      step : (b : Bool) → nat_eq id.0 n ≡ b → IfSome (cond b (Some (rel_of_old was)) found) P
       step true is =
           let same : id ≡ rel = ap (λ (k : ℕ). let i : RelId = record { 0 = k } in i) (same_number id.0 n is) in
           each was (subst (λ (i : RelId). Contains ((entity.Rel id, was) ∷ es) (entity.Rel i, was)) same (head_there (entity.Rel id, was) es))
@@ -101,7 +101,7 @@ module _ (n : ℕ) where
   node_stays [] found some = some
   node_stays ((entity.Node id, was) ∷ es) found some = node_stays es (node_noted n (entity.Node id, was) found) (step (nat_eq id.0 n))
     where
-      step : (b : Bool) → IsSome (cond b (Some (node_in was)) found)
+      step : (b : Bool) → IsSome (cond b (Some (node_of_old was)) found)
       step true = refl
       step false = some
   node_stays ((entity.Rel id, was) ∷ es) found some = node_stays es found some
@@ -110,7 +110,7 @@ module _ (n : ℕ) where
   rel_stays [] found some = some
   rel_stays ((entity.Rel id, was) ∷ es) found some = rel_stays es (rel_noted n (entity.Rel id, was) found) (step (nat_eq id.0 n))
     where
-      step : (b : Bool) → IsSome (cond b (Some (rel_in was)) found)
+      step : (b : Bool) → IsSome (cond b (Some (rel_of_old was)) found)
       step true = refl
       step false = some
   rel_stays ((entity.Node id, was) ∷ es) found some = rel_stays es found some
@@ -120,8 +120,8 @@ module _ (n : ℕ) where
   node_there [] found was there = absurd (omega (arith, there.1))
   node_there ((entity.Node id, w) ∷ es) found was there = step (λ later. node_there es found was later) (nat_eq id.0 n) refl
     where
-      step : (Contains es (entity.Node node, was) → IsSome (nodes_noted n es found)) → (b : Bool) → nat_eq id.0 n ≡ b → IsSome (nodes_noted n es (cond b (Some (node_in w)) found))
-      step rest true is = node_stays es (Some (node_in w)) refl
+      step : (Contains es (entity.Node node, was) → IsSome (nodes_noted n es found)) → (b : Bool) → nat_eq id.0 n ≡ b → IsSome (nodes_noted n es (cond b (Some (node_of_old w)) found))
+      step rest true is = node_stays es (Some (node_of_old w)) refl
       step rest false is =
           rest (Contains-tail (entity.Node id, w) es (entity.Node node, was) (λ same.
           let keys : entity.Node id ≡ entity.Node node = ap (λ (e : BeforeImage). e.0) same in
@@ -136,8 +136,8 @@ module _ (n : ℕ) where
   rel_there [] found was there = absurd (omega (arith, there.1))
   rel_there ((entity.Rel id, w) ∷ es) found was there = step (λ later. rel_there es found was later) (nat_eq id.0 n) refl
     where
-      step : (Contains es (entity.Rel rel, was) → IsSome (rels_noted n es found)) → (b : Bool) → nat_eq id.0 n ≡ b → IsSome (rels_noted n es (cond b (Some (rel_in w)) found))
-      step rest true is = rel_stays es (Some (rel_in w)) refl
+      step : (Contains es (entity.Rel rel, was) → IsSome (rels_noted n es found)) → (b : Bool) → nat_eq id.0 n ≡ b → IsSome (rels_noted n es (cond b (Some (rel_of_old w)) found))
+      step rest true is = rel_stays es (Some (rel_of_old w)) refl
       step rest false is =
           rest (Contains-tail (entity.Rel id, w) es (entity.Rel rel, was) (λ same.
           let keys : entity.Rel id ≡ entity.Rel rel = ap (λ (e : BeforeImage). e.0) same in
@@ -152,11 +152,11 @@ module _ (n : ℕ) where
   not_some None is some = false≢true some
   not_some (Some x) is some = cc
 
-  node_back : (o : Option Node) → node_in (option_map (λ (node : Node). let v : Old = inl node in v) o) ≡ o
+  node_back : (o : Option Node) → node_of_old (option_map (λ (node : Node). let v : Old = inl node in v) o) ≡ o
   node_back None = refl
   node_back (Some found) = refl
 
-  rel_back : (o : Option Rel) → rel_in (option_map (λ (rel : Rel). let v : Old = inr rel in v) o) ≡ o
+  rel_back : (o : Option Rel) → rel_of_old (option_map (λ (rel : Rel). let v : Old = inr rel in v) o) ≡ o
   rel_back None = refl
   rel_back (Some found) = refl
 
@@ -166,7 +166,7 @@ module _ (n : ℕ) where
         image (node_at node before) (node_at node now) (nodes_noted n images None)
         (node_holds (λ was. (was ≡ node_at node before) × (node_at node before ≢ node_at node now)) images None tt (λ was there.
         let differs = touched.differ (entity.Node node, was) there in (
-          ap node_in differs.0 ∙ node_back (node_at node before),
+          ap node_of_old differs.0 ∙ node_back (node_at node before),
           λ same. differs.1 (ap (λ (o : Option Node). option_map (λ (node : Node). let v : Old = inl node in v) o) same),
         )))
         (λ none. decided (node_eq.eq-value).it same_node node_itself (node_at node before) (node_at node now) (λ differ.
@@ -178,7 +178,7 @@ module _ (n : ℕ) where
         image (rel_at rel before) (rel_at rel now) (rels_noted n images None)
         (rel_holds (λ was. (was ≡ rel_at rel before) × (rel_at rel before ≢ rel_at rel now)) images None tt (λ was there.
         let differs = touched.differ (entity.Rel rel, was) there in (
-          ap rel_in differs.0 ∙ rel_back (rel_at rel before),
+          ap rel_of_old differs.0 ∙ rel_back (rel_at rel before),
           λ same. differs.1 (ap (λ (o : Option Rel). option_map (λ (rel : Rel). let v : Old = inr rel in v) o) same),
         )))
         (λ none. decided (rel_eq.eq-value).it same_rel rel_itself (rel_at rel before) (rel_at rel now) (λ differ.

@@ -7,7 +7,7 @@ ghost use Rattle.std.specs.Map.{keys_of};
 ghost use Rattle.cy_graph.specs.Graph.{IsGraph, empty_state};
 ghost use Rattle.cy_graph.specs.Touched.{before_image, old_value};
 ghost use Rattle.cy_scans.specs.Changes.{IsChange, before_change, image_at};
-ghost use Rattle.cy_scans.specs.internal.Images.{come, node_in, rel_in, node_noted, rel_noted};
+ghost use Rattle.cy_scans.specs.internal.Images.{come, node_of_old, rel_of_old, node_noted, rel_noted};
 
 use cy_graph::{Node, Rel, Touched, Was};
 use cy_index::{Sight, Store};
@@ -153,7 +153,7 @@ fn rels_of<'a>(alloc: Global, store: &'a Store) -> Result<IndexMap<u64, Option<&
 
 // The node that a value is.
 fn node_of<'a>(was: Option<Was<'a>>) -> Option<&'a Node>
-    ensures { option_copied result ≡ node_in (option_map old_value was.entry) }
+    ensures { option_copied result ≡ node_of_old (option_map old_value was.entry) }
 {
     match was {
         Some(Was::Node(node)) => Some(node),
@@ -163,7 +163,7 @@ fn node_of<'a>(was: Option<Was<'a>>) -> Option<&'a Node>
 
 // The relationship that a value is.
 fn rel_of<'a>(was: Option<Was<'a>>) -> Option<&'a Rel>
-    ensures { option_copied result ≡ rel_in (option_map old_value was.entry) }
+    ensures { option_copied result ≡ rel_of_old (option_map old_value was.entry) }
 {
     match was {
         Some(Was::Rel(rel)) => Some(rel),

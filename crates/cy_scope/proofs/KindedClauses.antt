@@ -25,7 +25,7 @@ use Rattle.cy_scope.specs.ProjectionFaults.{has_name, item_place_fault, items_fa
 use Rattle.cy_scope.specs.ClauseFaults.{where_fault, entity_fault, node_only_fault, set_fault, sets_fault, remove_fault, removes_fault, deletes_fault, clause_fault, clauses_fault}
 use Rattle.cy_scope.specs.Resolved.{resolved, resolved_expressions, resolved_variable, resolved_path, resolved_item, resolved_key, resolved_projection, resolved_set, resolved_remove, resolved_where, resolved_clause, resolved_clauses}
 use Rattle.cy_kinds.specs.Kinded.{IsColumn, HasKind, HaveKinds, IsAggregate}
-use Rattle.cy_scope.specs.Checked.{IsChecked, IsKinded, IsEntityColumn, FilterGivesValue, PathIsKinded, ItemIsKinded, column_of, ProjectionIsKinded, SetIsKinded, RemoveIsKinded, ClauseIsKinded, ClausesAreKinded}
+use Rattle.cy_scope.specs.Checked.{IsChecked, IsKinded, IsEntityColumn, FilterGivesValue, PathIsKinded, ItemIsKinded, item_column, ProjectionIsKinded, SetIsKinded, RemoveIsKinded, ClauseIsKinded, ClausesAreKinded}
 use Rattle.cy_scope.proofs.Columns.{reads-same, reads-variable, reads-paths, keeps-same, added_here}
 use Rattle.cy_scope.proofs.KindedExpressions.{first_none, unless_none, node_is, kinds_of, good_call, call_is, call_kind_is, has_kind, have_kinds, gives_value}
 use Rattle.cy_scope.proofs.KindedPatterns.{paths_kinded}
@@ -110,20 +110,20 @@ module _ (scope : Scope) where
       (items_kinded naming next items others)
 
   -- each item makes a column
-  columns_are : (naming : Bool) (columns : Scope) (items : List Item) → items_fault naming scope columns items ≡ None → with_items columns scope items ≡ columns ++ map (column_of scope) items
+  columns_are : (naming : Bool) (columns : Scope) (items : List Item) → items_fault naming scope columns items ≡ None → with_items columns scope items ≡ columns ++ map (item_column scope) items
   columns_are naming columns [] good = sym (append-nil columns)
   columns_are naming columns (i ∷ items) good =
       let next = added_name columns (kind_of scope i.expression) i.column in
       let (here, others) = first_none (item_place_fault naming scope columns i) (items_fault naming scope next items) good in
       columns_are naming next items others
-      ∙ ap (λ t. (if t then columns else columns ++ column_of scope i ∷ []) ++ map (column_of scope) items) (item_good naming columns i here).1
-      ∙ append_assoc columns (column_of scope i ∷ []) (map (column_of scope) items)
+      ∙ ap (λ t. (if t then columns else columns ++ item_column scope i ∷ []) ++ map (item_column scope) items) (item_good naming columns i here).1
+      ∙ append_assoc columns (item_column scope i ∷ []) (map (item_column scope) items)
 
-  same_columns : (items : List Item) → map (column_of scope) (map (resolved_item scope) items) ≡ map (column_of scope) items
+  same_columns : (items : List Item) → map (item_column scope) (map (resolved_item scope) items) ≡ map (item_column scope) items
   same_columns [] = refl
   same_columns (i ∷ items) =
-      ap (λ (k : Kind). (i.column, k) ∷ map (column_of scope) (map (resolved_item scope) items)) (kind_kept scope scope i.expression)
-      ∙ ap (λ (vs : Scope). column_of scope i ∷ vs) (same_columns items)
+      ap (λ (k : Kind). (i.column, k) ∷ map (item_column scope) (map (resolved_item scope) items)) (kind_kept scope scope i.expression)
+      ∙ ap (λ (vs : Scope). item_column scope i ∷ vs) (same_columns items)
 
   -- a key that repeats an item is resolved as that item
   abbrev IsItems : List Item → Expression → Type 0

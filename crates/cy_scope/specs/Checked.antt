@@ -62,8 +62,8 @@ PathIsKinded before after p = NodeIsKinded before after p.start × All (StepIsKi
 abbrev pub ItemIsKinded : Scope → Item → Type 0
 ItemIsKinded scope i = HasKind scope i.expression (kind_of scope i.expression) ⊎ IsAggregate scope i.expression (kind_of scope i.expression)
 
-abbrev pub column_of : Scope → Item → Name × Kind
-column_of scope i = (i.column, kind_of scope i.expression)
+abbrev pub item_column : Scope → Item → Name × Kind
+item_column scope i = (i.column, kind_of scope i.expression)
 
 -- a key is an item's expression, or else one that reads the columns and what keys see of the row before
 abbrev pub KeyIsKinded : Scope → Projection → Key → Type 0
@@ -73,7 +73,7 @@ KeyIsKinded before p key =
 -- each item makes a column
 abbrev pub ProjectionIsKinded : Scope → Projection → Type 0
 ProjectionIsKinded before p =
-    All (ItemIsKinded before) p.items × (columns_of before p.items ≡ map (column_of before) p.items) × All (KeyIsKinded before p) p.order
+    All (ItemIsKinded before) p.items × (columns_of before p.items ≡ map (item_column before) p.items) × All (KeyIsKinded before p) p.order
 
 abbrev pub SetIsKinded : Scope → SetItem → Type 0
 SetIsKinded scope (set_property v key e) = IsEntityColumn scope v × GivesValue scope e

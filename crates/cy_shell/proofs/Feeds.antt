@@ -5,7 +5,7 @@ use Rattle.cy_engine.specs.Model.{Machine}
 use Rattle.cy_engine.specs.State.{EngineState}
 use Rattle.cy_bags.specs.declared.changes.Entry.{Entry}
 use Rattle.cy_shell.specs.internal.Feeding.{IsAnswer, WritesFeed, BeginsFeed}
-use Rattle.cy_shell.specs.Printed.{text_of, IsObjectText, IsFeedText, fed}
+use Rattle.cy_shell.specs.Printed.{printed_line, IsObjectText, IsFeedText, fed}
 use Rattle.cy_shell.specs.Replies.{entry_json}
 use Rattle.cy_shell.specs.Runs.{Answered, Carried, WritesRun, WritesBeginning}
 use Rattle.cy_shell.specs.internal.Serving.{serving}
@@ -20,7 +20,7 @@ Entries = List (List ℕ × Entry)
 -- entries can be printed in some way
 some_feed : (es : Entries) → (text : List ℕ) × IsFeedText es text
 some_feed [] = ([], refl)
-some_feed (e ∷ es) = let more = some_feed es in (text_of (entry_json e) ++ more.0, (text_of (entry_json e), more.0, refl, inl refl, more.1))
+some_feed (e ∷ es) = let more = some_feed es in (printed_line (entry_json e) ++ more.0, (printed_line (entry_json e), more.0, refl, inl refl, more.1))
 
 -- the texts of the entries up to those that are left were written
 pub record FedSoFar (entries left : Entries) (before now : Option (List ℕ)) : Type 0 where

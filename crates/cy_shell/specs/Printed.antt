@@ -11,12 +11,12 @@ use Rattle.cy_shell.specs.Lines.{line_feed}
 use Rattle.cy_shell.specs.Replies.{reply_json, entry_json, fault_json}
 
 -- an object as it is printed: compact, on a line of its own
-abbrev pub text_of : Data → List ℕ
-text_of json = compact_text json ++ line_feed ∷ []
+abbrev pub printed_line : Data → List ℕ
+printed_line json = compact_text json ++ line_feed ∷ []
 
 -- the text of want of memory, 90, which stands in for that of any fault
 abbrev pub no_memory_text : List ℕ
-no_memory_text = text_of (fault_json None (code_of NoMemory))
+no_memory_text = printed_line (fault_json None (code_of NoMemory))
 
 -- the number of `ReplyLost`, which is the shell's own
 abbrev pub reply_lost_code : ℕ
@@ -24,16 +24,16 @@ reply_lost_code = 91
 
 -- its text, which stands in for that of any other object
 abbrev pub reply_lost_text : List ℕ
-reply_lost_text = text_of (fault_json None reply_lost_code)
+reply_lost_text = printed_line (fault_json None reply_lost_code)
 
 -- the text of a fault with this offset and number, or that of want of memory
 abbrev pub IsFaultText : Option ℕ → ℕ → List ℕ → Type 0
-IsFaultText at code text = (text ≡ text_of (fault_json at code)) ⊎ (text ≡ no_memory_text)
+IsFaultText at code text = (text ≡ printed_line (fault_json at code)) ⊎ (text ≡ no_memory_text)
 
 -- no text where there is no object, or the text of the object, or that of `ReplyLost`
 abbrev pub IsObjectText : Option Data → List ℕ → Type 0
 IsObjectText None text = text ≡ []
-IsObjectText (Some json) text = (text ≡ text_of json) ⊎ (text ≡ reply_lost_text)
+IsObjectText (Some json) text = (text ≡ printed_line json) ⊎ (text ≡ reply_lost_text)
 
 abbrev pub IsReplyText : Reply → List ℕ → Type 0
 IsReplyText reply text = IsObjectText (reply_json reply) text

@@ -2,7 +2,7 @@
 
 ghost use Rattle.std.specs.Prelude.{◌≡◌, [], Some, OnOk};
 ghost use Rattle.cy_shell.specs.Replies.{entry_json};
-ghost use Rattle.cy_shell.specs.Printed.{text_of, IsObjectText, IsReplyText, IsFaultText};
+ghost use Rattle.cy_shell.specs.Printed.{printed_line, IsObjectText, IsReplyText, IsFaultText};
 ghost use Rattle.cy_shell.specs.internal.Printing.{printed_text};
 
 use crate::json_values::WriteJson;
@@ -92,7 +92,7 @@ pub(crate) fn print_fault(
 // what a text costs.
 #[inline(never)]
 fn write_line<T: WriteJson>(alloc: Global, room: &mut Vec<u8>, object: &T) -> Result<(), AllocError>
-    ensures { OnOk result (room.new.items ≡ text_of (T.json object.now)) }
+    ensures { OnOk result (room.new.items ≡ printed_line (T.json object.now)) }
 {
     let mut out = Writer::new(emptied(alloc, room));
     let written = object.write_json(&mut out);

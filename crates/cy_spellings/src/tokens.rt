@@ -1,6 +1,6 @@
 //! Lines and their tokens, with ample memory.
 
-use cy_lexer::{Kind, LexFault, Token, lex};
+use cy_lexer::{LexFault, Token, TokenKind, lex};
 use std::alloc::Global;
 use std::process::Abort;
 use std::test::Fail;
@@ -146,10 +146,10 @@ fn write_token(
     token: &Token,
 ) -> Result<(), LexFault> {
     text.push_str(match token.kind {
-        Kind::Keyword(_) => "^",
-        Kind::QuotedName => "`",
-        Kind::Text => "'",
-        Kind::Name | Kind::Number(_) | Kind::Symbol(_) => "",
+        TokenKind::Keyword(_) => "^",
+        TokenKind::QuotedName => "`",
+        TokenKind::Text => "'",
+        TokenKind::Name | TokenKind::Number(_) | TokenKind::Symbol(_) => "",
     })?;
     text.push_str(token.denoted(alloc, line)?.as_str())?;
     text.push('|')?;

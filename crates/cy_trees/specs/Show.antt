@@ -40,8 +40,8 @@ piece_text (word w) = word_text w
 piece_text space = codes " "
 
 -- the text of pieces, as bytes
-abbrev pub text_of : List Piece → List ℕ
-text_of = flat_map piece_text
+abbrev pub pieces_text : List Piece → List ℕ
+pieces_text = flat_map piece_text
 
 abbrev pub says : Keyword → Piece
 says k = word (words.keyword k)
@@ -294,4 +294,4 @@ abbrev pub statement_pieces : Statement → List Piece
 statement_pieces s = separated (space ∷ []) (map clause_pieces s.clauses)
 
 unfoldable pub show : Statement → List ℕ
-show s = text_of (statement_pieces s)
+show s = pieces_text (statement_pieces s)

@@ -3,7 +3,7 @@
 ghost use Rattle.std.specs.Prelude.{◌≡◌, ◌++◌, ◌∷◌, [], OnOk, string_bytes, map};
 ghost use Rattle.cy_lexer.specs.declared.keywords.Keyword.TheVariants as keyword;
 ghost use Rattle.cy_trees.specs.Show as shown;
-ghost use Rattle.cy_trees.specs.Show.{text_of};
+ghost use Rattle.cy_trees.specs.Show.{pieces_text};
 ghost use Rattle.cy_trees.specs.Trees as trees;
 ghost use Rattle.cy_trees.specs.Views as tree;
 
@@ -16,7 +16,7 @@ use std::alloc::AllocError;
 
 /// Writes AS and the name after it.
 fn write_alias(text: &mut String, name: &str) -> Result<(), AllocError>
-    ensures { OnOk result (string_bytes text.new ≡ string_bytes text.old ++ text_of (shown.space ∷ shown.says keyword.As ∷ shown.space ∷ shown.named name.now ∷ [])) }
+    ensures { OnOk result (string_bytes text.new ≡ string_bytes text.old ++ pieces_text (shown.space ∷ shown.says keyword.As ∷ shown.space ∷ shown.named name.now ∷ [])) }
 {
     text.push_str(" AS ")?;
     write_name(text, name)
@@ -80,7 +80,7 @@ impl Show for RemoveItem {
 
 /// Writes a WHERE, if there is one.
 fn write_filter(text: &mut String, filter: &Option<Expr>) -> Result<(), AllocError>
-    ensures { OnOk result (string_bytes text.new ≡ string_bytes text.old ++ text_of (shown.filter_pieces (tree.filter_of filter.now))) }
+    ensures { OnOk result (string_bytes text.new ≡ string_bytes text.old ++ pieces_text (shown.filter_pieces (tree.filter_of filter.now))) }
 {
     let Some(filter) = filter else {
         return Ok(());
@@ -91,7 +91,7 @@ fn write_filter(text: &mut String, filter: &Option<Expr>) -> Result<(), AllocErr
 
 #[tactic(auto, using(crate::proofs::ShowLemmas::keys_fused))]
 fn write_keys(text: &mut String, keys: &[Key]) -> Result<(), AllocError>
-    ensures { OnOk result (string_bytes text.new ≡ string_bytes text.old ++ text_of (shown.list_pieces (map shown.key_pieces (map tree.key_of keys.now)))) }
+    ensures { OnOk result (string_bytes text.new ≡ string_bytes text.old ++ pieces_text (shown.list_pieces (map shown.key_pieces (map tree.key_of keys.now)))) }
 {
     write_separated(text, Separator::Comma, keys)
 }
@@ -99,7 +99,7 @@ fn write_keys(text: &mut String, keys: &[Key]) -> Result<(), AllocError>
 /// Writes the keys of an ORDER BY, if there are any.
 #[tactic(auto, using(crate::proofs::ShowLemmas::order_some))]
 fn write_order(text: &mut String, keys: &[Key]) -> Result<(), AllocError>
-    ensures { OnOk result (string_bytes text.new ≡ string_bytes text.old ++ text_of (shown.order_pieces (map tree.key_of keys.now))) }
+    ensures { OnOk result (string_bytes text.new ≡ string_bytes text.old ++ pieces_text (shown.order_pieces (map tree.key_of keys.now))) }
 {
     if keys.is_empty() {
         return Ok(());
@@ -110,7 +110,7 @@ fn write_order(text: &mut String, keys: &[Key]) -> Result<(), AllocError>
 
 /// Writes a SKIP, if there is one.
 fn write_skip(text: &mut String, skip: Option<u64>) -> Result<(), AllocError>
-    ensures { OnOk result (string_bytes text.new ≡ string_bytes text.old ++ text_of (shown.count_pieces keyword.Skip skip)) }
+    ensures { OnOk result (string_bytes text.new ≡ string_bytes text.old ++ pieces_text (shown.count_pieces keyword.Skip skip)) }
 {
     match skip {
         Some(rows) => write!(text, " SKIP {rows}"),
@@ -120,7 +120,7 @@ fn write_skip(text: &mut String, skip: Option<u64>) -> Result<(), AllocError>
 
 /// Writes a LIMIT, if there is one.
 fn write_limit(text: &mut String, limit: Option<u64>) -> Result<(), AllocError>
-    ensures { OnOk result (string_bytes text.new ≡ string_bytes text.old ++ text_of (shown.count_pieces keyword.Limit limit)) }
+    ensures { OnOk result (string_bytes text.new ≡ string_bytes text.old ++ pieces_text (shown.count_pieces keyword.Limit limit)) }
 {
     match limit {
         Some(rows) => write!(text, " LIMIT {rows}"),
@@ -130,13 +130,13 @@ fn write_limit(text: &mut String, limit: Option<u64>) -> Result<(), AllocError>
 
 #[tactic(auto, using(crate::proofs::ShowLemmas::items_fused))]
 fn write_items(text: &mut String, items: &[Item]) -> Result<(), AllocError>
-    ensures { OnOk result (string_bytes text.new ≡ string_bytes text.old ++ text_of (shown.list_pieces (map shown.item_pieces (map tree.item_of items.now)))) }
+    ensures { OnOk result (string_bytes text.new ≡ string_bytes text.old ++ pieces_text (shown.list_pieces (map shown.item_pieces (map tree.item_of items.now)))) }
 {
     write_separated(text, Separator::Comma, items)
 }
 
 fn write_projection(text: &mut String, projection: &Projection) -> Result<(), AllocError>
-    ensures { OnOk result (string_bytes text.new ≡ string_bytes text.old ++ text_of (shown.projection_pieces (tree.projection_of projection.now))) }
+    ensures { OnOk result (string_bytes text.new ≡ string_bytes text.old ++ pieces_text (shown.projection_pieces (tree.projection_of projection.now))) }
 {
     text.push_str(if projection.distinct { "DISTINCT " } else { "" })?;
     write_items(text, &projection.items)?;
@@ -147,21 +147,21 @@ fn write_projection(text: &mut String, projection: &Projection) -> Result<(), Al
 
 #[tactic(auto, using(crate::proofs::ShowLemmas::paths_fused))]
 fn write_paths(text: &mut String, paths: &[Path]) -> Result<(), AllocError>
-    ensures { OnOk result (string_bytes text.new ≡ string_bytes text.old ++ text_of (shown.paths_pieces (map tree.path_of paths.now))) }
+    ensures { OnOk result (string_bytes text.new ≡ string_bytes text.old ++ pieces_text (shown.paths_pieces (map tree.path_of paths.now))) }
 {
     write_separated(text, Separator::Comma, paths)
 }
 
 #[tactic(auto, using(crate::proofs::ShowLemmas::set_items_fused))]
 fn write_set_items(text: &mut String, items: &[SetItem]) -> Result<(), AllocError>
-    ensures { OnOk result (string_bytes text.new ≡ string_bytes text.old ++ text_of (shown.list_pieces (map shown.set_item_pieces (map tree.set_item_of items.now)))) }
+    ensures { OnOk result (string_bytes text.new ≡ string_bytes text.old ++ pieces_text (shown.list_pieces (map shown.set_item_pieces (map tree.set_item_of items.now)))) }
 {
     write_separated(text, Separator::Comma, items)
 }
 
 #[tactic(auto, using(crate::proofs::ShowLemmas::remove_items_fused))]
 fn write_remove_items(text: &mut String, items: &[RemoveItem]) -> Result<(), AllocError>
-    ensures { OnOk result (string_bytes text.new ≡ string_bytes text.old ++ text_of (shown.list_pieces (map shown.remove_item_pieces (map tree.remove_item_of items.now)))) }
+    ensures { OnOk result (string_bytes text.new ≡ string_bytes text.old ++ pieces_text (shown.list_pieces (map shown.remove_item_pieces (map tree.remove_item_of items.now)))) }
 {
     write_separated(text, Separator::Comma, items)
 }
@@ -211,7 +211,7 @@ impl Show for Clause {
 }
 
 fn write_match(text: &mut String, it: &Match) -> Result<(), AllocError>
-    ensures { OnOk result (string_bytes text.new ≡ string_bytes text.old ++ text_of (shown.clause_pieces (trees.«match» it.now.optional (tree.paths_of it.now.paths) (tree.filter_of it.now.filter)))) }
+    ensures { OnOk result (string_bytes text.new ≡ string_bytes text.old ++ pieces_text (shown.clause_pieces (trees.«match» it.now.optional (tree.paths_of it.now.paths) (tree.filter_of it.now.filter)))) }
 {
     text.push_str(if it.optional {
         "OPTIONAL MATCH "

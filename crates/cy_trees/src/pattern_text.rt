@@ -2,7 +2,7 @@
 
 ghost use Rattle.std.specs.Prelude.{◌≡◌, ◌++◌, ◌∷◌, [], OnOk, string_bytes, map};
 ghost use Rattle.cy_trees.specs.Show as shown;
-ghost use Rattle.cy_trees.specs.Show.{text_of};
+ghost use Rattle.cy_trees.specs.Show.{pieces_text};
 ghost use Rattle.cy_trees.specs.Views as tree;
 
 use crate::clauses::{Direction, Length, MapEntry, NodePattern, Path, RelationshipPattern, Step};
@@ -84,7 +84,7 @@ impl Show for Path {
 
 /// What a relationship begins with.
 fn tail(direction: Direction) -> &'static str
-    ensures { result.now ≡ text_of (shown.tail_pieces direction) }
+    ensures { result.now ≡ pieces_text (shown.tail_pieces direction) }
 {
     match direction {
         Direction::Left => "<-[",
@@ -94,7 +94,7 @@ fn tail(direction: Direction) -> &'static str
 
 /// What a relationship ends with.
 fn head(direction: Direction) -> &'static str
-    ensures { result.now ≡ text_of (shown.head_pieces direction) }
+    ensures { result.now ≡ pieces_text (shown.head_pieces direction) }
 {
     match direction {
         Direction::Right => "]->",
@@ -103,7 +103,7 @@ fn head(direction: Direction) -> &'static str
 }
 
 fn write_variable(text: &mut String, variable: &Option<Variable>) -> Result<(), AllocError>
-    ensures { OnOk result (string_bytes text.new ≡ string_bytes text.old ++ text_of (shown.variable_pieces variable.now)) }
+    ensures { OnOk result (string_bytes text.new ≡ string_bytes text.old ++ pieces_text (shown.variable_pieces variable.now)) }
 {
     match variable {
         Some(variable) => variable.write(text),
@@ -113,7 +113,7 @@ fn write_variable(text: &mut String, variable: &Option<Variable>) -> Result<(), 
 
 /// Writes types, the first after a colon and each other after a bar.
 fn write_types(text: &mut String, types: &[Text]) -> Result<(), AllocError>
-    ensures { OnOk result (string_bytes text.new ≡ string_bytes text.old ++ text_of (shown.type_pieces types.now)) }
+    ensures { OnOk result (string_bytes text.new ≡ string_bytes text.old ++ pieces_text (shown.type_pieces types.now)) }
 {
     let Some((first, others)) = types.split_first() else {
         return Ok(());
@@ -124,7 +124,7 @@ fn write_types(text: &mut String, types: &[Text]) -> Result<(), AllocError>
 }
 
 fn write_length(text: &mut String, length: &Option<Length>) -> Result<(), AllocError>
-    ensures { OnOk result (string_bytes text.new ≡ string_bytes text.old ++ text_of (shown.length_pieces length.now)) }
+    ensures { OnOk result (string_bytes text.new ≡ string_bytes text.old ++ pieces_text (shown.length_pieces length.now)) }
 {
     let Some(Length { least, most }) = length else {
         return Ok(());
@@ -138,20 +138,20 @@ fn write_length(text: &mut String, length: &Option<Length>) -> Result<(), AllocE
 
 #[tactic(auto, using(crate::proofs::ShowLemmas::steps_fused))]
 fn write_steps(text: &mut String, steps: &[Step]) -> Result<(), AllocError>
-    ensures { OnOk result (string_bytes text.new ≡ string_bytes text.old ++ text_of (shown.each_after [] (map shown.step_pieces (map tree.step_of steps.now)))) }
+    ensures { OnOk result (string_bytes text.new ≡ string_bytes text.old ++ pieces_text (shown.each_after [] (map shown.step_pieces (map tree.step_of steps.now)))) }
 {
     write_each(text, Separator::Nothing, steps)
 }
 
 #[tactic(auto, using(crate::proofs::ShowLemmas::entries_fused))]
 fn write_entries(text: &mut String, entries: &[MapEntry]) -> Result<(), AllocError>
-    ensures { OnOk result (string_bytes text.new ≡ string_bytes text.old ++ text_of (shown.list_pieces (map shown.entry_pieces (map tree.entry_of entries.now)))) }
+    ensures { OnOk result (string_bytes text.new ≡ string_bytes text.old ++ pieces_text (shown.list_pieces (map shown.entry_pieces (map tree.entry_of entries.now)))) }
 {
     write_separated(text, Separator::Comma, entries)
 }
 
 fn write_map(text: &mut String, properties: &Option<Vec<MapEntry>>) -> Result<(), AllocError>
-    ensures { OnOk result (string_bytes text.new ≡ string_bytes text.old ++ text_of (shown.map_pieces (tree.properties_of properties.now))) }
+    ensures { OnOk result (string_bytes text.new ≡ string_bytes text.old ++ pieces_text (shown.map_pieces (tree.properties_of properties.now))) }
 {
     let Some(entries) = properties else {
         return Ok(());

@@ -1,7 +1,7 @@
 //! The text of expressions.
 
 ghost use Rattle.std.specs.Prelude.{◌≡◌, ◌++◌, OnOk, string_bytes, map, codes};
-ghost use Rattle.cy_trees.specs.Show.{text_of, expression_pieces, elements_pieces, links_pieces, arms_pieces, binary_pieces, comparator_symbol, piece_text, mark, label_pieces, is_literal_or_list, owner_pieces, unary_pieces};
+ghost use Rattle.cy_trees.specs.Show.{pieces_text, expression_pieces, elements_pieces, links_pieces, arms_pieces, binary_pieces, comparator_symbol, piece_text, mark, label_pieces, is_literal_or_list, owner_pieces, unary_pieces};
 ghost use Rattle.cy_trees.specs.internal.Showing.{inside_pieces};
 ghost use Rattle.cy_trees.specs.Views.{expression_of, expressions_from, links_from, link_of, arms_from, arm_of};
 
@@ -12,7 +12,7 @@ use std::alloc::AllocError;
 
 /// How an operator between two operands is written.
 fn binary_text(operator: BinaryOperator) -> &'static str
-    ensures { result.now ≡ text_of (binary_pieces operator) }
+    ensures { result.now ≡ pieces_text (binary_pieces operator) }
 {
     match operator {
         BinaryOperator::Or => "OR",
@@ -46,7 +46,7 @@ fn comparator_text(comparator: Comparator) -> &'static str
 
 /// Writes labels, each after a colon.
 pub(crate) fn write_labels(text: &mut String, labels: &[Text]) -> Result<(), AllocError>
-    ensures { OnOk result (string_bytes text.new ≡ string_bytes text.old ++ text_of (label_pieces labels.now)) }
+    ensures { OnOk result (string_bytes text.new ≡ string_bytes text.old ++ pieces_text (label_pieces labels.now)) }
 {
     for label in labels {
         text.push(':')?;
@@ -68,7 +68,7 @@ fn is_literal_or_list(expression: &Expr) -> bool
 /// Writes what a `.` or a label follows: a literal or a list in brackets.
 #[cycle(showing)]
 fn write_owner(text: &mut String, owner: &Expr) -> Result<(), AllocError>
-    ensures { OnOk result (string_bytes text.new ≡ string_bytes text.old ++ text_of (owner_pieces (is_literal_or_list (expression_of owner.now)) (expression_pieces (expression_of owner.now)))) }
+    ensures { OnOk result (string_bytes text.new ≡ string_bytes text.old ++ pieces_text (owner_pieces (is_literal_or_list (expression_of owner.now)) (expression_pieces (expression_of owner.now)))) }
 {
     if !is_literal_or_list(owner) {
         return write_expression(text, owner);
@@ -81,7 +81,7 @@ fn write_owner(text: &mut String, owner: &Expr) -> Result<(), AllocError>
 /// Writes an operator with its operand, without the brackets around them.
 #[cycle(showing)]
 fn write_unary(text: &mut String, operator: UnaryOperator, operand: &Expr) -> Result<(), AllocError>
-    ensures { OnOk result (string_bytes text.new ≡ string_bytes text.old ++ text_of (unary_pieces operator (expression_pieces (expression_of operand.now)))) }
+    ensures { OnOk result (string_bytes text.new ≡ string_bytes text.old ++ pieces_text (unary_pieces operator (expression_pieces (expression_of operand.now)))) }
 {
     let (front, back) = match operator {
         UnaryOperator::Not => ("NOT ", ""),
@@ -98,7 +98,7 @@ fn write_unary(text: &mut String, operator: UnaryOperator, operand: &Expr) -> Re
 /// Writes an operand after what joins it to the one before.
 #[cycle(showing)]
 fn write_operand(text: &mut String, front: &str, operand: &Expr) -> Result<(), AllocError>
-    ensures { OnOk result (string_bytes text.new ≡ string_bytes text.old ++ (codes " " ++ (front.now ++ (codes " " ++ text_of (expression_pieces (expression_of operand.now)))))) }
+    ensures { OnOk result (string_bytes text.new ≡ string_bytes text.old ++ (codes " " ++ (front.now ++ (codes " " ++ pieces_text (expression_pieces (expression_of operand.now)))))) }
 {
     text.push(' ')?;
     text.push_str(front)?;
@@ -109,7 +109,7 @@ fn write_operand(text: &mut String, front: &str, operand: &Expr) -> Result<(), A
 /// Writes expressions with commas between them.
 #[cycle(showing)]
 fn write_elements(text: &mut String, elements: &[Expr]) -> Result<(), AllocError>
-    ensures { OnOk result (string_bytes text.new ≡ string_bytes text.old ++ text_of (elements_pieces (expressions_from (map expression_of elements.now)))) }
+    ensures { OnOk result (string_bytes text.new ≡ string_bytes text.old ++ pieces_text (elements_pieces (expressions_from (map expression_of elements.now)))) }
 {
     let Some((first, others)) = elements.split_first() else {
         return Ok(());
@@ -125,7 +125,7 @@ fn write_elements(text: &mut String, elements: &[Expr]) -> Result<(), AllocError
 /// Writes comparators, each with the operand after it.
 #[cycle(showing)]
 fn write_links(text: &mut String, links: &[Link]) -> Result<(), AllocError>
-    ensures { OnOk result (string_bytes text.new ≡ string_bytes text.old ++ text_of (links_pieces (links_from (map link_of links.now)))) }
+    ensures { OnOk result (string_bytes text.new ≡ string_bytes text.old ++ pieces_text (links_pieces (links_from (map link_of links.now)))) }
 {
     for link in links {
         write_operand(text, comparator_text(link.comparator), &link.operand)?;
@@ -136,7 +136,7 @@ fn write_links(text: &mut String, links: &[Link]) -> Result<(), AllocError>
 /// Writes each WHEN with its THEN.
 #[cycle(showing)]
 fn write_arms(text: &mut String, arms: &[Arm]) -> Result<(), AllocError>
-    ensures { OnOk result (string_bytes text.new ≡ string_bytes text.old ++ text_of (arms_pieces (arms_from (map arm_of arms.now)))) }
+    ensures { OnOk result (string_bytes text.new ≡ string_bytes text.old ++ pieces_text (arms_pieces (arms_from (map arm_of arms.now)))) }
 {
     for arm in arms {
         write_operand(text, "WHEN", &arm.condition)?;
@@ -148,7 +148,7 @@ fn write_arms(text: &mut String, arms: &[Arm]) -> Result<(), AllocError>
 /// Writes an expression.
 #[cycle(showing)]
 pub(crate) fn write_expression(text: &mut String, expression: &Expr) -> Result<(), AllocError>
-    ensures { OnOk result (string_bytes text.new ≡ string_bytes text.old ++ text_of (expression_pieces (expression_of expression.now))) }
+    ensures { OnOk result (string_bytes text.new ≡ string_bytes text.old ++ pieces_text (expression_pieces (expression_of expression.now))) }
 {
     match expression {
         Expr::Null => text.push_str("NULL"),
@@ -182,7 +182,7 @@ pub(crate) fn write_expression(text: &mut String, expression: &Expr) -> Result<(
 /// Writes what stands between the brackets around an operator or a CASE.
 #[cycle(showing)]
 fn write_inside(text: &mut String, expression: &Expr) -> Result<(), AllocError>
-    ensures { OnOk result (string_bytes text.new ≡ string_bytes text.old ++ text_of (inside_pieces (expression_of expression.now))) }
+    ensures { OnOk result (string_bytes text.new ≡ string_bytes text.old ++ pieces_text (inside_pieces (expression_of expression.now))) }
 {
     match expression {
         Expr::Property(owner, key) => {

@@ -1,7 +1,7 @@
 //! Parts of statements, as they are written one after another.
 
 ghost use Rattle.std.specs.Prelude.{◌≡◌, ◌++◌, OnOk, string_bytes, map};
-ghost use Rattle.cy_trees.specs.Show.{text_of, each_after, separated};
+ghost use Rattle.cy_trees.specs.Show.{pieces_text, each_after, separated};
 ghost use Rattle.cy_trees.specs.internal.Separators.{separator_pieces};
 
 use std::alloc::AllocError;
@@ -23,12 +23,12 @@ pub(crate) trait Show {
     ghost pieces: { Self → List Piece };
 
     fn write(&self, text: &mut String) -> Result<(), AllocError>
-        ensures { OnOk result (string_bytes text.new ≡ string_bytes text.old ++ text_of (pieces self.now)) };
+        ensures { OnOk result (string_bytes text.new ≡ string_bytes text.old ++ pieces_text (pieces self.now)) };
 }
 
 impl Separator {
     fn as_str(self) -> &'static str
-        ensures { result.now ≡ text_of (separator_pieces self) }
+        ensures { result.now ≡ pieces_text (separator_pieces self) }
     {
         match self {
             Separator::Nothing => "",
@@ -45,7 +45,7 @@ pub(crate) fn write_each<T: Show>(
     separator: Separator,
     parts: &[T],
 ) -> Result<(), AllocError>
-    ensures { OnOk result (string_bytes text.new ≡ string_bytes text.old ++ text_of (each_after (separator_pieces separator) (map T.pieces parts.now))) }
+    ensures { OnOk result (string_bytes text.new ≡ string_bytes text.old ++ pieces_text (each_after (separator_pieces separator) (map T.pieces parts.now))) }
 {
     for part in parts {
         text.push_str(separator.as_str())?;
@@ -60,7 +60,7 @@ pub(crate) fn write_separated<T: Show>(
     separator: Separator,
     parts: &[T],
 ) -> Result<(), AllocError>
-    ensures { OnOk result (string_bytes text.new ≡ string_bytes text.old ++ text_of (separated (separator_pieces separator) (map T.pieces parts.now))) }
+    ensures { OnOk result (string_bytes text.new ≡ string_bytes text.old ++ pieces_text (separated (separator_pieces separator) (map T.pieces parts.now))) }
 {
     let Some((first, others)) = parts.split_first() else {
         return Ok(());

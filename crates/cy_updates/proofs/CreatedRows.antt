@@ -25,7 +25,7 @@ use Rattle.cy_updates.specs.Faults.{◌>>=◌, each_in_turn, of_graph}
 use Rattle.cy_updates.specs.Statements.{create_row}
 use Rattle.cy_updates.specs.Values.{label_set, map_properties}
 use Rattle.cy_updates.specs.internal.Answers.{graph_table}
-use Rattle.cy_updates.specs.internal.Creating.{IsCreation, column_of, creation, graph_row, row_created, row_so_far}
+use Rattle.cy_updates.specs.internal.Creating.{IsCreation, variable_column, creation, graph_row, row_created, row_so_far}
 use Rattle.cy_updates.proofs.Created.{Good, created_good, path_good, start_good, step_ends, step_good}
 use Rattle.cy_updates.proofs.InTurn.{same_ok}
 use Rattle.cy_updates.proofs.Grown.{grown_nothing, node_still, rel_still, rows_still}
@@ -112,9 +112,9 @@ module _ (graph : State) (before : List Cell) (made after : Made) (r : Relations
 
 -- the node at a place
 pub place_is : (graph : State) (before : List Cell) (made : Made) (n : NodePattern) (next : NodeId) → next.0 ≡ graph.next_node → (o : Option NodeId)
-    → o ≡ option_map_or node_in_cell (option_and_then (slice_get (before ++ made.cells.items)) (column_of n.variable)) (Some next) → o ≡ node_at_place n (creation graph before made)
+    → o ≡ option_map_or node_in_cell (option_and_then (slice_get (before ++ made.cells.items)) (variable_column n.variable)) (Some next) → o ≡ node_at_place n (creation graph before made)
 place_is graph before made n next number o is =
-    is ∙ (λ i. option_map_or node_in_cell (option_and_then (slice_get (before ++ made.cells.items)) (column_of n.variable)) (let k : NodeId = record { 0 = number i } in Some k))
+    is ∙ (λ i. option_map_or node_in_cell (option_and_then (slice_get (before ++ made.cells.items)) (variable_column n.variable)) (let k : NodeId = record { 0 = number i } in Some k))
 
 module _ (before : List Cell) (s : Step) (c now : Creation) (is : now ≡ with_relationship_column s.relationship c) (right : Option NodeId) (at : right ≡ node_at_place s.node now) where
   abbrev then_place : Rel → Result Creation UpdateFault
@@ -155,7 +155,7 @@ memory_only refused (inr memory) never = ap of_graph memory
 -- ---- node places
 
 -- a bound place leaves all but the node before
-pub bound_place : (graph : State) (before : List Cell) (made : Made) (n : NodePattern) (o : Option NodeId) → Some o ≡ option_map node_in_cell (option_and_then (slice_get (before ++ made.cells.items)) (column_of n.variable))
+pub bound_place : (graph : State) (before : List Cell) (made : Made) (n : NodePattern) (o : Option NodeId) → Some o ≡ option_map node_in_cell (option_and_then (slice_get (before ++ made.cells.items)) (variable_column n.variable))
     → with_node_place before n (creation graph before made) ≡ Ok (record (creation graph before made) { last = o })
 bound_place graph before made n o is = by (bound_to n (row_so_far before made)) is
   where
@@ -164,7 +164,7 @@ bound_place graph before made n o is = by (bound_to n (row_so_far before made)) 
     by (Some c) is = let e : o ≡ node_in_cell c = cc in λ i. Ok (record (creation graph before made) { last = sym e i })
 
 -- a free one gets a new node
-pub free_place : (graph : State) (before : List Cell) (made : Made) (n : NodePattern) → None ≡ option_map node_in_cell (option_and_then (slice_get (before ++ made.cells.items)) (column_of n.variable))
+pub free_place : (graph : State) (before : List Cell) (made : Made) (n : NodePattern) → None ≡ option_map node_in_cell (option_and_then (slice_get (before ++ made.cells.items)) (variable_column n.variable))
     → with_node_place before n (creation graph before made) ≡ with_new_node before n (creation graph before made)
 free_place graph before made n is = by (bound_to n (row_so_far before made)) is
   where

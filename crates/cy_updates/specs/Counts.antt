@@ -4,8 +4,7 @@ use Rattle.cy_values.specs.declared.numbers.NodeId.{NodeId}
 use Rattle.cy_values.specs.declared.numbers.RelId.{RelId}
 use Rattle.cy_graph.specs.declared.nodes.Node.{Node}
 use Rattle.cy_graph.specs.declared.nodes.Rel.{Rel}
-use Rattle.cy_graph.specs.Graph.{Content, State}
-use Rattle.cy_expr.specs.Graphs.{node_in, relationship_in}
+use Rattle.cy_graph.specs.Graph.{Content, State, node_in, relationship_in}
 
 pub record Counts : Type 0 where
   pub made_nodes : ℕ

@@ -13,7 +13,7 @@ ghost use Rattle.cy_updates.specs.Creating.{node_in_cell, source_of, target_of, 
 ghost use Rattle.cy_updates.specs.Faults.{each_in_turn};
 ghost use Rattle.cy_updates.specs.Statements as statements;
 ghost use Rattle.cy_updates.specs.internal.Answers.{IsAnswer, graph_table};
-ghost use Rattle.cy_updates.specs.internal.Creating.{IsCreation, column_of, creation, graph_row, row_created, row_so_far};
+ghost use Rattle.cy_updates.specs.internal.Creating.{IsCreation, variable_column, creation, graph_row, row_created, row_so_far};
 
 use crate::faults::UpdateFault;
 use crate::maps::{label_set, map_properties};
@@ -212,7 +212,7 @@ fn add_column(made: &mut Made, variable: &Option<Variable>, cell: Cell) -> Resul
 
 // The node that a variable is bound to before the clause or in it, if it is bound; there is none where that is null.
 fn bound_node(variable: &Option<Variable>, before: &Row, cells: &[Cell]) -> Option<Option<NodeId>>
-    ensures { result ≡ option_map node_in_cell (option_and_then (slice_get (before.now ++ cells.now)) (column_of variable.now)) }
+    ensures { result ≡ option_map node_in_cell (option_and_then (slice_get (before.now ++ cells.now)) (variable_column variable.now)) }
 {
     let column = variable.as_ref()?.column?;
     let row = before.as_slice();
@@ -240,7 +240,7 @@ fn node_at(
     cells: &[Cell],
     next: NodeId,
 ) -> Option<NodeId>
-    ensures { result ≡ option_map_or node_in_cell (option_and_then (slice_get (before.now ++ cells.now)) (column_of variable.now)) (Some next) }
+    ensures { result ≡ option_map_or node_in_cell (option_and_then (slice_get (before.now ++ cells.now)) (variable_column variable.now)) (Some next) }
 {
     match bound_node(variable, before, cells) {
         Some(node) => node,

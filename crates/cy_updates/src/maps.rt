@@ -14,6 +14,7 @@ ghost use Rattle.cy_updates.specs.declared.faults.UpdateFault.TheVariants.{NoMem
 ghost use Rattle.cy_updates.specs.Values as spec;
 ghost use Rattle.cy_updates.specs.Values.{settable, unless_null};
 ghost use Rattle.cy_updates.specs.internal.Answers.{IsAnswer};
+ghost use Rattle.cy_values.specs.Compare.{value_in, is_null};
 
 use crate::faults::UpdateFault;
 use cy_expr::eval_value;
@@ -57,7 +58,7 @@ pub(crate) fn stored(value: Value) -> Result<Option<Value>, UpdateFault>
 
 // Whether null is among the elements of a list.
 fn has_null(elements: &[Scalar]) -> bool
-    ensures { result ≡ not (list_all (λ e. not (graphs.is_null e)) elements.now) }
+    ensures { result ≡ not (list_all (λ e. not (is_null (value_in e))) elements.now) }
 {
     for element in elements {
         if let Scalar::Null = element {

@@ -10,8 +10,8 @@ use Rattle.cy_values.specs.declared.scalars.Value.{Value}
 use Rattle.cy_values.specs.declared.scalars.Value.TheVariants as value
 use Rattle.cy_values.specs.declared.truth.Truth.{Truth}
 use Rattle.cy_values.specs.declared.truth.Truth.TheVariants.{No, Unknown, Yes}
-use Rattle.cy_values.specs.declared.views.View.{View}
-use Rattle.cy_values.specs.declared.views.View.TheVariants as view
+use Rattle.cy_values.specs.declared.views.ValueRef.{ValueRef}
+use Rattle.cy_values.specs.declared.views.ValueRef.TheVariants as view
 use Rattle.cy_values.specs.Truth.{both, known, is_yes}
 
 abbrev pub is_null : Value → Bool
@@ -26,7 +26,7 @@ value_in (scalar.Int n) = value.Int n
 value_in scalar.Null = value.Null
 
 -- the value that is lent
-abbrev pub lent : View → Value
+abbrev pub lent : ValueRef → Value
 lent (view.List es) = value.List es.now
 lent (view.Text t) = value.Text t.now
 lent (view.Bool b) = value.Bool b

@@ -19,4 +19,4 @@ pub use scalars::{Scalar, Value};
 pub use sequences::{Duplicate, Sequence};
 pub use texts::Text;
 pub use truth::Truth;
-pub use views::{View, equal3, less3};
+pub use views::{ValueRef, equal3, less3};

@@ -8,7 +8,7 @@ use crate::truth::Truth;
 
 /// A value that is lent: its text or its elements stay where they are.
 #[derive(Clone, Copy, Debug, Drop)]
-pub enum View<'a> {
+pub enum ValueRef<'a> {
     List(&'a [Scalar]),
     Text(&'a str),
     Bool(bool),
@@ -18,42 +18,42 @@ pub enum View<'a> {
 
 impl Value {
     /// This value, lent.
-    pub fn view(&self) -> View<'_>
+    pub fn view(&self) -> ValueRef<'_>
         ensures { lent result ≡ self.now }
     {
         match self {
-            Value::List(elements) => View::List(elements.as_slice()),
-            Value::Text(text) => View::Text(text.as_str()),
-            Value::Bool(truth) => View::Bool(*truth),
-            Value::Int(number) => View::Int(*number),
-            Value::Null => View::Null,
+            Value::List(elements) => ValueRef::List(elements.as_slice()),
+            Value::Text(text) => ValueRef::Text(text.as_str()),
+            Value::Bool(truth) => ValueRef::Bool(*truth),
+            Value::Int(number) => ValueRef::Int(*number),
+            Value::Null => ValueRef::Null,
         }
     }
 }
 
 impl Scalar {
     /// This element as a value of its own, lent.
-    pub fn view(&self) -> View<'_>
+    pub fn view(&self) -> ValueRef<'_>
         ensures { lent result ≡ value_in self.now }
     {
         match self {
-            Scalar::Text(text) => View::Text(text.as_str()),
-            Scalar::Bool(truth) => View::Bool(*truth),
-            Scalar::Int(number) => View::Int(*number),
-            Scalar::Null => View::Null,
+            Scalar::Text(text) => ValueRef::Text(text.as_str()),
+            Scalar::Bool(truth) => ValueRef::Bool(*truth),
+            Scalar::Int(number) => ValueRef::Int(*number),
+            Scalar::Null => ValueRef::Null,
         }
     }
 }
 
-impl View<'_> {
+impl ValueRef<'_> {
     /// Whether two values are equal, the `=` of expressions. `Unknown` with null; `No` between different types and for
     /// lists of different lengths; else lists are equal as far as all their elements are. (one type: openCypher 9; the
     /// rest: own)
-    pub fn equal(self, other: View<'_>) -> Truth
+    pub fn equal(self, other: ValueRef<'_>) -> Truth
         ensures { result ≡ equality (lent self.entry) (lent other.entry) }
     {
         match (self, other) {
-            (View::List(left), View::List(right)) => lists_equal(left, right),
+            (ValueRef::List(left), ValueRef::List(right)) => lists_equal(left, right),
             _ => plain_equal(self, other),
         }
     }
@@ -61,24 +61,24 @@ impl View<'_> {
     /// Whether this value is less than the other one, the `<` of expressions. `Unknown` with null and between different
     /// types; texts go by code points, false before true. Lists go by their first elements that aren't surely equal, and
     /// where there are none a shorter list is less. (one type: openCypher 9; the rest: own)
-    pub fn less(self, other: View<'_>) -> Truth
+    pub fn less(self, other: ValueRef<'_>) -> Truth
         ensures { result ≡ less (lent self.entry) (lent other.entry) }
     {
         match (self, other) {
-            (View::List(left), View::List(right)) => list_less(left, right),
+            (ValueRef::List(left), ValueRef::List(right)) => list_less(left, right),
             _ => plain_less(self, other),
         }
     }
 }
 
-/// Whether two values are equal, as `View::equal` says.
+/// Whether two values are equal, as `ValueRef::equal` says.
 pub fn equal3(left: &Value, right: &Value) -> Truth
     ensures { result ≡ equality left.now right.now }
 {
     left.view().equal(right.view())
 }
 
-/// Whether the left value is less than the right one, as `View::less` says.
+/// Whether the left value is less than the right one, as `ValueRef::less` says.
 pub fn less3(left: &Value, right: &Value) -> Truth
     ensures { result ≡ less left.now right.now }
 {
@@ -86,26 +86,26 @@ pub fn less3(left: &Value, right: &Value) -> Truth
 }
 
 // `=` of two values that aren't both lists.
-fn plain_equal(left: View<'_>, right: View<'_>) -> Truth
+fn plain_equal(left: ValueRef<'_>, right: ValueRef<'_>) -> Truth
     ensures { result ≡ plain_equality (lent left.entry) (lent right.entry) }
 {
     match (left, right) {
-        (View::Null, _) | (_, View::Null) => Truth::Unknown,
-        (View::Text(left), View::Text(right)) => Truth::known(left == right),
-        (View::Bool(left), View::Bool(right)) => Truth::known(left == right),
-        (View::Int(left), View::Int(right)) => Truth::known(left == right),
+        (ValueRef::Null, _) | (_, ValueRef::Null) => Truth::Unknown,
+        (ValueRef::Text(left), ValueRef::Text(right)) => Truth::known(left == right),
+        (ValueRef::Bool(left), ValueRef::Bool(right)) => Truth::known(left == right),
+        (ValueRef::Int(left), ValueRef::Int(right)) => Truth::known(left == right),
         _ => Truth::No,
     }
 }
 
 // `<` of two values that aren't both lists.
-fn plain_less(left: View<'_>, right: View<'_>) -> Truth
+fn plain_less(left: ValueRef<'_>, right: ValueRef<'_>) -> Truth
     ensures { result ≡ plain_less (lent left.entry) (lent right.entry) }
 {
     match (left, right) {
-        (View::Text(left), View::Text(right)) => Truth::known(left < right),
-        (View::Bool(left), View::Bool(right)) => Truth::known(left < right),
-        (View::Int(left), View::Int(right)) => Truth::known(left < right),
+        (ValueRef::Text(left), ValueRef::Text(right)) => Truth::known(left < right),
+        (ValueRef::Bool(left), ValueRef::Bool(right)) => Truth::known(left < right),
+        (ValueRef::Int(left), ValueRef::Int(right)) => Truth::known(left < right),
         _ => Truth::Unknown,
     }
 }

@@ -1,7 +1,7 @@
 -- How patterns, clauses and statements are read.
 use Rattle.std.specs.Prelude.{ℕ, zero, suc, Bool, true, false, ◌&&◌, if◌then◌else◌, nat_lt, nat_le, List, [], ◌∷◌, ◌++◌, length, take, ◌-◌, Option, Some, None}
-use Rattle.cy_lexer.specs.declared.tokens.Kind.{Kind}
-use Rattle.cy_lexer.specs.declared.tokens.Kind.TheVariants as kind
+use Rattle.cy_lexer.specs.declared.tokens.TokenKind.{TokenKind}
+use Rattle.cy_lexer.specs.declared.tokens.TokenKind.TheVariants as kind
 use Rattle.cy_lexer.specs.declared.tokens.Token.{Token}
 use Rattle.cy_lexer.specs.declared.keywords.Keyword.{Keyword}
 use Rattle.cy_lexer.specs.declared.keywords.Keyword.TheVariants as word
@@ -15,8 +15,8 @@ use Rattle.cy_grammar.specs.declared.stages.Opening.TheVariants as opening
 use Rattle.cy_grammar.specs.declared.stages.Stage.{Stage}
 use Rattle.cy_grammar.specs.declared.stages.Stage.TheVariants as stage
 use Rattle.cy_trees.specs.Trees.{Name, Expression, MapEntry, NodePattern, RelationshipPattern, Step, Path, Item, Key, Projection, SetItem, set_property, set_labels, RemoveItem, remove_property, remove_labels, Clause, «match», unwind, «with», «return», create, set, remove, delete, Statement}
-use Rattle.cy_grammar.specs.Words.{number_limit}
-use Rattle.cy_grammar.specs.SpellsClauses.{greatest_bound, direction_of, column_of}
+use Rattle.cy_lexer.specs.Numbers.{greatest_number}
+use Rattle.cy_grammar.specs.SpellsClauses.{greatest_bound, direction_of, column_name}
 use Rattle.cy_grammar.specs.internal.Reader.{Reader, ◌>>=◌, ◌>>◌, ◌<$>◌, pure, refuse, peek, skip, at_kind, eat_keyword, eat_symbol, expect_keyword, expect_symbol, name, word as any_word}
 use Rattle.cy_grammar.specs.internal.Expressions.{labels, expression}
 
@@ -39,8 +39,8 @@ named_variable n = record { name = n; column = None }
 
 -- ---- lengths
 
-abbrev pub number_by : Option Kind → Reader (Option ℕ)
-number_by (Some (kind.Number n)) = if nat_lt n number_limit then skip >> pure (Some n) else refuse
+abbrev pub number_by : Option TokenKind → Reader (Option ℕ)
+number_by (Some (kind.Number n)) = if nat_lt n greatest_number then skip >> pure (Some n) else refuse
 number_by _ = pure None
 
 -- a number, if one comes next
@@ -48,8 +48,8 @@ unfoldable pub number_if_any : Reader (Option ℕ)
 number_if_any = peek >>= number_by
 
 -- a number, which has to come next
-abbrev pub count_by : Option Kind → Reader ℕ
-count_by (Some (kind.Number n)) = if nat_lt n number_limit then skip >> pure n else refuse
+abbrev pub count_by : Option TokenKind → Reader ℕ
+count_by (Some (kind.Number n)) = if nat_lt n greatest_number then skip >> pure n else refuse
 count_by _ = refuse
 
 unfoldable pub count : Reader ℕ
@@ -90,7 +90,7 @@ length_if_any = do
 -- ---- where the clauses stand
 
 -- the clause that a keyword begins
-abbrev pub opening_of : Kind → Option Opening
+abbrev pub opening_of : TokenKind → Option Opening
 opening_of (kind.Keyword word.Match) = Some opening.Match
 opening_of (kind.Keyword word.Optional) = Some opening.Optional
 opening_of (kind.Keyword word.Unwind) = Some opening.Unwind
@@ -139,7 +139,7 @@ unfoldable pub end_read : Stage → Reader (Unit {0})
 end_read s = if may_end s then (eat_symbol sign.Semicolon >> nothing_left) else refuse
 
 -- whether a key's order falls
-abbrev pub descends : Option Kind → Reader Bool
+abbrev pub descends : Option TokenKind → Reader Bool
 descends (Some (kind.Keyword word.Asc)) = skip >> pure false
 descends (Some (kind.Keyword word.Ascending)) = skip >> pure false
 descends (Some (kind.Keyword word.Desc)) = skip >> pure true
@@ -150,7 +150,7 @@ unfoldable pub is_descending : Reader Bool
 is_descending = peek >>= descends
 
 -- a relationship begins with the token
-abbrev pub begins_step : Option Kind → Bool
+abbrev pub begins_step : Option TokenKind → Bool
 begins_step (Some (kind.Symbol sign.Less)) = true
 begins_step (Some (kind.Symbol sign.Minus)) = true
 begins_step _ = false
@@ -164,7 +164,7 @@ module _ (line : List ℕ) where
 
   -- ---- patterns
 
-  abbrev pub variable_by : Option Kind → Reader (Option Variable)
+  abbrev pub variable_by : Option TokenKind → Reader (Option Variable)
   variable_by (Some kind.Name) = Some <$> variable_read
   variable_by (Some kind.QuotedName) = Some <$> variable_read
   variable_by _ = pure None
@@ -281,7 +281,7 @@ module _ (line : List ℕ) where
   column e before = λ after. (do
     is_named ← eat_keyword word.As
     if is_named then (λ c. record { expression = e; column = c; named = true }) <$> name line
-        else pure (record { expression = e; column = column_of line e (take (length before - length after) before); named = false })) after
+        else pure (record { expression = e; column = column_name line e (take (length before - length after) before); named = false })) after
 
   unfoldable pub item : Reader Item
   item = λ ts. (whole >>= (λ e. column e ts)) ts

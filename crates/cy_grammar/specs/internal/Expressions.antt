@@ -1,7 +1,7 @@
 -- How expressions are read, level by level. Each level answers one tree, and there is no way back.
 use Rattle.std.specs.Prelude.{ℕ, zero, suc, pos, Bool, true, false, if◌then◌else◌, nat_lt, nat_le, List, [], ◌∷◌, ◌++◌, length, Option, Some, None}
-use Rattle.cy_lexer.specs.declared.tokens.Kind.{Kind}
-use Rattle.cy_lexer.specs.declared.tokens.Kind.TheVariants as kind
+use Rattle.cy_lexer.specs.declared.tokens.TokenKind.{TokenKind}
+use Rattle.cy_lexer.specs.declared.tokens.TokenKind.TheVariants as kind
 use Rattle.cy_lexer.specs.declared.keywords.Keyword.TheVariants as word
 use Rattle.cy_lexer.specs.declared.symbols.Symbol.TheVariants as sign
 use Rattle.cy_trees.specs.declared.expressions.UnaryOperator.TheVariants as unary_operator
@@ -12,7 +12,8 @@ use Rattle.cy_grammar.specs.declared.places.Nested.{Nested}
 use Rattle.cy_grammar.specs.declared.places.Nested.TheVariants as nested
 use Rattle.cy_trees.specs.Trees.{Name, Expression, null, boolean, integer, text, variable, property, has_labels, unary, binary, comparison, list, case, call, call_star, no_more, Otherwise, nothing, otherwise}
 use Rattle.cy_trees.specs.Views.{expressions_from, links_from, arms_from}
-use Rattle.cy_grammar.specs.Words.{lowered, denotes, negated, number_limit, comparator_of, sum_operator, product_operator}
+use Rattle.cy_grammar.specs.Words.{lowered, denotes, negated, comparator_of, sum_operator, product_operator}
+use Rattle.cy_lexer.specs.Numbers.{greatest_number}
 use Rattle.cy_grammar.specs.internal.Chains.{disjunction_operator, exclusion_operator, conjunction_operator}
 use Rattle.cy_grammar.specs.SpellsClauses.{most_levels}
 use Rattle.cy_grammar.specs.internal.Reader.{Reader, ◌>>=◌, ◌>>◌, ◌<$>◌, pure, refuse, peek, skip, at_kind, eat_keyword, eat_symbol, expect_keyword, expect_symbol, name, word as any_word, checked}
@@ -24,7 +25,7 @@ null_test left = do
   expect_keyword word.Null
   checked (unary (if is_not then unary_operator.IsNotNull else unary_operator.IsNull) left)
 
-abbrev pub begins_predicate : Option Kind → Bool
+abbrev pub begins_predicate : Option TokenKind → Bool
 begins_predicate (Some (kind.Keyword word.Is)) = true
 begins_predicate (Some (kind.Keyword word.In)) = true
 begins_predicate (Some (kind.Keyword word.Contains)) = true
@@ -33,7 +34,7 @@ begins_predicate (Some (kind.Keyword word.Ends)) = true
 begins_predicate _ = false
 
 -- the token goes on with arithmetic or a predicate; with one of these or a chain of comparisons; with AND, XOR or OR
-abbrev pub continues_predicate : Option Kind → Bool
+abbrev pub continues_predicate : Option TokenKind → Bool
 continues_predicate (Some (kind.Symbol sign.Star)) = true
 continues_predicate (Some (kind.Symbol sign.Slash)) = true
 continues_predicate (Some (kind.Symbol sign.Percent)) = true
@@ -41,7 +42,7 @@ continues_predicate (Some (kind.Symbol sign.Plus)) = true
 continues_predicate (Some (kind.Symbol sign.Minus)) = true
 continues_predicate k = begins_predicate k
 
-abbrev pub continues_comparison : Option Kind → Bool
+abbrev pub continues_comparison : Option TokenKind → Bool
 continues_comparison (Some (kind.Symbol sign.Equal)) = true
 continues_comparison (Some (kind.Symbol sign.NotEqual)) = true
 continues_comparison (Some (kind.Symbol sign.Less)) = true
@@ -50,20 +51,20 @@ continues_comparison (Some (kind.Symbol sign.Greater)) = true
 continues_comparison (Some (kind.Symbol sign.GreaterOrEqual)) = true
 continues_comparison k = continues_predicate k
 
-abbrev pub continues_whole : Option Kind → Bool
+abbrev pub continues_whole : Option TokenKind → Bool
 continues_whole (Some (kind.Keyword word.And)) = true
 continues_whole (Some (kind.Keyword word.Xor)) = true
 continues_whole (Some (kind.Keyword word.Or)) = true
 continues_whole _ = false
 
 -- a property or a test for labels
-abbrev pub continues_owner : Option Kind → Bool
+abbrev pub continues_owner : Option TokenKind → Bool
 continues_owner (Some (kind.Symbol sign.Dot)) = true
 continues_owner (Some (kind.Symbol sign.Colon)) = true
 continues_owner _ = false
 
 -- operands with operators between, grouped to the left
-unfoldable pub chain_from : (Kind → Option BinaryOperator) → Reader Expression → ℕ → Expression → Reader Expression
+unfoldable pub chain_from : (TokenKind → Option BinaryOperator) → Reader Expression → ℕ → Expression → Reader Expression
 chain_from operators operand zero left = pure left
 chain_from operators operand (suc n) left = do
   next ← peek
@@ -72,10 +73,10 @@ chain_from operators operand (suc n) left = do
     | Some found ↦ skip >> (operand >>= (λ right. checked (binary found left right)) >>= chain_from operators operand n)
   ]
 
-abbrev pub chain_after : (Kind → Option BinaryOperator) → Reader Expression → Expression → Reader Expression
+abbrev pub chain_after : (TokenKind → Option BinaryOperator) → Reader Expression → Expression → Reader Expression
 chain_after operators operand left = λ ts. chain_from operators operand (length ts) left ts
 
-abbrev pub chain : (Kind → Option BinaryOperator) → Reader Expression → Reader Expression
+abbrev pub chain : (TokenKind → Option BinaryOperator) → Reader Expression → Reader Expression
 chain operators operand = operand >>= chain_after operators operand
 
 -- one more level opens, where so many may still open
@@ -121,14 +122,14 @@ module _ (line : List ℕ) where
 
   -- a number that an integer holds
   unfoldable pub counted : ℕ → Reader Expression
-  counted n = if nat_lt n number_limit then pure (integer (pos n)) else refuse
+  counted n = if nat_lt n greatest_number then pure (integer (pos n)) else refuse
 
   -- a text, which was seen
   unfoldable pub quoted : Reader Name
   quoted [] = None
   quoted (t ∷ ts) = Some (denotes line t, ts)
 
-  abbrev pub literal_by : Option Kind → Reader Expression
+  abbrev pub literal_by : Option TokenKind → Reader Expression
   literal_by (Some (kind.Keyword word.True)) = skip >> pure (boolean true)
   literal_by (Some (kind.Keyword word.False)) = skip >> pure (boolean false)
   literal_by (Some (kind.Keyword word.Null)) = skip >> pure null
@@ -215,8 +216,8 @@ module _ (line : List ℕ) where
       checked (case (arms_from found) last)
 
     -- after a `-`
-    abbrev pub minus_by : Option Kind → Reader Expression
-    minus_by (Some (kind.Number n)) = if nat_le n number_limit then skip >> pure (integer (negated n)) else refuse
+    abbrev pub minus_by : Option TokenKind → Reader Expression
+    minus_by (Some (kind.Number n)) = if nat_le n greatest_number then skip >> pure (integer (negated n)) else refuse
     minus_by _ = inner nested.Sign >>= (λ e. checked (unary unary_operator.Minus e))
 
     unfoldable pub minus : Reader Expression
@@ -243,7 +244,7 @@ module _ (line : List ℕ) where
     abbrev pub named_owner : Reader Expression
     named_owner = named >>= attributes
 
-    abbrev pub postfix_by : Option Kind → Reader Expression
+    abbrev pub postfix_by : Option TokenKind → Reader Expression
     postfix_by (Some kind.Name) = named_owner
     postfix_by (Some kind.QuotedName) = named_owner
     postfix_by (Some (kind.Symbol sign.LeftParenthesis)) = skip >> bracketed_owner inner
@@ -271,7 +272,7 @@ module _ (line : List ℕ) where
     tested found left = sum >>= (λ right. checked (binary found left right))
 
     -- the predicate that the next token begins
-    abbrev pub predicate_by : Expression → Option Kind → Reader Expression
+    abbrev pub predicate_by : Expression → Option TokenKind → Reader Expression
     predicate_by left (Some (kind.Keyword word.Is)) = skip >> null_test left
     predicate_by left (Some (kind.Keyword word.In)) = skip >> tested operator.In left
     predicate_by left (Some (kind.Keyword word.Contains)) = skip >> tested operator.Contains left

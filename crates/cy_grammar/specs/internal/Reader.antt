@@ -5,8 +5,8 @@ use Rattle.cy_lexer.specs.contracts.keywords.Keyword as keyword_type
 use Rattle.cy_lexer.specs.contracts.symbols.Symbol as symbol_type
 use Rattle.cy_lexer.specs.declared.keywords.Keyword.{Keyword}
 use Rattle.cy_lexer.specs.declared.symbols.Symbol.{Symbol}
-use Rattle.cy_lexer.specs.declared.tokens.Kind.{Kind}
-use Rattle.cy_lexer.specs.declared.tokens.Kind.TheVariants as kind
+use Rattle.cy_lexer.specs.declared.tokens.TokenKind.{TokenKind}
+use Rattle.cy_lexer.specs.declared.tokens.TokenKind.TheVariants as kind
 use Rattle.cy_lexer.specs.declared.tokens.Token.{Token}
 use Rattle.cy_trees.specs.Trees.{Name, Expression}
 use Rattle.cy_trees.specs.Depth.{depth, greatest_depth}
@@ -42,11 +42,11 @@ refuse = λ ts. None
 
 -- ---- single tokens
 
-abbrev pub kind_ahead : List Token → Option Kind
+abbrev pub kind_ahead : List Token → Option TokenKind
 kind_ahead [] = None
 kind_ahead (t ∷ ts) = Some t.kind
 
-abbrev pub peek : Reader (Option Kind)
+abbrev pub peek : Reader (Option TokenKind)
 peek = λ ts. Some (kind_ahead ts, ts)
 
 abbrev pub past : List Token → List Token
@@ -56,11 +56,11 @@ past (t ∷ ts) = ts
 abbrev pub skip : Reader (Unit {0})
 skip = λ ts. Some (tt, past ts)
 
-abbrev pub is_keyword : Keyword → Option Kind → Bool
+abbrev pub is_keyword : Keyword → Option TokenKind → Bool
 is_keyword k (Some (kind.Keyword found)) = sameb keyword_type.the_type found k
 is_keyword k _ = false
 
-abbrev pub is_symbol : Symbol → Option Kind → Bool
+abbrev pub is_symbol : Symbol → Option TokenKind → Bool
 is_symbol s (Some (kind.Symbol found)) = sameb symbol_type.the_type found s
 is_symbol s _ = false
 
@@ -88,15 +88,15 @@ abbrev pub taking : {A : Type 0} → List Token → Option A → Outcome (Option
 taking ts (Some a) = Some (Some a, past ts)
 taking ts None = Some (None, ts)
 
-abbrev pub at_kind : {A : Type 0} → (Kind → Option A) → Option Kind → Option A
+abbrev pub at_kind : {A : Type 0} → (TokenKind → Option A) → Option TokenKind → Option A
 at_kind f None = None
 at_kind f (Some k) = f k
 
-unfoldable pub eat_by : {A : Type 0} → (Kind → Option A) → Reader (Option A)
+unfoldable pub eat_by : {A : Type 0} → (TokenKind → Option A) → Reader (Option A)
 eat_by f = λ ts. taking ts (at_kind f (kind_ahead ts))
 
 -- what the next token denotes, if its kind passes the test
-unfoldable pub denoting : (Kind → Bool) → List ℕ → Reader Name
+unfoldable pub denoting : (TokenKind → Bool) → List ℕ → Reader Name
 denoting test line [] = None
 denoting test line (t ∷ ts) = if test t.kind then Some (denotes line t, ts) else None
 

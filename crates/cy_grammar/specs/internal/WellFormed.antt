@@ -6,7 +6,8 @@ use Rattle.cy_trees.specs.declared.expressions.Variable.{Variable}
 use Rattle.cy_trees.specs.declared.clauses.Length.{Length}
 use Rattle.cy_trees.specs.Trees.{Name, Expression, null, boolean, integer, text, variable, property, has_labels, unary, binary, comparison, list, case, call, call_star, Expressions, no_more, more, Links, no_links, link, Arms, no_arms, arm, Otherwise, nothing, otherwise, MapEntry, NodePattern, RelationshipPattern, Step, Path, Item, Key, Projection, SetItem, set_property, set_labels, RemoveItem, remove_property, remove_labels, Clause, «match», unwind, «with», «return», create, set, remove, delete, Statement}
 use Rattle.cy_trees.specs.Depth.{depth, greatest_depth}
-use Rattle.cy_grammar.specs.Words.{lowered, number_limit}
+use Rattle.cy_grammar.specs.Words.{lowered}
+use Rattle.cy_lexer.specs.Numbers.{greatest_number}
 use Rattle.cy_grammar.specs.SpellsClauses.{greatest_bound, Stage, may_follow, may_end, stage_after, reading}
 
 -- the bytes of characters, and of one at least
@@ -41,8 +42,8 @@ abbrev mutual
   pub IsWellFormed : Expression → Type 0
   IsWellFormed null = ⊤
   IsWellFormed (boolean b) = ⊤
-  IsWellFormed (integer (pos n)) = n < number_limit
-  IsWellFormed (integer (negsuc n)) = n < number_limit
+  IsWellFormed (integer (pos n)) = n < greatest_number
+  IsWellFormed (integer (negsuc n)) = n < greatest_number
   IsWellFormed (text t) = IsText t
   IsWellFormed (variable v) = IsVariable v
   IsWellFormed (property e key) = IsWellFormed e × IsNamed key
@@ -107,7 +108,7 @@ abbrev pub KeyIsWellFormed : Key → Type 0
 KeyIsWellFormed k = IsWhole k.expression
 
 abbrev pub CountIsWellFormed : ℕ → Type 0
-CountIsWellFormed n = n < number_limit
+CountIsWellFormed n = n < greatest_number
 
 abbrev pub ProjectionIsWellFormed : Projection → Type 0
 ProjectionIsWellFormed p =

@@ -28,8 +28,8 @@ module _ {V : Type 0} where
     pub all : (number : ℕ) → value_under number before.entries ≢ value_under number now.entries → IsIn (number, value_under number before.entries) found
 
   -- the number has this very value
-  abbrev pub has_value : (V → V → Bool) → Numbered V → ℕ × V → Bool
-  has_value eq now e = option_map_or (λ value. eq value e.1) (value_under e.0 now.entries) false
+  abbrev pub has_still : (V → V → Bool) → Numbered V → ℕ × V → Bool
+  has_still eq now e = option_map_or (λ value. eq value e.1) (value_under e.0 now.entries) false
 
   -- a value that was kept
   abbrev pub was_value : ℕ × V → ℕ × Option V
@@ -37,7 +37,7 @@ module _ {V : Type 0} where
 
   -- the values that were kept and are others now
   abbrev pub changed_of : (V → V → Bool) → Numbered V → List (ℕ × V) → List (ℕ × Option V)
-  changed_of eq now kept = map was_value (filter (λ e. not (has_value eq now e)) kept)
+  changed_of eq now kept = map was_value (filter (λ e. not (has_still eq now e)) kept)
 
   -- a value that was not there
   abbrev pub was_none : ℕ × V → ℕ × Option V

@@ -4,7 +4,7 @@ use Rattle.std.specs.Prelude.{◌≡◌, ℕ, ◌-◌, ◌≤◌, ◌^◌, Bool,
 use Rattle.std.specs.Borrow.{Bor}
 use Rattle.std.specs.Char.{to_ascii_uppercase}
 use Rattle.cy_lexer.specs.declared.keywords.Keyword.{Keyword}
-use Rattle.cy_lexer.specs.declared.tokens.Kind.{Kind}
+use Rattle.cy_lexer.specs.declared.tokens.TokenKind.{TokenKind}
 use Rattle.cy_lexer.specs.Characters.{begins_with}
 use Rattle.cy_lexer.specs.Keywords.{spelling}
 
@@ -21,10 +21,10 @@ abbrev pub taken : {A : Type 0} → List ℕ → A × ℕ → A × List ℕ
 taken cs p = (p.0, drop p.1 cs)
 
 -- the same of a gap, and of a token of a kind, where the code has what is left alone
-abbrev pub seen_gap : Bor (List ℕ) → Option Kind × List ℕ
+abbrev pub seen_gap : Bor (List ℕ) → Option TokenKind × List ℕ
 seen_gap left = (None, chars left.now)
 
-abbrev pub seen_token : Kind → Bor (List ℕ) → Option Kind × List ℕ
+abbrev pub seen_token : TokenKind → Bor (List ℕ) → Option TokenKind × List ℕ
 seen_token k left = (Some k, chars left.now)
 
 abbrev pub map_ok : {A B E : Type 0} → (A → B) → Result A E → Result B E

@@ -4,8 +4,8 @@ use Rattle.std.specs.Str.{all_scalars}
 use Rattle.std.specs.Fmt.{decimal}
 use Rattle.cy_lexer.specs.declared.symbols.Symbol.{Symbol}
 use Rattle.cy_lexer.specs.declared.symbols.Symbol.TheVariants as sign
-use Rattle.cy_lexer.specs.declared.tokens.Kind.{Kind}
-use Rattle.cy_lexer.specs.declared.tokens.Kind.TheVariants as kind
+use Rattle.cy_lexer.specs.declared.tokens.TokenKind.{TokenKind}
+use Rattle.cy_lexer.specs.declared.tokens.TokenKind.TheVariants as kind
 use Rattle.cy_lexer.specs.declared.tokens.Token.{Token}
 use Rattle.cy_lexer.specs.Numbers.{greatest_number}
 use Rattle.cy_lexer.specs.Spans.{slice_of}
@@ -13,7 +13,7 @@ use Rattle.cy_lexer.specs.Keywords.{spelling}
 use Rattle.cy_lexer.specs.Words.{Word, keyword, name, text, number, symbol, doubled, escaped, signs}
 
 -- the kind of the word's token: a name stands in backticks
-abbrev pub kind_of : Word → Kind
+abbrev pub kind_of : Word → TokenKind
 kind_of (keyword k) = kind.Keyword k
 kind_of (name cs) = kind.QuotedName
 kind_of (text cs) = kind.Text

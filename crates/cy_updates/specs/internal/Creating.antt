@@ -27,8 +27,8 @@ pub record IsCreation (so_far : Creation) : Type 0 where
   pub last : IfSome so_far.last (λ (id : NodeId). IsSome (node_at id so_far.graph))
 
 -- the column of a variable, if there is one
-abbrev pub column_of : Option Variable → Option ℕ
-column_of v = option_and_then (λ w. w.column) v
+abbrev pub variable_column : Option Variable → Option ℕ
+variable_column v = option_and_then (λ w. w.column) v
 
 -- a graph and a row
 abbrev pub graph_row : State → List Cell → State × List Cell

@@ -2,7 +2,7 @@ use Rattle.std.proofs.Common.{◌≡◌, ℕ, suc, List, ◌∷◌, drop, take, 
 use Rattle.std.specs.List.{prefix_len, take_while}
 use Rattle.std.specs.Str.{chars, encode_utf8_all}
 use Rattle.cy_lexer.specs.declared.characters.Run.TheVariants as run
-use Rattle.cy_lexer.specs.declared.tokens.Kind.{Kind}
+use Rattle.cy_lexer.specs.declared.tokens.TokenKind.{TokenKind}
 use Rattle.cy_lexer.specs.Characters.{goes_on}
 use Rattle.cy_lexer.specs.Keywords.{keyword_of}
 use Rattle.cy_lexer.specs.Tokens.{word_kind}
@@ -29,4 +29,4 @@ returns-clause-value c first split =
       | in-Some w ↦ w.kind-is ∙ sym (word_kind-keyword _ word (found ∙ w.in-Some.is))
       | in-None w ↦ w.kind-is ∙ sym (word_kind-name word (found ∙ w.in-None.is))
     ] in
-    ap (λ (k : Kind). (Some k, chars c.after_run-left.result.now)) kind-is ∙ ap (λ (x : List ℕ). (Some (word_kind word), x)) c.after_run-left.ensures.value
+    ap (λ (k : TokenKind). (Some k, chars c.after_run-left.result.now)) kind-is ∙ ap (λ (x : List ℕ). (Some (word_kind word), x)) c.after_run-left.ensures.value

@@ -22,11 +22,11 @@ use Rattle.cy_engine.specs.Headline.{Builds, Leads}
 use Rattle.cy_engine.specs.Requests.{Asks, Request, Nothing, StatementOf, ViewOf, RowsOf, SinceOf, ListOfViews, DropOf, IndexOf, Refused, request}
 use Rattle.cy_engine.specs.Runs.{Event, Run}
 use Rattle.cy_engine.specs.State.{EngineState, Entries, View}
-use Rattle.cy_engine.specs.Step.{Answer, Answers, Carries, Drops, Follows, Indexes, Lexed, Makes, Shows, Step, Tells}
-use Rattle.cy_engine.specs.Verdicts.{Carried, carry_verdict, index_verdict, or_fault, rows_verdict, scope_verdict, since_verdict, statement_verdict, tick_after, passes, view_verdict}
+use Rattle.cy_engine.specs.Step.{Answer, Answers, Executes, Drops, Follows, Indexes, Lexed, Makes, Shows, Step, Tells}
+use Rattle.cy_engine.specs.Verdicts.{Executed, execution_verdict, index_verdict, or_fault, rows_verdict, scope_verdict, since_verdict, statement_verdict, tick_after, passes, view_verdict}
 use Rattle.cy_engine.proofs.Queries.{bind_ok, same_ok}
 
--- what a statement that is carried out means
+-- what a statement that is executed means
 pub scoped : (tree resolved : Statement) → scope_verdict tree ≡ Ok resolved → resolved ≡ resolved_statement tree
 scoped tree resolved is = from (statement_fault tree) is
   where
@@ -38,15 +38,15 @@ meant : (r : Result Outcome UpdateFault) (outcome : Outcome) → or_fault of_upd
 meant (Ok o) outcome is = let same : o ≡ outcome = same_ok o outcome is in ap (λ (x : Outcome). let r : Result Outcome UpdateFault = Ok x in r) same
 meant (Err why) outcome is = cc
 
-carried_means : (tree : Statement) (old : EngineState) (carried : Carried) → statement_verdict tree old ≡ Ok carried → statement_outcome old.graph (resolved_statement tree) ≡ Ok carried.outcome
-carried_means tree old carried is =
-    let resolved = bind_ok (scope_verdict tree) (λ resolved. carry_verdict resolved old.graph old.tick) carried is in
+executed_means : (tree : Statement) (old : EngineState) (executed : Executed) → statement_verdict tree old ≡ Ok executed → statement_outcome old.graph (resolved_statement tree) ≡ Ok executed.outcome
+executed_means tree old executed is =
+    let resolved = bind_ok (scope_verdict tree) (λ resolved. execution_verdict resolved old.graph old.tick) executed is in
     let outcome =
-    bind_ok (or_fault of_update (statement_outcome old.graph resolved.0)) (λ outcome. tick_after old.graph.content outcome.graph.content old.tick >>= λ after. let c : Carried = record { outcome = outcome; tick = after } in Ok c)
-    carried resolved.2
+    bind_ok (or_fault of_update (statement_outcome old.graph resolved.0)) (λ outcome. tick_after old.graph.content outcome.graph.content old.tick >>= λ after. let c : Executed = record { outcome = outcome; tick = after } in Ok c)
+    executed resolved.2
     in
-    let timed = bind_ok (tick_after old.graph.content outcome.0.graph.content old.tick) (λ after. let c : Carried = record { outcome = outcome.0; tick = after } in Ok c) carried outcome.2 in
-    let same : outcome.0 ≡ carried.outcome = ap (λ (c : Carried). c.outcome) (same_ok _ carried timed.2) in
+    let timed = bind_ok (tick_after old.graph.content outcome.0.graph.content old.tick) (λ after. let c : Executed = record { outcome = outcome.0; tick = after } in Ok c) executed outcome.2 in
+    let same : outcome.0 ≡ executed.outcome = ap (λ (c : Executed). c.outcome) (same_ok _ executed timed.2) in
     ap (λ (s : Statement). statement_outcome old.graph s) (sym (scoped tree resolved.0 resolved.1))
     ∙ meant (statement_outcome old.graph resolved.0) outcome.0 outcome.1
     ∙ ap (λ (o : Outcome). let r : Result Outcome UpdateFault = Ok o in r) same
@@ -65,64 +65,64 @@ module _ (line : List ℕ) (old : EngineState) (answer : Answer) (entries : Entr
   refused_leads : (why : Fault) → answer ≡ Err why → new ≡ old → LeadsOn
   refused_leads why is left = as_answered (Err why) is (graph_of left) (λ same. same)
 
-  carries_leads : (tokens : List Token) (tree : Statement) → Asks line (StatementOf tokens) → SpellsStatement line tree tokens → (v : Result Carried Fault) → statement_verdict tree old ≡ v → Carries v old answer entries new → LeadsOn
-  carries_leads tokens tree asked spelt (Err why) is a = refused_leads why a.answered a.left
-  carries_leads tokens tree asked spelt (Ok carried) is a =
+  executes_leads : (tokens : List Token) (tree : Statement) → Asks line (StatementOf tokens) → SpellsStatement line tree tokens → (v : Result Executed Fault) → statement_verdict tree old ≡ v → Executes v old answer entries new → LeadsOn
+  executes_leads tokens tree asked spelt (Err why) is a = refused_leads why a.answered a.state
+  executes_leads tokens tree asked spelt (Ok executed) is a =
       subst (λ (given : Answer). Leads line given old.graph new.graph) (sym a.answered)
       (record {
         tokens = tokens;
         tree = tree;
-        outcome = carried.outcome;
+        outcome = executed.outcome;
         asked = asked;
         spelt = spelt;
-        means = carried_means tree old carried is;
+        means = executed_means tree old executed is;
         answered = refl;
-        left = ap (λ (s : EngineState). s.graph) a.left;
+        state = ap (λ (s : EngineState). s.graph) a.state;
       })
 
   makes_leads : (v : Result View Fault) → Makes v old answer entries new → LeadsOn
-  makes_leads (Err why) a = refused_leads why a.answered a.left
-  makes_leads (Ok view) a = as_answered _ a.answered (ap (λ (s : EngineState). s.graph) a.left) (λ same. same)
+  makes_leads (Err why) a = refused_leads why a.answered a.state
+  makes_leads (Ok view) a = as_answered _ a.answered (ap (λ (s : EngineState). s.graph) a.state) (λ same. same)
 
   shows_leads : (name : List ℕ) (v : Result View Fault) → Shows name v old answer entries new → LeadsOn
-  shows_leads name (Err why) a = refused_leads why a.answered a.left
-  shows_leads name (Ok view) (rows, are, a) = as_answered _ a.answered (graph_of a.left) (λ same. same)
+  shows_leads name (Err why) a = refused_leads why a.answered a.state
+  shows_leads name (Ok view) (rows, are, a) = as_answered _ a.answered (graph_of a.state) (λ same. same)
 
   tells_leads : (name : List ℕ) (tick : ℕ) (v : Result View Fault) → Tells name tick v old answer entries new → LeadsOn
-  tells_leads name tick (Err why) a = refused_leads why a.answered a.left
+  tells_leads name tick (Err why) a = refused_leads why a.answered a.state
   tells_leads name tick (Ok view) a = from (answer_since tick view.feed) a
     where
       from : (told : feeds.Answer) → Follows name view told old answer entries new → LeadsOn
-      from (Since changes) a = as_answered _ a.answered (graph_of a.left) (λ same. same)
+      from (Since changes) a = as_answered _ a.answered (graph_of a.state) (λ same. same)
       from Lagged a = shows_leads name (Ok view) a
 
   drops_leads : (v : Result View Fault) → Drops v old answer entries new → LeadsOn
-  drops_leads (Err why) a = refused_leads why a.answered a.left
-  drops_leads (Ok view) a = as_answered _ a.answered (ap (λ (s : EngineState). s.graph) a.left) (λ same. same)
+  drops_leads (Err why) a = refused_leads why a.answered a.state
+  drops_leads (Ok view) a = as_answered _ a.answered (ap (λ (s : EngineState). s.graph) a.state) (λ same. same)
 
   indexes_leads : (v : Result Pair Fault) → Indexes v old answer entries new → LeadsOn
-  indexes_leads (Err why) a = refused_leads why a.answered a.left
-  indexes_leads (Ok pair) a = as_answered _ a.answered (ap (λ (s : EngineState). s.graph) a.left) (λ same. same)
+  indexes_leads (Err why) a = refused_leads why a.answered a.state
+  indexes_leads (Ok pair) a = as_answered _ a.answered (ap (λ (s : EngineState). s.graph) a.state) (λ same. same)
 
   answers_leads : (tokens : List Token) → tokens_of line ≡ Ok tokens → (asked : Request) → request line tokens ≡ asked → Answers line asked old answer entries new → LeadsOn
-  answers_leads tokens made Nothing of a = as_answered _ a.answered (graph_of a.left) (λ same. same)
-  answers_leads tokens made (StatementOf ts) of (inl (tree, spelt, a)) = carries_leads ts tree (record { tokens = tokens; lexed = made; is = of }) spelt (statement_verdict tree old) refl a
-  answers_leads tokens made (StatementOf ts) of (inr (why, unspelt, a)) = refused_leads (fault.Parse why) a.answered a.left
+  answers_leads tokens made Nothing of a = as_answered _ a.answered (graph_of a.state) (λ same. same)
+  answers_leads tokens made (StatementOf ts) of (inl (tree, spelt, a)) = executes_leads ts tree (record { tokens = tokens; lexed = made; is = of }) spelt (statement_verdict tree old) refl a
+  answers_leads tokens made (StatementOf ts) of (inr (why, unspelt, a)) = refused_leads (fault.Parse why) a.answered a.state
   answers_leads tokens made (ViewOf name ts) of (inl (tree, spelt, a)) = makes_leads (view_verdict tree name old) a
-  answers_leads tokens made (ViewOf name ts) of (inr (why, unspelt, a)) = refused_leads (fault.Parse why) a.answered a.left
+  answers_leads tokens made (ViewOf name ts) of (inr (why, unspelt, a)) = refused_leads (fault.Parse why) a.answered a.state
   answers_leads tokens made (RowsOf name) of a = shows_leads name (rows_verdict name old) a
   answers_leads tokens made (SinceOf name tick) of a = tells_leads name tick (since_verdict name tick old) a
-  answers_leads tokens made ListOfViews of a = as_answered _ a.answered (graph_of a.left) (λ same. same)
+  answers_leads tokens made ListOfViews of a = as_answered _ a.answered (graph_of a.state) (λ same. same)
   answers_leads tokens made (DropOf name) of a = drops_leads (rows_verdict name old) a
   answers_leads tokens made (IndexOf label key) of a = indexes_leads (index_verdict label key old) a
-  answers_leads tokens made (Refused why) of a = refused_leads why a.answered a.left
+  answers_leads tokens made (Refused why) of a = refused_leads why a.answered a.state
 
   lexed_leads : (lexed : Result (List Token) LexFault) → tokens_of line ≡ lexed → Lexed line lexed old answer entries new → LeadsOn
-  lexed_leads (Err why) made a = refused_leads (fault.Lex why) a.answered a.left
+  lexed_leads (Err why) made a = refused_leads (fault.Lex why) a.answered a.state
   lexed_leads (Ok tokens) made a = answers_leads tokens made (request line tokens) refl a
 
   pub step_leads : Step old line answer entries new → LeadsOn
-  step_leads (inl a) = refused_leads fault.NoMemory a.1.answered a.1.left
+  step_leads (inl a) = refused_leads fault.NoMemory a.1.answered a.1.state
   step_leads (inr a) = lexed_leads (tokens_of line) refl a
 
 pub run_builds : (old new : EngineState) (events : List Event) → Run old events new → Builds old.graph events new.graph

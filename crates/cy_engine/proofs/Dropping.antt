@@ -114,7 +114,7 @@ module _ (name : List ℕ) (store : StoreState) (views left : Registry) (tick hi
   not_there missing =
       let none : is_some (registered_at name views) ≡ false = sym (ap is_some was) ∙ missing in
       let refused : IsRefused fault.NoSuchView (with_views views) (Err fault.NoSuchView) [] (with_views left) =
-      record { answered = refl; no_entries = refl; left = ap with_views (leaves ∙ none_kept name views none) } in
+      record { answered = refl; no_entries = refl; state = ap with_views (leaves ∙ none_kept name views none) } in
       subst (λ (v : Result View Fault). Drops v (with_views views) (Err fault.NoSuchView) [] (with_views left)) (sym (ap (there fault.NoSuchView) (view_absent name views none))) refused
 
   pub dropped : AreNamed (views_in views) → is_some gone ≡ true → DropsIt (Ok (reply.Dropped name))
@@ -127,6 +127,6 @@ module _ (name : List ℕ) (store : StoreState) (views left : Registry) (tick hi
           record {
             answered = refl;
             no_entries = refl;
-            left = ap (λ (vs : List View). let s : EngineState = record { graph = store.graph.now; indexes = store.chosen; views = vs; tick = tick; history = history } in s) (ap views_in leaves ∙ views_kept name views apart);
+            state = ap (λ (vs : List View). let s : EngineState = record { graph = store.graph.now; indexes = store.chosen; views = vs; tick = tick; history = history } in s) (ap views_in leaves ∙ views_kept name views apart);
           } in
           subst (λ (v : Result View Fault). Drops v (with_views views) (Ok (reply.Dropped name)) [] (with_views left)) (sym (ap (there fault.NoSuchView) (view_there name views r here))) goes

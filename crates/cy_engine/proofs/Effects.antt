@@ -17,25 +17,25 @@ use Rattle.cy_engine.specs.declared.faults.Fault.{Fault}
 use Rattle.cy_engine.specs.declared.faults.Fault.TheVariants.{NoSuchView}
 use Rattle.cy_engine.specs.Requests.{Request, Nothing, StatementOf, ViewOf, RowsOf, SinceOf, ListOfViews, DropOf, IndexOf, Refused, request}
 use Rattle.cy_engine.specs.State.{EngineState, Entries, View, view_at}
-use Rattle.cy_engine.specs.Step.{Answer, AreEntries, IsCarried, IsMade, IsDropped, IsIndexed, Carries, Makes, Drops, Indexes, Shows, Follows, Tells, Answers, Lexed, Step}
-use Rattle.cy_engine.specs.Verdicts.{Carried, carry_verdict, index_verdict, or_fault, rows_verdict, scope_verdict, since_verdict, statement_verdict, there, tick_after, view_verdict}
+use Rattle.cy_engine.specs.Step.{Answer, AreEntries, IsExecuted, IsMade, IsDropped, IsIndexed, Executes, Makes, Drops, Indexes, Shows, Follows, Tells, Answers, Lexed, Step}
+use Rattle.cy_engine.specs.Verdicts.{Executed, execution_verdict, index_verdict, or_fault, rows_verdict, scope_verdict, since_verdict, statement_verdict, there, tick_after, view_verdict}
 use Rattle.cy_engine.proofs.Chains.{nothing_changed}
 use Rattle.cy_engine.proofs.Queries.{IsFresh, bind_ok, same_ok, view_made}
 
--- a statement may be carried out: the tick after it is the one of its content
-abbrev pub IsTimed : EngineState → Carried → Type 0
-IsTimed old carried = tick_after old.graph.content carried.outcome.graph.content old.tick ≡ Ok carried.tick
+-- a statement may be executed: the tick after it is the one of its content
+abbrev pub IsTimed : EngineState → Executed → Type 0
+IsTimed old executed = tick_after old.graph.content executed.outcome.graph.content old.tick ≡ Ok executed.tick
 
--- the tick of a statement that is carried out
-statement_timed : (tree : Statement) (old : EngineState) (carried : Carried) → statement_verdict tree old ≡ Ok carried → IsTimed old carried
-statement_timed tree old carried is =
-    let scoped = bind_ok (scope_verdict tree) (λ resolved. carry_verdict resolved old.graph old.tick) carried is in
+-- the tick of a statement that is executed
+statement_timed : (tree : Statement) (old : EngineState) (executed : Executed) → statement_verdict tree old ≡ Ok executed → IsTimed old executed
+statement_timed tree old executed is =
+    let scoped = bind_ok (scope_verdict tree) (λ resolved. execution_verdict resolved old.graph old.tick) executed is in
     let meant =
-    bind_ok (or_fault of_update (statement_outcome old.graph scoped.0)) (λ outcome. tick_after old.graph.content outcome.graph.content old.tick >>= λ after. let c : Carried = record { outcome = outcome; tick = after } in Ok c)
-    carried scoped.2
+    bind_ok (or_fault of_update (statement_outcome old.graph scoped.0)) (λ outcome. tick_after old.graph.content outcome.graph.content old.tick >>= λ after. let c : Executed = record { outcome = outcome; tick = after } in Ok c)
+    executed scoped.2
     in
-    let timed = bind_ok (tick_after old.graph.content meant.0.graph.content old.tick) (λ after. let c : Carried = record { outcome = meant.0; tick = after } in Ok c) carried meant.2 in
-    let same : (let c : Carried = record { outcome = meant.0; tick = timed.0 } in c) ≡ carried = same_ok _ carried timed.2 in
+    let timed = bind_ok (tick_after old.graph.content meant.0.graph.content old.tick) (λ after. let c : Executed = record { outcome = meant.0; tick = after } in Ok c) executed meant.2 in
+    let same : (let c : Executed = record { outcome = meant.0; tick = timed.0 } in c) ≡ executed = same_ok _ executed timed.2 in
     subst (IsTimed old) same timed.1
 
 -- a view that is found by a name has it
@@ -51,62 +51,62 @@ module _ (old : EngineState) (answer : Answer) (entries : Entries) (new : Engine
   abbrev pub Effects : Type 0
   Effects =
       ((new ≡ old) × (entries ≡ []))
-      ⊎ ((carried : Carried) × IsTimed old carried × IsCarried carried old answer entries new)
+      ⊎ ((executed : Executed) × IsTimed old executed × IsExecuted executed old answer entries new)
       ⊎ ((view : View) × IsFresh old view × IsMade view old answer entries new)
       ⊎ ((view : View) × (view_at view.name old ≡ Some view) × IsDropped view old answer entries new)
       ⊎ ((pair : Pair) × IsIndexed pair old answer entries new)
 
-  carries_effects : (v : Result Carried Fault) → ((carried : Carried) → v ≡ Ok carried → IsTimed old carried) → Carries v old answer entries new → Effects
-  carries_effects (Ok carried) timed a = inr (inl (carried, timed carried refl, a))
-  carries_effects (Err why) timed a = inl (a.left, a.no_entries)
+  executes_effects : (v : Result Executed Fault) → ((executed : Executed) → v ≡ Ok executed → IsTimed old executed) → Executes v old answer entries new → Effects
+  executes_effects (Ok executed) timed a = inr (inl (executed, timed executed refl, a))
+  executes_effects (Err why) timed a = inl (a.state, a.no_entries)
 
   makes_effects : (v : Result View Fault) → ((view : View) → v ≡ Ok view → IsFresh old view) → Makes v old answer entries new → Effects
   makes_effects (Ok view) free a = inr (inr (inl (view, free view refl, a)))
-  makes_effects (Err why) free a = inl (a.left, a.no_entries)
+  makes_effects (Err why) free a = inl (a.state, a.no_entries)
 
   shows_effects : (name : List ℕ) (v : Result View Fault) → Shows name v old answer entries new → Effects
-  shows_effects name (Ok view) (rows, are, a) = inl (a.left, a.no_entries)
-  shows_effects name (Err why) a = inl (a.left, a.no_entries)
+  shows_effects name (Ok view) (rows, are, a) = inl (a.state, a.no_entries)
+  shows_effects name (Err why) a = inl (a.state, a.no_entries)
 
   tells_effects : (name : List ℕ) (tick : ℕ) (v : Result View Fault) → Tells name tick v old answer entries new → Effects
-  tells_effects name tick (Err why) a = inl (a.left, a.no_entries)
+  tells_effects name tick (Err why) a = inl (a.state, a.no_entries)
   tells_effects name tick (Ok view) a = from (answer_since tick view.feed) a
     where
       from : (told : feeds.Answer) → Follows name view told old answer entries new → Effects
-      from (Since changes) a = inl (a.left, a.no_entries)
+      from (Since changes) a = inl (a.state, a.no_entries)
       from Lagged a = shows_effects name (Ok view) a
 
   drops_effects : (name : List ℕ) → Drops (rows_verdict name old) old answer entries new → Effects
   drops_effects name a = from (view_at name old) refl a
     where
       from : (o : Option View) → view_at name old ≡ o → Drops (there NoSuchView o) old answer entries new → Effects
-      from None is a = inl (a.left, a.no_entries)
+      from None is a = inl (a.state, a.no_entries)
       from (Some view) is a = inr (inr (inr (inl (view, subst (λ (n : List ℕ). view_at n old ≡ Some view) (name_of name old.views view is) is, a))))
 
   indexes_effects : (v : Result Pair Fault) → Indexes v old answer entries new → Effects
   indexes_effects (Ok pair) a = inr (inr (inr (inr (pair, a))))
-  indexes_effects (Err why) a = inl (a.left, a.no_entries)
+  indexes_effects (Err why) a = inl (a.state, a.no_entries)
 
   answers_effects : (line : List ℕ) (asked : Request) → Answers line asked old answer entries new → Effects
-  answers_effects line Nothing a = inl (a.left, a.no_entries)
-  answers_effects line (StatementOf tokens) (inl (tree, spelt, a)) = carries_effects (statement_verdict tree old) (statement_timed tree old) a
-  answers_effects line (StatementOf tokens) (inr (why, unspelt, a)) = inl (a.left, a.no_entries)
+  answers_effects line Nothing a = inl (a.state, a.no_entries)
+  answers_effects line (StatementOf tokens) (inl (tree, spelt, a)) = executes_effects (statement_verdict tree old) (statement_timed tree old) a
+  answers_effects line (StatementOf tokens) (inr (why, unspelt, a)) = inl (a.state, a.no_entries)
   answers_effects line (ViewOf name tokens) (inl (tree, spelt, a)) =
       makes_effects (view_verdict tree name old) (view_made tree name old) a
-  answers_effects line (ViewOf name tokens) (inr (why, unspelt, a)) = inl (a.left, a.no_entries)
+  answers_effects line (ViewOf name tokens) (inr (why, unspelt, a)) = inl (a.state, a.no_entries)
   answers_effects line (RowsOf name) a = shows_effects name (rows_verdict name old) a
   answers_effects line (SinceOf name tick) a = tells_effects name tick (since_verdict name tick old) a
-  answers_effects line ListOfViews a = inl (a.left, a.no_entries)
+  answers_effects line ListOfViews a = inl (a.state, a.no_entries)
   answers_effects line (DropOf name) a = drops_effects name a
   answers_effects line (IndexOf label key) a = indexes_effects (index_verdict label key old) a
-  answers_effects line (Refused why) a = inl (a.left, a.no_entries)
+  answers_effects line (Refused why) a = inl (a.state, a.no_entries)
 
   lexed_effects : (line : List ℕ) (lexed : Result (List Token) LexFault) → Lexed line lexed old answer entries new → Effects
-  lexed_effects line (Err why) a = inl (a.left, a.no_entries)
+  lexed_effects line (Err why) a = inl (a.state, a.no_entries)
   lexed_effects line (Ok tokens) a = answers_effects line (request line tokens) a
 
   pub effects : (line : List ℕ) → Step old line answer entries new → Effects
-  effects line (inl a) = inl (a.1.left, a.1.no_entries)
+  effects line (inl a) = inl (a.1.state, a.1.no_entries)
   effects line (inr a) = lexed_effects line (tokens_of line) a
 
   abbrev pub AreExact : Type 0
@@ -118,7 +118,7 @@ module _ (old : EngineState) (answer : Answer) (entries : Entries) (new : Engine
   -- the entries of a step are the differences that it makes
   pub exact : Effects → AreExact
   exact (inl (left, none)) = no_entries none (ap (λ (s : EngineState). s.graph) left)
-  exact (inr (inl (carried, timed, a))) = subst (λ (s : EngineState). AreEntries old.views old.graph.content s.graph.content s.tick entries) (sym a.left) a.entries_are
-  exact (inr (inr (inl (view, free, a)))) = no_entries a.no_entries (ap (λ (s : EngineState). s.graph) a.left)
-  exact (inr (inr (inr (inl (view, at, a))))) = no_entries a.no_entries (ap (λ (s : EngineState). s.graph) a.left)
-  exact (inr (inr (inr (inr (pair, a))))) = no_entries a.no_entries (ap (λ (s : EngineState). s.graph) a.left)
+  exact (inr (inl (executed, timed, a))) = subst (λ (s : EngineState). AreEntries old.views old.graph.content s.graph.content s.tick entries) (sym a.state) a.entries_are
+  exact (inr (inr (inl (view, free, a)))) = no_entries a.no_entries (ap (λ (s : EngineState). s.graph) a.state)
+  exact (inr (inr (inr (inl (view, at, a))))) = no_entries a.no_entries (ap (λ (s : EngineState). s.graph) a.state)
+  exact (inr (inr (inr (inr (pair, a))))) = no_entries a.no_entries (ap (λ (s : EngineState). s.graph) a.state)

@@ -101,8 +101,8 @@ module _ (old : EngineState) (answer : Answer) (entries : Entries) (mid : Engine
         entry = subst (IsItsEntry view.query old.graph.content mid.graph.content) (sym no_entry) (λ row. ap (λ (g : State). count_of row (rows_of view.query g.content)) (sym same));
       }
 
-  carried_stood : AreNamed old.views → AreEntries old.views old.graph.content mid.graph.content mid.tick entries → (was : View) → Among was old.views → fed entries was ≡ view → Stood old entries mid view
-  carried_stood named are was there is =
+  executed_stood : AreNamed old.views → AreEntries old.views old.graph.content mid.graph.content mid.tick entries → (was : View) → Among was old.views → fed entries was ≡ view → Stood old entries mid view
+  executed_stood named are was there is =
       let o = entry_at was.name entries in
       let named_so : was.name ≡ view.name = sym (fed_name entries was) ∙ ap (λ (v : View). v.name) is in
       let asks : was.query ≡ view.query = sym (fed_query entries was) ∙ ap (λ (v : View). v.query) is in
@@ -126,13 +126,13 @@ module _ (old : EngineState) (answer : Answer) (entries : Entries) (mid : Engine
 
   stood_or_made : (line : List ℕ) → Step old line answer entries mid → Effects old answer entries mid → AreNamed old.views → Among view mid.views → Stood old entries mid view ⊎ WasMade line
   stood_or_made line step (inl (left, none)) named there = inl (quiet_stood none (ap (λ (s : EngineState). s.graph) left) (subst (λ (s : EngineState). Among view s.views) left there))
-  stood_or_made line step (inr (inl (carried, timed, a))) named there =
-      let was = among_fed entries view old.views (subst (λ (s : EngineState). Among view s.views) a.left there) in
-      inl (carried_stood named (exact old answer entries mid (inr (inl (carried, timed, a)))) was.0 was.1 was.2)
-  stood_or_made line step (inr (inr (inl (made, fresh, a)))) named there = from (among_either view made old.views (subst (λ (s : EngineState). Among view s.views) a.left there))
+  stood_or_made line step (inr (inl (executed, timed, a))) named there =
+      let was = among_fed entries view old.views (subst (λ (s : EngineState). Among view s.views) a.state there) in
+      inl (executed_stood named (exact old answer entries mid (inr (inl (executed, timed, a)))) was.0 was.1 was.2)
+  stood_or_made line step (inr (inr (inl (made, fresh, a)))) named there = from (among_either view made old.views (subst (λ (s : EngineState). Among view s.views) a.state there))
     where
       from : Among view old.views ⊎ (made ≡ view) → Stood old entries mid view ⊎ WasMade line
-      from (inl before) = inl (quiet_stood a.no_entries (ap (λ (s : EngineState). s.graph) a.left) before)
+      from (inl before) = inl (quiet_stood a.no_entries (ap (λ (s : EngineState). s.graph) a.state) before)
       from (inr is) = inr (record {
         asks = subst (λ (v : View). AsksForView line v.name v.query) is (step_asked line old answer entries mid made a step);
         checked = subst (λ (v : View). IsViewQuery v.query) is fresh.query;
@@ -140,16 +140,16 @@ module _ (old : EngineState) (answer : Answer) (entries : Entries) (mid : Engine
         answered = a.answered ∙ ap (λ (v : View). Ok (reply.Made (query_columns v.query) v.made v.name)) is;
       })
   stood_or_made line step (inr (inr (inr (inl (gone, at, a))))) named there =
-      inl (quiet_stood a.no_entries (ap (λ (s : EngineState). s.graph) a.left) (among_without gone.name view old.views (subst (λ (s : EngineState). Among view s.views) a.left there)))
+      inl (quiet_stood a.no_entries (ap (λ (s : EngineState). s.graph) a.state) (among_without gone.name view old.views (subst (λ (s : EngineState). Among view s.views) a.state there)))
   stood_or_made line step (inr (inr (inr (inr (pair, a))))) named there =
-      inl (quiet_stood a.no_entries (ap (λ (s : EngineState). s.graph) a.left) (subst (λ (s : EngineState). Among view s.views) a.left there))
+      inl (quiet_stood a.no_entries (ap (λ (s : EngineState). s.graph) a.state) (subst (λ (s : EngineState). Among view s.views) a.state there))
 
   same_history : Effects old answer entries mid → mid.history ≡ old.history
   same_history (inl (left, none)) = ap (λ (s : EngineState). s.history) left
-  same_history (inr (inl (carried, timed, a))) = ap (λ (s : EngineState). s.history) a.left
-  same_history (inr (inr (inl (made, fresh, a)))) = ap (λ (s : EngineState). s.history) a.left
-  same_history (inr (inr (inr (inl (gone, at, a))))) = ap (λ (s : EngineState). s.history) a.left
-  same_history (inr (inr (inr (inr (pair, a))))) = ap (λ (s : EngineState). s.history) a.left
+  same_history (inr (inl (executed, timed, a))) = ap (λ (s : EngineState). s.history) a.state
+  same_history (inr (inr (inl (made, fresh, a)))) = ap (λ (s : EngineState). s.history) a.state
+  same_history (inr (inr (inr (inl (gone, at, a))))) = ap (λ (s : EngineState). s.history) a.state
+  same_history (inr (inr (inr (inr (pair, a))))) = ap (λ (s : EngineState). s.history) a.state
 
 -- ---- all lines
 

@@ -36,10 +36,10 @@ module _ (line : List ℕ) (old : EngineState) (entries : Entries) (new : Engine
       no_want is (inr past) = let wrong : of_lexer lex.LineTooLong ≡ fault.NoMemory = ap of_lexer (sym (long past)) ∙ is in absurd (cc)
 
       from : ((of_lexer why ≡ fault.NoMemory) ⊎ ((why ≢ lex.NoMemory) × (of_lexer why ≡ fault.Lex why))) → Step old line (Err (of_lexer why)) entries new
-      from (inl is) = inl (no_want is (short_or_long (length line) longest_line), record { answered = ap Err is; no_entries = none; left = same })
+      from (inl is) = inl (no_want is (short_or_long (length line) longest_line), record { answered = ap Err is; no_entries = none; state = same })
       from (inr (is_other, is)) =
           inr (subst (λ (r : Result (List Token) LexFault). Lexed line r old (Err (of_lexer why)) entries new) (sym (said is_other))
-          (let refused : IsRefused (fault.Lex why) old (Err (of_lexer why)) entries new = record { answered = ap Err is; no_entries = none; left = same } in refused))
+          (let refused : IsRefused (fault.Lex why) old (Err (of_lexer why)) entries new = record { answered = ap Err is; no_entries = none; state = same } in refused))
 
   -- a line of tokens is answered as it asks
   pub line_step : (answer : Answer) (tokens : List Token) (asked : Request) → tokens_of line ≡ Ok tokens → (longest_line < length line → ⊥) → request line tokens ≡ asked
@@ -57,9 +57,9 @@ module _ (line : List ℕ) (old : EngineState) (entries : Entries) (new : Engine
   pub request_refused : (why : Fault) (tokens : List Token) → entries ≡ [] → new ≡ old → tokens_of line ≡ Ok tokens → (longest_line < length line → ⊥)
       → (why ≡ fault.NoMemory) ⊎ (request line tokens ≡ Refused why) → Step old line (Err why) entries new
   request_refused why tokens none same made short (inl wants) =
-      line_step (Err why) tokens (request line tokens) made short refl (inl (record { answered = ap Err wants; no_entries = none; left = same }))
+      line_step (Err why) tokens (request line tokens) made short refl (inl (record { answered = ap Err wants; no_entries = none; state = same }))
   request_refused why tokens none same made short (inr asks) =
-      line_step (Err why) tokens (Refused why) made short asks (inr (record { answered = refl; no_entries = none; left = same }))
+      line_step (Err why) tokens (Refused why) made short asks (inr (record { answered = refl; no_entries = none; state = same }))
 
 -- what is answered to `:rows`
 pub rows_answered : (line name : List ℕ) (state : EngineState) (entries : Entries) (answer : Answer) → entries ≡ [] → ShowsRows state name answer → AnswersOrWants line (RowsOf name) state answer entries state
@@ -68,22 +68,22 @@ rows_answered line name state entries (Ok (reply.Statement changed columns rows)
 rows_answered line name state entries (Ok (reply.Made columns tick view)) none shows = absurd shows
 rows_answered line name state entries (Ok (reply.Rows rows tick view)) none (found, is, are, ticks, named) =
     inr (subst (λ (v : Result View Fault). Shows name v state (Ok (reply.Rows rows tick view)) entries state) (sym is)
-    (rows, are, record { answered = λ i. Ok (reply.Rows rows (ticks i) (named i)); no_entries = none; left = refl }))
+    (rows, are, record { answered = λ i. Ok (reply.Rows rows (ticks i) (named i)); no_entries = none; state = refl }))
 rows_answered line name state entries (Ok (reply.Entries changes tick view)) none shows = absurd shows
 rows_answered line name state entries (Ok (reply.Dropped view)) none shows = absurd shows
 rows_answered line name state entries (Ok (reply.Views views)) none shows = absurd shows
 rows_answered line name state entries (Ok (reply.Index label key)) none shows = absurd shows
-rows_answered line name state entries (Err why) none (inl wants) = inl (record { answered = ap Err wants; no_entries = none; left = refl })
+rows_answered line name state entries (Err why) none (inl wants) = inl (record { answered = ap Err wants; no_entries = none; state = refl })
 rows_answered line name state entries (Err why) none (inr is) =
     inr (subst (λ (v : Result View Fault). Shows name v state (Err why) entries state) (sym is)
-    (let refused : IsRefused why state (Err why) entries state = record { answered = refl; no_entries = none; left = refl } in refused))
+    (let refused : IsRefused why state (Err why) entries state = record { answered = refl; no_entries = none; state = refl } in refused))
 
 -- what is answered to `:since`
 pub since_answered : (line name : List ℕ) (since : ℕ) (state : EngineState) (entries : Entries) (answer : Answer) → entries ≡ [] → ShowsSince state name since answer → AnswersOrWants line (SinceOf name since) state answer entries state
-since_answered line name since state entries (Err why) none (inl wants) = inl (record { answered = ap Err wants; no_entries = none; left = refl })
+since_answered line name since state entries (Err why) none (inl wants) = inl (record { answered = ap Err wants; no_entries = none; state = refl })
 since_answered line name since state entries (Err why) none (inr is) =
     inr (subst (λ (v : Result View Fault). Tells name since v state (Err why) entries state) (sym is)
-    (let refused : IsRefused why state (Err why) entries state = record { answered = refl; no_entries = none; left = refl } in refused))
+    (let refused : IsRefused why state (Err why) entries state = record { answered = refl; no_entries = none; state = refl } in refused))
 since_answered line name since state entries (Ok given) none (found, is, shows) =
     inr (subst (λ (v : Result View Fault). Tells name since v state (Ok given) entries state) (sym is) (told given shows))
   where
@@ -93,19 +93,19 @@ since_answered line name since state entries (Ok given) none (found, is, shows) 
     told (reply.Made columns tick view) shows = absurd shows
     told (reply.Rows rows tick view) (lagged, are, ticks, named) =
         subst (λ (a : feeds.Answer). Follows name found a state (Ok (reply.Rows rows tick view)) entries state) (sym lagged)
-        (rows, are, record { answered = λ i. Ok (reply.Rows rows (ticks i) (named i)); no_entries = none; left = refl })
+        (rows, are, record { answered = λ i. Ok (reply.Rows rows (ticks i) (named i)); no_entries = none; state = refl })
     told (reply.Entries changes tick view) (says, ticks, named) =
         subst (λ (a : feeds.Answer). Follows name found a state (Ok (reply.Entries changes tick view)) entries state) (sym says)
         (let replied : IsReplied (reply.Entries changes state.tick name) state (Ok (reply.Entries changes tick view)) entries state =
-        record { answered = λ i. Ok (reply.Entries changes (ticks i) (named i)); no_entries = none; left = refl } in replied)
+        record { answered = λ i. Ok (reply.Entries changes (ticks i) (named i)); no_entries = none; state = refl } in replied)
     told (reply.Dropped view) shows = absurd shows
     told (reply.Views views) shows = absurd shows
     told (reply.Index label key) shows = absurd shows
 
 -- what is answered to `:views`
 pub views_answered : (line : List ℕ) (state : EngineState) (entries : Entries) (answer : Answer) → entries ≡ [] → ListsViews state answer → AnswersOrWants line ListOfViews state answer entries state
-views_answered line state entries (Err why) none wants = inl (record { answered = ap Err wants; no_entries = none; left = refl })
-views_answered line state entries (Ok given) none is = inr (record { answered = ap Ok is; no_entries = none; left = refl })
+views_answered line state entries (Err why) none wants = inl (record { answered = ap Err wants; no_entries = none; state = refl })
+views_answered line state entries (Ok given) none is = inr (record { answered = ap Ok is; no_entries = none; state = refl })
 
 pub no_error : {A : Type 0} (x : A) (why : LexFault) → (let r : Result A LexFault = Ok x in r) ≡ Err why → ⊥
 no_error x why is = cc

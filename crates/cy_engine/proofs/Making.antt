@@ -20,8 +20,8 @@ use Rattle.cy_engine.specs.declared.replies.Reply.TheVariants as reply
 use Rattle.cy_engine.specs.Headline.{AsksForView}
 use Rattle.cy_engine.specs.Requests.{Asks, Request, Nothing, StatementOf, ViewOf, RowsOf, SinceOf, ListOfViews, DropOf, IndexOf, Refused, request}
 use Rattle.cy_engine.specs.State.{EngineState, Entries, View}
-use Rattle.cy_engine.specs.Step.{Answer, Answers, Carries, Drops, Follows, Indexes, IsMade, Lexed, Makes, Shows, Step, Tells}
-use Rattle.cy_engine.specs.Verdicts.{Carried, index_verdict, making_verdict, query_verdict, rows_verdict, scope_verdict, since_verdict, statement_verdict, passes, view_verdict}
+use Rattle.cy_engine.specs.Step.{Answer, Answers, Executes, Drops, Follows, Indexes, IsMade, Lexed, Makes, Shows, Step, Tells}
+use Rattle.cy_engine.specs.Verdicts.{Executed, index_verdict, making_verdict, query_verdict, rows_verdict, scope_verdict, since_verdict, statement_verdict, passes, view_verdict}
 use Rattle.cy_engine.proofs.Building.{scoped}
 use Rattle.cy_engine.proofs.Queries.{bind_ok, same_ok}
 
@@ -63,7 +63,7 @@ module _ (line : List ℕ) (old : EngineState) (answer : Answer) (entries : Entr
   makes_asked : (tokens : List Token) (tree : Statement) (name : List ℕ) → Asks line (ViewOf name tokens) → SpellsStatement line tree tokens → (v : Result View Fault) → view_verdict tree name old ≡ v → Makes v old answer entries new → IsAsked
   makes_asked tokens tree name asked spelt (Err why) is a = refused_asked why a.answered
   makes_asked tokens tree name asked spelt (Ok other) is a =
-      let same : other ≡ view = same_last old.views other view (ap (λ (s : EngineState). s.views) (sym a.left ∙ made.left)) in
+      let same : other ≡ view = same_last old.views other view (ap (λ (s : EngineState). s.views) (sym a.state ∙ made.state)) in
       let parts = asked_for tree name old other is in
       subst (λ (v : View). AsksForView line v.name v.query) same
       (record {
@@ -74,9 +74,9 @@ module _ (line : List ℕ) (old : EngineState) (answer : Answer) (entries : Entr
         is = parts.1;
       })
 
-  carries_asked : (v : Result Carried Fault) → Carries v old answer entries new → IsAsked
-  carries_asked (Err why) a = refused_asked why a.answered
-  carries_asked (Ok carried) a = otherwise _ a.answered (λ same. cc)
+  executes_asked : (v : Result Executed Fault) → Executes v old answer entries new → IsAsked
+  executes_asked (Err why) a = refused_asked why a.answered
+  executes_asked (Ok executed) a = otherwise _ a.answered (λ same. cc)
 
   shows_asked : (name : List ℕ) (v : Result View Fault) → Shows name v old answer entries new → IsAsked
   shows_asked name (Err why) a = refused_asked why a.answered
@@ -100,7 +100,7 @@ module _ (line : List ℕ) (old : EngineState) (answer : Answer) (entries : Entr
 
   answers_asked : (tokens : List Token) → tokens_of line ≡ Ok tokens → (asked : Request) → request line tokens ≡ asked → Answers line asked old answer entries new → IsAsked
   answers_asked tokens lexed Nothing is a = otherwise _ a.answered (λ same. cc)
-  answers_asked tokens lexed (StatementOf ts) is (inl (tree, spelt, a)) = carries_asked (statement_verdict tree old) a
+  answers_asked tokens lexed (StatementOf ts) is (inl (tree, spelt, a)) = executes_asked (statement_verdict tree old) a
   answers_asked tokens lexed (StatementOf ts) is (inr (why, unspelt, a)) = refused_asked (fault.Parse why) a.answered
   answers_asked tokens lexed (ViewOf name ts) is (inl (tree, spelt, a)) =
       makes_asked ts tree name (record { tokens = tokens; lexed = lexed; is = is }) spelt (view_verdict tree name old) refl a

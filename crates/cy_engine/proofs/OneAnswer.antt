@@ -26,8 +26,8 @@ use Rattle.cy_bags.specs.Difference.{IsDifference}
 use Rattle.cy_engine.specs.Requests.{Request, Nothing, StatementOf, ViewOf, RowsOf, SinceOf, ListOfViews, DropOf, IndexOf, Refused, request}
 use Rattle.cy_engine.specs.Runs.{Agree, IsBound, is_choice, is_want}
 use Rattle.cy_engine.specs.State.{EngineState, Entries, View, rows_of}
-use Rattle.cy_engine.specs.Step.{Answer, AreRows, IsEntry, AreEntries, IsRefused, IsReplied, Carries, Makes, Drops, Indexes, Shows, Follows, Tells, Reads, fed, listed, Answers, Lexed, Step}
-use Rattle.cy_engine.specs.Verdicts.{Carried, index_verdict, rows_verdict, since_verdict, statement_verdict, view_verdict}
+use Rattle.cy_engine.specs.Step.{Answer, AreRows, IsEntry, AreEntries, IsRefused, IsReplied, Executes, Makes, Drops, Indexes, Shows, Follows, Tells, Reads, fed, listed, Answers, Lexed, Step}
+use Rattle.cy_engine.specs.Verdicts.{Executed, index_verdict, rows_verdict, since_verdict, statement_verdict, view_verdict}
 use Rattle.cy_bags.proofs.Surpluses.{same_pairs}
 
 abbrev IsOne : Type 0
@@ -67,31 +67,31 @@ module _ (total : IsTotalOrder row_cmp) where
     Same = Agree answer again × (entries ≡ more) × (new ≡ other)
 
     refused_one : (why : Fault) → IsRefused why old answer entries new → IsRefused why old again more other → Same
-    refused_one why a b = (inl (a.answered ∙ sym b.answered), a.no_entries ∙ sym b.no_entries, a.left ∙ sym b.left)
+    refused_one why a b = (inl (a.answered ∙ sym b.answered), a.no_entries ∙ sym b.no_entries, a.state ∙ sym b.state)
 
     replied_one : (r s : Reply) → r ≡ s → IsReplied r old answer entries new → IsReplied s old again more other → Same
-    replied_one r s same a b = (inl (a.answered ∙ ap Ok same ∙ sym b.answered), a.no_entries ∙ sym b.no_entries, a.left ∙ sym b.left)
+    replied_one r s same a b = (inl (a.answered ∙ ap Ok same ∙ sym b.answered), a.no_entries ∙ sym b.no_entries, a.state ∙ sym b.state)
 
-    carries_one : (v : Result Carried Fault) → Carries v old answer entries new → Carries v old again more other → Same
-    carries_one (Err why) a b = refused_one why a b
-    carries_one (Ok carried) a b =
-        let alike : entries ≡ more = entries_one old.views old.graph.content carried.outcome.graph.content carried.tick entries more a.entries_are b.entries_are in (
+    executes_one : (v : Result Executed Fault) → Executes v old answer entries new → Executes v old again more other → Same
+    executes_one (Err why) a b = refused_one why a b
+    executes_one (Ok executed) a b =
+        let alike : entries ≡ more = entries_one old.views old.graph.content executed.outcome.graph.content executed.tick entries more a.entries_are b.entries_are in (
           inl (a.answered ∙ sym b.answered),
           alike,
-          a.left ∙ (λ i. record old { graph = carried.outcome.graph; views = map (fed (alike i)) old.views; tick = carried.tick }) ∙ sym b.left,
+          a.state ∙ (λ i. record old { graph = executed.outcome.graph; views = map (fed (alike i)) old.views; tick = executed.tick }) ∙ sym b.state,
         )
 
     makes_one : (v : Result View Fault) → Makes v old answer entries new → Makes v old again more other → Same
     makes_one (Err why) a b = refused_one why a b
-    makes_one (Ok view) a b = (inl (a.answered ∙ sym b.answered), a.no_entries ∙ sym b.no_entries, a.left ∙ sym b.left)
+    makes_one (Ok view) a b = (inl (a.answered ∙ sym b.answered), a.no_entries ∙ sym b.no_entries, a.state ∙ sym b.state)
 
     drops_one : (v : Result View Fault) → Drops v old answer entries new → Drops v old again more other → Same
     drops_one (Err why) a b = refused_one why a b
-    drops_one (Ok view) a b = (inl (a.answered ∙ sym b.answered), a.no_entries ∙ sym b.no_entries, a.left ∙ sym b.left)
+    drops_one (Ok view) a b = (inl (a.answered ∙ sym b.answered), a.no_entries ∙ sym b.no_entries, a.state ∙ sym b.state)
 
     indexes_one : (v : Result Pair Fault) → Indexes v old answer entries new → Indexes v old again more other → Same
     indexes_one (Err why) a b = refused_one why a b
-    indexes_one (Ok pair) a b = (inl (a.answered ∙ sym b.answered), a.no_entries ∙ sym b.no_entries, a.left ∙ sym b.left)
+    indexes_one (Ok pair) a b = (inl (a.answered ∙ sym b.answered), a.no_entries ∙ sym b.no_entries, a.state ∙ sym b.state)
 
     shows_one : (name : List ℕ) (v : Result View Fault) → Shows name v old answer entries new → Shows name v old again more other → Same
     shows_one name (Err why) a b = refused_one why a b
@@ -119,13 +119,13 @@ module _ (total : IsTotalOrder row_cmp) where
     reads_one line tokens goes_on each (inr (why, unspelt, a)) (inr (why_2, unspelt_2, b)) = (
       inr (parsers answer (fault.Parse why) a.answered refl, parsers again (fault.Parse why_2) b.answered refl),
       a.no_entries ∙ sym b.no_entries,
-      a.left ∙ sym b.left,
+      a.state ∙ sym b.state,
     )
 
     answers_one : (line : List ℕ) (asked : Request) → Answers line asked old answer entries new → Answers line asked old again more other → Same
     answers_one line Nothing a b = replied_one reply.Nothing reply.Nothing refl a b
     answers_one line (StatementOf tokens) a b =
-        reads_one line tokens (λ tree. Carries (statement_verdict tree old)) (λ tree. carries_one (statement_verdict tree old)) a b
+        reads_one line tokens (λ tree. Executes (statement_verdict tree old)) (λ tree. executes_one (statement_verdict tree old)) a b
     answers_one line (ViewOf name tokens) a b =
         reads_one line tokens (λ tree. Makes (view_verdict tree name old)) (λ tree. makes_one (view_verdict tree name old)) a b
     answers_one line (RowsOf name) a b = shows_one name (rows_verdict name old) a b

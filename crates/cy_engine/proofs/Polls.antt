@@ -64,7 +64,7 @@ module _ (go_on : FollowersGoOn) (content : ℕ → Content) (name : List ℕ) (
   after_refusal why refused right takes =
       let same : next ≡ held = left held (subst (λ (a : Answer). TakesOver held a next) refused.answered takes) in (
         subst (λ (a : Answer). IsServed name new a held next) (sym refused.answered) same,
-        subst (λ (s : EngineState). IsRight content name s next) (sym refused.left) (subst (IsRight content name old) (sym same) right),
+        subst (λ (s : EngineState). IsRight content name s next) (sym refused.state) (subst (IsRight content name old) (sym same) right),
       )
     where
       left : (h : Option Copy) → TakesOver h (Err why) next → next ≡ h
@@ -92,7 +92,7 @@ module _ (go_on : FollowersGoOn) (content : ℕ → Content) (name : List ℕ) (
     shown : Shows name (Ok view) old answer entries new → TakesOver held answer next → Served
     shown (rows, are, replied) takes =
         let is : next ≡ Some (record { rows = rows; tick = old.tick }) = taken held (subst (λ (a : Answer). TakesOver held a next) replied.answered takes) in
-        let now = current rows are replied.left is in
+        let now = current rows are replied.state is in
         (subst (λ (a : Answer). IsServed name new a held next) (sym replied.answered) now.0, now.1)
       where
         taken : (h : Option Copy) → TakesOver h (Ok (reply.Rows rows old.tick name)) next → next ≡ Some (record { rows = rows; tick = old.tick })
@@ -109,7 +109,7 @@ module _ (go_on : FollowersGoOn) (content : ℕ → Content) (name : List ℕ) (
           go_on view.feed (rows_at content view.query) old.tick copy.tick copy.rows changed.0 told.tells base in_time (fits base) changed.1
           in
           let on_graph : IsCopy changed.0 (rows_of view.query old.graph.content) = subst (λ (c : Content). IsCopy changed.0 (rows_of view.query c)) first right in
-          let now = current changed.0 (record { bag = on_graph.bag; canonical = on_graph.canonical }) replied.left changed.2 in
+          let now = current changed.0 (record { bag = on_graph.bag; canonical = on_graph.canonical }) replied.state changed.2 in
           (subst (λ (a : Answer). IsServed name new a held next) (sym replied.answered) now.0, now.1)
 
       told_since : Tells name copy.tick (Ok view) old answer entries new → TakesOver held answer next → Served
@@ -255,8 +255,8 @@ module _ (new_tell : NewFeedsTell) (pushed_tell : PushedFeedsTell) (quiet_tell :
 
         fits : Effects old answer entries new → (view : View) → view_at name new ≡ Some view → FitsView content name copy view
         fits (inl (left, none)) view at low = was_right view (subst (λ (s : EngineState). view_at name s ≡ Some view) left at) low
-        fits (inr (inl (carried, timed, a))) view at low =
-            let was = before_fed entries old.views view (subst (λ (s : EngineState). view_at name s ≡ Some view) a.left at) in
+        fits (inr (inl (executed, timed, a))) view at low =
+            let was = before_fed entries old.views view (subst (λ (s : EngineState). view_at name s ≡ Some view) a.state at) in
             let told = found_each (IsTold content old.tick) old.views was.0 was.1 known.told in
             let rises : was.0.feed.base ≤ (fed entries was.0).feed.base = base_rises old.tick was.0 (entry_at was.0.name entries) told (found_each EntryLater old.views was.0 was.1 later_entries) in
             let base : was.0.feed.base ≤ copy.tick = omega (arith, rises, ap (λ (v : View). v.feed.base) was.2, low) in
@@ -266,7 +266,7 @@ module _ (new_tell : NewFeedsTell) (pushed_tell : PushedFeedsTell) (quiet_tell :
             EntryLater v = IfSome (entry_at v.name entries) (λ e. old.tick < e.tick)
 
             stepped : Effects old answer entries new
-            stepped = inr (inl (carried, timed, a))
+            stepped = inr (inl (executed, timed, a))
 
             gets : Moves old new → (v : View) (e : Entry) → IsEntry v.query old.graph.content new.graph.content new.tick e → old.tick < e.tick
             gets (inl rises) v e is = omega (arith, rises, is.tick_is)
@@ -276,7 +276,7 @@ module _ (new_tell : NewFeedsTell) (pushed_tell : PushedFeedsTell) (quiet_tell :
             later_entries =
                 each_entry old.graph.content new.graph.content new.tick (λ v o. IfSome o (λ e. old.tick < e.tick)) (λ v same. tt) (gets (moves old answer entries new stepped)) old.views entries known.named
                 (exact old answer entries new stepped)
-        fits (inr (inr (inl (made, fresh, a)))) view at low = either (before_made old.views made view (subst (λ (s : EngineState). view_at name s ≡ Some view) a.left at))
+        fits (inr (inr (inl (made, fresh, a)))) view at low = either (before_made old.views made view (subst (λ (s : EngineState). view_at name s ≡ Some view) a.state at))
           where
             either : (find (λ v. bytes_eq name v.name) old.views ≡ Some view) ⊎ (made ≡ view) → IsCopy copy.rows (rows_at content view.query copy.tick)
             either (inl before) = was_right view before low
@@ -284,8 +284,8 @@ module _ (new_tell : NewFeedsTell) (pushed_tell : PushedFeedsTell) (quiet_tell :
                 let base : view.feed.base ≡ old.tick + 1 = ap (λ (v : View). v.feed.base) (sym is) ∙ ap (λ (h : History). h.base) fresh.feed ∙ fresh.made in
                 absurd (omega (arith, base, low, known.right.0))
         fits (inr (inr (inr (inl (gone, found, a))))) view at low =
-            was_right view (before_dropped gone.name old.views view (subst (λ (s : EngineState). view_at name s ≡ Some view) a.left at)) low
-        fits (inr (inr (inr (inr (pair, a))))) view at low = was_right view (subst (λ (s : EngineState). view_at name s ≡ Some view) a.left at) low
+            was_right view (before_dropped gone.name old.views view (subst (λ (s : EngineState). view_at name s ≡ Some view) a.state at)) low
+        fits (inr (inr (inr (inr (pair, a))))) view at low = was_right view (subst (λ (s : EngineState). view_at name s ≡ Some view) a.state at) low
 
     known_step : Effects old answer entries new → content new.tick ≡ new.graph.content → (held : Option Copy) → Known old held → Known new held
     known_step does then_is held known = record {

@@ -8,7 +8,7 @@ use Rattle.cy_trees.specs.Trees.{Statement}
 use Rattle.cy_updates.specs.Statements.{Outcome, statement_outcome}
 use Rattle.cy_engine.specs.Model.{machine_of, state_of}
 use Rattle.cy_engine.specs.State.{Entries, last_tick}
-use Rattle.cy_engine.specs.Verdicts.{carry_verdict, tick_after}
+use Rattle.cy_engine.specs.Verdicts.{execution_verdict, tick_after}
 use Rattle.cy_engine.specs.declared.faults.Fault.{Fault}
 use Rattle.cy_engine.specs.declared.faults.Fault.TheVariants as fault
 use Rattle.cy_engine.specs.internal.Network.{AllStand, abandoned_one, pending_entries, resting_one, settled_one}
@@ -26,9 +26,9 @@ at_some {A = A} P o x is holds = subst (λ (p : Option A). IfSome p P) is holds
 pub some_at : {A : Type 0} (P : A → Type 0) (o : Option A) (x : A) → o ≡ Some x → P x → IfSome o P
 some_at {A = A} P o x is holds = subst (λ (p : Option A). IfSome p P) (sym is) holds
 
--- where the tick can't rise, or memory is wanting, the statement isn't carried out
+-- where the tick can't rise, or memory is wanting, the statement isn't executed
 pub late_or_wants : (resolved : Statement) (tick : ℕ) (outcome : Outcome) (why : Fault) (before : State) (was : Option State) → was ≡ Some before → statement_outcome before resolved ≡ Ok outcome
-    → (why ≡ fault.NoMemory) ⊎ IfSome was (λ b. tick_after b.content outcome.graph.content tick ≡ Err why) → (why ≡ fault.NoMemory) ⊎ (carry_verdict resolved before tick ≡ Err why)
+    → (why ≡ fault.NoMemory) ⊎ IfSome was (λ b. tick_after b.content outcome.graph.content tick ≡ Err why) → (why ≡ fault.NoMemory) ⊎ (execution_verdict resolved before tick ≡ Err why)
 late_or_wants resolved tick outcome why before was is means (inl wants) = inl wants
 late_or_wants resolved tick outcome why before was is means (inr late) =
     inr (carry_late resolved before tick outcome why means (at_some (λ (b : State). tick_after b.content outcome.graph.content tick ≡ Err why) was before is late))

@@ -38,7 +38,7 @@ named_fed entries (v ∷ views) named =
 module _ (old : EngineState) (answer : Answer) (entries : Entries) (new : EngineState) where
   pub effects_named : Effects old answer entries new → AreNamed old.views → AreNamed new.views
   effects_named (inl (left, none)) named = subst (λ (s : EngineState). AreNamed s.views) (sym left) named
-  effects_named (inr (inl (carried, timed, a))) named = subst (λ (s : EngineState). AreNamed s.views) (sym a.left) (named_fed entries old.views named)
-  effects_named (inr (inr (inl (view, fresh, a)))) named = subst (λ (s : EngineState). AreNamed s.views) (sym a.left) (new_last view.name view old.views refl fresh.free named)
-  effects_named (inr (inr (inr (inl (view, at, a))))) named = subst (λ (s : EngineState). AreNamed s.views) (sym a.left) (named_without view.name old.views named)
-  effects_named (inr (inr (inr (inr (pair, a))))) named = subst (λ (s : EngineState). AreNamed s.views) (sym a.left) named
+  effects_named (inr (inl (executed, timed, a))) named = subst (λ (s : EngineState). AreNamed s.views) (sym a.state) (named_fed entries old.views named)
+  effects_named (inr (inr (inl (view, fresh, a)))) named = subst (λ (s : EngineState). AreNamed s.views) (sym a.state) (new_last view.name view old.views refl fresh.free named)
+  effects_named (inr (inr (inr (inl (view, at, a))))) named = subst (λ (s : EngineState). AreNamed s.views) (sym a.state) (named_without view.name old.views named)
+  effects_named (inr (inr (inr (inr (pair, a))))) named = subst (λ (s : EngineState). AreNamed s.views) (sym a.state) named

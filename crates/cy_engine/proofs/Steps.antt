@@ -24,48 +24,48 @@ use Rattle.cy_engine.specs.internal.Representation.{Registry, views_in}
 use Rattle.cy_engine.specs.Model.{machine_of, state_of}
 use Rattle.cy_engine.specs.Requests.{Request, StatementOf, ViewOf}
 use Rattle.cy_engine.specs.State.{EngineState, Entries, View, view_at, view_limit}
-use Rattle.cy_engine.specs.Step.{Answer, IsCarried, IsMade, IsRefused, changed_by, fed}
-use Rattle.cy_engine.specs.Verdicts.{Carried, carry_verdict, making_verdict, needs, next_tick, query_verdict, scope_verdict, tick_after, passes}
+use Rattle.cy_engine.specs.Step.{Answer, IsExecuted, IsMade, IsRefused, changed_by, fed}
+use Rattle.cy_engine.specs.Verdicts.{Executed, execution_verdict, making_verdict, needs, next_tick, query_verdict, scope_verdict, tick_after, passes}
 
 -- ---- what carrying a statement out comes to
 
 module _ (resolved : Statement) (graph : State) (tick : ℕ) where
-  pub carried : (outcome : Outcome) (after : ℕ) → statement_outcome graph resolved ≡ Ok outcome → tick_after graph.content outcome.graph.content tick ≡ Ok after
-      → carry_verdict resolved graph tick ≡ Ok (record { outcome = outcome; tick = after })
-  carried outcome after means ticks = rw (means, ticks) refl
+  pub executed : (outcome : Outcome) (after : ℕ) → statement_outcome graph resolved ≡ Ok outcome → tick_after graph.content outcome.graph.content tick ≡ Ok after
+      → execution_verdict resolved graph tick ≡ Ok (record { outcome = outcome; tick = after })
+  executed outcome after means ticks = rw (means, ticks) refl
 
   pub carry_late : (outcome : Outcome) (why : Fault) → statement_outcome graph resolved ≡ Ok outcome → tick_after graph.content outcome.graph.content tick ≡ Err why
-      → carry_verdict resolved graph tick ≡ Err why
+      → execution_verdict resolved graph tick ≡ Err why
   carry_late outcome why means ticks = rw (means, ticks) refl
 
-  pub carry_refused : (why : UpdateFault) → (why ≡ update.NoMemory) ⊎ (statement_outcome graph resolved ≡ Err why) → (of_update why ≡ fault.NoMemory) ⊎ (carry_verdict resolved graph tick ≡ Err (of_update why))
-  carry_refused why (inl wants) = inl (ap of_update wants)
-  carry_refused why (inr means) = inr (rw means refl)
+  pub execution_refused : (why : UpdateFault) → (why ≡ update.NoMemory) ⊎ (statement_outcome graph resolved ≡ Err why) → (of_update why ≡ fault.NoMemory) ⊎ (execution_verdict resolved graph tick ≡ Err (of_update why))
+  execution_refused why (inl wants) = inl (ap of_update wants)
+  execution_refused why (inr means) = inr (rw means refl)
 
 -- ---- refusals
 
 pub refused : (why : Fault) (old : EngineState) (entries : Entries) (new : EngineState) → entries ≡ [] → new ≡ old → IsRefused why old (Err why) entries new
-refused why old entries new none same = record { answered = refl; no_entries = none; left = same }
+refused why old entries new none same = record { answered = refl; no_entries = none; state = same }
 
 module _ (line : List ℕ) (tokens : List Token) (old : EngineState) (entries : Entries) (new : EngineState) (none : entries ≡ []) (same : new ≡ old) where
   pub wants_memory : (asked : Request) (why : Fault) → why ≡ fault.NoMemory → AnswersOrWants line asked old (Err why) entries new
-  wants_memory asked why is = inl (record { answered = ap Err is; no_entries = none; left = same })
+  wants_memory asked why is = inl (record { answered = ap Err is; no_entries = none; state = same })
 
   -- a statement that isn't checked
   pub no_statement : (why : Fault) → Fails scope_verdict line tokens why → AnswersOrWants line (StatementOf tokens) old (Err why) entries new
   no_statement why (inl wants) = wants_memory (StatementOf tokens) why wants
-  no_statement why (inr (inl (parsed, unspelt, is))) = inr (inr (parsed, unspelt, record { answered = ap Err is; no_entries = none; left = same }))
+  no_statement why (inr (inl (parsed, unspelt, is))) = inr (inr (parsed, unspelt, record { answered = ap Err is; no_entries = none; state = same }))
   no_statement why (inr (inr tree)) = inr (inl (tree.tree, tree.spelt, rw tree.that (refused why old entries new none same)))
 
   -- a query that isn't one of a view
   pub no_query : (name : List ℕ) (why : Fault) → Fails query_verdict line tokens why → AnswersOrWants line (ViewOf name tokens) old (Err why) entries new
   no_query name why (inl wants) = wants_memory (ViewOf name tokens) why wants
-  no_query name why (inr (inl (parsed, unspelt, is))) = inr (inr (parsed, unspelt, record { answered = ap Err is; no_entries = none; left = same }))
+  no_query name why (inr (inl (parsed, unspelt, is))) = inr (inr (parsed, unspelt, record { answered = ap Err is; no_entries = none; state = same }))
   no_query name why (inr (inr tree)) = inr (inl (tree.tree, tree.spelt, rw tree.that (refused why old entries new none same)))
 
-  -- a statement that isn't carried out
+  -- a statement that isn't executed
   pub statement_refused : (resolved : Statement) (why : Fault) → HasTree line tokens (λ tree. scope_verdict tree ≡ Ok resolved)
-      → (why ≡ fault.NoMemory) ⊎ (carry_verdict resolved old.graph old.tick ≡ Err why) → AnswersOrWants line (StatementOf tokens) old (Err why) entries new
+      → (why ≡ fault.NoMemory) ⊎ (execution_verdict resolved old.graph old.tick ≡ Err why) → AnswersOrWants line (StatementOf tokens) old (Err why) entries new
   statement_refused resolved why tree (inl wants) = wants_memory (StatementOf tokens) why wants
   statement_refused resolved why tree (inr verdict) = inr (inl (tree.tree, tree.spelt, rw (tree.that, verdict) (refused why old entries new none same)))
 
@@ -77,9 +77,9 @@ module _ (line : List ℕ) (tokens : List Token) (old : EngineState) (entries : 
 -- ---- what is done
 
 module _ (line : List ℕ) (tokens : List Token) (old : EngineState) (answer : Answer) (entries : Entries) (new : EngineState) where
-  pub statement_carried : (resolved : Statement) (carried : Carried) → HasTree line tokens (λ tree. scope_verdict tree ≡ Ok resolved)
-      → carry_verdict resolved old.graph old.tick ≡ Ok carried → IsCarried carried old answer entries new → AnswersOrWants line (StatementOf tokens) old answer entries new
-  statement_carried resolved carried tree verdict is = inr (inl (tree.tree, tree.spelt, rw (tree.that, verdict) is))
+  pub statement_executed : (resolved : Statement) (executed : Executed) → HasTree line tokens (λ tree. scope_verdict tree ≡ Ok resolved)
+      → execution_verdict resolved old.graph old.tick ≡ Ok executed → IsExecuted executed old answer entries new → AnswersOrWants line (StatementOf tokens) old answer entries new
+  statement_executed resolved executed tree verdict is = inr (inl (tree.tree, tree.spelt, rw (tree.that, verdict) is))
 
   pub view_made : (name : List ℕ) (query : Statement) (made : ℕ) → HasTree line tokens (λ tree. query_verdict tree ≡ Ok query)
       → making_verdict name old ≡ Ok made → IsMade (record { name = name; query = query; made = made; feed = new_history old.history made }) old answer entries new → AnswersOrWants line (ViewOf name tokens) old answer entries new
@@ -116,9 +116,9 @@ module _ (line : List ℕ) (tokens : List Token) (store : StoreState) (views : R
       → HasEffect (views_in views) store.graph.now.content outcome.graph.content tick effect → answer ≡ reply.Statement (changed_by outcome.counts) outcome.columns outcome.rows
       → new ≡ record start { graph = outcome.graph; views = map (fed entries) start.views; tick = effect.tick } → entries ≡ effect.entries → AnswersOrWants line (StatementOf tokens) start (Ok answer) entries new
   statement_done new resolved outcome effect entries answer tree means does answered left made =
-      statement_carried line tokens start (Ok answer) entries new resolved (record { outcome = outcome; tick = effect.tick }) tree
-      (carried resolved store.graph.now tick outcome effect.tick means does.ticks)
-      (record { answered = ap Ok answered; entries_are = rw made does.entries_are; left = left })
+      statement_executed line tokens start (Ok answer) entries new resolved (record { outcome = outcome; tick = effect.tick }) tree
+      (executed resolved store.graph.now tick outcome effect.tick means does.ticks)
+      (record { answered = ap Ok answered; entries_are = rw made does.entries_are; state = left })
 
   pub view_done : (left : Registry) (made : ℕ) (name : List ℕ) (query : Statement) (entries after : Entries) (answer : Reply)
       → HasTree line tokens (λ tree. query_verdict tree ≡ Ok query) → making_verdict name start ≡ Ok made
@@ -129,14 +129,14 @@ module _ (line : List ℕ) (tokens : List Token) (store : StoreState) (views : R
       (record {
         answered = ap Ok answered;
         no_entries = none;
-        left = ap (λ (vs : List View). let s : EngineState = record { graph = store.graph.now; indexes = store.chosen; views = vs; tick = made; history = history } in s) added;
+        state = ap (λ (vs : List View). let s : EngineState = record { graph = store.graph.now; indexes = store.chosen; views = vs; tick = made; history = history } in s) added;
       })
 
 -- an index that is made, and one that isn't
 module _ (store new : StoreState) (views : Registry) (tick history : ℕ) (before after : Entries) (label key : List ℕ) (entries : Entries) (none : entries ≡ []) where
   pub index_made : (has_pair label key store.chosen ≡ true → ⊥) → new ≡ record store { chosen = store.chosen ++ (record { label = label; key = key }) ∷ [] }
       → AddsIndex label key (state_of (machine_of store views tick history before)) (Ok (reply.Index label key)) entries (state_of (machine_of new views tick history after))
-  index_made free is = inr (rw (absent (has_pair label key store.chosen) free) (record { answered = refl; no_entries = none; left = ap (λ (s : StoreState). state_of (machine_of s views tick history after)) is }))
+  index_made free is = inr (rw (absent (has_pair label key store.chosen) free) (record { answered = refl; no_entries = none; state = ap (λ (s : StoreState). state_of (machine_of s views tick history after)) is }))
     where
       absent : (b : Bool) → (b ≡ true → ⊥) → b ≡ false
       absent true never = absurd (never refl)

@@ -24,11 +24,11 @@ timed before after tick next is =
 module _ (old : EngineState) (answer : Answer) (entries : Entries) (new : EngineState) where
   pub moves : Effects old answer entries new → Moves old new
   moves (inl (left, none)) = inr (ap (λ (s : EngineState). s.tick) left, ap (λ (s : EngineState). s.graph.content) left)
-  moves (inr (inl (carried, is, a))) =
-      subst (Moves old) (sym a.left) (timed old.graph.content carried.outcome.graph.content old.tick carried.tick is)
-  moves (inr (inr (inl (view, fresh, a)))) = inl (ap (λ (s : EngineState). s.tick) a.left ∙ fresh.made)
-  moves (inr (inr (inr (inl (view, at, a))))) = inr (ap (λ (s : EngineState). s.tick) a.left, ap (λ (s : EngineState). s.graph.content) a.left)
-  moves (inr (inr (inr (inr (pair, a))))) = inr (ap (λ (s : EngineState). s.tick) a.left, ap (λ (s : EngineState). s.graph.content) a.left)
+  moves (inr (inl (executed, is, a))) =
+      subst (Moves old) (sym a.state) (timed old.graph.content executed.outcome.graph.content old.tick executed.tick is)
+  moves (inr (inr (inl (view, fresh, a)))) = inl (ap (λ (s : EngineState). s.tick) a.state ∙ fresh.made)
+  moves (inr (inr (inr (inl (view, at, a))))) = inr (ap (λ (s : EngineState). s.tick) a.state, ap (λ (s : EngineState). s.graph.content) a.state)
+  moves (inr (inr (inr (inr (pair, a))))) = inr (ap (λ (s : EngineState). s.tick) a.state, ap (λ (s : EngineState). s.graph.content) a.state)
 
 pub later : (old new : EngineState) → Moves old new → old.tick ≤ new.tick
 later old new (inl rises) = omega (arith, rises)

@@ -80,9 +80,9 @@ module _ (new_tell : NewFeedsTell) (pushed_tell : PushedFeedsTell) (quiet_tell :
     abbrev Gets : View → Option Entry → Type 0
     Gets view o = IsTold content old.tick view → IsTold content new.tick (with_one view o)
 
-    carried_told : Moves old new → AreNamed old.views → AreEntries old.views old.graph.content new.graph.content new.tick entries → AllTold content old.tick old.views
+    executed_told : Moves old new → AreNamed old.views → AreEntries old.views old.graph.content new.graph.content new.tick entries → AllTold content old.tick old.views
         → AllTold content new.tick (map (fed entries) old.views)
-    carried_told moved named are all =
+    executed_told moved named are all =
         told_fed old.tick new.tick entries old.views
         (each_entry old.graph.content new.graph.content new.tick Gets (λ v same. stays v moved same) (λ v e is. gets v e moved is) old.views entries named are) all
       where
@@ -107,19 +107,19 @@ module _ (new_tell : NewFeedsTell) (pushed_tell : PushedFeedsTell) (quiet_tell :
 
     pub told_step : Effects old answer entries new → AreNamed old.views → AllTold content old.tick old.views → AllTold content new.tick new.views
     told_step (inl (left, none)) named all = subst (λ (s : EngineState). AllTold content s.tick s.views) (sym left) all
-    told_step (inr (inl (carried, timed, a))) named all =
-        let does : Effects old answer entries new = inr (inl (carried, timed, a)) in
-        subst (λ (vs : List View). AllTold content new.tick vs) (sym (ap (λ (s : EngineState). s.views) a.left))
-        (carried_told (moves old answer entries new does) named (exact old answer entries new does) all)
+    told_step (inr (inl (executed, timed, a))) named all =
+        let does : Effects old answer entries new = inr (inl (executed, timed, a)) in
+        subst (λ (vs : List View). AllTold content new.tick vs) (sym (ap (λ (s : EngineState). s.views) a.state))
+        (executed_told (moves old answer entries new does) named (exact old answer entries new does) all)
     told_step (inr (inr (inl (view, fresh, a)))) named all =
-        let rises : new.tick ≡ old.tick + 1 = ap (λ (s : EngineState). s.tick) a.left ∙ fresh.made in
-        let same : content old.tick ≡ content (old.tick + 1) = first ∙ sym (ap content (sym rises) ∙ then_is ∙ ap (λ (s : EngineState). s.graph.content) a.left) in
+        let rises : new.tick ≡ old.tick + 1 = ap (λ (s : EngineState). s.tick) a.state ∙ fresh.made in
+        let same : content old.tick ≡ content (old.tick + 1) = first ∙ sym (ap content (sym rises) ∙ then_is ∙ ap (λ (s : EngineState). s.graph.content) a.state) in
         let next : IsTold content view.made view = record {
           tells = subst (λ (h : History). TellsRows h (rows_at content view.query) view.made) (sym fresh.feed) (new_tell old.history view.made (rows_at content view.query));
           based = subst (λ (h : History). h.base ≤ view.made) (sym fresh.feed) (omega arith);
         } in
-        subst (λ (s : EngineState). AllTold content s.tick s.views) (sym a.left)
+        subst (λ (s : EngineState). AllTold content s.tick s.views) (sym a.state)
         (told_last view.made view old.views
         (subst (λ (t : ℕ). AllTold content t old.views) (sym fresh.made) (told_all old.tick (old.tick + 1) (λ v told. quiet old.tick v (λ row. ap (λ (c : Content). count_of row (rows_of v.query c)) same) told) old.views all)) next)
-    told_step (inr (inr (inr (inl (view, at, a))))) named all = subst (λ (s : EngineState). AllTold content s.tick s.views) (sym a.left) (told_without old.tick view.name old.views all)
-    told_step (inr (inr (inr (inr (pair, a))))) named all = subst (λ (s : EngineState). AllTold content s.tick s.views) (sym a.left) all
+    told_step (inr (inr (inr (inl (view, at, a))))) named all = subst (λ (s : EngineState). AllTold content s.tick s.views) (sym a.state) (told_without old.tick view.name old.views all)
+    told_step (inr (inr (inr (inr (pair, a))))) named all = subst (λ (s : EngineState). AllTold content s.tick s.views) (sym a.state) all

@@ -13,8 +13,8 @@ use Rattle.cy_engine.specs.declared.replies.Reply.{Reply}
 use Rattle.cy_engine.specs.Requests.{Request, Nothing, StatementOf, ViewOf, RowsOf, SinceOf, ListOfViews, DropOf, IndexOf, Refused, request}
 use Rattle.cy_engine.specs.Runs.{Event, Run, Agree, IsBound, IsDetermined, OnlySo, accepted, accepted_before, is_choice, is_want}
 use Rattle.cy_engine.specs.State.{EngineState, Entries, View}
-use Rattle.cy_engine.specs.Step.{Answer, Carries, Makes, Drops, Indexes, Shows, Follows, Tells, Answers, Lexed, Step}
-use Rattle.cy_engine.specs.Verdicts.{Carried, index_verdict, rows_verdict, since_verdict, statement_verdict, view_verdict}
+use Rattle.cy_engine.specs.Step.{Answer, Executes, Makes, Drops, Indexes, Shows, Follows, Tells, Answers, Lexed, Step}
+use Rattle.cy_engine.specs.Verdicts.{Executed, index_verdict, rows_verdict, since_verdict, statement_verdict, view_verdict}
 
 abbrev is_ok : Answer → Type 0
 is_ok answer = (reply : Reply) × (answer ≡ Ok reply)
@@ -23,53 +23,53 @@ module _ (old : EngineState) (answer : Answer) (entries : Entries) (new : Engine
   no_reply : (reply : Reply) → answer ≡ Ok reply → ⊥
   no_reply reply is = let wrong : Err why ≡ Ok reply = sym refused ∙ is in cc
 
-  carries_left : (v : Result Carried Fault) → Carries v old answer entries new → new ≡ old
-  carries_left (Ok carried) a = absurd (no_reply _ a.answered)
-  carries_left (Err other) a = a.left
+  executes_left : (v : Result Executed Fault) → Executes v old answer entries new → new ≡ old
+  executes_left (Ok executed) a = absurd (no_reply _ a.answered)
+  executes_left (Err other) a = a.state
 
   makes_left : (v : Result View Fault) → Makes v old answer entries new → new ≡ old
   makes_left (Ok view) a = absurd (no_reply _ a.answered)
-  makes_left (Err other) a = a.left
+  makes_left (Err other) a = a.state
 
   shows_left : (name : List ℕ) (v : Result View Fault) → Shows name v old answer entries new → new ≡ old
-  shows_left name (Ok view) (rows, are, a) = a.left
-  shows_left name (Err other) a = a.left
+  shows_left name (Ok view) (rows, are, a) = a.state
+  shows_left name (Err other) a = a.state
 
   tells_left : (name : List ℕ) (tick : ℕ) (v : Result View Fault) → Tells name tick v old answer entries new → new ≡ old
-  tells_left name tick (Err other) a = a.left
+  tells_left name tick (Err other) a = a.state
   tells_left name tick (Ok view) a = from (answer_since tick view.feed) a
     where
       from : (told : feeds.Answer) → Follows name view told old answer entries new → new ≡ old
-      from (Since changes) a = a.left
-      from Lagged (rows, are, a) = a.left
+      from (Since changes) a = a.state
+      from Lagged (rows, are, a) = a.state
 
   drops_left : (v : Result View Fault) → Drops v old answer entries new → new ≡ old
   drops_left (Ok view) a = absurd (no_reply _ a.answered)
-  drops_left (Err other) a = a.left
+  drops_left (Err other) a = a.state
 
   indexes_left : (v : Result Pair Fault) → Indexes v old answer entries new → new ≡ old
   indexes_left (Ok pair) a = absurd (no_reply _ a.answered)
-  indexes_left (Err other) a = a.left
+  indexes_left (Err other) a = a.state
 
   answers_left : (line : List ℕ) (asked : Request) → Answers line asked old answer entries new → new ≡ old
-  answers_left line Nothing a = a.left
-  answers_left line (StatementOf tokens) (inl (tree, spelt, a)) = carries_left (statement_verdict tree old) a
-  answers_left line (StatementOf tokens) (inr (parsed, unspelt, a)) = a.left
+  answers_left line Nothing a = a.state
+  answers_left line (StatementOf tokens) (inl (tree, spelt, a)) = executes_left (statement_verdict tree old) a
+  answers_left line (StatementOf tokens) (inr (parsed, unspelt, a)) = a.state
   answers_left line (ViewOf name tokens) (inl (tree, spelt, a)) = makes_left (view_verdict tree name old) a
-  answers_left line (ViewOf name tokens) (inr (parsed, unspelt, a)) = a.left
+  answers_left line (ViewOf name tokens) (inr (parsed, unspelt, a)) = a.state
   answers_left line (RowsOf name) a = shows_left name (rows_verdict name old) a
   answers_left line (SinceOf name tick) a = tells_left name tick (since_verdict name tick old) a
-  answers_left line ListOfViews a = a.left
+  answers_left line ListOfViews a = a.state
   answers_left line (DropOf name) a = drops_left (rows_verdict name old) a
   answers_left line (IndexOf label key) a = indexes_left (index_verdict label key old) a
-  answers_left line (Refused other) a = a.left
+  answers_left line (Refused other) a = a.state
 
   lexed_left : (line : List ℕ) (lexed : Result (List Token) LexFault) → Lexed line lexed old answer entries new → new ≡ old
-  lexed_left line (Err other) a = a.left
+  lexed_left line (Err other) a = a.state
   lexed_left line (Ok tokens) a = answers_left line (request line tokens) a
 
   pub step_left : (line : List ℕ) → Step old line answer entries new → new ≡ old
-  step_left line (inl a) = a.1.left
+  step_left line (inl a) = a.1.state
   step_left line (inr a) = lexed_left line (tokens_of line) a
 
 pub run_accepted : (old new : EngineState) (events : List Event) → Run old events new → Run old (accepted events) new

@@ -34,7 +34,7 @@ use Rattle.cy_engine.specs.Model.{machine_of, new_machine, state_of}
 use Rattle.cy_engine.specs.State.{EngineState, Entries, View, entry_at, last_tick, rows_of, view_at}
 use Rattle.cy_engine.specs.Headline.{entries_of}
 use Rattle.cy_engine.specs.Runs.{Event, accepted}
-use Rattle.cy_engine.specs.Verdicts.{carry_verdict, statement_verdict, query_verdict, rows_verdict, since_verdict, index_verdict, view_verdict}
+use Rattle.cy_engine.specs.Verdicts.{execution_verdict, statement_verdict, query_verdict, rows_verdict, since_verdict, index_verdict, view_verdict}
 use Rattle.cy_engine.proofs.WorkedLines.{mark, letter, create_tree, create_tokens, view_line, view_tokens, query_tokens, query_tree, rows_line, rows_tokens, set_tree, bare_tree}
 
 -- ---- what a line asks for
@@ -124,27 +124,27 @@ left graph made = record { graph = graph; counts = record { made_nodes = made; g
 -- ---- verdicts
 
 -- `CREATE (:A {k: 7})` makes the first node of a graph, and one too many
-one_is_made : carry_verdict (resolved_statement create_tree) (empty_state 1 1) 0 ≡ Ok (record { outcome = left (graph_of ((record { 0 = 1 }, with_k 7) ∷ []) 2) 1; tick = 1 })
+one_is_made : execution_verdict (resolved_statement create_tree) (empty_state 1 1) 0 ≡ Ok (record { outcome = left (graph_of ((record { 0 = 1 }, with_k 7) ∷ []) 2) 1; tick = 1 })
 one_is_made = refl
 
-no_number_is_left : carry_verdict (resolved_statement create_tree) (empty_state number_end 1) 0 ≡ Err (fault.Update update.Full)
+no_number_is_left : execution_verdict (resolved_statement create_tree) (empty_state number_end 1) 0 ≡ Err (fault.Update update.Full)
 no_number_is_left = refl
 
 -- SET on a graph with two nodes of the label: the tick rises where a value is another, and stays where none is
 abbrev three_with : ℕ → State
 three_with n = graph_of ((record { 0 = 1 }, with_k n) ∷ (record { 0 = 2 }, other) ∷ (record { 0 = 4 }, with_k n) ∷ []) 5
 
-set_raises_the_tick : carry_verdict (set_to 8) three 3 ≡ Ok (record { outcome = left (three_with 8) 0; tick = 4 })
+set_raises_the_tick : execution_verdict (set_to 8) three 3 ≡ Ok (record { outcome = left (three_with 8) 0; tick = 4 })
 set_raises_the_tick = refl
 
-same_value_keeps_the_tick : carry_verdict (set_to 7) three 3 ≡ Ok (record { outcome = left three 0; tick = 3 })
+same_value_keeps_the_tick : execution_verdict (set_to 7) three 3 ≡ Ok (record { outcome = left three 0; tick = 3 })
 same_value_keeps_the_tick = refl
 
--- after the last tick nothing can change, and what changes nothing is carried out
-last_tick_refuses : carry_verdict (set_to 8) three last_tick ≡ Err fault.Full
+-- after the last tick nothing can change, and what changes nothing is executed
+last_tick_refuses : execution_verdict (set_to 8) three last_tick ≡ Err fault.Full
 last_tick_refuses = refl
 
-last_tick_stays : carry_verdict (set_to 7) three last_tick ≡ Ok (record { outcome = left three 0; tick = last_tick })
+last_tick_stays : execution_verdict (set_to 7) three last_tick ≡ Ok (record { outcome = left three 0; tick = last_tick })
 last_tick_stays = refl
 
 abbrev view : View

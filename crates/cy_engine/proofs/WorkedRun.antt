@@ -101,18 +101,18 @@ lexed old new line tokens answer entries are answers = inr (subst (λ (r : Resul
 -- `CREATE (:A {k: 7})`
 created : Step (empty_engine 64) create_line (statement 1 0) [] (one 1 (node (int 7)) 1 [])
 created = lexed (empty_engine 64) (one 1 (node (int 7)) 1 []) create_line create_tokens (statement 1 0) [] create_lexed
-    (inl (create_tree, create_spelt, record { answered = refl; entries_are = refl; left = refl }))
+    (inl (create_tree, create_spelt, record { answered = refl; entries_are = refl; state = refl }))
 
 -- `:view v MATCH (n:A) RETURN n.k`
 made : Step (one 1 (node (int 7)) 1 []) view_line (Ok (reply.Made (codes "n.k" ∷ []) 2 (codes "v"))) [] (one 1 (node (int 7)) 2 (view [] ∷ []))
 unfolding denotes slice_in chars encode_utf8
 made = lexed (one 1 (node (int 7)) 1 []) (one 1 (node (int 7)) 2 (view [] ∷ [])) view_line view_tokens (Ok (reply.Made (codes "n.k" ∷ []) 2 (codes "v"))) [] view_lexed
-    (inl (query_tree, query_spelt, record { answered = refl; no_entries = refl; left = refl }))
+    (inl (query_tree, query_spelt, record { answered = refl; no_entries = refl; state = refl }))
 
 -- `MATCH (n:A) SET m.k = 9`
 unknown : (tick : ℕ) (views : List View) → Step (one 1 (node (int 8)) tick views) unknown_line (Err (fault.Scope scope.UnknownVariable)) [] (one 1 (node (int 8)) tick views)
 unknown tick views = lexed (one 1 (node (int 8)) tick views) (one 1 (node (int 8)) tick views) unknown_line (set_tokens (digit 9 22 ∷ [])) (Err (fault.Scope scope.UnknownVariable)) [] unknown_lexed
-    (inl (set_tree (codes "m") (integer (pos 9)), unknown_spelt, record { answered = refl; no_entries = refl; left = refl }))
+    (inl (set_tree (codes "m") (integer (pos 9)), unknown_spelt, record { answered = refl; no_entries = refl; state = refl }))
 
 counts_once : 0 < 1
 counts_once = omega arith
@@ -148,7 +148,7 @@ module _ (total : IsTotalOrder row_cmp) (same : (x y : List Cell) → row_cmp x 
   shown : Step (one 1 (node (int 7)) 2 (view [] ∷ [])) rows_line (Ok (reply.Rows (counted (int 7)) 2 (codes "v"))) [] (one 1 (node (int 7)) 2 (view [] ∷ []))
   unfolding denotes slice_in chars encode_utf8
   shown = lexed (one 1 (node (int 7)) 2 (view [] ∷ [])) (one 1 (node (int 7)) 2 (view [] ∷ [])) rows_line rows_tokens (Ok (reply.Rows (counted (int 7)) 2 (codes "v"))) [] rows_lexed
-      (counted (int 7), record { bag = bag_of_counted total same (row (int 7) ∷ []); canonical = counts_once }, record { answered = refl; no_entries = refl; left = refl })
+      (counted (int 7), record { bag = bag_of_counted total same (row (int 7) ∷ []); canonical = counts_once }, record { answered = refl; no_entries = refl; state = refl })
 
   -- `MATCH (n:A) SET n.k = 8`
   set_once : Step (one 1 (node (int 7)) 2 (view [] ∷ [])) set_line (statement 0 0) (entry 3 (counted (int 7)) (counted (int 8))) (one 1 (node (int 8)) 3 (view fed_set ∷ []))
@@ -169,14 +169,14 @@ module _ (total : IsTotalOrder row_cmp) (same : (x y : List Cell) → row_cmp x 
             },
             refl,
           );
-          left = refl;
+          state = refl;
         },
       ))
 
   -- the same again
   set_again : Step (one 1 (node (int 8)) 3 (view fed_set ∷ [])) set_line (statement 0 0) [] (one 1 (node (int 8)) 3 (view fed_set ∷ []))
   set_again = lexed (one 1 (node (int 8)) 3 (view fed_set ∷ [])) (one 1 (node (int 8)) 3 (view fed_set ∷ [])) set_line (set_tokens (digit 8 22 ∷ [])) (statement 0 0) [] set_lexed
-      (inl (set_tree (codes "n") (integer (pos 8)), set_spelt, record { answered = refl; entries_are = inl ((λ r. refl), refl); left = refl }))
+      (inl (set_tree (codes "n") (integer (pos 8)), set_spelt, record { answered = refl; entries_are = inl ((λ r. refl), refl); state = refl }))
 
   -- `MATCH (n:A) SET n.k = null`
   set_null : Step (one 1 (node (int 8)) 3 (view fed_set ∷ [])) null_line (statement 0 0) (entry 4 (counted (int 8)) (counted value.Null)) (one 1 bare 4 (view fed_null ∷ []))
@@ -197,7 +197,7 @@ module _ (total : IsTotalOrder row_cmp) (same : (x y : List Cell) → row_cmp x 
             },
             refl,
           );
-          left = refl;
+          state = refl;
         },
       ))
 
@@ -220,7 +220,7 @@ module _ (total : IsTotalOrder row_cmp) (same : (x y : List Cell) → row_cmp x 
             },
             refl,
           );
-          left = refl;
+          state = refl;
         },
       ))
 
@@ -243,7 +243,7 @@ module _ (total : IsTotalOrder row_cmp) (same : (x y : List Cell) → row_cmp x 
             },
             refl,
           );
-          left = refl;
+          state = refl;
         },
       ))
 

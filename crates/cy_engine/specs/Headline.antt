@@ -21,7 +21,7 @@ use Rattle.cy_engine.specs.Step.{Answer, AreEntries, AreRows, Step, changed_by}
 
 -- ---- the graph
 
--- a line is a statement that was carried out: it leads to the graph that its meaning leaves, and its answer says what its meaning says
+-- a line is a statement that was executed: it leads to the graph that its meaning leaves, and its answer says what its meaning says
 pub record IsStatement (line : List ℕ) (answer : Answer) (before after : State) : Type 0 where
   pub tokens : List Token
   pub tree : Statement
@@ -30,14 +30,14 @@ pub record IsStatement (line : List ℕ) (answer : Answer) (before after : State
   pub spelt : SpellsStatement line tree tokens
   pub means : statement_outcome before (resolved_statement tree) ≡ Ok outcome
   pub answered : answer ≡ Ok (reply.Statement (changed_by outcome.counts) outcome.columns outcome.rows)
-  pub left : after ≡ outcome.graph
+  pub state : after ≡ outcome.graph
 
 -- every other line leaves the graph as it was
 abbrev pub Leads : List ℕ → Answer → State → State → Type 0
 Leads line (Ok (reply.Statement changed columns rows)) before after = IsStatement line (Ok (reply.Statement changed columns rows)) before after
 Leads line answer before after = after ≡ before
 
--- the graph that lines make of a graph: the statements among them that were carried out, one after another
+-- the graph that lines make of a graph: the statements among them that were executed, one after another
 abbrev pub Builds : State → List Event → State → Type 0
 Builds before [] after = after ≡ before
 Builds before (e ∷ events) after = (mid : State) × Leads e.line e.answer before mid × Builds mid events after
@@ -108,7 +108,7 @@ pub record IsMaintained (start : State) (history : ℕ) (events : List Event) (n
 
 -- ---- the headline
 
--- Of lines that a new engine was sent: the graph is the one that the statements among them that were carried out make of the empty one;
+-- Of lines that a new engine was sent: the graph is the one that the statements among them that were executed make of the empty one;
 -- each view is found by its name, and is maintained; and without the refused lines all other answers, entries and the state are the same.
 pub record Headline (history : ℕ) (events : List Event) (now : EngineState) : Type 0 where
   pub graph : Builds (empty_state 1 1) events now.graph

@@ -30,7 +30,7 @@ use Rattle.cy_engine.specs.declared.replies.Reply.TheVariants as reply
 use Rattle.cy_bags.specs.Difference.{IsDifference}
 use Rattle.cy_engine.specs.Requests.{Request, Nothing, StatementOf, ViewOf, RowsOf, SinceOf, ListOfViews, DropOf, IndexOf, Refused, request}
 use Rattle.cy_engine.specs.State.{EngineState, Entries, View, entry_at, rows_of}
-use Rattle.cy_engine.specs.Verdicts.{Carried, statement_verdict, view_verdict, rows_verdict, since_verdict, index_verdict}
+use Rattle.cy_engine.specs.Verdicts.{Executed, statement_verdict, view_verdict, rows_verdict, since_verdict, index_verdict}
 
 -- ---- what is answered
 
@@ -62,13 +62,13 @@ AreEntries (view ∷ views) before after tick entries =
 pub record IsRefused (why : Fault) (old : EngineState) (answer : Answer) (entries : Entries) (new : EngineState) : Type 0 where
   pub answered : answer ≡ Err why
   pub no_entries : entries ≡ []
-  pub left : new ≡ old
+  pub state : new ≡ old
 
 -- the line is answered, makes no entry and leaves all as it was
 pub record IsReplied (reply : Reply) (old : EngineState) (answer : Answer) (entries : Entries) (new : EngineState) : Type 0 where
   pub answered : answer ≡ Ok reply
   pub no_entries : entries ≡ []
-  pub left : new ≡ old
+  pub state : new ≡ old
 
 -- how many nodes and relationships were made and removed, as a reply has it
 abbrev pub changed_by : Counts → Changed
@@ -78,15 +78,15 @@ changed_by counts = record { nodes_made = counts.made_nodes; nodes_gone = counts
 abbrev pub fed : Entries → View → View
 fed entries view = option_map_or (λ entry. record view { feed = pushed entry view.feed }) (entry_at view.name entries) view
 
-pub record IsCarried (carried : Carried) (old : EngineState) (answer : Answer) (entries : Entries) (new : EngineState) : Type 0 where
-  pub answered : answer ≡ Ok (reply.Statement (changed_by carried.outcome.counts) carried.outcome.columns carried.outcome.rows)
-  pub entries_are : AreEntries old.views old.graph.content carried.outcome.graph.content carried.tick entries
-  pub left : new ≡ record old { graph = carried.outcome.graph; views = map (fed entries) old.views; tick = carried.tick }
+pub record IsExecuted (executed : Executed) (old : EngineState) (answer : Answer) (entries : Entries) (new : EngineState) : Type 0 where
+  pub answered : answer ≡ Ok (reply.Statement (changed_by executed.outcome.counts) executed.outcome.columns executed.outcome.rows)
+  pub entries_are : AreEntries old.views old.graph.content executed.outcome.graph.content executed.tick entries
+  pub state : new ≡ record old { graph = executed.outcome.graph; views = map (fed entries) old.views; tick = executed.tick }
 
 pub record IsMade (view : View) (old : EngineState) (answer : Answer) (entries : Entries) (new : EngineState) : Type 0 where
   pub answered : answer ≡ Ok (reply.Made (query_columns view.query) view.made view.name)
   pub no_entries : entries ≡ []
-  pub left : new ≡ record old { views = old.views ++ view ∷ []; tick = view.made }
+  pub state : new ≡ record old { views = old.views ++ view ∷ []; tick = view.made }
 
 -- the views without the one of a name
 abbrev pub without : List ℕ → List View → List View
@@ -96,18 +96,18 @@ without name views = filter (λ v. not (bytes_eq name v.name)) views
 pub record IsDropped (view : View) (old : EngineState) (answer : Answer) (entries : Entries) (new : EngineState) : Type 0 where
   pub answered : answer ≡ Ok (reply.Dropped view.name)
   pub no_entries : entries ≡ []
-  pub left : new ≡ record old { views = without view.name old.views }
+  pub state : new ≡ record old { views = without view.name old.views }
 
 -- the label and the key have an index, and nothing else differs
 pub record IsIndexed (pair : Pair) (old : EngineState) (answer : Answer) (entries : Entries) (new : EngineState) : Type 0 where
   pub answered : answer ≡ Ok (reply.Index pair.label pair.key)
   pub no_entries : entries ≡ []
-  pub left : new ≡ record old { indexes = old.indexes ++ pair ∷ [] }
+  pub state : new ≡ record old { indexes = old.indexes ++ pair ∷ [] }
 
--- a statement is carried out, or refused
-abbrev pub Carries : Result Carried Fault → EngineState → Answer → Entries → EngineState → Type 0
-Carries (Ok carried) = IsCarried carried
-Carries (Err why) = IsRefused why
+-- a statement is executed, or refused
+abbrev pub Executes : Result Executed Fault → EngineState → Answer → Entries → EngineState → Type 0
+Executes (Ok executed) = IsExecuted executed
+Executes (Err why) = IsRefused why
 
 -- a view is made, or refused
 abbrev pub Makes : Result View Fault → EngineState → Answer → Entries → EngineState → Type 0
@@ -161,7 +161,7 @@ Reads line tokens goes_on old answer entries new =
 -- what a request leads to
 abbrev pub Answers : List ℕ → Request → EngineState → Answer → Entries → EngineState → Type 0
 Answers line Nothing old = IsReplied reply.Nothing old
-Answers line (StatementOf tokens) old = Reads line tokens (λ tree. Carries (statement_verdict tree old)) old
+Answers line (StatementOf tokens) old = Reads line tokens (λ tree. Executes (statement_verdict tree old)) old
 Answers line (ViewOf name tokens) old = Reads line tokens (λ tree. Makes (view_verdict tree name old)) old
 Answers line (RowsOf name) old = Shows name (rows_verdict name old) old
 Answers line (SinceOf name tick) old = Tells name tick (since_verdict name tick old) old

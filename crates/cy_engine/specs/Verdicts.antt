@@ -87,19 +87,19 @@ abbrev pub scope_verdict : Statement → Result Statement Fault
 scope_verdict tree = passes fault.Scope (statement_fault tree) >>= λ _. Ok (resolved_statement tree)
 
 -- what a statement leaves and says, and the tick after it
-pub record Carried : Type 0 where
+pub record Executed : Type 0 where
   pub outcome : Outcome
   pub tick : ℕ
 
 -- what carrying a checked statement out from a graph and a tick gives, or its fault; then the last tick
-abbrev pub carry_verdict : Statement → State → ℕ → Result Carried Fault
-carry_verdict resolved graph tick =
+abbrev pub execution_verdict : Statement → State → ℕ → Result Executed Fault
+execution_verdict resolved graph tick =
     or_fault of_update (statement_outcome graph resolved) >>= λ outcome.
     tick_after graph.content outcome.graph.content tick >>= λ after.
     Ok (record { outcome = outcome; tick = after })
 
-abbrev pub statement_verdict : Statement → EngineState → Result Carried Fault
-statement_verdict tree state = scope_verdict tree >>= λ resolved. carry_verdict resolved state.graph state.tick
+abbrev pub statement_verdict : Statement → EngineState → Result Executed Fault
+statement_verdict tree state = scope_verdict tree >>= λ resolved. execution_verdict resolved state.graph state.tick
 
 -- ---- views
 

@@ -313,7 +313,7 @@ fn next_tick(tick: u64) -> Result<u64, Fault>
     Ok(tick + 1)
 }
 
-// The answer to a statement that is carried out.
+// The answer to a statement that is executed.
 fn statement_reply(outcome: StatementAnswer) -> Reply
     ensures { (graph : State) → let seen = outcome_seen graph outcome in result ≡ Reply.Statement (changed_by seen.counts) seen.columns seen.rows }
 {

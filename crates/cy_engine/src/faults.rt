@@ -29,7 +29,7 @@ pub enum Fault {
     /// Its query can't be a view's.
     #[error("{0}")]
     View(ViewFault),
-    /// It can't be carried out on the graph.
+    /// It can't be executed on the graph.
     #[error("{0}")]
     Update(UpdateFault),
     /// The tick is the last, 2^62 - 1.

@@ -21,12 +21,12 @@ pub struct ViewListing {
     pub name: Text,
 }
 
-/// The answer to a line that is carried out.
+/// The answer to a line that is executed.
 #[derive(Debug, Drop)]
 pub enum Reply {
     /// The line has no token.
     Nothing,
-    /// A statement was carried out. Without RETURN there are no columns and no rows.
+    /// A statement was executed. Without RETURN there are no columns and no rows.
     Statement {
         changed: Changed,
         columns: Sequence<Text>,

@@ -11,8 +11,8 @@ use std::alloc::Global;
 
 /// Answers lines one after another. Where the answers themselves find no room, no line is answered.
 ///
-/// Where the engine is new, the headline holds of the lines: the graph is the one that the statements among them that were carried
-/// out make of the empty graph; the rows of each view are those that its query means on that graph, and they are the rows that it
+/// Where the engine is new, the headline holds of the lines: the graph is the one that the statements among them that were executed
+/// make of the empty graph; the rows of each view are those that its query means on that graph, and they are the rows that it
 /// had when it was made, changed by its entries one after another, each of which is the exact difference that its line made; and
 /// without the refused lines all other answers, entries and the graph are the same.
 pub fn answer_all(

@@ -5,10 +5,10 @@ use Rattle.cy_lexer.specs.declared.tokens.TokenKind.{TokenKind}
 use Rattle.cy_lexer.specs.declared.keywords.Keyword.TheVariants as word
 use Rattle.cy_lexer.specs.declared.symbols.Symbol.TheVariants as sign
 use Rattle.cy_trees.specs.declared.expressions.Variable.{Variable}
-use Rattle.cy_grammar.specs.declared.stages.Opening.{Opening}
-use Rattle.cy_grammar.specs.declared.stages.Opening.TheVariants as opening
-use Rattle.cy_grammar.specs.declared.stages.Stage.{Stage}
-use Rattle.cy_grammar.specs.declared.stages.Stage.TheVariants as stage
+use Rattle.cy_grammar.specs.declared.phases.Opening.{Opening}
+use Rattle.cy_grammar.specs.declared.phases.Opening.TheVariants as opening
+use Rattle.cy_grammar.specs.declared.phases.ClausePhase.{ClausePhase}
+use Rattle.cy_grammar.specs.declared.phases.ClausePhase.TheVariants as phase
 use Rattle.cy_trees.specs.Trees.{Expression, Path, SetItem, set_property, RemoveItem, Clause, «match», unwind, «with», «return», create, set, remove, delete, Statement}
 use Rattle.cy_grammar.specs.Words.{is_word, denotes}
 use Rattle.cy_grammar.specs.internal.Reader.{at_kind, kind_ahead, past, is_symbol, eat_symbol, skip, refuse, ◌>>◌, pure}
@@ -68,10 +68,10 @@ module _ (line : List ℕ) where
 
 -- ---- where clauses may stand
 
-abbrev stage_of : spells.Stage → Stage
-stage_of spells.reading = stage.Reading
-stage_of spells.updating = stage.Updating
-stage_of spells.ended = stage.Ended
+abbrev phase_of : spells.ClausePhase → ClausePhase
+phase_of spells.reading = phase.Reading
+phase_of spells.updating = phase.Updating
+phase_of spells.ended = phase.Ended
 
 abbrev opening_for : Clause → Opening
 opening_for («match» false ps f) = opening.Match
@@ -85,7 +85,7 @@ opening_for (remove is) = opening.Remove
 opening_for (delete false vs) = opening.Delete
 opening_for (delete true vs) = opening.Detach
 
-allowed : (s : spells.Stage) (c : Clause) → read.allows (stage_of s) (opening_for c) ≡ spells.may_follow s c
+allowed : (s : spells.ClausePhase) (c : Clause) → read.allows (phase_of s) (opening_for c) ≡ spells.may_follow s c
 allowed spells.reading c = refl
 allowed spells.updating («match» false ps f) = refl
 allowed spells.updating («match» true ps f) = refl
@@ -99,7 +99,7 @@ allowed spells.updating (delete false vs) = refl
 allowed spells.updating (delete true vs) = refl
 allowed spells.ended c = refl
 
-leads : (c : Clause) → read.stage_after (opening_for c) ≡ stage_of (spells.stage_after c)
+leads : (c : Clause) → read.phase_after (opening_for c) ≡ phase_of (spells.phase_after c)
 leads («match» false ps f) = refl
 leads («match» true ps f) = refl
 leads (unwind e v) = refl
@@ -111,7 +111,7 @@ leads (remove is) = refl
 leads (delete false vs) = refl
 leads (delete true vs) = refl
 
-ends_as : (s : spells.Stage) → read.may_end (stage_of s) ≡ spells.may_end s
+ends_as : (s : spells.ClausePhase) → read.may_end (phase_of s) ≡ spells.may_end s
 ends_as spells.reading = refl
 ends_as spells.updating = refl
 ends_as spells.ended = refl
@@ -130,7 +130,7 @@ closes : (ts : List Token) → SpellsEnd ts → (eat_symbol sign.Semicolon >> re
 closes _ (spells.nothing_more) = after _ (leaves_symbol sign.Semicolon [] refl) refl
 closes _ (spells.semicolon t is) = after _ (eats_symbol sign.Semicolon t [] is) refl
 
-end_reads : (s : Stage) (ts : List Token) → read.may_end s ≡ true → SpellsEnd ts → read.end_read s ts ≡ Some (tt, [])
+end_reads : (s : ClausePhase) (ts : List Token) → read.may_end s ≡ true → SpellsEnd ts → read.end_read s ts ≡ Some (tt, [])
 unfolding read.end_read
 end_reads s ts may e = ap (λ b. (if b then (eat_symbol sign.Semicolon >> read.nothing_left) else refuse) ts) may ∙ closes ts e
 
@@ -254,22 +254,22 @@ module _ (line : List ℕ) where
   clause_reads _ _ rest (spells.detach_delete vs detach t ts _ is is_delete s) stop =
       after _ (expects_keyword word.Delete t ts is_delete) (after _ (variables_read line vs ts rest s (after_clause (kind_ahead rest) stop)) refl)
 
-  clause_in_reads : (s : spells.Stage) (c : Clause) (ts rest : List Token) → IsTrue (spells.may_follow s c) → SpellsClause line c ts rest →
-      ends_clause (kind_ahead rest) ≡ true → read.clause_in line (stage_of s) (opening_for c) ts ≡ Some (c, rest)
+  clause_in_reads : (s : spells.ClausePhase) (c : Clause) (ts rest : List Token) → IsTrue (spells.may_follow s c) → SpellsClause line c ts rest →
+      ends_clause (kind_ahead rest) ≡ true → read.clause_in line (phase_of s) (opening_for c) ts ≡ Some (c, rest)
   unfolding read.clause_in
   clause_in_reads s c ts rest may spelt stop =
       ap (λ b. (if b then (skip >> read.clause_by line (opening_for c)) else refuse) ts) (allowed s c ∙ may) ∙ after _ refl (clause_reads c ts rest spelt stop)
 
-  clauses_follow : (s : spells.Stage) (cs : List Clause) (ts : List Token) → SpellsClauses line s cs ts → ends_clause (kind_ahead ts) ≡ true
+  clauses_follow : (s : spells.ClausePhase) (cs : List Clause) (ts : List Token) → SpellsClauses line s cs ts → ends_clause (kind_ahead ts) ≡ true
   clauses_follow s _ ts (spells.no_more_clauses _ _ may e) = end_follows ts e
   clauses_follow s _ ts (spells.next_clause _ c cs _ mid may spelt others) = opening_ends (kind_ahead ts) (opening_for c) (clause_opens c ts mid spelt)
 
-  clauses_end : (s : spells.Stage) (found : List Clause) (ts : List Token) → IsTrue (spells.may_end s) → SpellsEnd ts →
-      (read.end_read (stage_of s) >> pure found) ts ≡ Some (found ++ [], [])
-  clauses_end s found ts may e = after _ (end_reads (stage_of s) ts (ends_as s ∙ may) e) (ap (λ z. Some (z, [])) (sym (append-nil found)))
+  clauses_end : (s : spells.ClausePhase) (found : List Clause) (ts : List Token) → IsTrue (spells.may_end s) → SpellsEnd ts →
+      (read.end_read (phase_of s) >> pure found) ts ≡ Some (found ++ [], [])
+  clauses_end s found ts may e = after _ (end_reads (phase_of s) ts (ends_as s ∙ may) e) (ap (λ z. Some (z, [])) (sym (append-nil found)))
 
-  clauses_read_from : (k : ℕ) (s : spells.Stage) (found cs : List Clause) (ts : List Token) → SpellsClauses line s cs ts → length ts ≤ k →
-      read.clauses_from line k (stage_of s) found ts ≡ Some (found ++ cs, [])
+  clauses_read_from : (k : ℕ) (s : spells.ClausePhase) (found cs : List Clause) (ts : List Token) → SpellsClauses line s cs ts → length ts ≤ k →
+      read.clauses_from line k (phase_of s) found ts ≡ Some (found ++ cs, [])
   unfolding read.clauses_from
   clauses_read_from zero s found _ ts (spells.no_more_clauses _ _ may e) few = clauses_end s found ts may e
   clauses_read_from (suc k) s found _ ts (spells.no_more_clauses _ _ may e) few = after _ refl (rw (end_opens_nothing ts e) (clauses_end s found ts may e))
@@ -278,10 +278,10 @@ module _ (line : List ℕ) where
   clauses_read_from (suc k) s found _ ts (spells.next_clause _ c cs _ mid may spelt others) few =
       let x = clause_shortens c ts mid spelt in
       let fewer : length mid ≤ k = omega (arith, x, few) in
-      let stop : ends_clause (kind_ahead mid) ≡ true = clauses_follow (spells.stage_after c) cs mid others in
+      let stop : ends_clause (kind_ahead mid) ≡ true = clauses_follow (spells.phase_after c) cs mid others in
       after _ refl (rw (clause_opens c ts mid spelt)
       (after _ (clause_in_reads s c ts mid may spelt stop) (rw (leads c)
-      (clauses_read_from k (spells.stage_after c) (found ++ c ∷ []) cs mid others fewer ∙ ap (λ z. Some (z, [])) (append_assoc found (c ∷ []) cs)))))
+      (clauses_read_from k (spells.phase_after c) (found ++ c ∷ []) cs mid others fewer ∙ ap (λ z. Some (z, [])) (append_assoc found (c ∷ []) cs)))))
 
   pub statement-complete : (s : Statement) (ts : List Token) → SpellsStatement line s ts → read.statement line ts ≡ Some (s, [])
   unfolding read.statement read.clauses

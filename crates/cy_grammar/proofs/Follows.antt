@@ -6,7 +6,7 @@ use Rattle.cy_lexer.specs.declared.tokens.TokenKind.TheVariants as kind
 use Rattle.cy_lexer.specs.declared.keywords.Keyword.{Keyword}
 use Rattle.cy_lexer.specs.declared.keywords.Keyword.TheVariants as word
 use Rattle.cy_lexer.specs.declared.symbols.Symbol.TheVariants as sign
-use Rattle.cy_grammar.specs.declared.stages.Opening.{Opening}
+use Rattle.cy_grammar.specs.declared.phases.Opening.{Opening}
 use Rattle.cy_grammar.specs.internal.Reader.{at_kind, is_symbol, is_keyword}
 use Rattle.cy_grammar.specs.internal.Clauses.{opening_of, begins_step, descends}
 use Rattle.cy_grammar.specs.Spells.{IsKeyword}

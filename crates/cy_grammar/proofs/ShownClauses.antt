@@ -8,7 +8,7 @@ use Rattle.cy_trees.specs.Trees.{Name, SetItem, set_property, set_labels, Remove
 use Rattle.cy_trees.specs.Show.{Piece, space, says, mark, named, each_after, separated, list_pieces, label_pieces, expression_pieces, paths_pieces, filter_pieces, projection_pieces, set_item_pieces, remove_item_pieces, clause_pieces, statement_pieces}
 use Rattle.cy_grammar.specs.Spells.{SpellsLabels, IsSymbol}
 use Rattle.cy_grammar.specs.Shown.{named_clause, with_columns}
-use Rattle.cy_grammar.specs.SpellsClauses.{SpellsEach, SpellsVariable, SpellsSetItem, set_property_to, set_labels_to, SpellsRemoveItem, remove_property_of, remove_labels_of, SpellsClause, match_, optional_match, unwind_as, with_, return_, create_, set_, remove_, delete_, detach_delete, Stage, reading, updating, ended, stage_after, may_follow, nothing_more, SpellsClauses, no_more_clauses, next_clause, SpellsStatement}
+use Rattle.cy_grammar.specs.SpellsClauses.{SpellsEach, SpellsVariable, SpellsSetItem, set_property_to, set_labels_to, SpellsRemoveItem, remove_property_of, remove_labels_of, SpellsClause, match_, optional_match, unwind_as, with_, return_, create_, set_, remove_, delete_, detach_delete, ClausePhase, reading, updating, ended, phase_after, may_follow, nothing_more, SpellsClauses, no_more_clauses, next_clause, SpellsStatement}
 use Rattle.cy_grammar.specs.internal.WellFormed.{IsNamed, IsVariable, Several, SetItemIsWellFormed, RemoveItemIsWellFormed, ClauseIsWellFormed, ClausesAreWellFormed, StatementIsWellFormed}
 use Rattle.cy_grammar.proofs.ShownTokens.{Shown, both, at_symbol, at_keyword, at_name}
 use Rattle.cy_grammar.proofs.ShownExpressions.{shown_labels}
@@ -17,17 +17,17 @@ use Rattle.cy_grammar.proofs.ShownProjections.{shown_filter, shown_projection}
 use Rattle.cy_grammar.proofs.Stands.{at_end}
 
 -- columns after AS change nothing in the order of clauses
-named_stage : (c : Clause) → stage_after (named_clause c) ≡ stage_after c
-named_stage («match» optional paths f) = refl
-named_stage (unwind e v) = refl
-named_stage («with» p f) = refl
-named_stage («return» p) = refl
-named_stage (create paths) = refl
-named_stage (set is) = refl
-named_stage (remove is) = refl
-named_stage (delete detach vs) = refl
+named_phase : (c : Clause) → phase_after (named_clause c) ≡ phase_after c
+named_phase («match» optional paths f) = refl
+named_phase (unwind e v) = refl
+named_phase («with» p f) = refl
+named_phase («return» p) = refl
+named_phase (create paths) = refl
+named_phase (set is) = refl
+named_phase (remove is) = refl
+named_phase (delete detach vs) = refl
 
-named_follow : (s : Stage) (c : Clause) → may_follow s (named_clause c) ≡ may_follow s c
+named_follow : (s : ClausePhase) (c : Clause) → may_follow s (named_clause c) ≡ may_follow s c
 named_follow reading c = refl
 named_follow ended c = refl
 named_follow updating («match» optional paths f) = refl
@@ -127,13 +127,13 @@ module _ (line : List ℕ) where
 
   -- ---- statements
 
-  shown_clauses : (st : Stage) (cs : List Clause) (ts : List Token) → ClausesAreWellFormed st cs → Shown line (each_after (space ∷ []) (map clause_pieces cs)) ts [] →
+  shown_clauses : (st : ClausePhase) (cs : List Clause) (ts : List Token) → ClausesAreWellFormed st cs → Shown line (each_after (space ∷ []) (map clause_pieces cs)) ts [] →
       SpellsClauses line st (map named_clause cs) ts
   shown_clauses st [] ts w s = at_end line (λ us. SpellsClauses line st [] us) ts [] s (no_more_clauses st [] w nothing_more)
   shown_clauses st (c ∷ cs) ts w s =
       let x = both line (clause_pieces c) (each_after (space ∷ []) (map clause_pieces cs)) ts [] s in
       next_clause st (named_clause c) (map named_clause cs) ts x.0 (named_follow st c ∙ w.0) (shown_clause c ts x.0 w.1 x.1)
-      (subst (λ z. SpellsClauses line z (map named_clause cs) x.0) (sym (named_stage c)) (shown_clauses (stage_after c) cs x.0 w.2 x.2))
+      (subst (λ z. SpellsClauses line z (map named_clause cs) x.0) (sym (named_phase c)) (shown_clauses (phase_after c) cs x.0 w.2 x.2))
 
   -- spaces are no words
   shown_separated : (pss : List (List Piece)) (ts rest : List Token) → Shown line (separated (space ∷ []) pss) ts rest → Shown line (each_after (space ∷ []) pss) ts rest

@@ -29,7 +29,7 @@ use Rattle.cy_trees.specs.Trees.{Name, Expression, null, boolean, integer, text,
 use Rattle.cy_trees.specs.Show.{Piece, says, mark, named, spelt, bracketed, each_after, separated, comma, list_pieces, binary_pieces, comparator_symbol, unary_pieces, label_pieces, is_literal_or_list, owner_pieces, distinct_pieces, expression_pieces, elements_pieces, further_pieces, links_pieces, arms_pieces, otherwise_pieces, entry_pieces, map_pieces, variable_pieces, node_pieces, type_pieces, bound_pieces, length_pieces, tail_pieces, head_pieces, relationship_pieces, step_pieces, path_pieces, paths_pieces, filter_pieces, item_pieces, descending_pieces, key_pieces, order_pieces, count_pieces, projection_pieces, set_item_pieces, remove_item_pieces, optional_pieces, detach_pieces, clause_pieces, statement_pieces, pieces_text, show}
 use Rattle.cy_trees.specs.internal.PieceWords.{words_of}
 use Rattle.cy_trees.specs.Show as piece
-use Rattle.cy_grammar.specs.SpellsClauses.{greatest_bound, Stage, stage_after, reading}
+use Rattle.cy_grammar.specs.SpellsClauses.{greatest_bound, ClausePhase, phase_after, reading}
 use Rattle.cy_grammar.specs.internal.WellFormed.{IsText, IsNamed, Every, Several, IfAny, IsVariable, IsWellFormed, AreWellFormed, LinksAreWellFormed, ArmsAreWellFormed, OtherwiseIsWellFormed, IsWhole, EntryIsWellFormed, NodeIsWellFormed, LengthIsWellFormed, RelationshipIsWellFormed, StepIsWellFormed, PathIsWellFormed, ItemIsWellFormed, KeyIsWellFormed, CountIsWellFormed, ProjectionIsWellFormed, SetItemIsWellFormed, RemoveItemIsWellFormed, ClauseIsWellFormed, ClausesAreWellFormed, StatementIsWellFormed}
 use Rattle.cy_grammar.proofs.PiecesLemmas.{Before, free, ended, owned, after, touches, stands, Allows, Runs, runs-stands, no_pieces, a_word, a_space, space_after, both, from, to, is_quiet, after_symbol, after_end, after_owner, ended_owned, last, spaced, AreTokens, spaced-words, spaced-are_words, spaced-text, free_first, unspaced}
 use Rattle.cy_grammar.proofs.Stands.{Stands}
@@ -374,13 +374,13 @@ clause-runs (delete detach vs) is =
 
 -- ---- statements
 
-clauses-run : (s : Stage) (cs : List Clause) → ClausesAreWellFormed s cs → Runs ended (each_after (piece.space ∷ []) (map clause_pieces cs)) ended
+clauses-run : (s : ClausePhase) (cs : List Clause) → ClausesAreWellFormed s cs → Runs ended (each_after (piece.space ∷ []) (map clause_pieces cs)) ended
 clauses-run s [] are = no_pieces
-clauses-run s (c ∷ cs) are = space_after (both (clause-runs c are.1) (clauses-run (stage_after c) cs are.2))
+clauses-run s (c ∷ cs) are = space_after (both (clause-runs c are.1) (clauses-run (phase_after c) cs are.2))
 
-clauses-stand : (s : Stage) (cs : List Clause) → ClausesAreWellFormed s cs → stands free (separated (piece.space ∷ []) (map clause_pieces cs)) ≡ true
+clauses-stand : (s : ClausePhase) (cs : List Clause) → ClausesAreWellFormed s cs → stands free (separated (piece.space ∷ []) (map clause_pieces cs)) ≡ true
 clauses-stand s [] are = refl
-clauses-stand s (c ∷ cs) are = runs-stands (both (clause-runs c are.1) (clauses-run (stage_after c) cs are.2))
+clauses-stand s (c ∷ cs) are = runs-stands (both (clause-runs c are.1) (clauses-run (phase_after c) cs are.2))
 
 -- The tokens of the text of pieces are the words of the pieces, one for each, in order: with the spaces after them, without,
 -- and as tokens that have places in the line.

@@ -8,10 +8,10 @@ use Rattle.cy_lexer.specs.declared.keywords.Keyword.{Keyword}
 use Rattle.cy_lexer.specs.declared.keywords.Keyword.TheVariants as word
 use Rattle.cy_lexer.specs.declared.symbols.Symbol.TheVariants as sign
 use Rattle.cy_trees.specs.declared.expressions.Variable.{Variable}
-use Rattle.cy_grammar.specs.declared.stages.Opening.{Opening}
-use Rattle.cy_grammar.specs.declared.stages.Opening.TheVariants as opening
-use Rattle.cy_grammar.specs.declared.stages.Stage.{Stage}
-use Rattle.cy_grammar.specs.declared.stages.Stage.TheVariants as stage
+use Rattle.cy_grammar.specs.declared.phases.Opening.{Opening}
+use Rattle.cy_grammar.specs.declared.phases.Opening.TheVariants as opening
+use Rattle.cy_grammar.specs.declared.phases.ClausePhase.{ClausePhase}
+use Rattle.cy_grammar.specs.declared.phases.ClausePhase.TheVariants as phase
 use Rattle.cy_trees.specs.Trees.{Expression, Path, Projection, SetItem, set_property, RemoveItem, remove_property, Clause, «match», unwind, «with», «return», create, set, remove, delete}
 use Rattle.cy_grammar.specs.Words.{is_word, is_name}
 use Rattle.cy_lexer.specs.Numbers.{greatest_number}
@@ -150,17 +150,17 @@ module _ (line : List ℕ) where
   unfolding read.variables
   variables-sound ts = separated-sound (read.variable_read line) (SpellsVariable line) (variable-sound line) ts
 
-  -- where a stage stands
-  abbrev spelt_stage : Stage → spells.Stage
-  spelt_stage stage.Reading = spells.reading
-  spelt_stage stage.Updating = spells.updating
-  spelt_stage stage.Ended = spells.ended
+  -- where a phase stands
+  abbrev spelt_phase : ClausePhase → spells.ClausePhase
+  spelt_phase phase.Reading = spells.reading
+  spelt_phase phase.Updating = spells.updating
+  spelt_phase phase.Ended = spells.ended
 
   -- the clause that was read is spelt, may stand where its first word may, and leads where that leads
-  record IsClause (s : Stage) (o : Opening) (ts : List Token) (c : Clause) (rest : List Token) : Type 0 where
+  record IsClause (s : ClausePhase) (o : Opening) (ts : List Token) (c : Clause) (rest : List Token) : Type 0 where
     pub spelt : SpellsClause line c ts rest
-    pub follows : spells.may_follow (spelt_stage s) c ≡ read.allows s o
-    pub leads : spells.stage_after c ≡ spelt_stage (read.stage_after o)
+    pub follows : spells.may_follow (spelt_phase s) c ≡ read.allows s o
+    pub leads : spells.phase_after c ≡ spelt_phase (read.phase_after o)
 
   abbrev first_word : Opening → Keyword
   first_word opening.Match = word.Match
@@ -187,57 +187,57 @@ module _ (line : List ℕ) where
   opening_is (kind.Keyword word.Detach) o e = let same : opening.Detach ≡ o = cc in ap (λ x. kind.Keyword (first_word x)) same
   opening_is _ o e = cc
 
-  reads : (s : Stage) (b : Bool) (ps : List Path) (f : Option Expression) → spells.may_follow (spelt_stage s) («match» b ps f) ≡ read.allows s opening.Match
-  reads stage.Reading b ps f = refl
-  reads stage.Updating b ps f = refl
-  reads stage.Ended b ps f = refl
+  reads : (s : ClausePhase) (b : Bool) (ps : List Path) (f : Option Expression) → spells.may_follow (spelt_phase s) («match» b ps f) ≡ read.allows s opening.Match
+  reads phase.Reading b ps f = refl
+  reads phase.Updating b ps f = refl
+  reads phase.Ended b ps f = refl
 
-  reads_optional : (s : Stage) (b : Bool) (ps : List Path) (f : Option Expression) → spells.may_follow (spelt_stage s) («match» b ps f) ≡ read.allows s opening.Optional
-  reads_optional stage.Reading b ps f = refl
-  reads_optional stage.Updating b ps f = refl
-  reads_optional stage.Ended b ps f = refl
+  reads_optional : (s : ClausePhase) (b : Bool) (ps : List Path) (f : Option Expression) → spells.may_follow (spelt_phase s) («match» b ps f) ≡ read.allows s opening.Optional
+  reads_optional phase.Reading b ps f = refl
+  reads_optional phase.Updating b ps f = refl
+  reads_optional phase.Ended b ps f = refl
 
-  unwinds : (s : Stage) (e : Expression) (v : Variable) → spells.may_follow (spelt_stage s) (unwind e v) ≡ read.allows s opening.Unwind
-  unwinds stage.Reading e v = refl
-  unwinds stage.Updating e v = refl
-  unwinds stage.Ended e v = refl
+  unwinds : (s : ClausePhase) (e : Expression) (v : Variable) → spells.may_follow (spelt_phase s) (unwind e v) ≡ read.allows s opening.Unwind
+  unwinds phase.Reading e v = refl
+  unwinds phase.Updating e v = refl
+  unwinds phase.Ended e v = refl
 
-  goes_on : (s : Stage) (p : Projection) (f : Option Expression) → spells.may_follow (spelt_stage s) («with» p f) ≡ read.allows s opening.With
-  goes_on stage.Reading p f = refl
-  goes_on stage.Updating p f = refl
-  goes_on stage.Ended p f = refl
+  goes_on : (s : ClausePhase) (p : Projection) (f : Option Expression) → spells.may_follow (spelt_phase s) («with» p f) ≡ read.allows s opening.With
+  goes_on phase.Reading p f = refl
+  goes_on phase.Updating p f = refl
+  goes_on phase.Ended p f = refl
 
-  returns : (s : Stage) (p : Projection) → spells.may_follow (spelt_stage s) («return» p) ≡ read.allows s opening.Return
-  returns stage.Reading p = refl
-  returns stage.Updating p = refl
-  returns stage.Ended p = refl
+  returns : (s : ClausePhase) (p : Projection) → spells.may_follow (spelt_phase s) («return» p) ≡ read.allows s opening.Return
+  returns phase.Reading p = refl
+  returns phase.Updating p = refl
+  returns phase.Ended p = refl
 
-  creates : (s : Stage) (ps : List Path) → spells.may_follow (spelt_stage s) (create ps) ≡ read.allows s opening.Create
-  creates stage.Reading ps = refl
-  creates stage.Updating ps = refl
-  creates stage.Ended ps = refl
+  creates : (s : ClausePhase) (ps : List Path) → spells.may_follow (spelt_phase s) (create ps) ≡ read.allows s opening.Create
+  creates phase.Reading ps = refl
+  creates phase.Updating ps = refl
+  creates phase.Ended ps = refl
 
-  sets : (s : Stage) (is : List SetItem) → spells.may_follow (spelt_stage s) (set is) ≡ read.allows s opening.Set
-  sets stage.Reading is = refl
-  sets stage.Updating is = refl
-  sets stage.Ended is = refl
+  sets : (s : ClausePhase) (is : List SetItem) → spells.may_follow (spelt_phase s) (set is) ≡ read.allows s opening.Set
+  sets phase.Reading is = refl
+  sets phase.Updating is = refl
+  sets phase.Ended is = refl
 
-  removes : (s : Stage) (is : List RemoveItem) → spells.may_follow (spelt_stage s) (remove is) ≡ read.allows s opening.Remove
-  removes stage.Reading is = refl
-  removes stage.Updating is = refl
-  removes stage.Ended is = refl
+  removes : (s : ClausePhase) (is : List RemoveItem) → spells.may_follow (spelt_phase s) (remove is) ≡ read.allows s opening.Remove
+  removes phase.Reading is = refl
+  removes phase.Updating is = refl
+  removes phase.Ended is = refl
 
-  deletes : (s : Stage) (d : Bool) (vs : List Variable) → spells.may_follow (spelt_stage s) (delete d vs) ≡ read.allows s opening.Delete
-  deletes stage.Reading d vs = refl
-  deletes stage.Updating d vs = refl
-  deletes stage.Ended d vs = refl
+  deletes : (s : ClausePhase) (d : Bool) (vs : List Variable) → spells.may_follow (spelt_phase s) (delete d vs) ≡ read.allows s opening.Delete
+  deletes phase.Reading d vs = refl
+  deletes phase.Updating d vs = refl
+  deletes phase.Ended d vs = refl
 
-  detaches : (s : Stage) (d : Bool) (vs : List Variable) → spells.may_follow (spelt_stage s) (delete d vs) ≡ read.allows s opening.Detach
-  detaches stage.Reading d vs = refl
-  detaches stage.Updating d vs = refl
-  detaches stage.Ended d vs = refl
+  detaches : (s : ClausePhase) (d : Bool) (vs : List Variable) → spells.may_follow (spelt_phase s) (delete d vs) ≡ read.allows s opening.Detach
+  detaches phase.Reading d vs = refl
+  detaches phase.Updating d vs = refl
+  detaches phase.Ended d vs = refl
 
-  open_by : (s : Stage) (o : Opening) (t : Token) (ts : List Token) → t.kind ≡ kind.Keyword (first_word o) →
+  open_by : (s : ClausePhase) (o : Opening) (t : Token) (ts : List Token) → t.kind ≡ kind.Keyword (first_word o) →
       Gives (read.clause_by line o ts) (IsClause s o (t ∷ ts))
   unfolding read.match_read read.unwind_read read.with_read read.delete_read
   open_by s opening.Match t ts is =
@@ -278,7 +278,7 @@ module _ (line : List ℕ) where
         leads = refl;
       })))
 
-  clause_in-sound : (s : Stage) (o : Opening) (ts : List Token) → at_kind read.opening_of (kind_ahead ts) ≡ Some o →
+  clause_in-sound : (s : ClausePhase) (o : Opening) (ts : List Token) → at_kind read.opening_of (kind_ahead ts) ≡ Some o →
       Gives (read.clause_in line s o ts) (λ c rest. IsClause s o ts c rest × IsTrue (read.allows s o))
   unfolding read.clause_in
   clause_in-sound s o ts e = by_test _ _ (read.allows s o) ts _
@@ -287,10 +287,10 @@ module _ (line : List ℕ) where
       (subst (λ z. IsClause s o z c rest) (sym x.1) k, yes))) (open_by s o (ahead_by read.opening_of ts o e).0 (past ts) (opening_is _ o (ahead_by read.opening_of ts o e).2))))
       (λ none. refused _)
 
-  ends_as : (s : Stage) → read.may_end s ≡ spells.may_end (spelt_stage s)
-  ends_as stage.Reading = refl
-  ends_as stage.Updating = refl
-  ends_as stage.Ended = refl
+  ends_as : (s : ClausePhase) → read.may_end s ≡ spells.may_end (spelt_phase s)
+  ends_as phase.Reading = refl
+  ends_as phase.Updating = refl
+  ends_as phase.Ended = refl
 
   nothing_left-sound : (ts : List Token) → Gives {A = Unit {0}} (read.nothing_left ts) (λ _ rest. (ts ≡ []) × (rest ≡ []))
   nothing_left-sound [] = answer _ _ _ (refl, refl)
@@ -305,23 +305,23 @@ module _ (line : List ℕ) where
       let empty : [] ≡ ts = sym none ∙ c.absent refl in
       subst (λ z. spells.SpellsEnd z) empty spells.nothing_more
 
-  end-sound : (s : Stage) (ts : List Token) → Gives (read.end_read s ts) (λ _ rest. spells.SpellsEnd ts × IsTrue (spells.may_end (spelt_stage s)) × (rest ≡ []))
+  end-sound : (s : ClausePhase) (ts : List Token) → Gives (read.end_read s ts) (λ _ rest. spells.SpellsEnd ts × IsTrue (spells.may_end (spelt_phase s)) × (rest ≡ []))
   unfolding read.end_read
   end-sound s ts = by_test _ _ (read.may_end s) ts _
       (λ yes. bind (ate_symbol sign.Semicolon ts) (λ b mid c. later _ _ (λ _ rest n. (semicolon_or_not ts mid b c n.0, sym (ends_as s) ∙ yes, n.1)) (nothing_left-sound mid)))
       (λ none. refused _)
 
-  record FoundClauses (s : Stage) (found : List Clause) (ts : List Token) (all : List Clause) (rest : List Token) : Type 0 where
+  record FoundClauses (s : ClausePhase) (found : List Clause) (ts : List Token) (all : List Clause) (rest : List Token) : Type 0 where
     pub these : List Clause
     pub all_is : all ≡ found ++ these
-    pub spelt : spells.SpellsClauses line (spelt_stage s) these ts
+    pub spelt : spells.SpellsClauses line (spelt_phase s) these ts
     pub nothing_is_left : rest ≡ []
 
-  end-found : (s : Stage) (found : List Clause) (ts : List Token) → Gives ((read.end_read s >> pure found) ts) (FoundClauses s found ts)
+  end-found : (s : ClausePhase) (found : List Clause) (ts : List Token) → Gives ((read.end_read s >> pure found) ts) (FoundClauses s found ts)
   end-found s found ts = bind (end-sound s ts) (λ _ rest e. answer _ _ _
-      (record { these = []; all_is = sym (append-nil found); spelt = spells.no_more_clauses (spelt_stage s) ts e.1 e.0; nothing_is_left = e.2 }))
+      (record { these = []; all_is = sym (append-nil found); spelt = spells.no_more_clauses (spelt_phase s) ts e.1 e.0; nothing_is_left = e.2 }))
 
-  clauses-sound-from : (turns : ℕ) (s : Stage) (found : List Clause) (ts : List Token) → Gives (read.clauses_from line turns s found ts) (FoundClauses s found ts)
+  clauses-sound-from : (turns : ℕ) (s : ClausePhase) (found : List Clause) (ts : List Token) → Gives (read.clauses_from line turns s found ts) (FoundClauses s found ts)
   unfolding read.clauses_from
   clauses-sound-from zero s found ts = end-found s found ts
   clauses-sound-from (suc turns) s found ts = bind_peek _ ts (by_option _ _ (at_kind read.opening_of (kind_ahead ts)) ts _
@@ -329,11 +329,11 @@ module _ (line : List ℕ) where
       (λ o e. bind (clause_in-sound s o ts e) (λ c mid k. later _ _ (λ all rest g. record {
         these = c ∷ g.these;
         all_is = g.all_is ∙ append_assoc found (c ∷ []) g.these;
-        spelt = spells.next_clause (spelt_stage s) c g.these ts mid (k.0.follows ∙ k.1) k.0.spelt (subst (λ z. spells.SpellsClauses line z g.these mid) (sym k.0.leads) g.spelt);
+        spelt = spells.next_clause (spelt_phase s) c g.these ts mid (k.0.follows ∙ k.1) k.0.spelt (subst (λ z. spells.SpellsClauses line z g.these mid) (sym k.0.leads) g.spelt);
         nothing_is_left = g.nothing_is_left;
-      }) (clauses-sound-from turns (read.stage_after o) (found ++ c ∷ []) mid))))
+      }) (clauses-sound-from turns (read.phase_after o) (found ++ c ∷ []) mid))))
 
   pub statement-sound : (ts : List Token) → Gives (read.statement line ts) (λ s rest. spells.SpellsStatement line s ts × (rest ≡ []))
   unfolding read.statement read.clauses
-  statement-sound ts = bind (clauses-sound-from (length ts) stage.Reading [] ts) (λ cs rest g. answer _ _ _
+  statement-sound ts = bind (clauses-sound-from (length ts) phase.Reading [] ts) (λ cs rest g. answer _ _ _
       (subst (λ z. spells.SpellsClauses line spells.reading z ts) (sym g.all_is) g.spelt, g.nothing_is_left))

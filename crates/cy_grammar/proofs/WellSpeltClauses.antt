@@ -253,7 +253,7 @@ module _ (line : List ℕ) (utf8 : IsUtf8 line) where
   clause_well (spell.delete_ vs t ts rest is s) p = each_well (spell.SpellsVariable line) IsVariable variable_well s (next t ts p)
   clause_well (spell.detach_delete vs detach t ts rest d is s) p = each_well (spell.SpellsVariable line) IsVariable variable_well s (next t ts (next detach (t ∷ ts) p))
 
-  clauses_well : {s : spell.Stage} {cs : List Clause} {ts : List Token} → spell.SpellsClauses line s cs ts → Part ts → ClausesAreWellFormed s cs
+  clauses_well : {s : spell.ClausePhase} {cs : List Clause} {ts : List Token} → spell.SpellsClauses line s cs ts → Part ts → ClausesAreWellFormed s cs
   clauses_well (spell.no_more_clauses s ts may ends) p = may
   clauses_well (spell.next_clause s c cs ts mid may spelt others) p =
       let x = clause_well spelt p in (may, x.0, clauses_well others x.1)

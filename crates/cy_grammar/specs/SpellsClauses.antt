@@ -237,23 +237,23 @@ module _ (line : List ℕ) where
 -- ---- the order of clauses
 
 -- what the clauses before lead to: reading ones, or none since the beginning or the last WITH; updating ones; the end
-pub data Stage : Type 0 where
-  reading : Stage
-  updating : Stage
-  ended : Stage
+pub data ClausePhase : Type 0 where
+  reading : ClausePhase
+  updating : ClausePhase
+  ended : ClausePhase
 
-abbrev pub stage_after : Clause → Stage
-stage_after («match» optional ps f) = reading
-stage_after (unwind e v) = reading
-stage_after («with» p f) = reading
-stage_after («return» p) = ended
-stage_after (create ps) = updating
-stage_after (set is) = updating
-stage_after (remove is) = updating
-stage_after (delete detach vs) = ended
+abbrev pub phase_after : Clause → ClausePhase
+phase_after («match» optional ps f) = reading
+phase_after (unwind e v) = reading
+phase_after («with» p f) = reading
+phase_after («return» p) = ended
+phase_after (create ps) = updating
+phase_after (set is) = updating
+phase_after (remove is) = updating
+phase_after (delete detach vs) = ended
 
 -- after updating clauses no reading one may follow, and after RETURN and DELETE nothing
-abbrev pub may_follow : Stage → Clause → Bool
+abbrev pub may_follow : ClausePhase → Clause → Bool
 may_follow reading c = true
 may_follow updating («match» optional ps f) = false
 may_follow updating (unwind e v) = false
@@ -261,7 +261,7 @@ may_follow updating c = true
 may_follow ended c = false
 
 -- a statement ends with an updating clause or RETURN
-abbrev pub may_end : Stage → Bool
+abbrev pub may_end : ClausePhase → Bool
 may_end reading = false
 may_end updating = true
 may_end ended = true
@@ -272,10 +272,10 @@ pub data SpellsEnd : List Token → Type 0 where
   semicolon : (t : Token) → IsSymbol sign.Semicolon t → SpellsEnd (t ∷ [])
 
 -- clauses to the end of the tokens, in an order that is allowed
-pub data SpellsClauses (line : List ℕ) : Stage → List Clause → List Token → Type 0 where
-  no_more_clauses : (s : Stage) (ts : List Token) → IsTrue (may_end s) → SpellsEnd ts → SpellsClauses line s [] ts
-  next_clause : (s : Stage) (c : Clause) (cs : List Clause) (ts mid : List Token) → IsTrue (may_follow s c) → SpellsClause line c ts mid
-      → SpellsClauses line (stage_after c) cs mid → SpellsClauses line s (c ∷ cs) ts
+pub data SpellsClauses (line : List ℕ) : ClausePhase → List Clause → List Token → Type 0 where
+  no_more_clauses : (s : ClausePhase) (ts : List Token) → IsTrue (may_end s) → SpellsEnd ts → SpellsClauses line s [] ts
+  next_clause : (s : ClausePhase) (c : Clause) (cs : List Clause) (ts mid : List Token) → IsTrue (may_follow s c) → SpellsClause line c ts mid
+      → SpellsClauses line (phase_after c) cs mid → SpellsClauses line s (c ∷ cs) ts
 
 -- statement = clause { clause } [ ";" ]
 abbrev pub SpellsStatement : List ℕ → Statement → List Token → Type 0

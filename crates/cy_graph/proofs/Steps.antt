@@ -205,7 +205,7 @@ module _ {V : Type 0} where
   nothing_line : (slots : List (ℕ × Option V)) (next : ℕ) (old new : Start V) → KeepsNothing old new → series_versions slots next (Some new) ≡ series_versions slots next (Some old)
   nothing_line slots next old new kept = ap (with_was (numbered_of slots next)) (nothing_before slots old new kept)
 
-  -- what is kept does not hang on the room for more
+  -- what is kept does not depend on the room for more
   pub keeps_since : (slot number : ℕ) (value : V) (old made new : Start V) → KeepsNothing old made → Keeps slot number value made new → Keeps slot number value old new
   keeps_since slot number value old made new nothing kept = record {
     same = kept.same ∙ ap (λ (s : Start V). let t : Start V = record s { before = new.before } in t) nothing.same;

@@ -1,4 +1,4 @@
--- What is undone hangs on the numbers at each node, and on nothing else; once a change is over, empty lists go.
+-- What is undone depends on the numbers at each node, and on nothing else; once a change is over, empty lists go.
 use Rattle.std.proofs.Common.{◌≡◌, ℕ, ◌≤◌, ◌++◌, eqb, List, [], ◌∷◌, length, reverse, if◌then◌else◌, inl, inr, sym, ap, subst, ◌∙◌, arith}
 use Rattle.indexmap.specs.IndexMap.{IndexMap}
 use Rattle.smallvec.specs.SmallVec.{SmallVec}

@@ -7,7 +7,7 @@ use crate::maps::TextMap;
 use cy_values::{Duplicate, Fault, NodeId, Text, Value};
 use std::alloc::Global;
 
-/// A set of labels, by rising bytes: a map with nothing at each of them.
+/// A set of labels, by rising bytes: a map with unit values.
 pub type Labels = TextMap<()>;
 
 /// The properties of a node or a relationship, by rising key.

@@ -92,7 +92,7 @@ impl<V: Duplicate + Drop> Start<V> {
 #[derive(Drop)]
 pub(crate) struct Series<V> {
     slots: IndexMap<u64, Option<V>>,
-    /// About how many slots are empty. Nothing but the time of a compaction hangs on it.
+    /// About how many slots are empty. Nothing but the time of a compaction depends on it.
     empty: usize,
     next: u64,
     change: Option<Start<V>>,

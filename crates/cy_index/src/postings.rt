@@ -38,7 +38,7 @@ const SMALL_CHANGE: usize = 64;
 pub(crate) struct Postings<K: Eq + Hash> {
     lists: IndexMap<K, PostingList>,
     steps: Vec<Step>,
-    /// How many numbers went since the empty lists were dropped. Nothing but the time of that hangs on it.
+    /// How many numbers went since the empty lists were dropped. Nothing but the time of that depends on it.
     removals: usize,
 }
 

@@ -3,7 +3,7 @@
 ghost use Rattle.std.specs.Prelude.{◌≡◌};
 ghost use Rattle.cy_grammar.specs.internal.Clauses as spec;
 
-use cy_grammar::{Opening, Stage};
+use cy_grammar::{ClausePhase, Opening};
 use cy_lexer::{Keyword, TokenKind};
 
 /// The clause that the token begins.
@@ -25,39 +25,40 @@ pub(crate) fn opening_of(kind: TokenKind) -> Option<Opening>
     }
 }
 
-/// Whether the clause may follow, where a statement stands at the stage.
-pub(crate) fn allows(stage: Stage, opening: Opening) -> bool
-    ensures { result ≡ spec.allows stage opening }
+/// Whether the clause may follow, where a statement stands at the phase.
+pub(crate) fn allows(phase: ClausePhase, opening: Opening) -> bool
+    ensures { result ≡ spec.allows phase opening }
 {
-    match stage {
-        Stage::Reading => true,
-        Stage::Updating => {
+    match phase {
+        ClausePhase::Reading => true,
+        ClausePhase::Updating => {
             !matches!(
                 opening,
                 Opening::Match | Opening::Optional | Opening::Unwind
             )
         }
-        Stage::Ended => false,
+        ClausePhase::Ended => false,
     }
 }
 
-/// Whether a statement may end at the stage.
-pub(crate) fn may_end(stage: Stage) -> bool
-    ensures { result ≡ spec.may_end stage }
+/// Whether a statement may end at the phase.
+pub(crate) fn may_end(phase: ClausePhase) -> bool
+    ensures { result ≡ spec.may_end phase }
 {
-    match stage {
-        Stage::Reading => false,
-        Stage::Updating | Stage::Ended => true,
+    match phase {
+        ClausePhase::Reading => false,
+        ClausePhase::Updating | ClausePhase::Ended => true,
     }
 }
 
 /// Where a statement stands after the clause.
-pub(crate) fn stage_after(opening: Opening) -> Stage
-    ensures { result ≡ spec.stage_after opening }
+pub(crate) fn phase_after(opening: Opening) -> ClausePhase
+    ensures { result ≡ spec.phase_after opening }
 {
     match opening {
-        Opening::Match | Opening::Optional | Opening::Unwind | Opening::With => Stage::Reading,
-        Opening::Create | Opening::Set | Opening::Remove => Stage::Updating,
-        Opening::Return | Opening::Delete | Opening::Detach => Stage::Ended,
+        Opening::Match | Opening::Optional | Opening::Unwind | Opening::With =>
+            ClausePhase::Reading,
+        Opening::Create | Opening::Set | Opening::Remove => ClausePhase::Updating,
+        Opening::Return | Opening::Delete | Opening::Detach => ClausePhase::Ended,
     }
 }

@@ -6,10 +6,10 @@ ghost use Rattle.cy_grammar.specs.internal.Clauses as spec;
 ghost use Rattle.cy_parser.specs.internal.Reads.{Reads};
 
 use crate::cursor::Cursor;
-use crate::order::{allows, may_end, opening_of, stage_after};
+use crate::order::{allows, may_end, opening_of, phase_after};
 use crate::refusals::Refusal;
 use crate::source::Source;
-use cy_grammar::{Opening, Stage};
+use cy_grammar::{ClausePhase, Opening};
 use cy_lexer::{Keyword, Symbol, TokenKind};
 use cy_trees::{Clause, Delete, Match, Statement, Unwind, With};
 
@@ -88,12 +88,12 @@ impl<'l> Source<'l> {
     fn clause_in(
         &self,
         tokens: &mut Cursor<'_>,
-        stage: Stage,
+        phase: ClausePhase,
         opening: Opening,
     ) -> Result<Clause, Refusal>
-        ensures { Reads clause_of (spec.clause_in self.now.line.now stage opening tokens.old) result tokens.new }
+        ensures { Reads clause_of (spec.clause_in self.now.line.now phase opening tokens.old) result tokens.new }
     {
-        if !allows(stage, opening) {
+        if !allows(phase, opening) {
             return Err(Refusal::ClauseOrder(tokens.count()));
         }
         tokens.skip();
@@ -105,16 +105,16 @@ impl<'l> Source<'l> {
         ensures { Reads (λ cs. map clause_of cs.items) (spec.clauses self.now.line.now tokens.old) result tokens.new }
     {
         let mut found = Vec::new(self.alloc);
-        let mut stage = Stage::Reading;
+        let mut phase = ClausePhase::Reading;
         for _turn in 0..tokens.count() {
             let Some(opening) = tokens.peek().and_then(opening_of) else {
-                tokens.end(stage)?;
+                tokens.end(phase)?;
                 return Ok(found);
             };
-            found.push(self.clause_in(tokens, stage, opening)?)?;
-            stage = stage_after(opening);
+            found.push(self.clause_in(tokens, phase, opening)?)?;
+            phase = phase_after(opening);
         }
-        tokens.end(stage)?;
+        tokens.end(phase)?;
         Ok(found)
     }
 
@@ -129,12 +129,12 @@ impl<'l> Source<'l> {
 }
 
 impl<'a> Cursor<'a> {
-    /// The end of a statement, which a `;` may stand before, after clauses that lead to the stage.
+    /// The end of a statement, which a `;` may stand before, after clauses that lead to the phase.
     #[tactic(auto, unfolding(cy_grammar::specs::internal::Reader::and_then, cy_grammar::specs::internal::Clauses::end_read))]
-    fn end(&mut self, stage: Stage) -> Result<(), Refusal>
-        ensures { Reads (λ u. u) (spec.end_read stage self.old) result self.new }
+    fn end(&mut self, phase: ClausePhase) -> Result<(), Refusal>
+        ensures { Reads (λ u. u) (spec.end_read phase self.old) result self.new }
     {
-        if !may_end(stage) {
+        if !may_end(phase) {
             return Err(match self.count() {
                 0 => Refusal::ClauseOrder(0),
                 left => Refusal::Unexpected(left),

@@ -1,6 +1,6 @@
 //! The program's options, each in each spelling, and words that are none.
 
-use cy_shell::{ArgFault, Asked, Settings, settings};
+use cy_shell::{ArgFault, Invocation, Settings, settings};
 use std::alloc::{AllocError, Global};
 use std::test::Fail;
 
@@ -61,13 +61,13 @@ fn words_of(alloc: Global, arguments: &str) -> Result<Vec<String>, AllocError> {
 }
 
 // What is asked for, as the table says it.
-fn outcome(alloc: Global, asked: Result<Asked, ArgFault>) -> Result<String, AllocError> {
+fn outcome(alloc: Global, asked: Result<Invocation, ArgFault>) -> Result<String, AllocError> {
     match asked {
-        Ok(Asked::Run(Settings { history, feed })) => {
+        Ok(Invocation::Run(Settings { history, feed })) => {
             let feed = if feed { " feed" } else { "" };
             format!(in alloc; "{history}{feed}")
         }
-        Ok(Asked::Help(text)) => {
+        Ok(Invocation::Help(text)) => {
             let is_help = text.contains("--history <N>") && text.contains("--feed");
             String::from_str(alloc, if is_help { "help" } else { "another text" })
         }

@@ -10,7 +10,7 @@ use Rattle.cy_shell.specs.Lines.{line_limit}
 use Rattle.cy_shell.specs.Printed.{no_memory_text, IsAnswerText, IsFeedText, IsLineText, fed}
 use Rattle.cy_engine.specs.declared.faults.Fault.{Fault}
 use Rattle.cy_engine.specs.declared.replies.Reply.{Reply}
-use Rattle.cy_shell.specs.Runs.{Serving, Answered, TooLong, NotUtf8, Carried, PrintedRun, WritesRun, WritesBeginning}
+use Rattle.cy_shell.specs.Runs.{Serving, Answered, TooLong, NotUtf8, Executed, PrintedRun, WritesRun, WritesBeginning}
 use Rattle.cy_shell.specs.Streams.{appended}
 use Rattle.cy_shell.specs.internal.Writing.{AppendsFront}
 use Rattle.cy_shell.proofs.Appends.{appended-nil, appended-appended}
@@ -38,7 +38,7 @@ no_feed feed result text answered = record { answer = text; entry_texts = []; is
 -- want of memory may refuse it
 left_answer : (state : Serving) (line : List ℕ) → length line ≤ line_limit → IsUtf8 line → HasAnswer state line
 left_answer state line short utf8 =
-    (no_memory_text, Carried (Err fault.NoMemory) [] short utf8 (inl (short, record { answered = refl; no_entries = refl; left = refl })) refl (no_feed state.feed (Err fault.NoMemory) no_memory_text (inr refl)))
+    (no_memory_text, Executed (Err fault.NoMemory) [] short utf8 (inl (short, record { answered = refl; no_entries = refl; state = refl })) refl (no_feed state.feed (Err fault.NoMemory) no_memory_text (inr refl)))
 
 short_answer : (state : Serving) (line : List ℕ) → length line ≤ line_limit → (b : Bool) → is_utf8 line ≡ b → HasAnswer state line
 short_answer state line short true is = left_answer state line short (IsUtf8-from_is_utf8 line is)

@@ -7,7 +7,7 @@ use Rattle.cy_bags.specs.declared.changes.Entry.{Entry}
 use Rattle.cy_shell.specs.internal.Feeding.{IsAnswer, WritesFeed, BeginsFeed}
 use Rattle.cy_shell.specs.Printed.{printed_line, IsObjectText, IsFeedText, fed}
 use Rattle.cy_shell.specs.Replies.{entry_json}
-use Rattle.cy_shell.specs.Runs.{Answered, Carried, WritesRun, WritesBeginning}
+use Rattle.cy_shell.specs.Runs.{Answered, Executed, WritesRun, WritesBeginning}
 use Rattle.cy_shell.specs.internal.Serving.{serving}
 use Rattle.cy_shell.specs.Streams.{appended}
 use Rattle.cy_shell.specs.internal.Writing.{AppendsFront}
@@ -62,11 +62,11 @@ fed_begun entries left rest e before mid after text next so_far object front =
 
 -- ---- a line
 
--- an answer that is carried, and its entries as they are fed
+-- an answer that is executed, and its entries as they are fed
 carried_line : (old : EngineState) (line printed entry_texts : List ℕ) (new : Machine) (feed : Bool) → IsAnswer old line printed true new → IsFeedText (fed feed new.entries) entry_texts
     → Answered (record { engine = old; feed = feed }) line (printed ++ entry_texts) (serving new feed)
 carried_line old line printed entry_texts new feed answer feeds =
-    Carried answer.2.0 new.entries answer.0 answer.1 answer.2.1 refl (record { answer = printed; entry_texts = entry_texts; is = refl; answered = answer.2.2; feeds = feeds })
+    Executed answer.2.0 new.entries answer.0 answer.1 answer.2.1 refl (record { answer = printed; entry_texts = entry_texts; is = refl; answered = answer.2.2; feeds = feeds })
 
 -- nothing is fed of a line that is none for the engine
 unfed : (feed : Bool) → (feed && false) ≡ false
@@ -77,8 +77,8 @@ all_fed : (feed : Bool) → (feed && true) ≡ feed
 all_fed true = refl
 all_fed false = refl
 
-pub line_served : (old : EngineState) (line printed : List ℕ) (is_carried : Bool) (new : Machine) (feed : Bool) (before mid after : Option (List ℕ)) → IsAnswer old line printed is_carried new
-    → mid ≡ appended before printed → (list : Entries) → list ≡ fed (feed && is_carried) new.entries → WritesFeed list mid after
+pub line_served : (old : EngineState) (line printed : List ℕ) (is_executed : Bool) (new : Machine) (feed : Bool) (before mid after : Option (List ℕ)) → IsAnswer old line printed is_executed new
+    → mid ≡ appended before printed → (list : Entries) → list ≡ fed (feed && is_executed) new.entries → WritesFeed list mid after
     → WritesRun (record { engine = old; feed = feed }) (line ∷ []) (serving new feed) before after
 line_served old line printed true new feed before mid after answer is list same written =
     let entry_texts = subst (λ (b : Bool). IsFeedText (fed b new.entries) written.text) (all_fed feed) (subst (λ (es : Entries). IsFeedText es written.text) same written.entry_texts) in
@@ -88,7 +88,7 @@ line_served old line printed false new feed before mid after answer is list same
     let none : written.text ≡ [] = subst (λ (b : Bool). IsFeedText (fed b new.entries) written.text) (unfed feed) (subst (λ (es : Entries). IsFeedText es written.text) same written.entry_texts) in
     one_line _ _ line printed before after (answer feed) (written.is ∙ ap (appended mid) none ∙ sym (appended-nil mid) ∙ is)
 
-pub line_begun : (old : EngineState) (line printed : List ℕ) (is_carried : Bool) (new : Machine) (feed : Bool) (before after : Option (List ℕ)) → IsAnswer old line printed is_carried new
+pub line_begun : (old : EngineState) (line printed : List ℕ) (is_executed : Bool) (new : Machine) (feed : Bool) (before after : Option (List ℕ)) → IsAnswer old line printed is_executed new
     → AppendsFront before after printed → WritesBeginning (record { engine = old; feed = feed }) (line ∷ []) before after
 line_begun old line printed true new feed before after answer front =
     let more = some_feed (fed feed new.entries) in
@@ -96,8 +96,8 @@ line_begun old line printed true new feed before after answer front =
     (record { front = front.front; rest = front.rest ++ more.0; whole = ap (λ t. t ++ more.0) front.whole ∙ append_assoc front.front front.rest more.0; is = front.is })
 line_begun old line printed false new feed before after answer front = one_line_begun _ _ line printed before after (answer feed) front
 
-pub line_feeding : (old : EngineState) (line printed : List ℕ) (is_carried : Bool) (new : Machine) (feed : Bool) (before mid after : Option (List ℕ)) → IsAnswer old line printed is_carried new
-    → mid ≡ appended before printed → (list : Entries) → list ≡ fed (feed && is_carried) new.entries → BeginsFeed list mid after
+pub line_feeding : (old : EngineState) (line printed : List ℕ) (is_executed : Bool) (new : Machine) (feed : Bool) (before mid after : Option (List ℕ)) → IsAnswer old line printed is_executed new
+    → mid ≡ appended before printed → (list : Entries) → list ≡ fed (feed && is_executed) new.entries → BeginsFeed list mid after
     → WritesBeginning (record { engine = old; feed = feed }) (line ∷ []) before after
 line_feeding old line printed true new feed before mid after answer is list same begun =
     let entry_texts = subst (λ (b : Bool). IsFeedText (fed b new.entries) (begun.text ++ begun.unwritten)) (all_fed feed) (subst (λ (es : Entries). IsFeedText es (begun.text ++ begun.unwritten)) same begun.entry_texts) in

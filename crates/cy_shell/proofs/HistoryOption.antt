@@ -23,11 +23,11 @@ use Rattle.clap.specs.declared.parser.matches.MatchedArg.{MatchedArg}
 use Rattle.clap.proofs.CallerLemmas.{entry_by_id, same_rules_by_id}
 use Rattle.clap.proofs.SimpleLemmas.{all_simple, plain_fields, simple_groups}
 use Rattle.clap.proofs.OnLiterals.{clap_on_literals}
-use Rattle.cy_shell.specs.Options.{IsAsked, feed_option, history_option, options}
+use Rattle.cy_shell.specs.Options.{IsInvocation, feed_option, history_option, options}
 use Rattle.cy_shell.specs.declared.serving.Settings.{Settings}
 use Rattle.cy_shell.specs.declared.options.ArgFault.{ArgFault}
-use Rattle.cy_shell.specs.declared.options.Asked.{Asked}
-use Rattle.cy_shell.specs.declared.options.Asked.TheVariants.{Run, Help}
+use Rattle.cy_shell.specs.declared.options.Invocation.{Invocation}
+use Rattle.cy_shell.specs.declared.options.Invocation.TheVariants.{Run, Help}
 use Rattle.cy_shell.specs.internal.Options.{HasHistory}
 
 -- a list of two, of which f makes these
@@ -181,7 +181,7 @@ plain_settings : (settings : Settings) → settings.history ≡ 64 → settings.
 plain_settings settings h f = ap₂ (λ history feed. Run (record { history = history; feed = feed })) h f
 
 -- with no option, the history has 64 entries, and there is no feed
-pub plain_asked : (words : List (List ℕ)) (result : Result Asked ArgFault) → length words ≤ 1 → IsAsked words result
+pub plain_asked : (words : List (List ℕ)) (result : Result Invocation ArgFault) → length words ≤ 1 → IsInvocation words result
     → IfOk result (λ asked. asked ≡ Run (record { history = 64; feed = false }))
 unfolding clap_on_literals
 plain_asked [] (Ok (Run settings)) short asked = plain_settings settings asked.history (asked.no_feed refl)

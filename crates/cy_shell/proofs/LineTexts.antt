@@ -25,20 +25,20 @@ pub text_buffered : (line bytes : List ℕ) (result : Result (Bor (List ℕ)) Le
 text_buffered line bytes result is text = subst (λ (l : List ℕ). IsTextOf l result) (sym (buffered_whole line bytes is).0) text
 
 -- a line that is a text is answered as that text
-pub carried : (old : EngineState) (line printed : List ℕ) (text : Bor (List ℕ)) (new : Machine) → IsTextOf line (Ok text) → Answers old text.now printed new → IsAnswer old line printed true new
-carried old line printed text new is answers = (is.0, is.1, subst (λ (l : List ℕ). Answers old l printed new) is.2 answers)
+pub executed : (old : EngineState) (line printed : List ℕ) (text : Bor (List ℕ)) (new : Machine) → IsTextOf line (Ok text) → Answers old text.now printed new → IsAnswer old line printed true new
+executed old line printed text new is answers = (is.0, is.1, subst (λ (l : List ℕ). Answers old l printed new) is.2 answers)
 
 -- and any other line is not
-pub not_carried : (state : Serving) (line printed : List ℕ) (fault : LexFault)
+pub not_executed : (state : Serving) (line printed : List ℕ) (fault : LexFault)
     → IsTextOf line (Err fault) → IsFaultText (at_of fault) (code_of fault) printed → Answered state line printed state
-not_carried state line printed fault.LineTooLong is shown = TooLong is shown
-not_carried state line printed (fault.NotUtf8 at) is shown =
+not_executed state line printed fault.LineTooLong is shown = TooLong is shown
+not_executed state line printed (fault.NotUtf8 at) is shown =
     NotUtf8 is.0 is.1 (subst (λ n. IsLexFaultText (fault.NotUtf8 n) printed) (sym (utf8_valid_len-IsValidUpTo line at is.2)) shown)
-not_carried state line printed (fault.BadCharacter at) is shown = absurd is
-not_carried state line printed (fault.UnclosedText at) is shown = absurd is
-not_carried state line printed (fault.BadEscape at) is shown = absurd is
-not_carried state line printed (fault.UnclosedComment at) is shown = absurd is
-not_carried state line printed (fault.UnclosedName at) is shown = absurd is
-not_carried state line printed (fault.BadNumber at) is shown = absurd is
-not_carried state line printed (fault.NumberTooLarge at) is shown = absurd is
-not_carried state line printed fault.NoMemory is shown = absurd is
+not_executed state line printed (fault.BadCharacter at) is shown = absurd is
+not_executed state line printed (fault.UnclosedText at) is shown = absurd is
+not_executed state line printed (fault.BadEscape at) is shown = absurd is
+not_executed state line printed (fault.UnclosedComment at) is shown = absurd is
+not_executed state line printed (fault.UnclosedName at) is shown = absurd is
+not_executed state line printed (fault.BadNumber at) is shown = absurd is
+not_executed state line printed (fault.NumberTooLarge at) is shown = absurd is
+not_executed state line printed fault.NoMemory is shown = absurd is

@@ -9,8 +9,8 @@ use Rattle.clap.specs.declared.builder.ValueParser.TheVariants.{Unsigned}
 use Rattle.clap.specs.declared.error.ErrorKind.{ErrorKind}
 use Rattle.clap.specs.declared.error.ErrorKind.TheVariants.{DisplayHelp}
 use Rattle.cy_shell.specs.declared.serving.Settings.{Settings}
-use Rattle.cy_shell.specs.declared.options.Asked.{Asked}
-use Rattle.cy_shell.specs.declared.options.Asked.TheVariants.{Run, Help}
+use Rattle.cy_shell.specs.declared.options.Invocation.{Invocation}
+use Rattle.cy_shell.specs.declared.options.Invocation.TheVariants.{Run, Help}
 use Rattle.cy_shell.specs.declared.options.ArgFault.{ArgFault}
 use Rattle.cy_shell.specs.declared.options.ArgFault.TheVariants.{Bad, Memory}
 
@@ -58,8 +58,8 @@ pub record AreBad (words : List Text) : Type 0 where
   pub no_help : kind ≢ DisplayHelp
 
 -- what the words ask for; want of memory may stand for all of it
-abbrev pub IsAsked : List Text → Result Asked ArgFault → Type 0
-IsAsked words (Ok (Run settings)) = HasSettings words settings
-IsAsked words (Ok (Help text)) = IsAmong DisplayHelp (objections words)
-IsAsked words (Err Bad) = AreBad words
-IsAsked words (Err Memory) = Unit {0}
+abbrev pub IsInvocation : List Text → Result Invocation ArgFault → Type 0
+IsInvocation words (Ok (Run settings)) = HasSettings words settings
+IsInvocation words (Ok (Help text)) = IsAmong DisplayHelp (objections words)
+IsInvocation words (Err Bad) = AreBad words
+IsInvocation words (Err Memory) = Unit {0}

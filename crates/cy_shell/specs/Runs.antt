@@ -29,12 +29,12 @@ beginning history feed = record { engine = empty_engine history; feed = feed }
 
 -- From old, the text may be the answer to the line, and the engine goes on to new.
 pub data Answered : Serving → List ℕ → List ℕ → Serving → Type 0 where
-  -- a line above the limit is not carried out: 17, at the limit
+  -- a line above the limit is not executed: 17, at the limit
   TooLong : {state : Serving} {line text : List ℕ} → line_limit < length line → IsLexFaultText lex.LineTooLong text → Answered state line text state
   -- nor is a line that isn't UTF-8: 18, at the end of its longest valid beginning
   NotUtf8 : {state : Serving} {line text : List ℕ} → length line ≤ line_limit → (IsUtf8 line → ⊥) → IsLexFaultText (lex.NotUtf8 (utf8_valid_len line)) text → Answered state line text state
   -- any other line is a step of the engine, and its answer is printed, with its entries after it where there is a feed
-  Carried : {old new : Serving} {line text : List ℕ} (result : Result Reply Fault) (entries : List (List ℕ × Entry))
+  Executed : {old new : Serving} {line text : List ℕ} (result : Result Reply Fault) (entries : List (List ℕ × Entry))
       → length line ≤ line_limit → IsUtf8 line → Step old.engine line result entries new.engine → new.feed ≡ old.feed
       → IsLineText old.feed result entries text → Answered old line text new
 

@@ -17,7 +17,7 @@ use std::alloc::Global;
 #[derive(Clone, Copy)]
 pub(crate) struct AnsweredLine {
     pub(crate) printed: Printed,
-    pub(crate) is_carried: bool,
+    pub(crate) is_executed: bool,
 }
 
 /// Answers a line, whose text is made in a room.
@@ -28,16 +28,16 @@ pub(crate) fn print_answer(
     room: &mut Vec<u8>,
 ) -> AnsweredLine
     ensures { (bytes : List ℕ) → line.now ≡ buffered bytes
-        → IsAnswer (state_of engine.old) bytes (printed_text result.printed room.new.items) result.is_carried engine.new }
+        → IsAnswer (state_of engine.old) bytes (printed_text result.printed room.new.items) result.is_executed engine.new }
 {
     match line_text(line) {
         Ok(text) => AnsweredLine {
             printed: answer_text(alloc, engine, text, room),
-            is_carried: true,
+            is_executed: true,
         },
         Err(fault) => AnsweredLine {
             printed: print_fault(alloc, room, fault.at(), fault.code()),
-            is_carried: false,
+            is_executed: false,
         },
     }
 }

@@ -1,4 +1,4 @@
-//! Bytes in, JSON out: lines are cut from a source, carried out by an engine, and answered on a sink.
+//! Bytes in, JSON out: lines are cut from a source, executed by an engine, and answered on a sink.
 #![tactic(auto)]
 
 mod answers;
@@ -17,7 +17,7 @@ mod words;
 mod writing;
 
 pub use memory::{MemorySink, MemorySource};
-pub use options::{ArgFault, Asked, settings};
+pub use options::{ArgFault, Invocation, settings};
 pub use serving::{RunFault, Settings, run};
 pub use standard::{InputSource, OutputSink};
 pub use streams::{Failed, Sink, Source};

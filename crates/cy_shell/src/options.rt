@@ -2,7 +2,7 @@
 
 ghost use Rattle.std.specs.Prelude.{◌≡◌, ◌≤◌, IfOk, false, length, map, string_bytes};
 ghost use Rattle.clap.specs.Words.{FailsBy, app_of, found_of, rows_of};
-ghost use Rattle.cy_shell.specs.Options.{IsAsked, found, objections, options};
+ghost use Rattle.cy_shell.specs.Options.{IsInvocation, found, objections, options};
 ghost use Rattle.cy_shell.specs.internal.Options.{HasHistory};
 
 use crate::serving::Settings;
@@ -16,7 +16,7 @@ const DEFAULT_HISTORY: usize = 64;
 
 /// What the program's arguments ask for.
 #[derive(Debug, Drop)]
-pub enum Asked {
+pub enum Invocation {
     /// A run that is set up so.
     Run(Settings),
     /// The help text.
@@ -73,17 +73,17 @@ impl From<AllocError> for ArgFault {
 /// asks for the help text, unless a bad argument comes before it.
 ///
 /// Fails with `Bad` at any other words, and with `Memory` where there is no memory.
-pub fn settings(alloc: Global, words: &[String]) -> Result<Asked, ArgFault>
-    ensures asked { IsAsked (map string_bytes words.now) result }
-    ensures plain { length words.now ≤ 1 → IfOk result (λ asked. asked ≡ Asked.Run (record { history = 64; feed = false })) }
+pub fn settings(alloc: Global, words: &[String]) -> Result<Invocation, ArgFault>
+    ensures asked { IsInvocation (map string_bytes words.now) result }
+    ensures plain { length words.now ≤ 1 → IfOk result (λ asked. asked ≡ Invocation.Run (record { history = 64; feed = false })) }
 {
     match matches(alloc, words) {
-        Ok(matches) => Ok(Asked::Run(Settings {
+        Ok(matches) => Ok(Invocation::Run(Settings {
             history: matches.get_one("history").unwrap_or(DEFAULT_HISTORY),
             feed: matches.get_flag("feed"),
         })),
         Err(error) => match error.kind() {
-            ErrorKind::DisplayHelp => Ok(Asked::Help(format!(in alloc; "{error}")?)),
+            ErrorKind::DisplayHelp => Ok(Invocation::Help(format!(in alloc; "{error}")?)),
             ErrorKind::OutOfMemory => Err(ArgFault::Memory),
             _ => Err(ArgFault::Bad),
         },

@@ -97,16 +97,16 @@ impl Session {
         let answered = print_answer(self.alloc, &mut self.engine, &self.line, &mut self.room);
         self.line.clear();
         write_text(sink, answered.printed.bytes(self.room.as_slice()))?;
-        let entries = fed_entries(&self.engine, self.feed, answered.is_carried);
+        let entries = fed_entries(&self.engine, self.feed, answered.is_executed);
         write_feed(self.alloc, &mut self.room, sink, entries)
     }
 }
 
 // The entries that are printed after an answer: those of the line, if the engine answered it and there is a feed.
-fn fed_entries(engine: &Engine, feed: bool, is_carried: bool) -> &[(Text, Entry)]
-    ensures { result.now ≡ fed (feed && is_carried) engine.now.entries }
+fn fed_entries(engine: &Engine, feed: bool, is_executed: bool) -> &[(Text, Entry)]
+    ensures { result.now ≡ fed (feed && is_executed) engine.now.entries }
 {
-    if feed && is_carried {
+    if feed && is_executed {
         engine.entries()
     } else {
         &[]

@@ -172,7 +172,7 @@ fn outcome_text(alloc: Global, outcome: &StatementAnswer) -> Result<String, Allo
     format!(in alloc; "{made_nodes},{gone_nodes},{made_rels},{gone_rels}{blank}{table}")
 }
 
-// Carries a statement out, and says what it answers.
+// Executes a statement, and says what it answers.
 pub(crate) fn updated(alloc: Global, store: &mut Store, line: &str) -> Result<String, Fail>
     requires { IsNone store.old.graph.was }
     ensures { IfOk result (λ _. IsNone store.new.graph.was) }
@@ -212,7 +212,7 @@ fn store_at(alloc: Global, numbers: &str) -> Result<Store, Fail>
 }
 
 // What the last of the statements answers, and the graph after it.
-fn carried_out(alloc: Global, store: &mut Store, lines: &str) -> Result<String, Fail>
+fn executed(alloc: Global, store: &mut Store, lines: &str) -> Result<String, Fail>
     requires { IsNone store.old.graph.was }
 {
     let mut answer = String::new(alloc);
@@ -227,7 +227,7 @@ fn carried_out(alloc: Global, store: &mut Store, lines: &str) -> Result<String, 
 // The same from an empty store, by its next numbers.
 fn session(alloc: Global, numbers: &str, lines: &str) -> Result<String, Fail> {
     let mut store = store_at(alloc, numbers)?;
-    carried_out(alloc, &mut store, lines)
+    executed(alloc, &mut store, lines)
 }
 
 #[test]

@@ -3,7 +3,7 @@
 use crate::expressions::{Expr, Variable};
 use cy_values::Text;
 
-/// A statement: its clauses, one or more, in the order in which they are carried out.
+/// A statement: its clauses, one or more, in the order in which they are executed.
 #[derive(Drop)]
 pub struct Statement {
     pub clauses: Vec<Clause>,

@@ -27,7 +27,7 @@ pub(crate) struct Updated {
     pub(crate) gone: Gone,
 }
 
-/// Carries an updating clause out on the rows of a table, taken in canonical order (Francis et al.; openCypher 9; canonical order
+/// Executes an updating clause on the rows of a table, taken in canonical order (Francis et al.; openCypher 9; canonical order
 /// and faults: own).
 pub(crate) fn update(
     alloc: Global,
@@ -49,7 +49,7 @@ pub(crate) fn update(
     take_rows(alloc, store, Table { columns, rows }, clause)
 }
 
-// Carries an updating clause out on the rows of a table, in their order.
+// Executes an updating clause on the rows of a table, in their order.
 fn take_rows(
     alloc: Global,
     store: &mut Store,

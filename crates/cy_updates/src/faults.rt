@@ -10,7 +10,7 @@ use cy_values::{Fault, RelId};
 use std::alloc::{AllocError, AllocFailed};
 use thiserror::Error;
 
-/// Why a statement isn't carried out (own). The graph is as it was before the statement.
+/// Why a statement isn't executed (own). The graph is as it was before the statement.
 #[derive(Clone, Copy, Debug, PartialEq, Eq, Error)]
 pub enum UpdateFault {
     /// An expression has no value.

@@ -1,4 +1,4 @@
-//! Updating clauses and statements: what each means for a graph and a table, what holds of that, and statements carried out.
+//! Updating clauses and statements: what each means for a graph and a table, what holds of that, and statements executed.
 #![tactic(auto)]
 
 mod clauses;

@@ -38,7 +38,7 @@ pub struct StatementAnswer {
     pub table: Table,
 }
 
-/// Carries a statement out: its clauses one after another, in a change of the store, which stands open at `Ok`. Where its meaning
+/// Executes a statement: its clauses one after another, in a change of the store, which stands open at `Ok`. Where its meaning
 /// has a fault it fails with that fault, and besides only with `NoMemory`; the store is then as before, next numbers included, and
 /// no change is open. (Francis et al., queries; openCypher 9, updating clauses; canonical order and faults: own)
 pub fn execute(
@@ -62,7 +62,7 @@ pub fn execute(
     }
 }
 
-// Carries a statement out in an open change.
+// Executes a statement in an open change.
 fn carry_out(
     alloc: Global,
     store: &mut Store,

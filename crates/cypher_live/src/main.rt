@@ -7,7 +7,7 @@ ghost use Rattle.cypher_live.specs.internal.Requests.{HasHistory};
 #[cfg(test)]
 mod tests;
 
-use cy_shell::{ArgFault, Asked, InputSource, OutputSink, Settings, run, settings};
+use cy_shell::{ArgFault, InputSource, Invocation, OutputSink, Settings, run, settings};
 use std::env::Env;
 use std::process::ExitCode;
 use std::{env, io};
@@ -17,8 +17,8 @@ const NOT_WRITTEN: u8 = 3;
 
 fn main(rt: HostRuntime) -> ExitCode {
     match request(&rt) {
-        Ok(Asked::Run(settings)) => serve(&rt, settings),
-        Ok(Asked::Help(text)) => match print!(rt; "{text}") {
+        Ok(Invocation::Run(settings)) => serve(&rt, settings),
+        Ok(Invocation::Help(text)) => match print!(rt; "{text}") {
             Ok(()) => ExitCode::SUCCESS,
             Err(_) => ExitCode::from(NOT_WRITTEN),
         },
@@ -32,7 +32,7 @@ fn main(rt: HostRuntime) -> ExitCode {
 }
 
 // What the program's arguments ask for. One that isn't UTF-8 is bad.
-fn request<R: Env + AllocGlobal>(rt: &R) -> Result<Asked, ArgFault>
+fn request<R: Env + AllocGlobal>(rt: &R) -> Result<Invocation, ArgFault>
     ensures { HasHistory result }
 {
     let words: Vec<String> = match env::args(rt) {

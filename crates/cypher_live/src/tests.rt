@@ -1,5 +1,5 @@
 use crate::request;
-use cy_shell::{ArgFault, Asked, Settings};
+use cy_shell::{ArgFault, Invocation, Settings};
 use std::alloc::Global;
 use std::env::{Env, FillError};
 
@@ -34,7 +34,7 @@ const NO_TEXTS: [&[&[u8]]; 2] = [
     &[b"cypher_live", b"--feed", b"--history=5\xC3"],
 ];
 
-fn requested(alloc: Global, words: &'static [&'static [u8]]) -> Result<Asked, ArgFault> {
+fn requested(alloc: Global, words: &'static [&'static [u8]]) -> Result<Invocation, ArgFault> {
     request(&(Arguments(words), alloc))
 }
 
@@ -43,7 +43,7 @@ fn reads_the_arguments_of_the_system(rt: HostRuntime) {
     let asked = requested(rt.alloc(), &[b"cypher_live", b"--history=5", b"--feed"]);
     let is_run = matches!(
         asked,
-        Ok(Asked::Run(Settings {
+        Ok(Invocation::Run(Settings {
             history: 5,
             feed: true
         }))

@@ -10,10 +10,10 @@ use Rattle.cy_trees.specs.declared.expressions.Variable.{Variable}
 use Rattle.cy_trees.specs.declared.clauses.Direction.{Direction}
 use Rattle.cy_trees.specs.declared.clauses.Direction.TheVariants as direction
 use Rattle.cy_trees.specs.declared.clauses.Length.{Length}
-use Rattle.cy_grammar.specs.declared.stages.Opening.{Opening}
-use Rattle.cy_grammar.specs.declared.stages.Opening.TheVariants as opening
-use Rattle.cy_grammar.specs.declared.stages.Stage.{Stage}
-use Rattle.cy_grammar.specs.declared.stages.Stage.TheVariants as stage
+use Rattle.cy_grammar.specs.declared.phases.Opening.{Opening}
+use Rattle.cy_grammar.specs.declared.phases.Opening.TheVariants as opening
+use Rattle.cy_grammar.specs.declared.phases.ClausePhase.{ClausePhase}
+use Rattle.cy_grammar.specs.declared.phases.ClausePhase.TheVariants as phase
 use Rattle.cy_trees.specs.Trees.{Name, Expression, MapEntry, NodePattern, RelationshipPattern, Step, Path, Item, Key, Projection, SetItem, set_property, set_labels, RemoveItem, remove_property, remove_labels, Clause, «match», unwind, «with», «return», create, set, remove, delete, Statement}
 use Rattle.cy_lexer.specs.Numbers.{greatest_number}
 use Rattle.cy_grammar.specs.SpellsClauses.{greatest_bound, direction_of, column_name}
@@ -104,38 +104,38 @@ opening_of (kind.Keyword word.Detach) = Some opening.Detach
 opening_of _ = None
 
 -- the clauses that may follow, by the clauses before
-abbrev pub allows : Stage → Opening → Bool
-allows stage.Reading o = true
-allows stage.Updating opening.Match = false
-allows stage.Updating opening.Optional = false
-allows stage.Updating opening.Unwind = false
-allows stage.Updating o = true
-allows stage.Ended o = false
+abbrev pub allows : ClausePhase → Opening → Bool
+allows phase.Reading o = true
+allows phase.Updating opening.Match = false
+allows phase.Updating opening.Optional = false
+allows phase.Updating opening.Unwind = false
+allows phase.Updating o = true
+allows phase.Ended o = false
 
-abbrev pub stage_after : Opening → Stage
-stage_after opening.Match = stage.Reading
-stage_after opening.Optional = stage.Reading
-stage_after opening.Unwind = stage.Reading
-stage_after opening.With = stage.Reading
-stage_after opening.Return = stage.Ended
-stage_after opening.Create = stage.Updating
-stage_after opening.Set = stage.Updating
-stage_after opening.Remove = stage.Updating
-stage_after opening.Delete = stage.Ended
-stage_after opening.Detach = stage.Ended
+abbrev pub phase_after : Opening → ClausePhase
+phase_after opening.Match = phase.Reading
+phase_after opening.Optional = phase.Reading
+phase_after opening.Unwind = phase.Reading
+phase_after opening.With = phase.Reading
+phase_after opening.Return = phase.Ended
+phase_after opening.Create = phase.Updating
+phase_after opening.Set = phase.Updating
+phase_after opening.Remove = phase.Updating
+phase_after opening.Delete = phase.Ended
+phase_after opening.Detach = phase.Ended
 
 -- a statement may end after these clauses
-abbrev pub may_end : Stage → Bool
-may_end stage.Reading = false
-may_end stage.Updating = true
-may_end stage.Ended = true
+abbrev pub may_end : ClausePhase → Bool
+may_end phase.Reading = false
+may_end phase.Updating = true
+may_end phase.Ended = true
 
 -- the end of the tokens, which a `;` may stand before
 abbrev pub nothing_left : Reader (Unit {0})
 nothing_left [] = Some (tt, [])
 nothing_left (t ∷ ts) = None
 
-unfoldable pub end_read : Stage → Reader (Unit {0})
+unfoldable pub end_read : ClausePhase → Reader (Unit {0})
 end_read s = if may_end s then (eat_symbol sign.Semicolon >> nothing_left) else refuse
 
 -- whether a key's order falls
@@ -380,20 +380,20 @@ module _ (line : List ℕ) where
   clause_by opening.Detach = expect_keyword word.Delete >> delete_read true
 
   -- the clause that the next token begins, if it may stand here
-  unfoldable pub clause_in : Stage → Opening → Reader Clause
+  unfoldable pub clause_in : ClausePhase → Opening → Reader Clause
   clause_in s o = if allows s o then skip >> clause_by o else refuse
 
-  unfoldable pub clauses_from : ℕ → Stage → List Clause → Reader (List Clause)
+  unfoldable pub clauses_from : ℕ → ClausePhase → List Clause → Reader (List Clause)
   clauses_from zero s found = end_read s >> pure found
   clauses_from (suc n) s found = do
     next ← peek
     elim (at_kind opening_of next) [
       | None ↦ end_read s >> pure found
-      | Some o ↦ clause_in s o >>= (λ c. clauses_from n (stage_after o) (found ++ c ∷ []))
+      | Some o ↦ clause_in s o >>= (λ c. clauses_from n (phase_after o) (found ++ c ∷ []))
     ]
 
   unfoldable pub clauses : Reader (List Clause)
-  clauses = λ ts. clauses_from (length ts) stage.Reading [] ts
+  clauses = λ ts. clauses_from (length ts) phase.Reading [] ts
 
   unfoldable pub statement : Reader Statement
   statement = (λ cs. record { clauses = cs }) <$> clauses

@@ -8,7 +8,7 @@ use Rattle.cy_trees.specs.Trees.{Name, Expression, null, boolean, integer, text,
 use Rattle.cy_trees.specs.Depth.{depth, greatest_depth}
 use Rattle.cy_grammar.specs.Words.{lowered}
 use Rattle.cy_lexer.specs.Numbers.{greatest_number}
-use Rattle.cy_grammar.specs.SpellsClauses.{greatest_bound, Stage, may_follow, may_end, stage_after, reading}
+use Rattle.cy_grammar.specs.SpellsClauses.{greatest_bound, ClausePhase, may_follow, may_end, phase_after, reading}
 
 -- the bytes of characters, and of one at least
 abbrev pub IsText : Name → Type 0
@@ -134,9 +134,9 @@ ClauseIsWellFormed (remove items) = Several RemoveItemIsWellFormed items
 ClauseIsWellFormed (delete detach variables) = Several IsVariable variables
 
 -- clauses in an order that is allowed
-abbrev pub ClausesAreWellFormed : Stage → List Clause → Type 0
+abbrev pub ClausesAreWellFormed : ClausePhase → List Clause → Type 0
 ClausesAreWellFormed s [] = IsTrue (may_end s)
-ClausesAreWellFormed s (c ∷ cs) = IsTrue (may_follow s c) × ClauseIsWellFormed c × ClausesAreWellFormed (stage_after c) cs
+ClausesAreWellFormed s (c ∷ cs) = IsTrue (may_follow s c) × ClauseIsWellFormed c × ClausesAreWellFormed (phase_after c) cs
 
 abbrev pub StatementIsWellFormed : Statement → Type 0
 StatementIsWellFormed s = ClausesAreWellFormed reading s.clauses

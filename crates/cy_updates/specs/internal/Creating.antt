@@ -1,4 +1,4 @@
--- What the code holds while it carries a CREATE out on a row.
+-- What the code holds while it executes a CREATE on a row.
 use Rattle.std.specs.Prelude.{ℕ, List, ◌++◌, Option, IsSome, IfSome, Result, Ok}
 use Rattle.std.specs.List.{AllByRecursion}
 use Rattle.std.specs.Option.{option_and_then}

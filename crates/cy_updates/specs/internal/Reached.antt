@@ -1,4 +1,4 @@
--- How far the clauses of a statement have been carried out.
+-- How far the clauses of a statement have been executed.
 use Rattle.std.specs.Prelude.{◌≡◌, ◌⊎◌, ℕ, ◌+◌, ◌≤◌, ◌∷◌, List, length, map, None, IsTrue, Result, Ok, Err, MatchResult}
 use Rattle.std.specs.List.{AllByRecursion}
 use Rattle.cy_values.specs.declared.rows.Cell.{Cell}

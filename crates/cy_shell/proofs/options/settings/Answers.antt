@@ -6,7 +6,7 @@ use Rattle.clap.proofs.WalkLemmas.{one_text-rows}
 use Rattle.clap.specs.Words.{IsAmong, found_of, one_of, one_text}
 use Rattle.clap.specs.declared.error.ErrorKind.TheVariants.{DisplayHelp}
 use Rattle.cy_shell.specs.Options.{found, objections}
-use Rattle.cy_shell.specs.declared.options.Asked.TheVariants.{Run, Help}
+use Rattle.cy_shell.specs.declared.options.Invocation.TheVariants.{Run, Help}
 use Rattle.cy_shell.proofs.HistoryOption.{history_read, plain_asked}
 use Rattle.cy_shell.proofs.options.settings.Goals as goal
 

@@ -11,7 +11,7 @@ use Rattle.cy_engine.specs.internal.Network.{AllStand}
 use Rattle.cy_engine.specs.internal.Representation.{views_in}
 use Rattle.cy_engine.specs.internal.Stages.{HasEffect}
 use Rattle.cy_engine.proofs.StatementEnds.{at_some, some_at, late_or_wants, ended_rest, ended_state, rolled_rest, rolled_state}
-use Rattle.cy_engine.proofs.Steps.{carry_refused, no_statement, statement_done, statement_refused}
+use Rattle.cy_engine.proofs.Steps.{execution_refused, no_statement, statement_done, statement_refused}
 use Rattle.cy_engine.proofs.engine.Engine.answer_statement.Goals as goal
 use Rattle.cy_engine.proofs.engine.Engine.answer_statement.Goals.{In_ok-outcome}
 
@@ -43,7 +43,7 @@ returns-in_err-outcome c =
     let old = c.self.inside in
     rw (p.1, p.2, ← c.self.view_is) (statement_refused c.args.line.now c.args.tokens.now (state_of (machine_of old.store old.views.entries old.tick old.history old.entries)) c.args.entries.now
     (state_of (machine_of c.execute.new.store old.views.entries old.tick old.history old.entries)) c.requires.none (ap (λ (s : StoreState). state_of (machine_of s old.views.entries old.tick old.history old.entries)) c.in_err-outcome.ensures.rolled_back)
-    (statement_of c.in_ok-checked.checked) _ c.in_ok-checked.ensures (carry_refused (statement_of c.in_ok-checked.checked) old.store.graph.now old.tick c.in_err-outcome.field-0.0 c.in_err-outcome.ensures.fault))
+    (statement_of c.in_ok-checked.checked) _ c.in_ok-checked.ensures (execution_refused (statement_of c.in_ok-checked.checked) old.store.graph.now old.tick c.in_err-outcome.field-0.0 c.in_err-outcome.ensures.fault))
 
 pub returns-in-Ok : goal.returns-in-Ok
 returns-in-Ok c =

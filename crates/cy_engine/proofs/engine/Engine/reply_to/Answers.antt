@@ -27,7 +27,7 @@ returns-in-Nothing c =
     let made : tokens_of c.args.line.now ≡ Ok c.as_slice.result.now = c.in_ok-tokens.ensures.tokens ∙ ap Ok (sym c.as_slice.ensures.value) in
     let asks : request c.args.line.now c.as_slice.result.now ≡ Nothing = c.in_ok-read_request.ensures ∙ ap shown c.in-Nothing.is in
     line_step c.args.line.now (state_of c.args.self.now) c.args.entries.now _ _ c.as_slice.result.now Nothing made (λ long. no_error _ _ (c.in_ok-tokens.ensures.long long)) asks
-    (inr (record { answered = refl; no_entries = c.requires.none; left = refl }))
+    (inr (record { answered = refl; no_entries = c.requires.none; state = refl }))
 
 pub returns-in-Statement : goal.returns-in-Statement
 returns-in-Statement c =

@@ -1,5 +1,5 @@
 use Rattle.std.proofs.Common.{IsNone}
-use Rattle.cy_statements.proofs.updates.carried_out.Given as goal
+use Rattle.cy_statements.proofs.updates.executed.Given as goal
 
 -- no change is open between statements
 abbrev pub invariant-loop-line : goal.invariant-loop-line

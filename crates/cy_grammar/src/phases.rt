@@ -19,7 +19,7 @@ pub enum Opening {
 
 /// What may follow the clauses before (openCypher 9, grammar of queries, narrowed to this profile).
 #[derive(Clone, Copy)]
-pub enum Stage {
+pub enum ClausePhase {
     /// Reading clauses, or none, since the beginning or the last WITH: any clause, but no end.
     Reading,
     /// Updating clauses: more of them, WITH, RETURN, or the end.

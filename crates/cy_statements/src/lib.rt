@@ -4,6 +4,8 @@
 #[cfg(test)]
 mod cells;
 #[cfg(test)]
+mod clauses;
+#[cfg(test)]
 mod expressions;
 #[cfg(test)]
 mod readings;

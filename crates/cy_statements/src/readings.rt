@@ -1,6 +1,12 @@
 //! Queries that read no graph, and the rows that they give.
 
+ghost use Rattle.std.specs.Prelude.{◌≡◌, false};
+ghost use Rattle.std.specs.List.{list_any};
+ghost use Rattle.cy_trees.specs.Views.{statement_of};
+ghost use Rattle.cy_scope.specs.Views.{is_update};
+
 use crate::cells::add_cell;
+use cy_expr::EvalFault;
 use cy_index::Store;
 use cy_lexer::lex;
 use cy_oneshot::{Table, answer};
@@ -99,13 +105,23 @@ pub(crate) fn query_of(alloc: Global, line: &str) -> Result<Checked, Fail> {
     Ok(check(alloc, statement)?)
 }
 
+// What a query answers. Where it is refused memory, it is asked for once more.
+fn answer_of(alloc: Global, store: &Store, query: &Checked) -> Result<Table, EvalFault>
+    requires { list_any is_update (statement_of query.now).clauses ≡ false }
+{
+    match answer(alloc, store, query) {
+        Err(EvalFault::NoMemory) => answer(alloc, store, query),
+        outcome => outcome,
+    }
+}
+
 // The rows of a query on a graph, with its columns, or the number of its fault.
 pub(crate) fn answered(alloc: Global, store: &Store, line: &str) -> Result<String, Fail> {
     let query = query_of(alloc, line)?;
     if has_update(&query.statement().clauses) {
         return Err(Fail::from("no query"));
     }
-    match answer(alloc, store, &query) {
+    match answer_of(alloc, store, &query) {
         Ok(table) => Ok(table_text(alloc, &table)?),
         Err(fault) => {
             let code = fault.code();

@@ -1,12 +1,13 @@
 //! Statements that update a graph, what each answers, and the graph that it leaves.
 
-ghost use Rattle.std.specs.Prelude.{◌≤◌, IsNone, IfOk};
+ghost use Rattle.std.specs.Prelude.{◌≤◌, IsNone, IsSome, IfOk, OnErr, OnOk};
 ghost use Rattle.cy_graph.specs.Graph.{number_end};
 
 use crate::readings::{query_of, table_text};
 use cy_graph::{Labels, Node, Props, Rel};
 use cy_index::Store;
-use cy_updates::{StatementAnswer, execute};
+use cy_scope::Checked;
+use cy_updates::{StatementAnswer, UpdateFault, execute};
 use cy_values::{NodeId, RelId, Scalar, Value};
 use std::alloc::{AllocError, Global};
 use std::fmt::Write;
@@ -172,13 +173,29 @@ fn outcome_text(alloc: Global, outcome: &StatementAnswer) -> Result<String, Allo
     format!(in alloc; "{made_nodes},{gone_nodes},{made_rels},{gone_rels}{blank}{table}")
 }
 
+// Executes a statement, and again where it is refused memory, on the store that is then as it was.
+fn execute_again(
+    alloc: Global,
+    store: &mut Store,
+    statement: &Checked,
+) -> Result<StatementAnswer, UpdateFault>
+    requires { IsNone store.old.graph.was }
+    ensures done { OnOk result (IsSome store.new.graph.was) }
+    ensures refused { OnErr result (IsNone store.new.graph.was) }
+{
+    match execute(alloc, store, statement) {
+        Err(UpdateFault::NoMemory) => execute(alloc, store, statement),
+        outcome => outcome,
+    }
+}
+
 // Executes a statement, and says what it answers.
 pub(crate) fn updated(alloc: Global, store: &mut Store, line: &str) -> Result<String, Fail>
     requires { IsNone store.old.graph.was }
     ensures { IfOk result (λ _. IsNone store.new.graph.was) }
 {
     let statement = query_of(alloc, line)?;
-    match execute(alloc, store, &statement) {
+    match execute_again(alloc, store, &statement) {
         Ok(outcome) => {
             store.commit();
             Ok(outcome_text(alloc, &outcome)?)

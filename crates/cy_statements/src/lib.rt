@@ -1,12 +1,8 @@
-//! Expressions, queries and statements, executed on stores. There is nothing here but tests.
+//! Queries and statements, executed on stores. There is nothing here but tests.
 #![tactic(auto)]
 
 #[cfg(test)]
-mod cells;
-#[cfg(test)]
 mod clauses;
-#[cfg(test)]
-mod expressions;
 #[cfg(test)]
 mod readings;
 #[cfg(test)]

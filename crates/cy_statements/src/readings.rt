@@ -5,7 +5,7 @@ ghost use Rattle.std.specs.List.{list_any};
 ghost use Rattle.cy_trees.specs.Views.{statement_of};
 ghost use Rattle.cy_scope.specs.Views.{is_update};
 
-use crate::cells::add_cell;
+use cy_evaluations::add_cell;
 use cy_expr::EvalFault;
 use cy_index::Store;
 use cy_lexer::lex;

@@ -43,7 +43,7 @@ fn add_rels(text: &mut String, ids: &[RelId]) -> Result<(), AllocError> {
 }
 
 /// Adds a cell.
-pub(crate) fn add_cell(text: &mut String, cell: &Cell) -> Result<(), AllocError> {
+pub fn add_cell(text: &mut String, cell: &Cell) -> Result<(), AllocError> {
     match cell {
         Cell::Node(id) => {
             let id = id.0;

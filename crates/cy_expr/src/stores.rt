@@ -44,7 +44,7 @@ impl Lookups for Store {
 }
 
 // The labels of a node, as the elements of a list.
-#[tactic(auto, using(crate::proofs::LabelNames::names_rise))]
+#[tactic(auto, using(crate::proofs::LabelNames::labels_rise))]
 fn labels_of(alloc: Global, node: &Node) -> Result<Vec<Scalar>, Fault>
     ensures rising { IsTrue (names_rise (map (λ l. l.0) node.now.labels)) }
     ensures all { IfOk result (λ labels. labels.items ≡ map (λ l. scalar.Text l) (map (λ l. l.0) node.now.labels)) }

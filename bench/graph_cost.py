@@ -96,6 +96,9 @@ def costs(program, size):
     with Session(program) as session:
         session.give(graph(size))
         yield "SET of all nodes, a node", session.count([statement("MATCH (n:A) SET n.k = -2")]) / size, True
+        session.give([index("j")])
+        changed = [statement("MATCH (n:A) SET n.j = 1")]
+        yield "SET of a value that all nodes have, with an index, a node", session.count(changed) / size, True
         delete = [statement("MATCH (n:A) DETACH DELETE n", gone=size, rels_gone=5 * size // 2)]
         yield "DETACH DELETE of all nodes, a node", session.count(delete) / size, True
 

@@ -11,8 +11,8 @@ use Rattle.cy_expr.specs.declared.faults.EvalFault.{EvalFault}
 use Rattle.cy_expr.specs.Faults.{on_one}
 use Rattle.cy_patterns.specs.Matching.{fitting, map_values, matched, selected}
 use Rattle.cy_patterns.specs.Outcomes.{joined, together}
-use Rattle.cy_matching.proofs.Each.{each_append}
-use Rattle.cy_matching.proofs.Together.{all_kept}
+use Rattle.cy_queries.proofs.Each.{each_append}
+use Rattle.cy_queries.proofs.Together.{all_kept}
 use Rattle.cy_plans.specs.Expressions.{is_true}
 use Rattle.cy_row_plans.specs.Rows.{condition_on, keeps}
 

@@ -15,9 +15,9 @@ use Rattle.cy_expr.specs.Evaluation.{cell_of}
 use Rattle.cy_expr.specs.Faults.{on_one}
 use Rattle.cy_expr.specs.Graphs.{lookups}
 use Rattle.cy_patterns.specs.Outcomes.{gathered, together}
-use Rattle.cy_matching.specs.Order.{Keyed, each_once, in_order, keyed_order}
-use Rattle.cy_oneshot.specs.Groups as groups
-use Rattle.cy_oneshot.specs.Projection.{Projected, cut, distinct_rows, item_rows, keyed, project, projected, projection_rows, with_columns_alone}
+use Rattle.cy_queries.specs.Order.{Keyed, each_once, in_order, keyed_order}
+use Rattle.cy_queries.specs.Groups as groups
+use Rattle.cy_queries.specs.Projection.{Projected, cut, distinct_rows, item_rows, keyed, project, projected, projection_rows, with_columns_alone}
 use Rattle.cy_plans.specs.Expressions.{cell_or_null}
 use Rattle.cy_row_plans.specs.Rows.{cells_on}
 use Rattle.cy_clause_plans.specs.Projections.{IsPlain, expressions_in}

@@ -16,8 +16,8 @@ use Rattle.cy_expr.specs.declared.faults.EvalFault.{EvalFault}
 use Rattle.cy_expr.specs.Evaluation.{cell_of}
 use Rattle.cy_expr.specs.Graphs.{lookups}
 use Rattle.cy_patterns.specs.Outcomes.{IsSameOutcome}
-use Rattle.cy_matching.specs.Order.{Keyed, each_once, in_order, keyed_order}
-use Rattle.cy_oneshot.specs.Projection.{projection_rows}
+use Rattle.cy_queries.specs.Order.{Keyed, each_once, in_order, keyed_order}
+use Rattle.cy_queries.specs.Projection.{projection_rows}
 use Rattle.cy_plans.specs.Plans as plan
 use Rattle.cy_plans.specs.Plans.{Plan, width}
 use Rattle.cy_plans.specs.Meaning.{rows_of}

@@ -14,11 +14,11 @@ use Rattle.cy_expr.specs.declared.faults.EvalFault.{EvalFault}
 use Rattle.cy_expr.specs.Faults.{on_one}
 use Rattle.cy_patterns.specs.Matching.{selected}
 use Rattle.cy_patterns.specs.Outcomes.{IsSameOutcome, joined}
-use Rattle.cy_matching.proofs.BagLemmas.{permuted_bag}
-use Rattle.cy_matching.proofs.Together.{all_kept}
-use Rattle.cy_oneshot.proofs.SeenRows.{each_permuted}
-use Rattle.cy_oneshot.specs.Projection.{projection_rows}
-use Rattle.cy_oneshot.specs.Queries.{rows_after}
+use Rattle.cy_queries.proofs.BagLemmas.{permuted_bag}
+use Rattle.cy_queries.proofs.Together.{all_kept}
+use Rattle.cy_queries.proofs.SeenRows.{each_permuted}
+use Rattle.cy_queries.specs.Projection.{projection_rows}
+use Rattle.cy_queries.specs.Queries.{rows_after}
 use Rattle.cy_plans.specs.Plans.{Plan}
 use Rattle.cy_plans.specs.Meaning.{rows_of}
 use Rattle.cy_plans.specs.Parts.{parts}

@@ -8,8 +8,8 @@ ghost use Rattle.cy_row_plans.specs.Rows.{AreReadOver};
 ghost use Rattle.cy_clause_plans.specs.Matched.{IsTestKinded};
 ghost use Rattle.cy_clause_plans.specs.Projections as spec;
 
-use cy_oneshot::laws::distinct_and_order;
 use cy_plans::Plan;
+use cy_queries::laws::distinct_and_order;
 use cy_row_plans::{filter_where, project_items};
 use cy_trees::{Expr, Projection};
 use cy_values::{Fault, row_order_laws};

@@ -10,7 +10,7 @@ use Rattle.cy_graph.specs.Graph.{Content, State}
 use Rattle.cy_expr.specs.declared.faults.EvalFault.{EvalFault}
 use Rattle.cy_trees.specs.Trees.{Statement}
 use Rattle.cy_scope.specs.Checked.{IsViewQuery}
-use Rattle.cy_oneshot.specs.Queries.{query_columns, query_rows}
+use Rattle.cy_queries.specs.Queries.{query_columns, query_rows}
 use Rattle.cy_bags.specs.declared.changes.Entry.{Entry}
 use Rattle.cy_feeds.specs.Feeds.{History, new_history}
 use Rattle.cy_engine.specs.declared.replies.Reply.TheVariants as reply

@@ -9,7 +9,7 @@ use Rattle.cy_kinds.specs.declared.faults.ViewFault.{ViewFault}
 use Rattle.cy_scope.specs.Resolved.{resolved_statement}
 use Rattle.cy_scope.specs.Views.{view_fault}
 use Rattle.cy_index.specs.declared.keys.Pair.{Pair}
-use Rattle.cy_oneshot.specs.Queries.{query_columns}
+use Rattle.cy_queries.specs.Queries.{query_columns}
 use Rattle.cy_feeds.specs.declared.feeds.Answer as feeds
 use Rattle.cy_feeds.specs.declared.feeds.Answer.TheVariants.{Entries as Since, Lagged}
 use Rattle.cy_feeds.specs.Feeds.{answer_since, new_history}

@@ -17,7 +17,7 @@ use Rattle.cy_scope.specs.ClauseFaults.{statement_fault}
 use Rattle.cy_scope.specs.Resolved.{resolved_statement}
 use Rattle.cy_kinds.specs.declared.faults.ViewFault.TheVariants.{AggregateInView, MayFail, NotAReading, OrderInView, Unbounded}
 use Rattle.cy_scope.specs.Views.{are_sure_clauses, ends_with_return, has_aggregate, is_ordered, is_return, is_unbounded, is_update, view_fault}
-use Rattle.cy_oneshot.specs.Queries.{columns_after, columns_after_all}
+use Rattle.cy_queries.specs.Queries.{columns_after, columns_after_all}
 use Rattle.cy_feeds.specs.Feeds.{new_history}
 use Rattle.cy_updates.specs.Faults.{◌>>=◌}
 use Rattle.cy_engine.specs.declared.faults.Fault.{Fault}

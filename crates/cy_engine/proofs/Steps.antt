@@ -7,7 +7,7 @@ use Rattle.cy_graph.specs.Graph.{State}
 use Rattle.cy_index.specs.Index.{StoreState, has_pair}
 use Rattle.cy_index.specs.declared.faults.IndexFault.{IndexFault}
 use Rattle.cy_index.specs.declared.faults.IndexFault.TheVariants as index
-use Rattle.cy_oneshot.specs.Queries.{query_columns}
+use Rattle.cy_queries.specs.Queries.{query_columns}
 use Rattle.cy_feeds.specs.Feeds.{new_history}
 use Rattle.cy_updates.specs.Faults.{◌>>=◌}
 use Rattle.cy_updates.specs.Statements.{Outcome, statement_outcome}

@@ -7,7 +7,7 @@ use Rattle.cy_trees.specs.Trees.{Statement}
 use Rattle.cy_values.specs.declared.rows.Cell.{Cell}
 use Rattle.cy_graph.specs.Graph.{Content, State, empty_state}
 use Rattle.cy_index.specs.declared.keys.Pair.{Pair}
-use Rattle.cy_oneshot.specs.Queries.{query_rows}
+use Rattle.cy_queries.specs.Queries.{query_rows}
 use Rattle.cy_bags.specs.declared.changes.Entry.{Entry}
 use Rattle.cy_feeds.specs.Feeds.{History}
 

@@ -5,8 +5,8 @@ ghost use Rattle.cy_engine.specs.Headline.{EntriesAreExact, HeadlineHolds};
 ghost use Rattle.cy_engine.specs.Runs.{IsDetermined, RefusedLinesLeaveNoTrace};
 
 use cy_feeds::laws::{feeds_tell, followers_go_on};
-use cy_oneshot::laws::view_queries;
 use cy_parser::trees_and_texts;
+use cy_queries::laws::view_queries;
 use cy_values::row_order_laws;
 
 /// What becomes of a line is determined, but for what is free: want of memory, and the parser's choice among its faults.

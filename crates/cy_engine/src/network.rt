@@ -11,7 +11,7 @@ use crate::faults::Fault;
 use cy_bags::{Change, counted_in_order, difference};
 use cy_index::Store;
 use cy_oneshot::answer;
-use cy_oneshot::laws::view_queries;
+use cy_queries::laws::view_queries;
 use cy_scope::ViewQuery;
 use cy_values::Row;
 use std::alloc::Global;

@@ -2,7 +2,7 @@
 
 ghost use Rattle.std.specs.Prelude.{◌≡◌, ℕ, ◌+◌, [], ◌∷◌, ◌++◌, IfErr, IfOk, IfSome, IsSome, None, OnErr, OnOk, length, map};
 ghost use Rattle.cy_trees.specs.Views.{statement_of};
-ghost use Rattle.cy_oneshot.specs.Queries.{query_columns};
+ghost use Rattle.cy_queries.specs.Queries.{query_columns};
 ghost use Rattle.cy_graph.specs.Graph.{Content};
 ghost use Rattle.cy_feeds.specs.Feeds.{IsReserved};
 ghost use Rattle.cy_engine.specs.Step.{listed};

@@ -12,7 +12,7 @@ use Rattle.cy_trees.specs.Views.{clause_of}
 use Rattle.cy_graph.specs.Graph.{Content}
 use Rattle.cy_expr.specs.declared.faults.EvalFault.{EvalFault}
 use Rattle.cy_patterns.specs.Outcomes.{joined, together}
-use Rattle.cy_matching.specs.Reading.{AreInGraph, IsInGraph}
+use Rattle.cy_queries.specs.Reading.{AreInGraph, IsInGraph}
 use Rattle.cy_columns.specs.Columns.{AgreeOn}
 use Rattle.cy_oneshot.specs.internal.Carried.{AreNeeded, IsEnough, carried, carried_by, carried_from, is_needed}
 

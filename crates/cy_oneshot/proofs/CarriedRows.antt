@@ -16,18 +16,18 @@ use Rattle.cy_expr.specs.declared.faults.EvalFault.{EvalFault}
 use Rattle.cy_expr.specs.Evaluation.{as_cell, cell_of}
 use Rattle.cy_expr.specs.Faults.{on_one}
 use Rattle.cy_expr.specs.Graphs.{lookups}
-use Rattle.cy_matching.specs.Order.{Keyed, each_once}
+use Rattle.cy_queries.specs.Order.{Keyed, each_once}
 use Rattle.cy_patterns.specs.Matching.{selected}
 use Rattle.cy_patterns.specs.Outcomes.{gathered, joined, together}
 use Rattle.cy_columns.specs.Columns.{columns_read}
 use Rattle.cy_columns.proofs.Agreeing.{cell-same}
-use Rattle.cy_oneshot.specs.Groups.{Grouped, aggregate_if, aggregated, and_also, cells_on, group_cells, group_keys, group_rows, grouped, grouping, over_rows, rows_of_group, taken, values_among}
-use Rattle.cy_oneshot.specs.Projection.{Projected, cut, distinct_rows, item_of_key, item_rows, key_cell, keyed, project, projection_rows, with_columns_alone}
-use Rattle.cy_oneshot.specs.Queries.{rows_after_all}
+use Rattle.cy_queries.specs.Groups.{Grouped, aggregate_if, aggregated, and_also, cells_on, group_cells, group_keys, group_rows, grouped, grouping, over_rows, rows_of_group, taken, values_among}
+use Rattle.cy_queries.specs.Projection.{Projected, cut, distinct_rows, item_of_key, item_rows, key_cell, keyed, project, projection_rows, with_columns_alone}
+use Rattle.cy_queries.specs.Queries.{rows_after_all}
 use Rattle.cy_oneshot.specs.internal.Carried.{AreNeeded, IsEnough, IsEnoughFor, carried, carried_from}
-use Rattle.cy_matching.specs.internal.Answers.{on_value}
+use Rattle.cy_queries.specs.internal.Answers.{on_value}
 use Rattle.cy_oneshot.proofs.Carried.{agree_carried, all_carried}
-use Rattle.cy_oneshot.proofs.SeenRows.{gathered_values}
+use Rattle.cy_queries.proofs.SeenRows.{gathered_values}
 
 -- ---- outcomes
 

@@ -1,4 +1,1 @@
-pub mod Groups
-pub mod Projection
-pub mod Queries
 pub mod internal

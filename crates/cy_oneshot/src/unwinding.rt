@@ -9,13 +9,13 @@ ghost use Rattle.cy_patterns.specs.Matching as spec;
 ghost use Rattle.cy_patterns.specs.Outcomes.{joined};
 ghost use Rattle.cy_oneshot.specs.internal.Carried as carrying;
 ghost use Rattle.cy_oneshot.specs.internal.Carried.{carried, carried_from};
-ghost use Rattle.cy_matching.specs.Reading.{AreInGraph};
-ghost use Rattle.cy_matching.specs.internal.Answers.{IsAnswer, IsRowThere};
+ghost use Rattle.cy_queries.specs.Reading.{AreInGraph};
+ghost use Rattle.cy_queries.specs.internal.Answers.{IsAnswer, IsRowThere};
 
 use crate::needed::is_needed;
 use cy_expr::EvalFault;
 use cy_index::Store;
-use cy_matching::{Gathered, value_on};
+use cy_outcomes::{Gathered, value_on};
 use cy_trees::Expr;
 use cy_values::{Cell, Duplicate, Fault, Row, Scalar, Sequence, Value};
 use std::alloc::Global;

@@ -13,10 +13,10 @@ use Rattle.cy_graph.specs.Graph.{Content, State, IsGraph}
 use Rattle.cy_expr.specs.declared.faults.EvalFault.{EvalFault}
 use Rattle.cy_expr.specs.Faults.{on_one}
 use Rattle.cy_patterns.specs.Outcomes.{IsSameOutcome}
-use Rattle.cy_matching.proofs.BagLemmas.{permuted_bag}
-use Rattle.cy_matching.proofs.BagOutcomes.{same_both}
-use Rattle.cy_oneshot.proofs.SeenRows.{each_permuted}
-use Rattle.cy_oneshot.specs.Queries.{query_rows, rows_after, rows_after_all}
+use Rattle.cy_queries.proofs.BagLemmas.{permuted_bag}
+use Rattle.cy_queries.proofs.BagOutcomes.{same_both}
+use Rattle.cy_queries.proofs.SeenRows.{each_permuted}
+use Rattle.cy_queries.specs.Queries.{query_rows, rows_after, rows_after_all}
 use Rattle.cy_plans.specs.Plans as plan
 use Rattle.cy_plans.specs.Plans.{Plan}
 use Rattle.cy_plans.specs.Parts.{parts}

@@ -10,7 +10,7 @@ use Rattle.cy_scope.specs.Checked.{ClausesAreKinded, IsChecked, IsViewQuery}
 use Rattle.cy_scope.specs.ClauseScopes.{scope_after}
 use Rattle.cy_graph.specs.Graph.{Content, State, IsGraph}
 use Rattle.cy_patterns.specs.Outcomes.{IsSameOutcome}
-use Rattle.cy_oneshot.specs.Queries.{query_rows, rows_after}
+use Rattle.cy_queries.specs.Queries.{query_rows, rows_after}
 use Rattle.cy_plans.specs.Plans as plan
 use Rattle.cy_plans.specs.Plans.{Plan}
 use Rattle.cy_plans.specs.WellFormed.{IsWellFormed}

@@ -26,9 +26,9 @@ use Rattle.cy_scope.specs.Views.{are_sure_clauses, ends_with_return, has_aggrega
 use Rattle.cy_scope.proofs.KindedExpressions.{first_none}
 use Rattle.cy_scope.proofs.KindsKept.{paths_kept, scope_kept}
 use Rattle.cy_graph.specs.Graph.{Content}
-use Rattle.cy_oneshot.proofs.ScopeClauses.{clause_fits, projection_fits}
-use Rattle.cy_oneshot.specs.Projection.{projection_rows}
-use Rattle.cy_oneshot.specs.Queries.{rows_after}
+use Rattle.cy_queries.proofs.ScopeClauses.{clause_fits, projection_fits}
+use Rattle.cy_queries.specs.Projection.{projection_rows}
+use Rattle.cy_queries.specs.Queries.{rows_after}
 use Rattle.cy_row_plans.specs.Rows.{IsKinded}
 use Rattle.cy_clause_plans.specs.Matched.{IsTestKinded}
 use Rattle.cy_clause_plans.specs.Projections.{expressions_in}

@@ -4,7 +4,7 @@ use Rattle.std.specs.List.{All}
 use Rattle.cy_trees.specs.Trees.{Statement}
 use Rattle.cy_graph.specs.Graph.{State, IsGraph}
 use Rattle.cy_patterns.specs.Outcomes.{IsSameOutcome}
-use Rattle.cy_oneshot.specs.Queries.{query_rows}
+use Rattle.cy_queries.specs.Queries.{query_rows}
 use Rattle.cy_plans.specs.Plans.{Plan}
 use Rattle.cy_plans.specs.Parts.{parts}
 use Rattle.cy_plans.specs.Meaning.{rows_of}

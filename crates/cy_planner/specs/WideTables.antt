@@ -5,7 +5,7 @@ use Rattle.cy_values.specs.declared.rows.Cell.{Cell}
 use Rattle.cy_trees.specs.Trees.{Clause, «match», «with», «return», Statement}
 use Rattle.cy_graph.specs.Graph.{Content}
 use Rattle.cy_expr.specs.declared.faults.EvalFault.{EvalFault}
-use Rattle.cy_oneshot.specs.Queries.{rows_after}
+use Rattle.cy_queries.specs.Queries.{rows_after}
 
 -- the clause without its own WHERE and DISTINCT
 abbrev pub unselected : Clause → Clause

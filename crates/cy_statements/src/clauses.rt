@@ -2,7 +2,7 @@
 
 ghost use Rattle.std.specs.Prelude.{◌≡◌, IfOk, IfSome, IsNone, length};
 ghost use Rattle.std.specs.List.{AllByRecursion};
-ghost use Rattle.cy_matching.specs.Reading.{AreInGraph};
+ghost use Rattle.cy_queries.specs.Reading.{AreInGraph};
 
 use crate::readings::{query_of, table_text};
 use crate::updates::updated;

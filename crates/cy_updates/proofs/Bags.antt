@@ -11,10 +11,10 @@ use Rattle.cy_graph.specs.Graph.{Content, State}
 use Rattle.cy_expr.specs.declared.faults.EvalFault.{EvalFault}
 use Rattle.cy_values.specs.Bag.{IsSameBag}
 use Rattle.cy_patterns.specs.Outcomes.{IsSameOutcome}
-use Rattle.cy_matching.specs.Order.{in_order}
-use Rattle.cy_oneshot.specs.Queries.{rows_after}
-use Rattle.cy_matching.proofs.BagLemmas.{permuted_bag}
-use Rattle.cy_matching.proofs.InOrder.{AllTied, in_order_tied}
+use Rattle.cy_queries.specs.Order.{in_order}
+use Rattle.cy_queries.specs.Queries.{rows_after}
+use Rattle.cy_queries.proofs.BagLemmas.{permuted_bag}
+use Rattle.cy_queries.proofs.InOrder.{AllTied, in_order_tied}
 use Rattle.cy_updates.specs.declared.faults.UpdateFault.{UpdateFault}
 use Rattle.cy_updates.specs.Bags.{IsSameProgress, IsSameResult}
 use Rattle.cy_updates.specs.Counts.{Counts, counts_between, plus}

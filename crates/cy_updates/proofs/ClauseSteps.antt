@@ -25,12 +25,12 @@ use Rattle.cy_graph.specs.Graph.{Content, State, IsGraph, number_end}
 use Rattle.cy_expr.specs.declared.faults.EvalFault.{EvalFault}
 use Rattle.cy_expr.specs.declared.faults.EvalFault.TheVariants as eval
 use Rattle.cy_patterns.specs.Outcomes.{IsSameOutcome}
-use Rattle.cy_oneshot.specs.Projection.{projection_rows}
-use Rattle.cy_oneshot.specs.Queries.{rows_after}
-use Rattle.cy_matching.proofs.BagLemmas.{permuted_bag}
-use Rattle.cy_oneshot.proofs.QueryLemmas.{last_later}
-use Rattle.cy_oneshot.proofs.ScopePlaces.{same_length}
-use Rattle.cy_oneshot.proofs.SeenRows.{each_permuted}
+use Rattle.cy_queries.specs.Projection.{projection_rows}
+use Rattle.cy_queries.specs.Queries.{rows_after}
+use Rattle.cy_queries.proofs.BagLemmas.{permuted_bag}
+use Rattle.cy_queries.proofs.QueryLemmas.{last_later}
+use Rattle.cy_queries.proofs.ScopePlaces.{same_length}
+use Rattle.cy_queries.proofs.SeenRows.{each_permuted}
 use Rattle.cy_updates.specs.declared.clauses.Updated.{Updated}
 use Rattle.cy_updates.specs.declared.faults.UpdateFault.{UpdateFault}
 use Rattle.cy_updates.specs.declared.faults.UpdateFault.TheVariants.{NoMemory}

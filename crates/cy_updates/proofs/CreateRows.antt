@@ -7,8 +7,8 @@ use Rattle.cy_trees.specs.declared.expressions.BinaryOperator.TheVariants.{Divid
 use Rattle.cy_trees.specs.Trees.{Expression, null, binary, create, more}
 use Rattle.cy_graph.specs.Graph.{State, empty_state}
 use Rattle.cy_expr.specs.declared.faults.EvalFault.TheVariants.{DivisionByZero}
-use Rattle.cy_oneshot.proofs.ExampleGraphs.{A, B, T, bare, node, relationship, empty, loop, three, one_a, a_to_b}
-use Rattle.cy_oneshot.proofs.ExampleTrees.{int, two, var, some_node, node_named, node_with_label, node_with_entry, link, single, path, matching, optional, unwinding, column, returning, node_cell, rel_cell, number_cell, a, b, c, n, r, x, y}
+use Rattle.cy_queries.proofs.ExampleGraphs.{A, B, T, bare, node, relationship, empty, loop, three, one_a, a_to_b}
+use Rattle.cy_queries.proofs.ExampleTrees.{int, two, var, some_node, node_named, node_with_label, node_with_entry, link, single, path, matching, optional, unwinding, column, returning, node_cell, rel_cell, number_cell, a, b, c, n, r, x, y}
 use Rattle.cy_updates.specs.declared.faults.UpdateFault.TheVariants.{Eval, NullEndpoint, NotStorable, Full}
 use Rattle.cy_updates.proofs.ExampleTrees.{whole, outcome_on, counted, leaves, entry, new_node, link_with, list_with_null}
 

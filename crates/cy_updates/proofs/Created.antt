@@ -16,8 +16,8 @@ use Rattle.cy_graph.specs.Graph.{State, IsGraph, node_at, number_end, with_node,
 use Rattle.cy_graph.specs.declared.nodes.Node.{Node}
 use Rattle.cy_graph.specs.declared.nodes.Rel.{Rel}
 use Rattle.cy_patterns.specs.Places.{node, column_at}
-use Rattle.cy_matching.specs.Reading.{AreInGraph, IsInGraph}
-use Rattle.cy_matching.proofs.Each.{each_append}
+use Rattle.cy_queries.specs.Reading.{AreInGraph, IsInGraph}
+use Rattle.cy_queries.proofs.Each.{each_append}
 use Rattle.cy_updates.specs.declared.faults.UpdateFault.{UpdateFault}
 use Rattle.cy_updates.specs.declared.faults.UpdateFault.TheVariants.{Full}
 use Rattle.cy_updates.specs.Creating.{Creation, bound_to, created, ends_of, new_relationship, next_node, next_relationship, node_at_place, node_in_cell, source_of, target_of, type_of, unless_full, with_column, with_new_node, with_node_if, with_node_place, with_path, with_relationship_column, with_step}

@@ -15,8 +15,8 @@ use Rattle.cy_graph.specs.Graph.{State, IsGraph, node_at, number_end, with_node,
 use Rattle.cy_graph.specs.declared.faults.GraphFault.{GraphFault}
 use Rattle.cy_graph.specs.declared.faults.GraphFault.TheVariants as refusal
 use Rattle.cy_graph.specs.declared.nodes.Rel.{Rel}
-use Rattle.cy_matching.specs.Reading.{AreInGraph}
-use Rattle.cy_matching.specs.internal.Answers.{IsRowThere}
+use Rattle.cy_queries.specs.Reading.{AreInGraph}
+use Rattle.cy_queries.specs.internal.Answers.{IsRowThere}
 use Rattle.cy_updates.specs.declared.creating.Made.{Made}
 use Rattle.cy_updates.specs.declared.faults.UpdateFault.{UpdateFault}
 use Rattle.cy_updates.specs.declared.faults.UpdateFault.TheVariants.{Full, NoMemory}

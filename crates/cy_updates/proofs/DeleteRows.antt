@@ -6,8 +6,8 @@ use Rattle.cy_trees.specs.declared.expressions.BinaryOperator.TheVariants.{Divid
 use Rattle.cy_trees.specs.Trees.{binary, Clause, create, delete, «with»}
 use Rattle.cy_graph.specs.Graph.{empty_state}
 use Rattle.cy_expr.specs.declared.faults.EvalFault.TheVariants.{DivisionByZero}
-use Rattle.cy_oneshot.proofs.ExampleGraphs.{A, B, bare, labelled, empty, loop, one_a, a_to_b, to_another_b}
-use Rattle.cy_oneshot.proofs.ExampleTrees.{int, named, some_node, node_named, node_with_label, link, single, path, matching, optional, column, projection, returning, node_cell, a, b, c, n, r, x}
+use Rattle.cy_queries.proofs.ExampleGraphs.{A, B, bare, labelled, empty, loop, one_a, a_to_b, to_another_b}
+use Rattle.cy_queries.proofs.ExampleTrees.{int, named, some_node, node_named, node_with_label, link, single, path, matching, optional, column, projection, returning, node_cell, a, b, c, n, r, x}
 use Rattle.cy_updates.specs.declared.faults.UpdateFault.TheVariants.{Eval, StillConnected}
 use Rattle.cy_updates.proofs.ExampleTrees.{whole, outcome_on, counted, leaves, entry, new_node}
 

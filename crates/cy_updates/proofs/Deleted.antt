@@ -16,7 +16,7 @@ use Rattle.cy_graph.specs.Maps.{rises}
 use Rattle.cy_graph.specs.Stored.{IsStorable}
 use Rattle.cy_graph.specs.declared.nodes.Node.{Node}
 use Rattle.cy_graph.specs.declared.nodes.Rel.{Rel}
-use Rattle.cy_matching.proofs.Each.{each_filter}
+use Rattle.cy_queries.proofs.Each.{each_filter}
 use Rattle.cy_updates.specs.Deleting.{deleted, is_going, is_left_over, is_node_of, lies_at, named, unless_left_over, without_set}
 use Rattle.cy_updates.proofs.Entries.{sorted_filter}
 use Rattle.cy_updates.proofs.Graphs.{node_number, rel_number}

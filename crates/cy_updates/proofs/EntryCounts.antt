@@ -9,7 +9,7 @@ use Rattle.std.proofs.lemmas.Bool.Decides.{nat_tests}
 use Rattle.std.proofs.lemmas.List.{length-append, length-map}
 use Rattle.std.proofs.lemmas.List.Elements.{filter-append}
 use Rattle.std.proofs.lemmas.List.Filters.{length-filter_both}
-use Rattle.cy_matching.proofs.Each.{each_filter}
+use Rattle.cy_queries.proofs.Each.{each_filter}
 use Rattle.cy_updates.proofs.Entries.{all_then, order, found, Sorted, Below, itself, below_filter, found_before, not_less}
 
 some_not_none : {A : Type 0} (o : Option A) → is_some o ≡ true → is_none o ≡ false

@@ -5,7 +5,7 @@ use Rattle.cy_trees.specs.declared.clauses.Direction.{Direction}
 use Rattle.cy_trees.specs.Trees.{Name, Expression, list, null, MapEntry, NodePattern, RelationshipPattern, Clause}
 use Rattle.cy_scope.specs.Resolved.{resolved_statement}
 use Rattle.cy_graph.specs.Graph.{Content, State}
-use Rattle.cy_oneshot.proofs.ExampleTrees.{one, link}
+use Rattle.cy_queries.proofs.ExampleTrees.{one, link}
 use Rattle.cy_updates.specs.declared.faults.UpdateFault.{UpdateFault}
 use Rattle.cy_updates.specs.Counts.{Counts}
 use Rattle.cy_updates.specs.Statements.{Outcome, statement_outcome}

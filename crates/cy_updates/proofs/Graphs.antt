@@ -18,7 +18,7 @@ use Rattle.cy_graph.specs.Stored.{is_storable, IsStorable}
 use Rattle.cy_graph.specs.declared.nodes.Node.{Node}
 use Rattle.cy_graph.specs.declared.nodes.Rel.{Rel}
 use Rattle.cy_graph.proofs.Places.{rises-with_value, rises-without}
-use Rattle.cy_matching.proofs.Each.{each_append}
+use Rattle.cy_queries.proofs.Each.{each_append}
 use Rattle.cy_updates.proofs.Entries.{all_then, change, found_before, keys_revalued, all_revalued, put_changed, put_if, revalued, sorted_push, sorted_revalued}
 use Rattle.cy_updates.proofs.StoredValues.{AreProperties, set_properties}
 

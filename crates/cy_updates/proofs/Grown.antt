@@ -10,8 +10,8 @@ use Rattle.cy_values.specs.declared.rows.Cell.TheVariants as cell
 use Rattle.cy_graph.specs.Graph.{Content, State, node_at, node_order, rel_at, rel_order, with_node, with_rel}
 use Rattle.cy_graph.specs.declared.nodes.Node.{Node}
 use Rattle.cy_graph.specs.declared.nodes.Rel.{Rel}
-use Rattle.cy_matching.specs.Reading.{AreInGraph, IsInGraph}
-use Rattle.cy_matching.proofs.Each.{each_append}
+use Rattle.cy_queries.specs.Reading.{AreInGraph, IsInGraph}
+use Rattle.cy_queries.proofs.Each.{each_append}
 use Rattle.cy_updates.proofs.Entries.{all_then, found_before}
 use Rattle.cy_updates.proofs.Graphs.{node_number, rel_number}
 

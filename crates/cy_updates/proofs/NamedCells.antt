@@ -10,8 +10,8 @@ use Rattle.cy_values.specs.declared.rows.Cell.TheVariants as cell
 use Rattle.cy_trees.specs.declared.expressions.Variable.{Variable}
 use Rattle.cy_graph.specs.Graph.{State, IsThere}
 use Rattle.cy_expr.specs.Evaluation.{column_value}
-use Rattle.cy_matching.specs.Reading.{IsInGraph}
-use Rattle.cy_matching.specs.internal.Answers.{IsRowThere}
+use Rattle.cy_queries.specs.Reading.{IsInGraph}
+use Rattle.cy_queries.specs.internal.Answers.{IsRowThere}
 use Rattle.cy_updates.specs.Values.{entity_in, named_by}
 
 named_at : (row : List Cell) (i : ℕ) → entity_in (slice_index_or row i (cell.Value value.Null)) ≡ option_and_then entity_in (slice_get row i)

@@ -17,13 +17,13 @@ use Rattle.cy_scope.specs.Views.{ends_with_return, is_return, is_update}
 use Rattle.cy_graph.specs.Graph.{Content, State, IsGraph}
 use Rattle.cy_expr.specs.declared.faults.EvalFault.{EvalFault}
 use Rattle.cy_oneshot.specs.declared.table.Table.{Table}
-use Rattle.cy_oneshot.specs.Projection.{projection_rows}
-use Rattle.cy_oneshot.specs.Queries.{columns_after, columns_after_all, rows_after}
-use Rattle.cy_matching.specs.Reading.{AreInGraph, IsInGraph}
-use Rattle.cy_oneshot.proofs.InGraphClauses.{clause_there}
-use Rattle.cy_oneshot.proofs.QueryLemmas.{last_later}
-use Rattle.cy_oneshot.proofs.ScopeClauses as reading
-use Rattle.cy_oneshot.proofs.ScopeColumns.{clause_columns}
+use Rattle.cy_queries.specs.Projection.{projection_rows}
+use Rattle.cy_queries.specs.Queries.{columns_after, columns_after_all, rows_after}
+use Rattle.cy_queries.specs.Reading.{AreInGraph, IsInGraph}
+use Rattle.cy_queries.proofs.InGraphClauses.{clause_there}
+use Rattle.cy_queries.proofs.QueryLemmas.{last_later}
+use Rattle.cy_queries.proofs.ScopeClauses as reading
+use Rattle.cy_queries.proofs.ScopeColumns.{clause_columns}
 use Rattle.cy_updates.specs.declared.clauses.Updated.{Updated}
 use Rattle.cy_updates.specs.declared.faults.UpdateFault.{UpdateFault}
 use Rattle.cy_updates.specs.Bags.{IsSameProgress, IsSameResult}

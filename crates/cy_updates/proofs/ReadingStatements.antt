@@ -10,7 +10,7 @@ use Rattle.cy_expr.specs.declared.faults.EvalFault.{EvalFault}
 use Rattle.cy_expr.specs.declared.faults.EvalFault.TheVariants as eval
 use Rattle.cy_expr.specs.Faults.{on_one}
 use Rattle.cy_patterns.specs.Outcomes.{IsSameOutcome}
-use Rattle.cy_oneshot.specs.Queries.{query_columns, query_rows, rows_after, rows_after_all}
+use Rattle.cy_queries.specs.Queries.{query_columns, query_rows, rows_after, rows_after_all}
 use Rattle.cy_updates.specs.declared.faults.UpdateFault.{UpdateFault}
 use Rattle.cy_updates.specs.declared.faults.UpdateFault.TheVariants.{NoMemory}
 use Rattle.cy_updates.specs.Counts.{no_counts}

@@ -24,9 +24,9 @@ use Rattle.cy_kinds.specs.Scopes.{Scope, added, find_column, find_kind, is_bound
 use Rattle.cy_scope.specs.Views.{is_update}
 use Rattle.cy_scope.proofs.KindedExpressions.{first_none, unless_none}
 use Rattle.cy_graph.specs.Graph.{State, with_node, with_rel}
-use Rattle.cy_matching.specs.Order.{in_order}
-use Rattle.cy_matching.proofs.Each.{each_append, each_in_order}
-use Rattle.cy_oneshot.proofs.ScopePlaces.{GoesOn, added_on, bound_column, fits_more, new_column, old_column, same_length}
+use Rattle.cy_queries.specs.Order.{in_order}
+use Rattle.cy_queries.proofs.Each.{each_append, each_in_order}
+use Rattle.cy_queries.proofs.ScopePlaces.{GoesOn, added_on, bound_column, fits_more, new_column, old_column, same_length}
 use Rattle.cy_updates.specs.declared.faults.UpdateFault.{UpdateFault}
 use Rattle.cy_updates.specs.Creating.{Creation, bound_to, created, new_relationship, next_node, next_relationship, node_at_place, unless_full, with_column, with_new_node, with_node_if, with_node_place, with_path as with_created_path, with_relationship_column, with_step as with_created_step}
 use Rattle.cy_updates.specs.Deleting.{deleted}

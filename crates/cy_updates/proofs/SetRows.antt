@@ -6,8 +6,8 @@ use Rattle.cy_trees.specs.declared.clauses.Direction.TheVariants.{Right}
 use Rattle.cy_trees.specs.declared.expressions.BinaryOperator.TheVariants.{Add, Divide}
 use Rattle.cy_trees.specs.Trees.{Expression, null, binary, set_property, set_labels, remove_property, remove_labels, create, set, remove}
 use Rattle.cy_expr.specs.declared.faults.EvalFault.TheVariants.{DivisionByZero}
-use Rattle.cy_oneshot.proofs.ExampleGraphs.{A, B, T, node, empty, loop, twice_five, a_to_b, to_another_b}
-use Rattle.cy_oneshot.proofs.ExampleTrees.{int, named, property_of, some_node, node_named, node_with_label, node_with_entry, link, single, path, matching, optional, item, returning, number_cell, a, b, n, r, x, y}
+use Rattle.cy_queries.proofs.ExampleGraphs.{A, B, T, node, empty, loop, twice_five, a_to_b, to_another_b}
+use Rattle.cy_queries.proofs.ExampleTrees.{int, named, property_of, some_node, node_named, node_with_label, node_with_entry, link, single, path, matching, optional, item, returning, number_cell, a, b, n, r, x, y}
 use Rattle.cy_updates.specs.declared.faults.UpdateFault.TheVariants.{Eval, NotStorable}
 use Rattle.cy_updates.specs.Statements.{Outcome}
 use Rattle.cy_updates.proofs.ExampleTrees.{whole, outcome_on, counted, leaves, new_node, list_with_null}

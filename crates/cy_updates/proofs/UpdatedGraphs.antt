@@ -11,10 +11,10 @@ use Rattle.cy_scope.specs.Views.{is_update}
 use Rattle.cy_graph.specs.Graph.{Content, State, IsGraph}
 use Rattle.cy_graph.specs.declared.nodes.Node.{Node}
 use Rattle.cy_graph.specs.declared.nodes.Rel.{Rel}
-use Rattle.cy_matching.specs.Order.{in_order}
-use Rattle.cy_oneshot.specs.Queries.{rows_after}
-use Rattle.cy_matching.specs.Reading.{AreInGraph, IsInGraph}
-use Rattle.cy_matching.proofs.Each.{each_in_order}
+use Rattle.cy_queries.specs.Order.{in_order}
+use Rattle.cy_queries.specs.Queries.{rows_after}
+use Rattle.cy_queries.specs.Reading.{AreInGraph, IsInGraph}
+use Rattle.cy_queries.proofs.Each.{each_in_order}
 use Rattle.cy_expr.specs.declared.faults.EvalFault.{EvalFault}
 use Rattle.cy_updates.specs.Counts.{AgreeWith, Counts, counts_between, plus}
 use Rattle.cy_updates.specs.Faults.{◌>>=◌, each_in_turn, evaluated}

@@ -6,8 +6,8 @@ use Rattle.cy_values.specs.Order.{row_cmp}
 use Rattle.cy_trees.specs.Trees.{Name, SetItem, RemoveItem, Path, Clause, create, set, remove, delete, Statement}
 use Rattle.cy_scope.specs.Views.{is_update, ends_with_return}
 use Rattle.cy_graph.specs.Graph.{State}
-use Rattle.cy_matching.specs.Order.{in_order}
-use Rattle.cy_oneshot.specs.Queries.{rows_after, query_columns, query_rows}
+use Rattle.cy_queries.specs.Order.{in_order}
+use Rattle.cy_queries.specs.Queries.{rows_after, query_columns, query_rows}
 use Rattle.cy_updates.specs.declared.faults.UpdateFault.{UpdateFault}
 use Rattle.cy_updates.specs.Faults.{◌>>=◌, evaluated, each_in_turn}
 use Rattle.cy_updates.specs.Creating.{created}

@@ -3,7 +3,7 @@
 ghost use Rattle.std.specs.Prelude.{◌≡◌, IfErr, IfSome, IsSome, IsTrue, OnOk, Some};
 ghost use Rattle.cy_graph.specs.Graph.{IsThere, node_at, with_node_changed, with_prop};
 ghost use Rattle.cy_graph.specs.Stored.{is_storable};
-ghost use Rattle.cy_matching.specs.internal.Answers.{IsRowThere};
+ghost use Rattle.cy_queries.specs.internal.Answers.{IsRowThere};
 ghost use Rattle.cy_updates.specs.declared.faults.UpdateFault.TheVariants.{NoMemory};
 ghost use Rattle.cy_updates.specs.Setting.{with_labels_changed};
 ghost use Rattle.cy_updates.specs.Values.{named_by};

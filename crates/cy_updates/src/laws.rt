@@ -12,13 +12,13 @@ ghost use Rattle.cy_kinds.specs.Scopes.{Scope};
 ghost use Rattle.cy_scope.specs.Views.{is_update};
 ghost use Rattle.cy_graph.specs.Graph.{State, IsGraph};
 ghost use Rattle.cy_values.specs.Bag.{IsSameBag};
-ghost use Rattle.cy_matching.specs.Reading.{AreInGraph};
+ghost use Rattle.cy_queries.specs.Reading.{AreInGraph};
 ghost use Rattle.cy_updates.specs.Bags.{IsSameProgress, IsSameResult};
 ghost use Rattle.cy_updates.specs.Counts.{AgreeWith, counts_between};
 ghost use Rattle.cy_updates.specs.Faults.{each_in_turn};
 ghost use Rattle.cy_updates.specs.Statements.{Progress, after_clause, query_outcome, statement_outcome, updated};
 
-use cy_oneshot::laws::{clauses_on_bags, rows_in_graph};
+use cy_queries::laws::{clauses_on_bags, rows_in_graph};
 use cy_values::row_order_laws;
 
 /// What a clause leaves, and what several leave one after another, depends on the table as a bag: on one graph and two tables in

@@ -9,7 +9,7 @@ ghost use Rattle.cy_graph.specs.Graph.{set_or_removed};
 ghost use Rattle.cy_graph.specs.Maps.{text_order};
 ghost use Rattle.cy_graph.specs.Stored as graphs;
 ghost use Rattle.cy_graph.specs.Stored.{IsStorable};
-ghost use Rattle.cy_matching.specs.internal.Answers.{IsRowThere};
+ghost use Rattle.cy_queries.specs.internal.Answers.{IsRowThere};
 ghost use Rattle.cy_updates.specs.declared.faults.UpdateFault.TheVariants.{NoMemory};
 ghost use Rattle.cy_updates.specs.Values as spec;
 ghost use Rattle.cy_updates.specs.Values.{settable, unless_null};

@@ -2,8 +2,8 @@
 
 ghost use Rattle.std.specs.Prelude.{◌≡◌, IfErr, IsSome, OnOk, fold, map};
 ghost use Rattle.cy_trees.specs.Views.{remove_item_of};
-ghost use Rattle.cy_matching.specs.Reading.{AreInGraph};
-ghost use Rattle.cy_matching.specs.internal.Answers.{IsRowThere};
+ghost use Rattle.cy_queries.specs.Reading.{AreInGraph};
+ghost use Rattle.cy_queries.specs.internal.Answers.{IsRowThere};
 ghost use Rattle.cy_updates.specs.declared.faults.UpdateFault.TheVariants.{NoMemory};
 ghost use Rattle.cy_updates.specs.Setting.{removed_item, without_property};
 ghost use Rattle.cy_updates.specs.Statements as statements;

@@ -2,8 +2,8 @@
 
 ghost use Rattle.std.specs.Prelude.{◌≡◌, IsSome, map};
 ghost use Rattle.cy_trees.specs.Views.{set_item_of};
-ghost use Rattle.cy_matching.specs.Reading.{AreInGraph};
-ghost use Rattle.cy_matching.specs.internal.Answers.{IsRowThere};
+ghost use Rattle.cy_queries.specs.Reading.{AreInGraph};
+ghost use Rattle.cy_queries.specs.internal.Answers.{IsRowThere};
 ghost use Rattle.cy_updates.specs.Faults.{each_in_turn};
 ghost use Rattle.cy_updates.specs.Setting as spec;
 ghost use Rattle.cy_updates.specs.Setting.{with_property};

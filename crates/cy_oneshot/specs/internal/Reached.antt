@@ -6,8 +6,8 @@ use Rattle.cy_trees.specs.Trees.{Name, Clause, Statement}
 use Rattle.cy_graph.specs.Graph.{Content}
 use Rattle.cy_scope.specs.Views.{ends_with_return, is_update}
 use Rattle.cy_patterns.specs.Outcomes.{IsSameOutcome}
-use Rattle.cy_oneshot.specs.Queries.{columns_after_all, query_columns, query_rows, rows_after_all}
-use Rattle.cy_matching.specs.Reading.{AreInGraph}
+use Rattle.cy_queries.specs.Queries.{columns_after_all, query_columns, query_rows, rows_after_all}
+use Rattle.cy_queries.specs.Reading.{AreInGraph}
 
 -- the table so far, and what the clauses that are left make of it
 pub record IsReached (graph : Content) (query : Statement) (columns : List Name) (rows : List (List Cell)) (clauses : List Clause) : Type 0 where

@@ -6,7 +6,7 @@ use Rattle.cy_kinds.specs.Rows.{row_fits}
 use Rattle.cy_kinds.specs.Scopes.{Scope}
 use Rattle.cy_graph.specs.Graph.{State, IsGraph}
 use Rattle.cy_patterns.specs.Outcomes.{IsSameOutcome}
-use Rattle.cy_oneshot.specs.Queries.{rows_after_all}
+use Rattle.cy_queries.specs.Queries.{rows_after_all}
 use Rattle.cy_plans.specs.Plans.{Plan, width}
 use Rattle.cy_plans.specs.Parts.{parts}
 use Rattle.cy_plans.specs.Meaning.{rows_of}

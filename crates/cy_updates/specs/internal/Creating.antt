@@ -7,7 +7,7 @@ use Rattle.cy_values.specs.declared.rows.Cell.{Cell}
 use Rattle.cy_trees.specs.declared.expressions.Variable.{Variable}
 use Rattle.cy_trees.specs.Trees.{Path}
 use Rattle.cy_graph.specs.Graph.{State, node_at}
-use Rattle.cy_matching.specs.Reading.{IsInGraph}
+use Rattle.cy_queries.specs.Reading.{IsInGraph}
 use Rattle.cy_updates.specs.declared.creating.Made.{Made}
 use Rattle.cy_updates.specs.declared.faults.UpdateFault.{UpdateFault}
 use Rattle.cy_updates.specs.Creating.{Creation, created}

@@ -9,8 +9,8 @@ use Rattle.cy_kinds.specs.Rows.{row_fits}
 use Rattle.cy_kinds.specs.Scopes.{Scope}
 use Rattle.cy_scope.specs.Views.{ends_with_return}
 use Rattle.cy_graph.specs.Graph.{State}
-use Rattle.cy_oneshot.specs.Queries.{columns_after_all, query_columns}
-use Rattle.cy_matching.specs.Reading.{AreInGraph}
+use Rattle.cy_queries.specs.Queries.{columns_after_all, query_columns}
+use Rattle.cy_queries.specs.Reading.{AreInGraph}
 use Rattle.cy_updates.specs.declared.clauses.Updated.{Updated}
 use Rattle.cy_updates.specs.declared.faults.UpdateFault.{UpdateFault}
 use Rattle.cy_updates.specs.declared.faults.UpdateFault.TheVariants.{NoMemory}

@@ -5,7 +5,7 @@ use Rattle.cy_trees.specs.Views.{statement_of}
 use Rattle.cy_values.specs.declared.rows.Cell.{Cell}
 use Rattle.cy_expr.specs.declared.faults.EvalFault.{EvalFault}
 use Rattle.cy_expr.specs.declared.faults.EvalFault.TheVariants as eval
-use Rattle.cy_oneshot.specs.Queries.{query_rows}
+use Rattle.cy_queries.specs.Queries.{query_rows}
 use Rattle.cy_engine.specs.Faults.{of_evaluation}
 use Rattle.cy_engine.specs.declared.faults.Fault.TheVariants as fault
 use Rattle.cy_engine.proofs.network.rows_on.Goals as goal

@@ -4,7 +4,7 @@ use Rattle.cy_trees.specs.declared.clauses.Item as coded_item
 use Rattle.cy_trees.specs.Trees.{Item}
 use Rattle.cy_trees.specs.Views.{clause_of, item_of, projection_of}
 use Rattle.cy_scope.specs.Checked.{IsViewQuery}
-use Rattle.cy_oneshot.specs.Queries.{columns_after_all}
+use Rattle.cy_queries.specs.Queries.{columns_after_all}
 use Rattle.cy_engine.proofs.Queries.{last_returns, returned_columns}
 use Rattle.cy_engine.proofs.views.columns_of.Goals as goal
 

@@ -5,8 +5,8 @@ use Rattle.cy_values.specs.declared.rows.Cell.{Cell}
 use Rattle.cy_trees.specs.Views.{expression_of}
 use Rattle.cy_patterns.specs.Matching.{unwound}
 use Rattle.cy_patterns.specs.Outcomes.{together, joined}
-use Rattle.cy_matching.specs.Reading.{AreInGraph}
-use Rattle.cy_matching.proofs.Together.{answered, finished, goes_on, goes_through, together_first}
+use Rattle.cy_queries.specs.Reading.{AreInGraph}
+use Rattle.cy_queries.proofs.Together.{answered, finished, goes_on, goes_through, together_first}
 use Rattle.cy_oneshot.specs.internal.Carried.{carried}
 use Rattle.cy_oneshot.proofs.Carried.{carried_first}
 use Rattle.cy_oneshot.proofs.unwinding.unwound.Goals as goal

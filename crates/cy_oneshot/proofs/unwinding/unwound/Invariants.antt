@@ -3,7 +3,7 @@ use Rattle.std.specs.Vec.Iter.{into_iter_items}
 use Rattle.cy_trees.specs.Views.{expression_of}
 use Rattle.cy_patterns.specs.Matching.{unwound}
 use Rattle.cy_patterns.specs.Outcomes.{together, joined}
-use Rattle.cy_matching.specs.Reading.{AreInGraph}
+use Rattle.cy_queries.specs.Reading.{AreInGraph}
 use Rattle.cy_oneshot.specs.internal.Carried.{carried}
 use Rattle.cy_oneshot.proofs.unwinding.unwound.Given as goal
 

@@ -3,8 +3,8 @@ use Rattle.std.specs.List.{AllByRecursion}
 use Rattle.cy_values.specs.declared.rows.Cell.{Cell}
 use Rattle.cy_values.specs.Order.{row_cmp}
 use Rattle.cy_trees.specs.Views.{clause_of}
-use Rattle.cy_matching.specs.Reading.{AreInGraph, IsInGraph}
-use Rattle.cy_matching.proofs.Each.{each_in_order}
+use Rattle.cy_queries.specs.Reading.{AreInGraph, IsInGraph}
+use Rattle.cy_queries.proofs.Each.{each_in_order}
 use Rattle.cy_updates.specs.declared.clauses.Updated.{Updated}
 use Rattle.cy_updates.specs.Statements.{rows_taken}
 use Rattle.cy_updates.specs.internal.Answers.{IsAnswer, graph_table}

@@ -5,7 +5,7 @@ use Rattle.std.proofs.lemmas.Result.{err_from_is_err_and}
 use Rattle.cy_values.specs.declared.rows.Cell.{Cell}
 use Rattle.cy_trees.specs.Views.{path_of}
 use Rattle.cy_graph.specs.Graph.{State}
-use Rattle.cy_matching.specs.Reading.{AreInGraph}
+use Rattle.cy_queries.specs.Reading.{AreInGraph}
 use Rattle.cy_updates.specs.Statements.{create_row}
 use Rattle.cy_updates.specs.internal.Answers.{graph_table}
 use Rattle.cy_updates.proofs.CreatedRows.{row_done, row_stopped, rows_kept}

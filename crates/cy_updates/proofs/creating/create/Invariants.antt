@@ -1,7 +1,7 @@
 use Rattle.std.proofs.Common.{◌≡◌, [], IsSome, map}
 use Rattle.std.specs.Vec.Iter.{into_iter_items}
 use Rattle.cy_trees.specs.Views.{path_of}
-use Rattle.cy_matching.specs.Reading.{AreInGraph}
+use Rattle.cy_queries.specs.Reading.{AreInGraph}
 use Rattle.cy_updates.specs.Faults.{each_in_turn}
 use Rattle.cy_updates.specs.Statements.{create_row}
 use Rattle.cy_updates.specs.internal.Answers.{graph_table}

@@ -2,7 +2,7 @@ use Rattle.std.proofs.Common.{sym, subst}
 use Rattle.std.specs.Prelude.{Result}
 use Rattle.std.proofs.lemmas.Result.{err_from_is_err_and}
 use Rattle.cy_trees.specs.Views.{path_of}
-use Rattle.cy_matching.specs.Reading.{IsInGraph}
+use Rattle.cy_queries.specs.Reading.{IsInGraph}
 use Rattle.cy_updates.specs.declared.faults.UpdateFault.{UpdateFault}
 use Rattle.cy_updates.specs.Creating.{Creation}
 use Rattle.cy_updates.specs.internal.Answers.{IsAnswer}

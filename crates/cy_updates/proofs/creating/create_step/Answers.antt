@@ -3,7 +3,7 @@ use Rattle.std.proofs.lemmas.Result.{err_from_is_err_and}
 use Rattle.cy_trees.specs.Views.{step_of}
 use Rattle.cy_graph.specs.Graph.{with_rel}
 use Rattle.cy_index.specs.Index.{StoreState}
-use Rattle.cy_matching.specs.Reading.{IsInGraph}
+use Rattle.cy_queries.specs.Reading.{IsInGraph}
 use Rattle.cy_updates.specs.Creating.{Creation}
 use Rattle.cy_updates.specs.internal.Creating.{creation}
 use Rattle.cy_updates.proofs.CreatedRows.{ends_there, front_there, memory_only, named_is, never_full, place_is, step_at_place, step_at_rel, step_done}

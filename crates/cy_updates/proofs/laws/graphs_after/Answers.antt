@@ -1,4 +1,4 @@
-use Rattle.cy_matching.specs.Reading.{AreInGraph}
+use Rattle.cy_queries.specs.Reading.{AreInGraph}
 use Rattle.cy_graph.specs.Graph.{IsGraph}
 use Rattle.cy_updates.specs.Statements.{GraphTable, updated}
 use Rattle.cy_updates.proofs.UpdatedGraphs.{Updated, clause_updated}

@@ -1,5 +1,5 @@
 use Rattle.std.proofs.lemmas.Result.{err_from_is_err_and}
-use Rattle.cy_matching.proofs.InGraphLemmas.{row_numbered}
+use Rattle.cy_queries.proofs.InGraphLemmas.{row_numbered}
 use Rattle.cy_updates.proofs.MapValues.{fault_is, value_is}
 use Rattle.cy_updates.proofs.maps.value_on.Goals as goal
 

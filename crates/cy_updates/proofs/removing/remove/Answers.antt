@@ -2,7 +2,7 @@ use Rattle.std.proofs.Common.{◌+◌, IsSome, Option, sym, subst, ◌∙◌, dr
 use Rattle.std.proofs.lemmas.List.{drop_all}
 use Rattle.cy_graph.specs.Graph.{State}
 use Rattle.cy_trees.specs.Views.{remove_item_of}
-use Rattle.cy_matching.specs.internal.Answers.{IsRowThere}
+use Rattle.cy_queries.specs.internal.Answers.{IsRowThere}
 use Rattle.cy_patterns.proofs.SliceReads.{next_of}
 use Rattle.cy_updates.specs.Statements.{remove_row}
 use Rattle.cy_updates.proofs.Graphs.{Kept, node_kept, rel_kept}

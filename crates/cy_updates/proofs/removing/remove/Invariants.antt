@@ -1,7 +1,7 @@
 use Rattle.std.proofs.Common.{◌≡◌, IsSome, drop, map}
 use Rattle.std.specs.Prelude.{fold}
 use Rattle.cy_trees.specs.Views.{remove_item_of}
-use Rattle.cy_matching.specs.Reading.{AreInGraph}
+use Rattle.cy_queries.specs.Reading.{AreInGraph}
 use Rattle.cy_updates.specs.Statements.{remove_row}
 use Rattle.cy_updates.proofs.removing.remove.Given as goal
 

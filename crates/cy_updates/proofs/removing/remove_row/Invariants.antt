@@ -1,7 +1,7 @@
 use Rattle.std.proofs.Common.{◌≡◌, IsSome, drop, map}
 use Rattle.std.specs.Prelude.{fold}
 use Rattle.cy_trees.specs.Views.{remove_item_of}
-use Rattle.cy_matching.specs.internal.Answers.{IsRowThere}
+use Rattle.cy_queries.specs.internal.Answers.{IsRowThere}
 use Rattle.cy_updates.specs.Setting.{removed_item}
 use Rattle.cy_updates.proofs.removing.remove_row.Given as goal
 

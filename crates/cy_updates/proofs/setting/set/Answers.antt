@@ -3,7 +3,7 @@ use Rattle.std.proofs.lemmas.List.{drop_all}
 use Rattle.std.proofs.lemmas.Result.{IfOk-at_ok, err_from_is_err_and}
 use Rattle.cy_graph.specs.Graph.{State}
 use Rattle.cy_trees.specs.Views.{set_item_of}
-use Rattle.cy_matching.specs.internal.Answers.{IsRowThere}
+use Rattle.cy_queries.specs.internal.Answers.{IsRowThere}
 use Rattle.cy_patterns.proofs.SliceReads.{next_of}
 use Rattle.cy_updates.specs.Statements.{set_row}
 use Rattle.cy_updates.proofs.Graphs.{Kept, node_kept, rel_kept}

@@ -1,6 +1,6 @@
 use Rattle.std.proofs.Common.{◌≡◌, IsSome, drop, map}
 use Rattle.cy_trees.specs.Views.{set_item_of}
-use Rattle.cy_matching.specs.Reading.{AreInGraph}
+use Rattle.cy_queries.specs.Reading.{AreInGraph}
 use Rattle.cy_updates.specs.Faults.{each_in_turn}
 use Rattle.cy_updates.specs.Statements.{set_row}
 use Rattle.cy_updates.proofs.setting.set.Given as goal

@@ -1,6 +1,6 @@
 use Rattle.std.proofs.Common.{◌≡◌, IsSome, drop, map}
 use Rattle.cy_trees.specs.Views.{set_item_of}
-use Rattle.cy_matching.specs.internal.Answers.{IsRowThere}
+use Rattle.cy_queries.specs.internal.Answers.{IsRowThere}
 use Rattle.cy_updates.specs.Faults.{each_in_turn}
 use Rattle.cy_updates.specs.Setting.{set_item}
 use Rattle.cy_updates.proofs.setting.set_row.Given as goal

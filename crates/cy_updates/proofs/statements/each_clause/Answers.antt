@@ -3,7 +3,7 @@ use Rattle.std.proofs.lemmas.Result.{err_from_is_err_and}
 use Rattle.cy_trees.specs.Trees.{Clause, Statement}
 use Rattle.cy_trees.specs.Views.{clause_of}
 use Rattle.cy_graph.specs.Graph.{State, number_end}
-use Rattle.cy_oneshot.proofs.ClauseLemmas.{same_clause, same_rows_of}
+use Rattle.cy_queries.proofs.ClauseLemmas.{same_clause, same_rows_of}
 use Rattle.cy_updates.specs.declared.clauses.Updated.{Updated}
 use Rattle.cy_updates.specs.internal.Reached.{IsReached}
 use Rattle.cy_updates.proofs.Bags.{same_clauses}

@@ -1,0 +1,15 @@
+mod SortedAlike
+mod GroupsInOrder
+mod Sifted
+mod Totals
+mod Aggregated
+mod AggregateAnswers
+pub mod Failing
+mod SumLemmas
+mod ProjectionAnswers
+mod GroupAnswers
+mod RowsThere
+mod Projections
+pub mod Unordered
+mod KeyPlaces
+mod SortedKeys

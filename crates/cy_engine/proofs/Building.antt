@@ -12,9 +12,9 @@ use Rattle.cy_index.specs.declared.keys.Pair.{Pair}
 use Rattle.cy_feeds.specs.declared.feeds.Answer as feeds
 use Rattle.cy_feeds.specs.declared.feeds.Answer.TheVariants.{Entries as Since, Lagged}
 use Rattle.cy_feeds.specs.Feeds.{answer_since}
-use Rattle.cy_updates.specs.Faults.{◌>>=◌}
-use Rattle.cy_updates.specs.declared.faults.UpdateFault.{UpdateFault}
-use Rattle.cy_updates.specs.Statements.{Outcome, statement_outcome}
+use Rattle.cy_effects.specs.Faults.{◌>>=◌}
+use Rattle.cy_effects.specs.declared.faults.UpdateFault.{UpdateFault}
+use Rattle.cy_effects.specs.Statements.{Outcome, statement_outcome}
 use Rattle.cy_engine.specs.Faults.{of_update}
 use Rattle.cy_engine.specs.declared.faults.Fault.{Fault}
 use Rattle.cy_engine.specs.declared.faults.Fault.TheVariants as fault

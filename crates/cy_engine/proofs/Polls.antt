@@ -13,7 +13,7 @@ use Rattle.cy_bags.specs.declared.changes.Entry.{Entry}
 use Rattle.cy_feeds.specs.declared.feeds.Answer.TheVariants.{Entries as Since, Lagged}
 use Rattle.cy_feeds.specs.Feeds.{History, entries_after, latest}
 use Rattle.cy_feeds.specs.Following.{FollowersGoOn, IsCopy, NewFeedsTell, PushedFeedsTell, QuietFeedsTell}
-use Rattle.cy_updates.specs.Faults.{◌>>=◌}
+use Rattle.cy_effects.specs.Faults.{◌>>=◌}
 use Rattle.cy_engine.specs.declared.faults.Fault.{Fault}
 use Rattle.cy_engine.specs.declared.faults.Fault.TheVariants as fault
 use Rattle.cy_engine.specs.declared.replies.Reply.TheVariants as reply

@@ -19,7 +19,7 @@ use Rattle.cy_kinds.specs.declared.faults.ViewFault.TheVariants.{AggregateInView
 use Rattle.cy_scope.specs.Views.{are_sure_clauses, ends_with_return, has_aggregate, is_ordered, is_return, is_unbounded, is_update, view_fault}
 use Rattle.cy_queries.specs.Queries.{columns_after, columns_after_all}
 use Rattle.cy_feeds.specs.Feeds.{new_history}
-use Rattle.cy_updates.specs.Faults.{◌>>=◌}
+use Rattle.cy_effects.specs.Faults.{◌>>=◌}
 use Rattle.cy_engine.specs.declared.faults.Fault.{Fault}
 use Rattle.cy_engine.specs.declared.faults.Fault.TheVariants as fault
 use Rattle.cy_engine.specs.State.{EngineState, View, last_tick, view_at, view_limit}

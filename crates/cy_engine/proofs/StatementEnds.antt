@@ -5,7 +5,7 @@ use Rattle.cy_graph.specs.Graph.{State, Versions}
 use Rattle.cy_index.specs.Index.{StoreState}
 use Rattle.cy_index.specs.declared.keys.Pair.{Pair}
 use Rattle.cy_trees.specs.Trees.{Statement}
-use Rattle.cy_updates.specs.Statements.{Outcome, statement_outcome}
+use Rattle.cy_effects.specs.Statements.{Outcome, statement_outcome}
 use Rattle.cy_engine.specs.Model.{machine_of, state_of}
 use Rattle.cy_engine.specs.State.{Entries, last_tick}
 use Rattle.cy_engine.specs.Verdicts.{execution_verdict, tick_after}

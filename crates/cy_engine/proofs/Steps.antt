@@ -9,10 +9,10 @@ use Rattle.cy_index.specs.declared.faults.IndexFault.{IndexFault}
 use Rattle.cy_index.specs.declared.faults.IndexFault.TheVariants as index
 use Rattle.cy_queries.specs.Queries.{query_columns}
 use Rattle.cy_feeds.specs.Feeds.{new_history}
-use Rattle.cy_updates.specs.Faults.{◌>>=◌}
-use Rattle.cy_updates.specs.Statements.{Outcome, statement_outcome}
-use Rattle.cy_updates.specs.declared.faults.UpdateFault.{UpdateFault}
-use Rattle.cy_updates.specs.declared.faults.UpdateFault.TheVariants as update
+use Rattle.cy_effects.specs.Faults.{◌>>=◌}
+use Rattle.cy_effects.specs.Statements.{Outcome, statement_outcome}
+use Rattle.cy_effects.specs.declared.faults.UpdateFault.{UpdateFault}
+use Rattle.cy_effects.specs.declared.faults.UpdateFault.TheVariants as update
 use Rattle.cy_engine.specs.Faults.{of_index, of_update}
 use Rattle.cy_engine.specs.declared.engine.Effect.{Effect}
 use Rattle.cy_engine.specs.declared.faults.Fault.{Fault}

@@ -21,8 +21,8 @@ use Rattle.cy_values.specs.declared.rows.Cell.TheVariants as cell
 use Rattle.cy_values.specs.Bag.{count_of}
 use Rattle.cy_graph.specs.Graph.{State, empty_state, number_end}
 use Rattle.cy_graph.specs.declared.nodes.Node.{Node}
-use Rattle.cy_updates.specs.declared.faults.UpdateFault.TheVariants as update
-use Rattle.cy_updates.specs.Statements.{Outcome}
+use Rattle.cy_effects.specs.declared.faults.UpdateFault.TheVariants as update
+use Rattle.cy_effects.specs.Statements.{Outcome}
 use Rattle.cy_bags.specs.declared.changes.Entry.{Entry}
 use Rattle.cy_engine.specs.declared.faults.Fault.TheVariants as fault
 use Rattle.cy_engine.specs.declared.views.Registered.{Registered}

@@ -8,7 +8,7 @@ use Rattle.cy_values.specs.declared.rows.Cell.{Cell}
 use Rattle.cy_values.specs.Bag.{IsSameBag, count_of, weight_of}
 use Rattle.cy_graph.specs.Graph.{Content, State, empty_state}
 use Rattle.cy_queries.specs.Queries.{query_columns, query_rows}
-use Rattle.cy_updates.specs.Statements.{Outcome, statement_outcome}
+use Rattle.cy_effects.specs.Statements.{Outcome, statement_outcome}
 use Rattle.cy_bags.specs.Difference.{IsDifference}
 use Rattle.cy_bags.specs.declared.changes.Entry.{Entry}
 use Rattle.cy_feeds.specs.Feeds.{History, new_history, pushed}

@@ -16,7 +16,7 @@ use Rattle.cy_values.specs.Bag.{IsBagOf, IsCanonical, IsSameBag}
 use Rattle.cy_graph.specs.Graph.{Content}
 use Rattle.cy_index.specs.declared.keys.Pair.{Pair}
 use Rattle.cy_queries.specs.Queries.{query_columns}
-use Rattle.cy_updates.specs.Counts.{Counts}
+use Rattle.cy_effects.specs.Counts.{Counts}
 use Rattle.cy_bags.specs.declared.changes.Entry.{Entry}
 use Rattle.cy_feeds.specs.declared.feeds.Answer as feeds
 use Rattle.cy_feeds.specs.declared.feeds.Answer.TheVariants.{Entries as Since, Lagged}

@@ -20,8 +20,8 @@ use Rattle.cy_index.specs.Index.{has_pair}
 use Rattle.cy_index.specs.declared.keys.Pair.{Pair}
 use Rattle.cy_engine.specs.declared.faults.Fault.{Fault}
 use Rattle.cy_engine.specs.declared.faults.Fault.TheVariants as fault
-use Rattle.cy_updates.specs.Faults.{◌>>=◌}
-use Rattle.cy_updates.specs.Statements.{Outcome, statement_outcome}
+use Rattle.cy_effects.specs.Faults.{◌>>=◌}
+use Rattle.cy_effects.specs.Statements.{Outcome, statement_outcome}
 use Rattle.cy_engine.specs.Faults.{of_update}
 use Rattle.cy_feeds.specs.Feeds.{new_history}
 use Rattle.cy_engine.specs.State.{EngineState, View, view_at, last_tick, view_limit}

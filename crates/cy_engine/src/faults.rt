@@ -4,13 +4,13 @@ ghost use Rattle.std.specs.Prelude.{◌≡◌};
 ghost use Rattle.cy_engine.specs.Faults.{code_of, offset_of, of_evaluation, of_graph, of_index, of_lexer, of_parser, of_scope, of_update, of_view};
 ghost use Rattle.cy_engine.specs.declared.faults.Fault.TheVariants.{NoMemory};
 
+use cy_effects::UpdateFault;
 use cy_expr::EvalFault;
 use cy_graph::GraphFault;
 use cy_index::IndexFault;
 use cy_kinds::{ScopeFault, ViewFault};
 use cy_lexer::LexFault;
 use cy_parser::ParseFault;
-use cy_updates::UpdateFault;
 use std::alloc::{AllocError, AllocFailed};
 use thiserror::Error;
 

@@ -4,10 +4,11 @@ ghost use Rattle.std.specs.Prelude.{◌≤◌, IsNone, IsSome, IfOk, OnErr, OnOk
 ghost use Rattle.cy_graph.specs.Graph.{number_end};
 
 use crate::readings::{query_of, table_text};
+use cy_effects::UpdateFault;
 use cy_graph::{Labels, Node, Props, Rel};
 use cy_index::Store;
 use cy_scope::Checked;
-use cy_updates::{StatementAnswer, UpdateFault, execute};
+use cy_updates::{StatementAnswer, execute};
 use cy_values::{NodeId, RelId, Scalar, Value};
 use std::alloc::{AllocError, Global};
 use std::fmt::Write;

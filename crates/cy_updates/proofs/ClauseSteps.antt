@@ -32,18 +32,19 @@ use Rattle.cy_queries.proofs.QueryLemmas.{last_later}
 use Rattle.cy_queries.proofs.ScopePlaces.{same_length}
 use Rattle.cy_queries.proofs.SeenRows.{each_permuted}
 use Rattle.cy_updates.specs.declared.clauses.Updated.{Updated}
-use Rattle.cy_updates.specs.declared.faults.UpdateFault.{UpdateFault}
-use Rattle.cy_updates.specs.declared.faults.UpdateFault.TheVariants.{NoMemory}
-use Rattle.cy_updates.specs.Bags.{IsSameProgress, IsSameResult}
-use Rattle.cy_updates.specs.Counts.{Counts, counts_between, plus}
-use Rattle.cy_updates.specs.Faults.{◌>>=◌, each_in_turn, evaluated, of_evaluation}
-use Rattle.cy_updates.specs.Statements.{GraphTable, Progress, after_clause, after_reading, after_updating, updated}
-use Rattle.cy_updates.specs.internal.Answers.{IsAnswer, graph_table}
-use Rattle.cy_updates.specs.internal.Reached.{AreGone, AreResolved, IsNext, progress}
-use Rattle.cy_updates.proofs.EntryCounts.{few}
-use Rattle.cy_updates.proofs.Graphs.{SameNumbers, node_number, rel_number}
-use Rattle.cy_updates.proofs.Grown.{Grown}
-use Rattle.cy_updates.proofs.InTurn.{or_wants}
+use Rattle.cy_effects.specs.declared.faults.UpdateFault.{UpdateFault}
+use Rattle.cy_effects.specs.declared.faults.UpdateFault.TheVariants.{NoMemory}
+use Rattle.cy_effects.specs.Bags.{IsSameProgress, IsSameResult}
+use Rattle.cy_effects.specs.Counts.{Counts, counts_between, plus}
+use Rattle.cy_effects.specs.Faults.{◌>>=◌, each_in_turn, evaluated, of_evaluation}
+use Rattle.cy_effects.specs.Statements.{GraphTable, Progress, after_clause, after_reading, after_updating, updated}
+use Rattle.cy_effects.specs.internal.Answers.{IsAnswer, graph_table}
+use Rattle.cy_effects.specs.internal.Gone.{AreGone}
+use Rattle.cy_updates.specs.internal.Reached.{AreResolved, IsNext, progress}
+use Rattle.cy_effects.proofs.EntryCounts.{few}
+use Rattle.cy_effects.proofs.Graphs.{SameNumbers, node_number, rel_number}
+use Rattle.cy_effects.proofs.Grown.{Grown}
+use Rattle.cy_effects.proofs.InTurn.{or_wants}
 
 -- ---- one clause
 

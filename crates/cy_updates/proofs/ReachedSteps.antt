@@ -25,17 +25,18 @@ use Rattle.cy_queries.proofs.QueryLemmas.{last_later}
 use Rattle.cy_queries.proofs.ScopeClauses as reading
 use Rattle.cy_queries.proofs.ScopeColumns.{clause_columns}
 use Rattle.cy_updates.specs.declared.clauses.Updated.{Updated}
-use Rattle.cy_updates.specs.declared.faults.UpdateFault.{UpdateFault}
-use Rattle.cy_updates.specs.Bags.{IsSameProgress, IsSameResult}
-use Rattle.cy_updates.specs.Counts.{AgreeWith, Counts, counts_between, no_counts, plus}
-use Rattle.cy_updates.specs.Faults.{◌>>=◌, each_in_turn, evaluated}
-use Rattle.cy_updates.specs.Statements.{GraphTable, Outcome, Progress, after_clause, after_reading, after_updating, beginning, outcome_of, statement_outcome, updated}
-use Rattle.cy_updates.specs.internal.Reached.{AreGone, AreResolved, IsReached, LeadOn, progress}
-use Rattle.cy_updates.proofs.Bags.{same_itself}
-use Rattle.cy_updates.proofs.UpdatedGraphs.{Come, clause_come}
+use Rattle.cy_effects.specs.declared.faults.UpdateFault.{UpdateFault}
+use Rattle.cy_effects.specs.Bags.{IsSameProgress, IsSameResult}
+use Rattle.cy_effects.specs.Counts.{AgreeWith, Counts, counts_between, no_counts, plus}
+use Rattle.cy_effects.specs.Faults.{◌>>=◌, each_in_turn, evaluated}
+use Rattle.cy_effects.specs.Statements.{GraphTable, Outcome, Progress, after_clause, after_reading, after_updating, beginning, outcome_of, statement_outcome, updated}
+use Rattle.cy_effects.specs.internal.Gone.{AreGone}
+use Rattle.cy_updates.specs.internal.Reached.{AreResolved, IsReached, LeadOn, progress}
+use Rattle.cy_effects.proofs.Bags.{same_itself}
+use Rattle.cy_effects.proofs.UpdatedGraphs.{Come, clause_come}
 use Rattle.cy_updates.proofs.ClauseSteps.{IsWritten, each_of_same, first_written, gone_then, more_bag, more_ordered, none_gone, resolved_updates, same_fault}
-use Rattle.cy_updates.proofs.ScopedRows.{clause_fits}
-use Rattle.cy_updates.proofs.StoredValues.{and_then, if_ok_weaker}
+use Rattle.cy_effects.proofs.ScopedRows.{clause_fits}
+use Rattle.cy_effects.proofs.StoredValues.{and_then, if_ok_weaker}
 
 abbrev Fits : Scope → List Cell → Type 0
 Fits scope row = IsTrue (row_fits scope row)

@@ -1,10 +1,2 @@
-pub mod Faults
-pub mod Values
-pub mod Creating
-pub mod Setting
-pub mod Deleting
-pub mod Counts
-pub mod Statements
-pub mod Bags
 pub mod Answers
 pub mod internal

@@ -6,19 +6,16 @@ ghost use Rattle.cy_trees.specs.Views.{clause_of, path_of, remove_item_of, set_i
 ghost use Rattle.cy_scope.specs.Views.{is_update};
 ghost use Rattle.cy_queries.specs.Queries.{columns_after};
 ghost use Rattle.cy_queries.specs.Reading.{AreInGraph};
-ghost use Rattle.cy_updates.specs.Statements.{rows_taken, updated};
-ghost use Rattle.cy_updates.specs.internal.Answers.{IsAnswer, graph_table};
-ghost use Rattle.cy_updates.specs.internal.Reached.{AreGone};
+ghost use Rattle.cy_effects.specs.Statements.{rows_taken, updated};
+ghost use Rattle.cy_effects.specs.internal.Answers.{IsAnswer, graph_table};
+ghost use Rattle.cy_effects.specs.internal.Gone.{AreGone};
 
-use crate::creating::create;
-use crate::deleting::{Gone, delete};
-use crate::faults::UpdateFault;
-use crate::removing::remove;
-use crate::setting::set;
+use cy_effects::UpdateFault;
 use cy_index::Store;
 use cy_oneshot::{Table, add_names};
 use cy_projections::sort_rows;
 use cy_trees::{Clause, Delete, Path, RemoveItem, SetItem};
+use cy_writes::{Gone, create, delete, remove, set};
 use std::alloc::Global;
 
 /// What an updating clause leaves besides the graph: the table, and how many nodes and relationships it removed.

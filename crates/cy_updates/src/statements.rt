@@ -8,23 +8,24 @@ ghost use Rattle.cy_scope.specs.Checked.{IsChecked};
 ghost use Rattle.cy_scope.specs.Views as scopes;
 ghost use Rattle.cy_queries.specs.Queries.{columns_after};
 ghost use Rattle.cy_queries.specs.Reading.{AreInGraph};
-ghost use Rattle.cy_updates.specs.declared.faults.UpdateFault.TheVariants.{NoMemory};
-ghost use Rattle.cy_updates.specs.Faults.{each_in_turn};
-ghost use Rattle.cy_updates.specs.Statements as spec;
-ghost use Rattle.cy_updates.specs.Statements.{beginning, statement_outcome};
+ghost use Rattle.cy_effects.specs.declared.faults.UpdateFault.TheVariants.{NoMemory};
+ghost use Rattle.cy_effects.specs.Faults.{each_in_turn};
+ghost use Rattle.cy_effects.specs.Statements as spec;
+ghost use Rattle.cy_effects.specs.Statements.{beginning, statement_outcome};
 ghost use Rattle.cy_updates.specs.Answers.{outcome_seen};
-ghost use Rattle.cy_updates.specs.internal.Answers.{IsAnswer};
-ghost use Rattle.cy_updates.specs.internal.Reached.{AreGone, IsNext, IsNextInOrder, IsReached, progress};
+ghost use Rattle.cy_effects.specs.internal.Answers.{IsAnswer};
+ghost use Rattle.cy_effects.specs.internal.Gone.{AreGone};
+ghost use Rattle.cy_updates.specs.internal.Reached.{IsNext, IsNextInOrder, IsReached, progress};
 
 use crate::clauses::{Updated, update, with_none_gone};
-use crate::deleting::Gone;
-use crate::faults::UpdateFault;
-use crate::laws::counts_agree;
+use cy_effects::UpdateFault;
+use cy_effects::laws::counts_agree;
 use cy_index::Store;
 use cy_oneshot::{Table, answer, read_clause, unit};
 use cy_scope::{Checked, ends_with_return, has_update, is_update};
 use cy_trees::Clause;
 use cy_values::row_order_laws;
+use cy_writes::Gone;
 use std::alloc::Global;
 
 /// What a statement answers: how many nodes and relationships it made and removed, of which one that it made and removed counts

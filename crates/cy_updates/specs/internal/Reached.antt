@@ -12,12 +12,13 @@ use Rattle.cy_graph.specs.Graph.{State}
 use Rattle.cy_queries.specs.Queries.{columns_after_all, query_columns}
 use Rattle.cy_queries.specs.Reading.{AreInGraph}
 use Rattle.cy_updates.specs.declared.clauses.Updated.{Updated}
-use Rattle.cy_updates.specs.declared.faults.UpdateFault.{UpdateFault}
-use Rattle.cy_updates.specs.declared.faults.UpdateFault.TheVariants.{NoMemory}
-use Rattle.cy_updates.specs.Bags.{IsSameResult}
-use Rattle.cy_updates.specs.Counts.{Counts}
-use Rattle.cy_updates.specs.Faults.{each_in_turn}
-use Rattle.cy_updates.specs.Statements.{Progress, after_clause, beginning}
+use Rattle.cy_effects.specs.declared.faults.UpdateFault.{UpdateFault}
+use Rattle.cy_effects.specs.declared.faults.UpdateFault.TheVariants.{NoMemory}
+use Rattle.cy_effects.specs.Bags.{IsSameResult}
+use Rattle.cy_effects.specs.Counts.{Counts}
+use Rattle.cy_effects.specs.Faults.{each_in_turn}
+use Rattle.cy_effects.specs.internal.Gone.{AreGone}
+use Rattle.cy_effects.specs.Statements.{Progress, after_clause, beginning}
 
 -- how far a statement has come: a graph, rows, and counts
 abbrev pub progress : State → List (List Cell) → Counts → Progress
@@ -38,13 +39,6 @@ pub record LeadOn (first graph : State) (rows : List (List Cell)) (clauses : Lis
   pub bag : IsSameResult (each_in_turn after_clause clauses (progress graph rows counts)) (each_in_turn after_clause statement.clauses (beginning first))
   pub ordered : IsTrue (ends_with_return statement.clauses) → each_in_turn after_clause clauses (progress graph rows counts) ≡ each_in_turn after_clause statement.clauses (beginning first)
   pub returns : IsTrue (ends_with_return statement.clauses) → (c : Clause) (cs : List Clause) → clauses ≡ c ∷ cs → IsTrue (ends_with_return clauses)
-
--- as many nodes, and relationships, went as were there or took a number and aren't there; and numbers only rise
-pub record AreGone (first graph : State) (nodes rels : ℕ) : Type 0 where
-  pub nodes_gone : nodes + length graph.content.nodes + first.next_node ≡ length first.content.nodes + graph.next_node
-  pub rels_gone : rels + length graph.content.rels + first.next_rel ≡ length first.content.rels + graph.next_rel
-  pub nodes_up : first.next_node ≤ graph.next_node
-  pub rels_up : first.next_rel ≤ graph.next_rel
 
 -- the graph, the table and what went so far, and the clauses that are left
 pub record IsReached (first graph : State) (statement : Statement) (after : Updated) (clauses : List Clause) : Type 0 where

@@ -6,8 +6,8 @@ use Rattle.cy_trees.specs.Views.{clause_of}
 use Rattle.cy_queries.specs.Reading.{AreInGraph, IsInGraph}
 use Rattle.cy_queries.proofs.Each.{each_in_order}
 use Rattle.cy_updates.specs.declared.clauses.Updated.{Updated}
-use Rattle.cy_updates.specs.Statements.{rows_taken}
-use Rattle.cy_updates.specs.internal.Answers.{IsAnswer, graph_table}
+use Rattle.cy_effects.specs.Statements.{rows_taken}
+use Rattle.cy_effects.specs.internal.Answers.{IsAnswer, graph_table}
 use Rattle.cy_updates.proofs.clauses.update.Goals as goal
 
 pub take_rows-requires-clause-there : goal.take_rows-requires-clause-there

@@ -7,10 +7,10 @@ use Rattle.cy_trees.specs.declared.clauses.Statement as coded
 use Rattle.cy_trees.specs.Trees.{Statement}
 use Rattle.cy_trees.specs.Views.{clause_of, statement_of}
 use Rattle.cy_scope.specs.Views.{is_update}
-use Rattle.cy_updates.specs.Faults.{◌>>=◌}
-use Rattle.cy_updates.specs.Statements.{outcome_of}
+use Rattle.cy_effects.specs.Faults.{◌>>=◌}
+use Rattle.cy_effects.specs.Statements.{outcome_of}
 use Rattle.cy_updates.specs.internal.Reached.{IsReached}
-use Rattle.cy_updates.proofs.InTurn.{or_wants}
+use Rattle.cy_effects.proofs.InTurn.{or_wants}
 use Rattle.cy_updates.proofs.ReachedSteps.{answered}
 use Rattle.cy_updates.proofs.statements.carry_out.Goals as goal
 

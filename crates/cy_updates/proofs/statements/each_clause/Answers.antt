@@ -6,9 +6,9 @@ use Rattle.cy_graph.specs.Graph.{State, number_end}
 use Rattle.cy_queries.proofs.ClauseLemmas.{same_clause, same_rows_of}
 use Rattle.cy_updates.specs.declared.clauses.Updated.{Updated}
 use Rattle.cy_updates.specs.internal.Reached.{IsReached}
-use Rattle.cy_updates.proofs.Bags.{same_clauses}
+use Rattle.cy_effects.proofs.Bags.{same_clauses}
 use Rattle.cy_updates.proofs.ClauseSteps.{few_nodes_gone, few_rels_gone, rows_wide}
-use Rattle.cy_updates.proofs.InTurn.{next_in, none_in, or_wants}
+use Rattle.cy_effects.proofs.InTurn.{next_in, none_in, or_wants}
 use Rattle.cy_updates.proofs.ReachedSteps.{reached_first, reached_more, reached_stops}
 use Rattle.cy_updates.proofs.statements.each_clause.Goals as goal
 

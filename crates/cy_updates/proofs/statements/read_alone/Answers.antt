@@ -4,7 +4,7 @@ use Rattle.cy_trees.specs.declared.clauses.Statement as coded
 use Rattle.cy_trees.specs.Trees.{Clause, Statement}
 use Rattle.cy_trees.specs.Views.{clause_of, statement_of}
 use Rattle.cy_scope.specs.Views.{ends_with_return}
-use Rattle.cy_updates.proofs.ReadingStatements.{query_answered, query_stops}
+use Rattle.cy_effects.proofs.ReadingStatements.{query_answered, query_stops}
 use Rattle.cy_updates.proofs.statements.read_alone.Goals as goal
 
 -- the fault of the query is that of the statement

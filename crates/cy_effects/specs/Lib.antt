@@ -1,0 +1,9 @@
+pub mod Faults
+pub mod Values
+pub mod Creating
+pub mod Setting
+pub mod Deleting
+pub mod Counts
+pub mod Statements
+pub mod Bags
+pub mod internal

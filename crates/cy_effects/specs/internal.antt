@@ -1,0 +1,3 @@
+-- What proofs alone need.
+pub mod Answers
+pub mod Gone

@@ -1,5 +1,0 @@
-use Rattle.cy_updates.proofs.ReadingStatements.{only_read}
-use Rattle.cy_updates.proofs.laws.reading_statements.Goals as goal
-
-pub returns : goal.returns
-returns c = λ graph statement none. only_read graph statement none

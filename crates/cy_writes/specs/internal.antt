@@ -1,0 +1,4 @@
+-- What proofs alone need.
+pub mod Entities
+pub mod Creating
+pub mod Deleting

@@ -1,0 +1,3 @@
+pub mod Bound
+pub mod Examples
+pub mod Still

@@ -1,0 +1,2 @@
+pub mod RenumberedLists
+pub mod RenumberedLemmas

@@ -2,7 +2,7 @@
 
 ghost use Rattle.std.specs.Prelude.{IsSome};
 
-use cy_graph::{Graph, GraphFault, Labels, Node, Props, Rel, Touched, Was};
+use cy_graph::{Graph, GraphFault, Labels, Node, Props, Rel, RelsAt, Touched, Was};
 use cy_values::{Entity, NodeId, RelId, Value};
 use std::alloc::{AllocError, Global};
 
@@ -57,9 +57,9 @@ fn write_rel(text: &mut String, id: RelId, rel: &Rel) -> Result<(), AllocError> 
 }
 
 // Writes each number after a sign, as `>1>3`.
-fn write_numbers(text: &mut String, sign: char, rels: &[RelId]) -> Result<(), AllocError> {
-    for rel in rels {
-        write!(text, "{sign}{}", rel.0)?;
+fn write_numbers(text: &mut String, sign: char, rels: RelsAt<'_>) -> Result<(), AllocError> {
+    for (id, _rel) in rels {
+        write!(text, "{sign}{}", id.0)?;
     }
     Ok(())
 }

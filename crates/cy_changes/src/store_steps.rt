@@ -4,7 +4,7 @@ ghost use Rattle.std.specs.Prelude.{◌≡◌, true, IsTrue, IsSome, IfOk};
 ghost use Rattle.cy_graph.specs.Graph.{node_at, IsThere};
 ghost use Rattle.cy_graph.specs.Stored.{is_storable, IsStorable};
 
-use cy_graph::{GraphFault, Labels, Props, TextMap};
+use cy_graph::{GraphFault, Labels, Props, RelsAt, TextMap};
 use cy_index::Store;
 use cy_values::{Entity, Fault, NodeId, RelId, Scalar, Sequence, Text, Value};
 use std::alloc::{AllocError, Global};
@@ -171,10 +171,19 @@ pub(crate) fn perform(alloc: Global, store: &mut Store, step: Step<'_>) -> Resul
     }
 }
 
+// How many relationships there are.
+fn count(rels: RelsAt<'_>) -> u64 {
+    let mut count: u64 = 0;
+    for _rel in rels {
+        count = count.saturating_add(1);
+    }
+    count
+}
+
 // Writes each node with how many relationships go out and come in, as `1>2<0 `.
 fn write_nodes(text: &mut String, store: &Store) -> Result<(), AllocError> {
     for (id, _node) in store.nodes() {
-        let (out, into) = (store.out_rels(id).len(), store.in_rels(id).len());
+        let (out, into) = (count(store.out_rels(id)), count(store.in_rels(id)));
         write!(text, "{}>{out}<{into} ", id.0)?;
     }
     Ok(())

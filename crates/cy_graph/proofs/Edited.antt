@@ -14,7 +14,7 @@ use Rattle.cy_graph.specs.internal.Versions.{IsNumbered, with_edited, without_nu
 use Rattle.cy_graph.specs.Model.{SeriesVersions, rels_of, versions_of}
 use Rattle.cy_graph.proofs.Graphs.{others_there, edited_are, edited_versions, removed_versions, rel_edited_are, rel_edited_versions}
 use Rattle.cy_graph.proofs.Least.{ends_left}
-use Rattle.cy_graph.proofs.Relating.{joined_edited}
+use Rattle.cy_graph.proofs.Kept.{joined_edited}
 use Rattle.cy_graph.proofs.Slots.{all_where}
 use Rattle.cy_graph.proofs.Steps.{either}
 

@@ -7,12 +7,12 @@ pub mod Joined
 pub mod Joining
 pub mod Kept
 pub mod Least
+pub mod Listing
 pub mod Opening
 pub mod Ordered
 pub mod Places
 pub mod RelContents
 pub mod Relating
-pub mod Rising
 pub mod Same
 pub mod Slots
 pub mod Steps

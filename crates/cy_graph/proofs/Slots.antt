@@ -22,7 +22,7 @@ tied m n e = grind (arith, nat_tests)
 pub above : (m n : ℕ) → n < m → nat_cmp m n ≡ Greater
 above m n lt = grind (arith, nat_tests)
 
-below : (m n : ℕ) → m < n → nat_cmp m n ≡ Less
+pub below : (m n : ℕ) → m < n → nat_cmp m n ≡ Less
 below m n lt = grind (arith, nat_tests)
 
 -- two numbers that tie are the same

@@ -72,15 +72,21 @@ rel_at id state = relationship_in state.content id
 abbrev pub has_label : List ℕ → Node → Bool
 has_label label node = is_some (value_at label node.labels)
 
--- the relationships of which the node is the source, by rising number
+-- the relationships of which the node is the source, and those of which it is the target, by rising number
+abbrev pub outgoing : NodeId → List (RelId × Rel) → List (RelId × Rel)
+outgoing node rels = filter (λ e. eqb node.0 e.1.source.0) rels
+
+abbrev pub incoming : NodeId → List (RelId × Rel) → List (RelId × Rel)
+incoming node rels = filter (λ e. eqb node.0 e.1.target.0) rels
+
+-- their numbers
 abbrev pub rels_from : NodeId → List (RelId × Rel) → List RelId
-rels_from node rels = map (λ e. e.0) (filter (λ e. eqb node.0 e.1.source.0) rels)
+rels_from node rels = map (λ e. e.0) (outgoing node rels)
 
--- and of which it is the target
 abbrev pub rels_into : NodeId → List (RelId × Rel) → List RelId
-rels_into node rels = map (λ e. e.0) (filter (λ e. eqb node.0 e.1.target.0) rels)
+rels_into node rels = map (λ e. e.0) (incoming node rels)
 
--- and of which it is either
+-- the numbers of those of which it is either
 abbrev pub rels_with : NodeId → List (RelId × Rel) → List RelId
 rels_with node rels = map (λ e. e.0) (filter (λ e. eqb node.0 e.1.source.0 || eqb node.0 e.1.target.0) rels)
 

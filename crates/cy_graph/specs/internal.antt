@@ -4,6 +4,7 @@ pub mod BeforeImages
 pub mod Contents
 pub mod Differences
 pub mod Images
+pub mod Listed
 pub mod Place
 pub mod Series
 pub mod Slots

@@ -3,14 +3,14 @@
 ghost use Rattle.std.specs.Prelude.{◌≡◌, ◌≤◌, ◌↔◌, IsTrue, IsSome, IsNone, IfSome, IfOk, IfErr, OnOk, OnErr, IsErrOf, None, Some, map, slice_get, ◌⊎◌};
 ghost use Rattle.cy_values.specs.declared.numbers.RelId.{RelId};
 ghost use Rattle.std.specs.Option.{option_copied};
-ghost use Rattle.cy_graph.specs.Graph.{Versions, empty_state, node_at, rel_at, rels_from, rels_into, rels_with, with_node, with_rel, without_rel, with_label, without_label, with_node_changed, with_prop, without_node, number_end, IsThere, IsGraph};
+ghost use Rattle.cy_graph.specs.Graph.{Versions, empty_state, node_at, rel_at, incoming, outgoing, rels_with, with_node, with_rel, without_rel, with_label, without_label, with_node_changed, with_prop, without_node, number_end, IsThere, IsGraph};
 ghost use Rattle.cy_graph.specs.Touched.{before_image, AreTouched};
 ghost use Rattle.cy_graph.specs.Stored.{is_storable, IsStorable};
 
 use crate::adjacency::Adjacency;
 use crate::edits::{AddLabel, DropLabel, SetProp};
 use crate::faults::GraphFault;
-use crate::iterators::{Nodes, Rels};
+use crate::iterators::{Nodes, Rels, RelsAt};
 use crate::nodes::{Labels, Node, Props, Rel};
 use crate::series::Series;
 use crate::touched::{Touched, push_nodes, push_rels};
@@ -105,18 +105,20 @@ impl Graph {
         Rels::new(self.rels.values())
     }
 
-    /// The relationships of which a node is the source, by rising number.
-    pub fn out_rels(&self, id: NodeId) -> &[RelId]
-        ensures { result.now ≡ rels_from id self.now.now.content.rels }
+    /// The relationships of which a node is the source, with their numbers, by rising number.
+    pub fn out_rels(&self, id: NodeId) -> RelsAt<'_>
+        ensures { result ≡ outgoing id self.now.now.content.rels }
     {
-        self.outgoing.at(id.0)
+        self.rels.laws();
+        RelsAt::new(self.outgoing.at(id.0), &self.rels)
     }
 
-    /// The relationships of which a node is the target, by rising number.
-    pub fn in_rels(&self, id: NodeId) -> &[RelId]
-        ensures { result.now ≡ rels_into id self.now.now.content.rels }
+    /// The relationships of which a node is the target, with their numbers, by rising number.
+    pub fn in_rels(&self, id: NodeId) -> RelsAt<'_>
+        ensures { result ≡ incoming id self.now.now.content.rels }
     {
-        self.incoming.at(id.0)
+        self.rels.laws();
+        RelsAt::new(self.incoming.at(id.0), &self.rels)
     }
 
     /// The number that the next node gets. `Full` where number 2^40 was given out.
@@ -183,8 +185,8 @@ impl Graph {
         self.outgoing.reserve(source.0)?;
         self.incoming.reserve(target.0)?;
         self.rels.add(Rel::new(source, target, kind, props))?;
-        self.outgoing.link(source.0, id);
-        self.incoming.link(target.0, id);
+        self.outgoing.add(source.0, id);
+        self.incoming.add(target.0, id);
         Ok(id)
     }
 
@@ -246,8 +248,8 @@ impl Graph {
         self.outgoing.reserve_step()?;
         self.incoming.reserve_step()?;
         self.rels.remove(id.0)?;
-        self.outgoing.unlink(source.0, id);
-        self.incoming.unlink(target.0, id);
+        self.outgoing.remove(source.0);
+        self.incoming.remove(target.0);
         Ok(())
     }
 
@@ -272,10 +274,10 @@ impl Graph {
         ensures { result ≡ slice_get (rels_with id self.now.now.content.rels) 0 }
     {
         self.laws();
-        match (self.out_rels(id).first(), self.in_rels(id).first()) {
-            (Some(out), Some(into)) => Some(if out.0 < into.0 { *out } else { *into }),
-            (Some(out), None) => Some(*out),
-            (None, Some(into)) => Some(*into),
+        match (self.out_rels(id).next(), self.in_rels(id).next()) {
+            (Some((out, _)), Some((into, _))) => Some(if out.0 < into.0 { out } else { into }),
+            (Some((out, _)), None) => Some(out),
+            (None, Some((into, _))) => Some(into),
             (None, None) => None,
         }
     }
@@ -301,8 +303,8 @@ impl Graph {
     {
         self.nodes.commit();
         self.rels.commit();
-        self.outgoing.commit();
-        self.incoming.commit();
+        self.outgoing.commit(&self.rels);
+        self.incoming.commit(&self.rels);
     }
 
     /// Ends the change: the graph is as it was when the change began, next numbers included.

@@ -3,12 +3,15 @@
 ghost use Rattle.std.specs.Prelude.{◌≡◌};
 ghost use Rattle.std.specs.Iterator.{item_count, YieldsFirstBy};
 ghost use Rattle.cy_graph.specs.Model.{nodes_of, rels_of};
+ghost use Rattle.cy_graph.specs.internal.Listed.{listed};
 ghost use Rattle.cy_graph.specs.internal.Slots.{live};
 
 use crate::nodes::{Node, Rel};
+use crate::series::Series;
 use cy_values::{NodeId, RelId};
 use indexmap::map;
 use std::marker::Model;
+use std::slice;
 
 /// The values of a series with their numbers, by rising number.
 #[derive(Drop)]
@@ -126,5 +129,53 @@ impl<'a> Iterator for Rels<'a> {
     fn next(&mut self) -> Option<(RelId, &'a Rel)> {
         let (number, rel) = self.values.next()?;
         Some((RelId(number), rel))
+    }
+}
+
+/// The relationships that lead from a node, or that lead to it, with their numbers, by rising number.
+#[derive(Drop)]
+pub struct RelsAt<'a> {
+    /// Their numbers, with some that were removed.
+    ids: slice::Iter<'a, RelId>,
+    rels: &'a Series<Rel>,
+}
+
+impl<'a> Model for RelsAt<'a> {
+    ghost use Rattle.std.specs.Prelude.{List};
+    ghost use Rattle.cy_values.specs.declared.numbers.RelId.{RelId};
+    ghost use Rattle.cy_graph.specs.declared.nodes.Rel.{Rel};
+
+    ghost Value = { List (RelId × Rel) };
+
+    ghost use Rattle.cy_graph.specs.internal.Listed.{listed};
+
+    ghost view = { λ r. listed r.rels.now.now.entries r.ids.rest.now };
+}
+
+impl<'a> RelsAt<'a> {
+    pub(crate) fn new(ids: &'a [RelId], rels: &'a Series<Rel>) -> Self
+        ensures { result ≡ listed rels.now.now.entries ids.now }
+    {
+        RelsAt {
+            ids: ids.iter(),
+            rels,
+        }
+    }
+}
+
+impl<'a> Iterator for RelsAt<'a> {
+    type Item = (RelId, &'a Rel);
+
+    ghost next_gives = { YieldsFirstBy (λ p. (p.0, p.1.now)) (λ r. r) };
+
+    ghost remaining = { item_count (λ r. r) };
+
+    fn next(&mut self) -> Option<(RelId, &'a Rel)> {
+        while let Some(id) = self.ids.next() {
+            if let Some(rel) = self.rels.get(id.0) {
+                return Some((*id, rel));
+            }
+        }
+        None
     }
 }

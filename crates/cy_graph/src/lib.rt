@@ -14,7 +14,7 @@ mod touched;
 
 pub use faults::GraphFault;
 pub use graph::Graph;
-pub use iterators::{Nodes, Rels};
+pub use iterators::{Nodes, Rels, RelsAt};
 pub use maps::TextMap;
 pub use nodes::{Labels, Node, Props, Rel};
 pub use touched::{Touched, Was};

@@ -6,13 +6,13 @@ mod lookups;
 
 ghost use Rattle.std.specs.Prelude.{◌≡◌, ◌≤◌, [], IsSome, IsNone, IfSome, IfOk, IfErr, OnOk, IsOk, None, Some, map, slice_get};
 ghost use Rattle.std.specs.Option.{option_copied};
-ghost use Rattle.cy_graph.specs.Graph.{empty_state, node_at, rel_at, rels_from, rels_into, rels_with, number_end, IsGraph};
+ghost use Rattle.cy_graph.specs.Graph.{empty_state, node_at, rel_at, incoming, outgoing, rels_with, number_end, IsGraph};
 ghost use Rattle.cy_graph.specs.Touched.{before_image, AreTouched};
 
 use crate::keys::{Key, Pair};
 use crate::postings::Postings;
 use crate::sight::Sight;
-use cy_graph::{Graph, GraphFault, Node, Nodes, Rel, Rels, Touched};
+use cy_graph::{Graph, GraphFault, Node, Nodes, Rel, Rels, RelsAt, Touched};
 use cy_values::{NodeId, RelId};
 use std::alloc::Global;
 use std::marker::Model;
@@ -98,16 +98,16 @@ impl Store {
         self.graph.rels()
     }
 
-    /// The relationships of which a node is the source, by rising number.
-    pub fn out_rels(&self, id: NodeId) -> &[RelId]
-        ensures { result.now ≡ rels_from id self.now.graph.now.content.rels }
+    /// The relationships of which a node is the source, with their numbers, by rising number.
+    pub fn out_rels(&self, id: NodeId) -> RelsAt<'_>
+        ensures { result ≡ outgoing id self.now.graph.now.content.rels }
     {
         self.graph.out_rels(id)
     }
 
-    /// The relationships of which a node is the target, by rising number.
-    pub fn in_rels(&self, id: NodeId) -> &[RelId]
-        ensures { result.now ≡ rels_into id self.now.graph.now.content.rels }
+    /// The relationships of which a node is the target, with their numbers, by rising number.
+    pub fn in_rels(&self, id: NodeId) -> RelsAt<'_>
+        ensures { result ≡ incoming id self.now.graph.now.content.rels }
     {
         self.graph.in_rels(id)
     }

@@ -164,14 +164,6 @@ without_no_nodes graph = ap (λ es. with_nodes es graph) (all_left (λ (e : Node
 
 -- ---- sorted, and each once
 
--- the same relationships in another order
-pub same_without : (ids others : List RelId) → IsPermutation ids others → (graph : State) → without_rels others graph ≡ without_rels ids graph
-same_without ids others permuted graph =
-    ap (λ es. with_rels es graph)
-    (filter_alike (λ (e : RelId × Rel). not (is_rel_among others e.0)) (λ (e : RelId × Rel). not (is_rel_among ids e.0)) graph.content.rels
-    (each_is (λ (e : RelId × Rel). not (is_rel_among others e.0) ≡ not (is_rel_among ids e.0))
-    (λ e. ap not (sym (list_any-IsPermutation (λ (other : RelId). e.0.0 == other.0) ids others permuted))) graph.content.rels))
-
 or_twice : (a b : Bool) → (a || b) ≡ (a || (a || b))
 or_twice true b = refl
 or_twice false b = refl

@@ -14,6 +14,7 @@ ghost use Rattle.cy_writes.specs.internal.Deleting.{AreAmong, is_node_among, is_
 
 use crate::naming::entity_of;
 use cy_effects::UpdateFault;
+use cy_graph::RelsAt;
 use cy_index::Store;
 use cy_trees::Variable;
 use cy_values::{Entity, NodeId, RelId, Row};
@@ -152,13 +153,22 @@ fn push_rels_of(store: &Store, id: NodeId, rels: &mut Vec<RelId>) -> Result<(), 
     ensures all { OnOk result (rels.new.items ≡ rels.old.items ++ (rels_from id store.now.graph.now.content.rels ++ rels_into id store.now.graph.now.content.rels)) }
     ensures memory { IfErr result (λ why. why ≡ NoMemory) }
 {
-    rels.extend_from_slice(store.out_rels(id))?;
-    rels.extend_from_slice(store.in_rels(id))?;
+    push_numbers(store.out_rels(id), rels)?;
+    push_numbers(store.in_rels(id), rels)
+}
+
+// Adds the numbers of relationships.
+fn push_numbers(rels: RelsAt<'_>, ids: &mut Vec<RelId>) -> Result<(), UpdateFault>
+    ensures all { OnOk result (ids.new.items ≡ ids.old.items ++ map (λ e. e.0) rels.entry) }
+    ensures memory { IfErr result (λ why. why ≡ NoMemory) }
+{
+    for (id, _rel) in rels {
+        ids.push(id)?;
+    }
     Ok(())
 }
 
-// Removes these relationships, that with the greatest number first, so that each list at a node is shortened at its end. Says how
-// many there were.
+// Removes these relationships. Says how many there were.
 fn remove_rels(store: &mut Store, mut ids: Vec<RelId>) -> Result<u64, UpdateFault>
     requires open { IsSome store.old.graph.was }
     ensures removed { OnOk result (store.new.graph.now ≡ without_rels ids.items store.old.graph.now) }
@@ -168,7 +178,6 @@ fn remove_rels(store: &mut Store, mut ids: Vec<RelId>) -> Result<u64, UpdateFaul
     ensures indexes { store.new.chosen ≡ store.old.chosen }
 {
     store.laws();
-    ids.sort_unstable();
     let mut gone = 0;
     while let Some(id) = ids.pop() {
         let more = remove_rel(store, id)?;

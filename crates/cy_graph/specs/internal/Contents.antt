@@ -1,5 +1,5 @@
 -- What a graph keeps stands for its content.
-use Rattle.std.specs.Prelude.{◌≡◌, ℕ, ◌≤◌, eqb, cond, is_some, length, reverse, List, [], ◌∷◌, IsSome, IsNone, IsTrue}
+use Rattle.std.specs.Prelude.{◌≡◌, ℕ, ◌<◌, eqb, cond, filter, is_some, reverse, List, [], ◌∷◌, IsSome, IsNone, IsTrue}
 use Rattle.std.specs.List.{AllByRecursion}
 use Rattle.std.specs.Option.{ForSome}
 use Rattle.cy_values.specs.declared.numbers.RelId.{RelId}
@@ -8,7 +8,7 @@ use Rattle.cy_graph.specs.declared.nodes.Node.{Node}
 use Rattle.cy_graph.specs.declared.nodes.Rel.{Rel}
 use Rattle.cy_graph.specs.Maps.{rises}
 use Rattle.cy_graph.specs.Stored.{IsStorable}
-use Rattle.cy_graph.specs.internal.Adjacency.{ids_at, room_at, undone, IsUndoable}
+use Rattle.cy_graph.specs.internal.Adjacency.{ids_at, is_live, undone}
 use Rattle.cy_graph.specs.internal.Slots.{value_under}
 use Rattle.cy_graph.specs.Model.{Numbered, SeriesVersions}
 
@@ -34,14 +34,17 @@ abbrev pub ids_by : (Rel → ℕ) → ℕ → List (ℕ × Rel) → List RelId
 ids_by end node [] = []
 ids_by end node (e ∷ es) = cond (eqb node (end e.1)) (record { 0 = e.0 } ∷ ids_by end node es) (ids_by end node es)
 
+-- a list has the relationships of which the node is this end, and besides them numbers of some that were removed
+pub record IsListOf (end : Rel → ℕ) (node : ℕ) (rels : Numbered Rel) (ids : List RelId) : Type 0 where
+  pub given : AllByRecursion (λ (id : RelId). id.0 < rels.next) ids
+  pub live : filter (is_live rels.entries) ids ≡ ids_by end node rels.entries
+
 -- the lists have the relationships of which each node is this end, as they are and, once their steps are undone, as they
 -- were when the change began
 pub record IsJoined (end : Rel → ℕ) (rels : SeriesVersions Rel) (adjacency : Adjacency) : Type 0 where
-  pub now : (node : ℕ) → ids_at node adjacency.lists ≡ ids_by end node rels.now.entries
-  pub fits : (node : ℕ) → length (ids_at node adjacency.lists) ≤ room_at node adjacency.lists
-  pub undoable : IsUndoable (reverse adjacency.steps.items) (λ node. ids_at node adjacency.lists) (λ node. room_at node adjacency.lists)
+  pub now : (node : ℕ) → IsListOf end node rels.now (ids_at node adjacency.lists)
   pub closed : IsNone rels.was → adjacency.steps.items ≡ []
-  pub was : ForSome rels.was (λ before. (node : ℕ) → undone (reverse adjacency.steps.items) (λ m. ids_at m adjacency.lists) node ≡ ids_by end node before.entries)
+  pub was : ForSome rels.was (λ before. (node : ℕ) → IsListOf end node before (undone (reverse adjacency.steps.items) (λ m. ids_at m adjacency.lists) node))
 
 pub record AreVersions (nodes : SeriesVersions Node) (rels : SeriesVersions Rel) (outgoing incoming : Adjacency) : Type 0 where
   pub now : AreValues nodes.now rels.now

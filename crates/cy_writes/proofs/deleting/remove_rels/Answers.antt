@@ -3,12 +3,12 @@ use Rattle.std.proofs.lemmas.List.{nil_from_length}
 use Rattle.cy_values.specs.declared.numbers.RelId.{RelId}
 use Rattle.cy_graph.specs.Graph.{State, number_end}
 use Rattle.cy_writes.specs.internal.Deleting.{without_rels}
-use Rattle.cy_writes.proofs.DeletedSets.{few_rels, same_without, without_no_rels}
+use Rattle.cy_writes.proofs.DeletedSets.{few_rels, without_no_rels}
 use Rattle.cy_writes.proofs.deleting.remove_rels.Goals as goal
 
 pub loop-id-init : goal.loop-id-init
 loop-id-init c = record {
-  removed = same_without c.args.ids.items c.sort_unstable.new.self.items c.sort_unstable.ensures.permutation c.args.store.now.graph.now;
+  removed = refl;
   count = omega arith;
   was = refl;
   opened = c.requires.open;

@@ -1,6 +1,10 @@
-use Rattle.std.proofs.Common.{sym, ◌∙◌}
-use Rattle.cy_graph.proofs.Joining.{ids_into}
+use Rattle.std.proofs.Common.{ap, ◌∙◌}
+use Rattle.cy_graph.specs.internal.Adjacency.{ids_at}
+use Rattle.cy_graph.specs.internal.Listed.{listed}
+use Rattle.cy_graph.proofs.Listing.{listed_at}
 use Rattle.cy_graph.proofs.graph.Graph.in_rels.Goals as goal
 
 pub returns : goal.returns
-returns c = rw (← c.self.view_is) (c.at.ensures ∙ c.self.invariant.in_joined.now c.args.id.0 ∙ sym (ids_into c.args.id c.self.inside.rels.now.entries))
+returns c =
+    let inside = c.self.inside in
+    rw (← c.self.view_is) (c.new.ensures ∙ ap (listed inside.rels.now.entries) c.at.ensures ∙ listed_at (λ rel. rel.target.0) c.args.id.0 inside.rels.now (ids_at c.args.id.0 inside.incoming.lists) c.laws.ensures (c.self.invariant.in_joined.now c.args.id.0))

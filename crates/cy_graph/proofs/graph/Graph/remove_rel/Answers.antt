@@ -1,10 +1,12 @@
-use Rattle.std.proofs.Common.{◌≡◌, false, true, is_some, IsSome, sym, ap, subst, ◌∙◌}
+use Rattle.std.proofs.Common.{◌≡◌, false, true, is_some, List, ◌++◌, ◌∷◌, [], IsSome, sym, ap, subst, ◌∙◌}
+use Rattle.cy_graph.specs.declared.adjacency.Step.{Step}
+use Rattle.cy_graph.specs.declared.adjacency.Step.TheVariants.{Removed}
 use Rattle.cy_graph.specs.Graph.{Versions}
-use Rattle.cy_graph.specs.internal.Adjacency.{IsRising, ids_at}
+use Rattle.cy_graph.specs.internal.Adjacency.{ids_at}
 use Rattle.cy_graph.specs.internal.Contents.{AreVersions}
 use Rattle.cy_graph.proofs.Graphs.{there_joined, rel_removed_versions}
-use Rattle.cy_graph.proofs.Kept.{joined_unlinked}
-use Rattle.cy_graph.proofs.Relating.{list_rises, rel_removed_are, some_in_rels}
+use Rattle.cy_graph.proofs.Kept.{joined_removed, joined_reserved}
+use Rattle.cy_graph.proofs.Relating.{rel_removed_are, reserved_are, some_in_rels}
 use Rattle.cy_graph.proofs.graph.Graph.remove_rel.Goals as goal
 
 -- it is there
@@ -14,28 +16,47 @@ returns-in_default-clause-ok c =
     let clash : false ≡ true = ap is_some c.in_default.ensures.value ∙ there in
     cc
 
--- the numbers at both ends rise
-pub unlink-requires-clause-rising : goal.unlink-requires-clause-rising
-unlink-requires-clause-rising c =
-    let source = c.in-Some.rel.now.source.0 in
-    subst (λ lists. IsRising (ids_at source lists)) (sym c.reserve_step.ensures.lists) (list_rises (λ rel. rel.source.0) c.self.inside.rels c.self.inside.outgoing c.get.ensures.numbered c.self.invariant.out_joined source)
+-- room alone changes nothing
+pub invariant_of-self : goal.invariant_of-self
+invariant_of-self c =
+    let inside = c.self.inside in
+    let out = c.reserve_step.ensures in
+    reserved_are inside.nodes inside.rels inside.outgoing inside.incoming c.reserve_step.new.self inside.incoming c.self.invariant
+    (joined_reserved (λ rel. rel.source.0) inside.rels inside.outgoing c.reserve_step.new.self c.self.invariant.out_joined (λ m. ap (λ lists. ids_at m lists) out.lists) out.steps) c.self.invariant.in_joined
 
-pub unlink-requires-2-clause-rising : goal.unlink-requires-2-clause-rising
-unlink-requires-2-clause-rising c =
-    let target = c.in-Some.rel.now.target.0 in
-    subst (λ lists. IsRising (ids_at target lists)) (sym c.reserve_step-2.ensures.lists) (list_rises (λ rel. rel.target.0) c.self.inside.rels c.self.inside.incoming c.get.ensures.numbered c.self.invariant.in_joined target)
+pub invariant_of-self-in_err-reserve_step-2 : goal.invariant_of-self-in_err-reserve_step-2
+invariant_of-self-in_err-reserve_step-2 c =
+    let inside = c.self.inside in
+    let out = c.reserve_step.ensures in
+    let into = c.reserve_step-2.ensures in
+    reserved_are inside.nodes inside.rels inside.outgoing inside.incoming c.reserve_step.new.self c.reserve_step-2.new.self c.self.invariant
+    (joined_reserved (λ rel. rel.source.0) inside.rels inside.outgoing c.reserve_step.new.self c.self.invariant.out_joined (λ m. ap (λ lists. ids_at m lists) out.lists) out.steps)
+    (joined_reserved (λ rel. rel.target.0) inside.rels inside.incoming c.reserve_step-2.new.self c.self.invariant.in_joined (λ m. ap (λ lists. ids_at m lists) into.lists) into.steps)
 
--- the relationship is out of the lists of its ends
+pub invariant_of-self-in_err-remove : goal.invariant_of-self-in_err-remove
+invariant_of-self-in_err-remove c =
+    let inside = c.self.inside in
+    let out = c.reserve_step.ensures in
+    let into = c.reserve_step-2.ensures in
+    subst (λ r. AreVersions inside.nodes r c.reserve_step.new.self c.reserve_step-2.new.self) (sym c.in_err-remove.ensures.err) (reserved_are inside.nodes inside.rels inside.outgoing inside.incoming c.reserve_step.new.self c.reserve_step-2.new.self c.self.invariant
+    (joined_reserved (λ rel. rel.source.0) inside.rels inside.outgoing c.reserve_step.new.self c.self.invariant.out_joined (λ m. ap (λ lists. ids_at m lists) out.lists) out.steps)
+    (joined_reserved (λ rel. rel.target.0) inside.rels inside.incoming c.reserve_step-2.new.self c.self.invariant.in_joined (λ m. ap (λ lists. ids_at m lists) into.lists) into.steps))
+
+-- the relationship is none of its ends' any more
 pub invariant_of-self-2 : goal.invariant_of-self-2
 invariant_of-self-2 c =
     let inside = c.self.inside in
     let open_change = some_in_rels inside.nodes.was inside.rels.was c.self.invariant.both (subst (λ (v : Versions). IsSome v.was) (sym c.self.view_is) c.requires.open) in
     let out = c.reserve_step.ensures in
     let into = c.reserve_step-2.ensures in
-    subst (λ r. AreVersions inside.nodes r c.unlink.new.self c.unlink-2.new.self) (sym c.in_ok-remove.ensures.ok)
-    (rel_removed_are inside.nodes inside.rels inside.outgoing inside.incoming c.unlink.new.self c.unlink-2.new.self c.self.invariant c.args.id.0
-    (joined_unlinked (λ rel. rel.source.0) inside.rels c.in-Some.rel.now c.args.id.0 c.get.ensures.numbered open_change (sym c.in-Some.ensures.value) inside.outgoing c.reserve_step.new.self c.unlink.new.self c.self.invariant.out_joined out.lists out.steps c.unlink.ensures.ids c.unlink.ensures.room c.unlink.ensures.steps)
-    (joined_unlinked (λ rel. rel.target.0) inside.rels c.in-Some.rel.now c.args.id.0 c.get.ensures.numbered open_change (sym c.in-Some.ensures.value) inside.incoming c.reserve_step-2.new.self c.unlink-2.new.self c.self.invariant.in_joined into.lists into.steps c.unlink-2.ensures.ids c.unlink-2.ensures.room c.unlink-2.ensures.steps))
+    let source = c.in-Some.rel.now.source.0 in
+    let target = c.in-Some.rel.now.target.0 in
+    subst (λ r. AreVersions inside.nodes r c.remove-2.new.self c.remove-3.new.self) (sym c.in_ok-remove.ensures.ok)
+    (rel_removed_are inside.nodes inside.rels inside.outgoing inside.incoming c.remove-2.new.self c.remove-3.new.self c.self.invariant c.args.id.0
+    (joined_removed (λ rel. rel.source.0) inside.rels c.args.id.0 source inside.outgoing c.remove-2.new.self open_change c.self.invariant.out_joined
+    (λ m. c.remove-2.ensures.ids m ∙ ap (λ lists. ids_at m lists) out.lists) (c.remove-2.ensures.steps ∙ ap (λ (steps : List Step). steps ++ Removed source ∷ []) out.steps))
+    (joined_removed (λ rel. rel.target.0) inside.rels c.args.id.0 target inside.incoming c.remove-3.new.self open_change c.self.invariant.in_joined
+    (λ m. c.remove-3.ensures.ids m ∙ ap (λ lists. ids_at m lists) into.lists) (c.remove-3.ensures.steps ∙ ap (λ (steps : List Step). steps ++ Removed target ∷ []) into.steps)))
 
 -- it is gone
 pub returns-clause-ok : goal.returns-clause-ok

@@ -11,7 +11,7 @@ invariant_of-self c =
     let into = c.rollback-4.ensures in
     rolled_are inside.nodes c.rollback.new.self inside.rels c.rollback-2.new.self inside.outgoing inside.incoming c.rollback-3.new.self c.rollback-4.new.self c.self.invariant inside.nodes.was refl inside.rels.was refl
     (some_in_nodes inside.nodes.was inside.rels.was c.self.invariant.both some) (some_in_rels inside.nodes.was inside.rels.was c.self.invariant.both some) c.rollback.ensures c.rollback-2.ensures
-    (record { ids = out.ids; room = out.room; steps = out.steps }) (record { ids = into.ids; room = into.room; steps = into.steps })
+    (record { ids = out.ids; steps = out.steps }) (record { ids = into.ids; steps = into.steps })
 
 -- the graph is as it was
 pub returns : goal.returns

@@ -28,6 +28,8 @@ CRATE = "crates/cypher_live"
 BYTES_LIMIT, SET_LIMIT = 600, 1500
 # Entries of maps in falling order of their keys, and how much more four times as many may take.
 ENTRIES, ENTRIES_LIMIT = (1_000, 4_000), 5
+# How often a graph is filled and emptied, by two lines each time, and how many bytes may stay each time.
+ROUNDS, ROUND_LIMIT = (5_000, 500_000), 1
 
 
 def statement(text, made=0, gone=0, rels_made=0, rels_gone=0):
@@ -141,6 +143,21 @@ def has_memory(program):
     return is_within("bytes of a node with a label and a property", node, BYTES_LIMIT)
 
 
+def rounds(count):
+    """Lines that make two nodes and a relationship between them, and remove all of them, so many times."""
+    for _ in range(count):
+        yield statement("CREATE (:A)-[:T]->(:B)", made=2, rels_made=1)
+        yield statement("MATCH (n) DETACH DELETE n", gone=2, rels_gone=1)
+
+
+def keeps_nothing(program):
+    """Whether a graph that is empty again keeps no memory of what was in it."""
+    few, many = (peak([program], rounds(count)) for count in ROUNDS)
+    kept = (many - few) / (ROUNDS[1] - ROUNDS[0])
+    print(f"{'bytes that stay of what was made and removed':56} {kept:12,.1f}  of at most {ROUND_LIMIT}", flush=True)
+    return kept <= ROUND_LIMIT
+
+
 def built():
     with open(f"{CRATE}/stdin") as it:
         subprocess.run(["rt", "run"], cwd=CRATE, stdin=it, stdout=subprocess.DEVNULL, check=True)
@@ -151,7 +168,7 @@ def built():
 
 def main():
     program = sys.argv[1] if len(sys.argv) > 1 else built()
-    held = [has_set_cost(program), has_map_cost(program), has_memory(program)]
+    held = [has_set_cost(program), has_map_cost(program), has_memory(program), keeps_nothing(program)]
     held.append(report(lambda size: costs(program, size), *SIZES, LIMIT))
     return 0 if all(held) else 1
 

@@ -42,5 +42,5 @@ mod AggregateRows
 mod OrderRows
 mod ReturnRows
 mod GrownColumns
-mod SureKept
+pub mod SureKept
 mod ViewQueries

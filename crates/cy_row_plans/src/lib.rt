@@ -7,6 +7,8 @@ mod filters;
 mod lookups;
 mod projections;
 
+pub use asked::add_asked;
 pub use columns::column_outputs;
-pub use filters::filter_where;
+pub use filters::{check_room, filter_where};
+pub use lookups::with_lookups;
 pub use projections::project_items;

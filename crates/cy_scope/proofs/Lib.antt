@@ -3,6 +3,7 @@ mod RowsLemmas
 pub mod TreeWordsLemmas
 pub mod KindsKept
 mod SameTrees
+mod SameItself
 pub mod KindedExpressions
 mod KindedPatterns
 mod KindedClauses

@@ -1,7 +1,7 @@
 -- A statement whose variables have their columns; nothing else is changed (own).
 use Rattle.std.specs.Prelude.{List, [], ◌∷◌, ◌++◌, map, Option, option_map, if◌then◌else◌}
 use Rattle.cy_trees.specs.declared.expressions.Variable.{Variable}
-use Rattle.cy_trees.specs.Trees.{Expression, variable, MapEntry, NodePattern, RelationshipPattern, Step, Path, Item, Key, Projection, SetItem, set_property, set_labels, RemoveItem, remove_property, remove_labels, Clause, «match», unwind, «with», «return», create, set, remove, delete, Statement}
+use Rattle.cy_trees.specs.Trees.{Expression, MapEntry, NodePattern, RelationshipPattern, Step, Path, Item, Key, Projection, SetItem, set_property, set_labels, RemoveItem, remove_property, remove_labels, Clause, «match», unwind, «with», «return», create, set, remove, delete, Statement}
 use Rattle.cy_kinds.specs.Scopes.{Scope}
 pub use Rattle.cy_kinds.specs.ResolvedExpressions.{resolved_variable, resolved, resolved_expressions, resolved_links, resolved_arms, resolved_otherwise}
 use Rattle.cy_scope.specs.ClauseScopes.{scope_after}

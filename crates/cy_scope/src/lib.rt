@@ -15,7 +15,7 @@ mod sureness;
 mod views;
 
 pub use checked::{Checked, ViewQuery};
-pub use laws::checked_statements;
+pub use laws::{checked_statements, same_trees};
 pub use repeats::place_of_item;
 pub use statements::check;
 pub use views::{check_view, ends_with_return, has_update, is_reading, is_update};

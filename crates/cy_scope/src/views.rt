@@ -1,9 +1,9 @@
 //! Which statements are queries of views (own).
 
-ghost use Rattle.std.specs.Prelude.{◌≡◌, ◌⊎◌, map, None, Some, Ok, Err, MatchResult, IfOk};
+ghost use Rattle.std.specs.Prelude.{◌≡◌, ◌⊎◌, map, None, Some, Ok, Err, MatchResult, IfOk, IfSome};
 ghost use Rattle.std.specs.List.{list_any};
 ghost use Rattle.cy_trees.specs.Views.{clause_of, statement_of, path_of, projection_of};
-ghost use Rattle.cy_kinds.specs.declared.faults.ViewFault.TheVariants.{NoMemory};
+ghost use Rattle.cy_kinds.specs.declared.faults.ViewFault.TheVariants.{MayFail, NoMemory};
 ghost use Rattle.cy_scope.specs.Views as spec;
 
 use crate::checked::{Checked, ViewQuery};
@@ -165,10 +165,12 @@ fn any_unbounded(clauses: &[Clause]) -> bool
 /// `OrderInView` where it has ORDER BY, SKIP or LIMIT, `AggregateInView` where it has an aggregate, `Unbounded` where it has a
 /// length without an upper bound or with one above 5, `MayFail` where it has UNWIND, an expression that isn't sure, or a
 /// WHERE that is no sure flag: each is asked of the whole statement before the next (own). `NoMemory` where memory is
-/// wanting.
+/// wanting for the last of these; the others take none.
 pub fn check_view(alloc: Global, checked: Checked) -> Result<ViewQuery, ViewFault>
     ensures query { IfOk result (λ query. query ≡ checked) }
     ensures verdict { MatchResult result (λ _. spec.view_fault (statement_of checked) ≡ None) (λ fault. (fault ≡ NoMemory) ⊎ (spec.view_fault (statement_of checked) ≡ Some fault)) }
+    // Only whether it is sure takes memory.
+    ensures memory { result ≡ Err NoMemory → IfSome (spec.view_fault (statement_of checked)) (λ fault. fault ≡ MayFail) }
 {
     let clauses = checked.statement().clauses.as_slice();
     if !is_reading(clauses) {

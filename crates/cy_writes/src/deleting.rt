@@ -108,7 +108,7 @@ fn push_variable(named: &mut Named, variable: &Variable, row: &Row) -> Result<()
     Ok(())
 }
 
-// What goes: what is named, and with DETACH each relationship at a node of it.
+// What goes: what is named, each node once, and with DETACH each relationship at a node of it.
 fn all_going(store: &Store, detach: bool, named: Named) -> Result<Named, UpdateFault>
     ensures nodes { IfOk result (λ going. (id : NodeId) → is_node_among going.nodes.items id ≡ is_node_among named.nodes.items id) }
     ensures rels { IfOk result (λ going. AreAmong (λ e. is_rel_among named.rels.items e.0 || (detach && lies_among named.nodes.items e)) going.rels.items store.now.graph.now.content.rels) }
@@ -117,24 +117,33 @@ fn all_going(store: &Store, detach: bool, named: Named) -> Result<Named, UpdateF
     if detach {
         return with_rels_at(store, named);
     }
-    Ok(named)
+    let Named { nodes, rels } = named;
+    Ok(Named {
+        nodes: each_once(nodes),
+        rels,
+    })
 }
 
-// With the relationships at the nodes, each node once, so that one that is named often costs its relationships once.
+// With the relationships at the nodes.
 fn with_rels_at(store: &Store, named: Named) -> Result<Named, UpdateFault>
     ensures nodes { IfOk result (λ going. (id : NodeId) → is_node_among going.nodes.items id ≡ is_node_among named.nodes.items id) }
     ensures rels { IfOk result (λ going. AreAmong (λ e. is_rel_among named.rels.items e.0 || lies_among named.nodes.items e) going.rels.items store.now.graph.now.content.rels) }
     ensures memory { IfErr result (λ why. why ≡ NoMemory) }
 {
     store.laws();
-    let Named {
-        mut nodes,
-        mut rels,
-    } = named;
-    nodes.sort_unstable();
-    nodes.dedup();
+    let Named { nodes, mut rels } = named;
+    let nodes = each_once(nodes);
     push_rels_at(store, &nodes, &mut rels)?;
     Ok(Named { nodes, rels })
+}
+
+// The nodes, each once, so that the relationships at one that is named often are gone through once.
+fn each_once(mut nodes: Vec<NodeId>) -> Vec<NodeId>
+    ensures { (id : NodeId) → is_node_among result.items id ≡ is_node_among nodes.items id }
+{
+    nodes.sort_unstable();
+    nodes.dedup();
+    nodes
 }
 
 // Adds the relationships at these nodes.

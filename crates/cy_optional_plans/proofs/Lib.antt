@@ -1,0 +1,10 @@
+pub mod PairLemmas
+pub mod Truths
+pub mod Covering
+pub mod OneRow
+pub mod Sifted
+pub mod PairRows
+pub mod WholePlans
+pub mod CodeLemmas
+pub mod Predicates
+pub mod JoinedParts

@@ -1,0 +1,3 @@
+pub mod Optional
+pub mod Own
+pub mod internal

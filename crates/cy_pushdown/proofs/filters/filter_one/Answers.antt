@@ -1,0 +1,19 @@
+use Rattle.std.proofs.Common.{subst}
+use Rattle.cy_trees.specs.Trees.{Expression}
+use Rattle.cy_trees.specs.Views.{expression_of}
+use Rattle.cy_plans.specs.Plans.{Plan}
+use Rattle.cy_plans.specs.Views.{plan_of}
+use Rattle.cy_row_plans.specs.Rows.{IsFiltered}
+use Rattle.cy_row_plans.proofs.Filtered.{if_ok_map}
+use Rattle.cy_pushdown.specs.internal.Pushed.{IsPushable, IsPushed}
+use Rattle.cy_pushdown.proofs.Tables.{pushed_filters}
+use Rattle.cy_pushdown.proofs.filters.filter_one.Goals as goal
+
+pub returns-in-Some : goal.returns-in-Some
+returns-in-Some c =
+    let below : Plan = plan_of c.args.below in
+    let test : Expression = expression_of c.args.test.now in
+    let can : IsPushable below c.in-Some.column test = c.in-Some.ensures in
+    if_ok_map (λ p. IsPushed (plan_of c.into_root.result) c.in-Some.column test (plan_of p)) (λ p. IsFiltered below test (plan_of p))
+    (λ p pushed. pushed_filters below c.in-Some.column test can (plan_of p) (subst (λ q. IsPushed (plan_of q) c.in-Some.column test (plan_of p)) c.into_root.ensures.same pushed))
+    c.push.result c.push.ensures

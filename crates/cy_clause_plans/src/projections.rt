@@ -9,8 +9,9 @@ ghost use Rattle.cy_clause_plans.specs.Matched.{IsTestKinded};
 ghost use Rattle.cy_clause_plans.specs.Projections as spec;
 
 use cy_plans::Plan;
+use cy_pushdown::filter_low;
 use cy_queries::laws::distinct_and_order;
-use cy_row_plans::{filter_where, project_items};
+use cy_row_plans::project_items;
 use cy_trees::{Expr, Projection};
 use cy_values::{Fault, row_order_laws};
 use std::alloc::Global;
@@ -47,6 +48,6 @@ pub fn with_rows(
     let made = project_rows(alloc, below, projection)?;
     match filter {
         None => Ok(made),
-        Some(test) => filter_where(alloc, made, test),
+        Some(test) => filter_low(alloc, made, test),
     }
 }

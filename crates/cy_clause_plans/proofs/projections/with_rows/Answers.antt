@@ -9,8 +9,8 @@ use Rattle.cy_clause_plans.specs.Projections.{IsWith}
 use Rattle.cy_clause_plans.proofs.WithPlans.{with_alone, with_where}
 use Rattle.cy_clause_plans.proofs.projections.with_rows.Goals as goal
 
-pub filter_where-requires : goal.filter_where-requires
-filter_where-requires c =
+pub filter_low-requires : goal.filter_low-requires
+filter_low-requires c =
     let over = rw c.in-Some.is at c.requires.test in
     (over.0, over.1 ∙ sym c.in_ok-made.ensures.as_wide, over.2)
 
@@ -26,4 +26,4 @@ returns-in-Some c =
     let made : Plan = plan_of c.in_ok-made.made in
     if_ok_map (λ q. IsFiltered made test (plan_of q)) (λ q. IsWith below p (filter_of c.args.filter.now) (plan_of q))
     (λ q filtered. rw c.in-Some.is (with_where c.row_order_laws.ensures.total below p made c.in_ok-made.ensures test (plan_of q) filtered))
-    c.filter_where.result c.filter_where.ensures
+    c.filter_low.result c.filter_low.ensures

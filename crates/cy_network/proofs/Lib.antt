@@ -1,3 +1,19 @@
+pub mod Slices
+pub mod PlanParts
+pub mod Steps
+pub mod Shifted
+pub mod OwnSingles
+pub mod OwnPairs
+pub mod OwnOuter
+pub mod Lent
 pub mod Passes
 pub mod Written
 pub mod Canonical
+pub mod Entries
+pub mod Excess
+mod Outcomes
+pub mod Held
+pub mod Opened
+pub mod Nothing
+pub mod Refusals
+pub mod Through

@@ -1,1 +1,4 @@
+pub mod Counted
+pub mod Memories
+pub mod Networks
 pub mod internal

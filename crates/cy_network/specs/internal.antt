@@ -1,3 +1,4 @@
 -- What proofs alone need.
-pub mod Memories
+pub mod Parts
 pub mod Roots
+pub mod Upkeep

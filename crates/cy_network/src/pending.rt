@@ -1,11 +1,32 @@
 //! What is pending: by how much rows count less and more after a change.
 
-ghost use Rattle.std.specs.Prelude.{◌≡◌, IfOk, flat_map, map};
+ghost use Rattle.std.specs.Prelude.{◌≡◌, ◌≤◌, List, [], IfOk, flat_map, length, map};
+ghost use Rattle.indexmap.specs.IndexMap.{spare};
+ghost use Rattle.cy_values.specs.declared.rows.Cell.{Cell};
+ghost use Rattle.cy_bags.specs.Difference.{IsDifference};
+ghost use Rattle.cy_deltas.specs.Deltas.{IsDelta, counts};
+ghost use Rattle.cy_network.specs.Counted.{ArePositive, counted, written};
 ghost use Rattle.cy_network.specs.internal.Roots.{excess};
 
+use crate::rows::{sorted, write_counts};
+use cy_bags::Change;
 use cy_deltas::Shift;
-use cy_values::{Duplicate, Fault, Row};
+use cy_values::{Duplicate, Fault, Row, Sequence};
+use indexmap::IndexMap;
 use std::alloc::Global;
+
+/// What rows change, as a change. Fails only for want of memory.
+pub(crate) fn pending_change(alloc: Global, shifts: &[Shift]) -> Result<Change, Fault>
+    requires { (before : List (List Cell)) × ((after : List (List Cell)) × IsDelta (counts before) (counts after) shifts.now) }
+    ensures { IfOk result (λ change. (before after : List (List Cell)) → IsDelta (counts before) (counts after) shifts.now → IsDifference before after change) }
+{
+    let removed = sorted(losses(alloc, shifts)?)?;
+    let added = sorted(gains(alloc, shifts)?)?;
+    Ok(Change {
+        removed: Sequence::new(removed),
+        added: Sequence::new(added),
+    })
+}
 
 // The rows that count less, with by how much. Fails only for want of memory.
 fn losses(alloc: Global, shifts: &[Shift]) -> Result<Vec<(Row, u64)>, Fault>
@@ -42,4 +63,33 @@ pub(crate) fn counts_after(alloc: Global, shifts: Vec<Shift>) -> Result<Vec<(Row
         next.push((shift.row, shift.after))?;
     }
     Ok(next)
+}
+
+/// Rows with their counts, where there were none before. Fails only for want of memory.
+pub(crate) fn rows_from(alloc: Global, shifts: Vec<Shift>) -> Result<IndexMap<Row, u64>, Fault>
+    ensures counts { IfOk result (λ rows. (after : List (List Cell)) → IsDelta (counts []) (counts after) shifts.items → counted rows.entries ≡ counts after) }
+    ensures positive { IfOk result (λ rows. ArePositive rows.entries) }
+{
+    let next = counts_after(alloc, shifts)?;
+    let mut rows = IndexMap::with_capacity(alloc, next.len())?;
+    write_counts(&mut rows, next);
+    Ok(rows)
+}
+
+/// The rows that change with their counts after it, for which there is room then, and what they change. Fails only for want of memory.
+pub(crate) fn prepared(
+    alloc: Global,
+    shifts: Vec<Shift>,
+    rows: &mut IndexMap<Row, u64>,
+) -> Result<(Vec<(Row, u64)>, Change), Fault>
+    requires { (before : List (List Cell)) × ((after : List (List Cell)) × IsDelta (counts before) (counts after) shifts.items) }
+    ensures leaves { IfOk result (λ made. (before after : List (List Cell)) → IsDelta (counts before) (counts after) shifts.items → written made.0.items (counts before) ≡ counts after) }
+    ensures difference { IfOk result (λ made. (before after : List (List Cell)) → IsDelta (counts before) (counts after) shifts.items → IsDifference before after made.1) }
+    ensures room { IfOk result (λ made. length made.0.items ≤ spare rows.new) }
+    ensures entries { rows.new.entries ≡ rows.old.entries }
+{
+    let change = pending_change(alloc, &shifts)?;
+    let next = counts_after(alloc, shifts)?;
+    rows.reserve(next.len())?;
+    Ok((next, change))
 }

@@ -2,15 +2,18 @@
 
 ghost use Rattle.std.specs.Prelude.{◌≡◌, ◌+◌, ◌<◌, ◌≤◌, List, IfOk, length};
 ghost use Rattle.std.specs.List.{All};
-ghost use Rattle.indexmap.specs.IndexMap.{spare};
+ghost use Rattle.indexmap.specs.IndexMap.{IsUnique, spare};
 ghost use Rattle.cy_values.specs.declared.rows.Cell.{Cell};
 ghost use Rattle.cy_values.specs.Bag.{IsCanonical, weight_of};
-ghost use Rattle.cy_memory.specs.Counts.{with_count};
-ghost use Rattle.cy_network.specs.internal.Roots.{AreOnce, ArePositive, counted, written};
+ghost use Rattle.cy_memory.specs.Counts.{is_row, with_count};
+ghost use Rattle.cy_network.specs.Counted.{ArePositive, counted, written};
+ghost use Rattle.cy_network.specs.Networks.{next_counts};
+ghost use Rattle.cy_network.specs.internal.Roots.{AreOnce};
 
 use cy_memory::rows_equal;
-use cy_values::{Fault, Row, row_order_laws};
+use cy_values::{Duplicate, Fault, Row, row_order_laws};
 use indexmap::IndexMap;
+use std::alloc::Global;
 
 /// Writes the counts of some rows, one after another. There is room for each that is new.
 pub(crate) fn write_counts(rows: &mut IndexMap<Row, u64>, next: Vec<(Row, u64)>)
@@ -22,6 +25,44 @@ pub(crate) fn write_counts(rows: &mut IndexMap<Row, u64>, next: Vec<(Row, u64)>)
     for (row, count) in next {
         write_count(rows, row, count);
     }
+}
+
+/// Writes the counts that a prepared change leaves, if one is prepared, over those of the rows. There is room for them.
+pub(crate) fn write_next(rows: &mut IndexMap<Row, u64>, next: Option<Vec<(Row, u64)>>)
+    requires room { length (next_counts next) ≤ spare rows.old }
+    requires positive { ArePositive rows.old.entries }
+    ensures counts { counted rows.new.entries ≡ written (next_counts next) (counted rows.old.entries) }
+    ensures positive { ArePositive rows.new.entries }
+{
+    if let Some(next) = next {
+        write_counts(rows, next);
+    }
+}
+
+/// Copies of the rows with their counts, in canonical order. Fails only for want of memory.
+pub(crate) fn sorted_rows(
+    alloc: Global,
+    rows: &IndexMap<Row, u64>,
+) -> Result<Vec<(Row, u64)>, Fault>
+    requires positive { ArePositive rows.now.entries }
+    ensures counts { IfOk result (λ sorted. (row : List Cell) → weight_of row sorted.items ≡ counted rows.now.entries row) }
+    ensures canonical { IfOk result (λ sorted. IsCanonical sorted.items) }
+{
+    rows_equal();
+    sorted(copied(alloc, rows)?)
+}
+
+// Copies of the rows with their counts. Fails only for want of memory.
+fn copied(alloc: Global, rows: &IndexMap<Row, u64>) -> Result<Vec<(Row, u64)>, Fault>
+    ensures pairs { IfOk result (λ pairs. pairs.items ≡ rows.now.entries) }
+    ensures unique { IfOk result (λ _. IsUnique is_row rows.now) }
+{
+    rows_equal();
+    let mut pairs = Vec::with_capacity(alloc, rows.len())?;
+    for (row, count) in rows.iter() {
+        pairs.push((row.copy(alloc)?, *count))?;
+    }
+    Ok(pairs)
 }
 
 // Writes the count of a row, for which there is room if it is new. One that counts 0 goes.

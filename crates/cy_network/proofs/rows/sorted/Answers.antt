@@ -1,4 +1,4 @@
-use Rattle.std.proofs.Common.{◌≡◌, ◌<◌, ◌≤◌, ℕ, List, ap, sym, subst}
+use Rattle.std.proofs.Common.{◌<◌, ◌≤◌, ℕ, List, ap, sym, subst}
 use Rattle.std.specs.Ordering.{nat_cmp, ordering_then}
 use Rattle.std.proofs.lemmas.List.Sorted.{All-permutation, sum_by-IsPermutation}
 use Rattle.cy_values.specs.declared.rows.Cell.{Cell}

@@ -1,18 +1,15 @@
 -- The memories of a plan: a part has those of the part at its left below it, then those of the one at its right, and then its own.
-use Rattle.std.specs.Prelude.{◌≡◌, ℕ, ◌<◌, List, [], ◌∷◌, ◌++◌, Option, map, length, count_by, if◌then◌else◌, nat_lt}
+use Rattle.std.specs.Prelude.{◌≡◌, ℕ, List, [], ◌∷◌, ◌++◌, Option, map, length}
 use Rattle.std.specs.List.{All}
 use Rattle.cy_values.specs.declared.rows.Cell.{Cell}
-use Rattle.cy_values.specs.Bag.{count_of}
-use Rattle.cy_trees.specs.Trees.{Expression}
 use Rattle.cy_graph.specs.Graph.{Content}
 use Rattle.cy_memory.specs.Counts.{Counts}
-use Rattle.cy_plans.specs.declared.operators.KeyColumns.{KeyColumns}
 use Rattle.cy_plans.specs.Plans as plan
 use Rattle.cy_plans.specs.Plans.{Plan, width}
 use Rattle.cy_plans.specs.Parts.{parts}
-use Rattle.cy_plans.specs.Meaning.{each_once, is_partner}
 use Rattle.cy_deltas.specs.Deltas.{counts, rows_at}
 use Rattle.cy_merges.specs.Merges.{AreBounded, all_columns}
+use Rattle.cy_outer.specs.Outer.{numbers_of_partners}
 
 -- the key columns of the memories that a part has itself: a join keeps the rows of both sides by their keys, an outer join these and the number of
 -- partners of each row of its left side, a look-up the rows below it by its column, and what adds counts keeps its own rows
@@ -42,10 +39,6 @@ keys (plan.all_different p columns) = keys p
 keys (plan.project p outputs) = keys p ++ own_keys (plan.project p outputs)
 keys (plan.distinct p) = keys p
 keys (plan.union left right) = (keys left ++ keys right) ++ own_keys (plan.union left right)
-
--- how many different rows of the right side are partners of each row of the left side that counts
-abbrev pub numbers_of_partners : List KeyColumns → Expression → List (List Cell) → List (List Cell) → Counts
-numbers_of_partners ks test lefts rights row = if nat_lt 0 (count_of row lefts) then count_by (is_partner ks test row) (each_once rights) else 0
 
 -- what the memories of a part count, where the rows of each part are given
 abbrev pub own_contents : (Plan → List (List Cell)) → Plan → List Counts

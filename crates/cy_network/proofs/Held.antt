@@ -1,0 +1,77 @@
+-- What the memories of a plan hold, and the counts of its rows, once a change went through it.
+use Rattle.std.proofs.Common.{◌≡◌, ℕ, ◌+◌, ◌-◌, ◌*◌, ◌≤◌, List, [], ◌∷◌, ◌++◌, Option, Some, None, map, min, sym, ap, subst, ◌∙◌, arith}
+use Rattle.std.specs.List.{All}
+use Rattle.std.proofs.lemmas.List.Elements.{All-cons, All-nil}
+use Rattle.cy_graph.specs.Graph.{Content, State}
+use Rattle.cy_memory.specs.Counts.{Counts}
+use Rattle.cy_plans.specs.Plans.{Plan}
+use Rattle.cy_plans.specs.Parts.{parts}
+use Rattle.cy_plans.specs.Meaning.{rows_of}
+use Rattle.cy_deltas.specs.declared.shifts.Shift.{Shift}
+use Rattle.cy_deltas.specs.Deltas.{IsDelta, counts, rows_at}
+use Rattle.cy_deltas.proofs.Staging.{after_delta}
+use Rattle.cy_merges.specs.Merges.{AreBounded}
+use Rattle.cy_scans.specs.Changes.{IsChange, Touches}
+use Rattle.cy_costs.specs.Costs.{cost}
+use Rattle.cy_network.specs.Counted.{written}
+use Rattle.cy_network.specs.Memories.{AreHeld, contents, keys}
+use Rattle.cy_network.specs.internal.Upkeep.{IsDone, IsUpkeep, all_reads, all_steps}
+use Rattle.cy_network.proofs.Excess.{written_shifts}
+
+-- what was staged for a graph is held there
+pub held_now : (old : Option State) (now : State) (p : Plan) (columns : List (List ℕ)) (staged : List Counts) (shifts : List Shift) → columns ≡ keys p → IsDone old now p staged shifts
+    → AreHeld (Some now.content) p columns staged staged
+held_now old now p columns staged shifts keyed done = record { keyed = keyed; held = done.holds; settled = done.holds; within = done.within }
+
+none_within : (ps : List Plan) → All (λ part. AreBounded (counts (rows_at None part))) ps
+none_within [] = All-nil (λ (part : Plan). AreBounded (counts (rows_at None part)))
+none_within (p ∷ ps) = All-cons (λ (part : Plan). AreBounded (counts (rows_at None part))) p ps (λ row. omega arith) (none_within ps)
+
+-- memories without rows hold what a plan means where there is no graph yet
+pub held_none : (p : Plan) (columns : List (List ℕ)) (was staged : List Counts) → columns ≡ keys p → was ≡ contents (rows_at None) p → staged ≡ contents (rows_at None) p → AreHeld None p columns was staged
+held_none p columns was staged keyed held settled = record { keyed = keyed; held = held; settled = settled; within = none_within (parts p) }
+
+-- so do the memories that were added for its parts, where there were none before
+pub held_new : {M : Type 0} (key_columns : M → List ℕ) (was staged : M → Counts) (p q : Plan) (old new : List M) → old ≡ [] → q ≡ p → map key_columns new ≡ map key_columns old ++ keys q
+    → map was new ≡ map was old ++ contents (rows_at None) q → map staged new ≡ map staged old ++ contents (rows_at None) q
+    → AreHeld None p (map key_columns new) (map was new) (map staged new)
+held_new key_columns was staged p q old new none same columns before after =
+    held_none p (map key_columns new) (map was new) (map staged new)
+    (columns ∙ ap (λ xs. map key_columns xs ++ keys q) none ∙ ap keys same)
+    (before ∙ ap (λ xs. map was xs ++ contents (rows_at None) q) none ∙ ap (contents (rows_at None)) same)
+    (after ∙ ap (λ xs. map staged xs ++ contents (rows_at None) q) none ∙ ap (contents (rows_at None)) same)
+
+-- the counts after a delta, written over those before it
+pub written_delta : (shifts : List Shift) (before after : Counts) → IsDelta before after shifts → written (map (λ s. (s.row, s.after)) shifts) before ≡ after
+written_delta shifts before after delta = written_shifts shifts before ∙ (λ i row. after_delta before after shifts delta row i)
+
+at_most : (rose read work bound greatest : ℕ) → rose + read ≤ work → work ≤ bound → min (rose + read) greatest ≤ bound
+at_most rose read work bound greatest few within = omega (arith, few, within)
+
+rose_by : (taken taken_now read read_now steps reads : ℕ) → taken_now ≤ taken + steps → read_now ≤ read + reads → (taken_now - taken) + (read_now - read) ≤ steps + reads
+rose_by taken taken_now read read_now steps reads most few = omega (arith, most, few)
+
+told_as : (greatest from taken from_now taken_now start read start_now read_now : ℕ) → from ≡ taken → from_now ≡ taken_now → start ≡ read → start_now ≡ read_now
+    → min ((from_now - from) + (start_now - start)) greatest ≡ min ((taken_now - taken) + (read_now - read)) greatest
+told_as greatest from taken from_now taken_now start read start_now read_now same same_now began began_now = omega (arith, same, same_now, began, began_now)
+
+-- the steps of the memories and the reads of the graph are at most sixteen times the cost
+pub within_cost : (before now : State) (p : Plan) (taken taken_now read read_now greatest : ℕ)
+    → ((touches : Touches) (a b : Content) (q : Plan) → all_steps (rows_of a) (rows_of b) touches q + all_reads (rows_of a) (rows_of b) touches q ≤ 16 * cost touches a b q)
+    → (upkeep : IsUpkeep before now p taken taken_now read read_now)
+    → min ((taken_now - taken) + (read_now - read)) greatest ≤ 16 * cost upkeep.touches before.content now.content p
+within_cost before now p taken taken_now read read_now greatest bounds upkeep =
+    let steps = all_steps (rows_of before.content) (rows_of now.content) upkeep.touches p in
+    let reads = all_reads (rows_of before.content) (rows_of now.content) upkeep.touches p in
+    at_most (taken_now - taken) (read_now - read) (steps + reads) (16 * cost upkeep.touches before.content now.content p) greatest
+    (rose_by taken taken_now read read_now steps reads upkeep.steps upkeep.reads) (bounds upkeep.touches before.content now.content p)
+
+-- and so is the number of steps that is told
+pub told_within_cost : (before now : State) (p : Plan) (taken taken_now read read_now greatest told from from_now start start_now : ℕ)
+    → ((touches : Touches) (a b : Content) (q : Plan) → all_steps (rows_of a) (rows_of b) touches q + all_reads (rows_of a) (rows_of b) touches q ≤ 16 * cost touches a b q)
+    → told ≡ min ((from_now - from) + (start_now - start)) greatest → from ≡ taken → from_now ≡ taken_now → start ≡ read → start_now ≡ read_now
+    → IsUpkeep before now p taken taken_now read read_now
+    → (touches : Touches) × (IsChange before now touches × told ≤ 16 * cost touches before.content now.content p)
+told_within_cost before now p taken taken_now read read_now greatest told from from_now start start_now bounds is same same_now began began_now upkeep =
+    let most = within_cost before now p taken taken_now read read_now greatest bounds upkeep in
+    (upkeep.touches, (upkeep.change, subst (λ n. n ≤ 16 * cost upkeep.touches before.content now.content p) (sym (is ∙ told_as greatest from taken from_now taken_now start read start_now read_now same same_now began began_now)) most))

@@ -1,0 +1,87 @@
+-- What a network stands for. Its rows are those of a plan on a graph; a change of the graph is prepared, and then settled or abandoned. (own)
+use Rattle.std.specs.Prelude.{◌≡◌, ℕ, ◌<◌, ◌≤◌, List, [], Option, Some, None, length, map, sum_by}
+use Rattle.std.specs.List.{Any}
+use Rattle.std.specs.declared.alloc.Global.{Global}
+use Rattle.std.specs.declared.vec.Vec.{Vec}
+use Rattle.indexmap.specs.IndexMap.{spare}
+use Rattle.cy_values.specs.declared.rows.Cell.{Cell}
+use Rattle.cy_values.specs.Bag.{count_of}
+use Rattle.cy_bags.specs.declared.changes.Change.{Change}
+use Rattle.cy_bags.specs.Difference.{IsDifference}
+use Rattle.cy_graph.specs.Graph.{Content}
+use Rattle.cy_memory.specs.Counts.{Counts, greatest_count}
+use Rattle.cy_plans.specs.declared.operators.Operator.{Operator}
+use Rattle.cy_plans.specs.Plans.{Plan}
+use Rattle.cy_plans.specs.Parts.{parts}
+use Rattle.cy_plans.specs.Meaning.{rows_of}
+use Rattle.cy_plans.specs.Sure.{IsSure}
+use Rattle.cy_plans.specs.Views.{plan_of}
+use Rattle.cy_deltas.specs.Deltas.{counts}
+use Rattle.cy_network.specs.declared.networks.Network.{Network}
+use Rattle.cy_network.specs.Counted.{ArePositive, counted, written}
+use Rattle.cy_network.specs.Memories.{AreHeld}
+
+-- A network: its plan; of its memories the key columns, how often each row counts as it was and as it is staged, and how many steps they took
+-- since they were made; the rows that count, and how many there is room for beside them; the counts that are written over these when the change
+-- that is prepared is settled, and what it changes, if one is prepared; and the steps of the last one.
+pub record NetworkState : Type 0 where
+  pub plan : Plan
+  pub columns : List (List ℕ)
+  pub was : List Counts
+  pub staged : List Counts
+  pub taken : ℕ
+  pub rows : List (List Cell × ℕ)
+  pub room : ℕ
+  pub next : List (List Cell × ℕ)
+  pub pending : Option Change
+  pub steps : ℕ
+
+-- the counts that a prepared change leaves; none where none is prepared
+abbrev pub next_counts : Option (Vec (List Cell × ℕ) Global) → List (List Cell × ℕ)
+next_counts None = []
+next_counts (Some next) = next.items
+
+-- the same network as the code holds it, by what its memories say of themselves
+abbrev pub state_of : {M C : Type 0} → (M → List ℕ) → (M → Counts) → (M → Counts) → (M → ℕ) → Network M C → NetworkState
+state_of key_columns was staged step_count n = record {
+  plan = plan_of n.plan;
+  columns = map key_columns n.memories.items;
+  was = map was n.memories.items;
+  staged = map staged n.memories.items;
+  taken = sum_by step_count n.memories.items;
+  rows = n.rows.entries;
+  room = spare n.rows;
+  next = next_counts n.next;
+  pending = n.pending;
+  steps = n.steps;
+}
+
+-- the plan of a network, as the code has it
+abbrev pub operator_of : {M C : Type 0} → Network M C → Operator
+operator_of n = n.plan
+
+-- some part of the plan has a row that counts more than 2^62 - 1
+abbrev pub HasTooManyRows : Content → Plan → Type 0
+HasTooManyRows graph p = Any (λ part. (row : List Cell) × (greatest_count < count_of row (rows_of graph part))) (parts p)
+
+-- the network stands for the graph: its rows are those of its plan there, its memories hold those of the plan's parts, and nothing is prepared
+pub record StandsFor (graph : Content) (n : NetworkState) : Type 0 where
+  pub sure : IsSure n.plan
+  pub held : AreHeld (Some graph) n.plan n.columns n.was n.staged
+  pub rows : counted n.rows ≡ counts (rows_of graph n.plan)
+  pub positive : ArePositive n.rows
+  pub idle : n.pending ≡ None
+
+-- The network is prepared from one graph to another: it still has the rows of the first, what is staged stands for the second, and the difference
+-- is pending.
+pub record IsPrepared (before after : Content) (n : NetworkState) : Type 0 where
+  pub sure : IsSure n.plan
+  pub held : AreHeld (Some before) n.plan n.columns n.was n.was
+  pub staged : AreHeld (Some after) n.plan n.columns n.staged n.staged
+  pub rows : counted n.rows ≡ counts (rows_of before n.plan)
+  pub positive : ArePositive n.rows
+  pub next : written n.next (counted n.rows) ≡ counts (rows_of after n.plan)
+  pub fits : length n.next ≤ n.room
+  pub change : Change
+  pub pending : n.pending ≡ Some change
+  pub difference : IsDifference (rows_of before n.plan) (rows_of after n.plan) change

@@ -1,0 +1,46 @@
+-- The parts that stand right below a part of a plan.
+use Rattle.std.specs.Prelude.{ℕ}
+use Rattle.cy_plans.specs.Plans as plan
+use Rattle.cy_plans.specs.Plans.{Plan}
+
+-- how many there are
+abbrev pub below_count : Plan → ℕ
+below_count plan.unit = 0
+below_count plan.nodes = 0
+below_count (plan.rels types orientation) = 0
+below_count (plan.join left right keys) = 2
+below_count (plan.outer left right keys test) = 2
+below_count (plan.lookup p column attribute) = 1
+below_count (plan.filter p test) = 1
+below_count (plan.all_different p columns) = 1
+below_count (plan.project p outputs) = 1
+below_count (plan.distinct p) = 1
+below_count (plan.union left right) = 2
+
+-- the one, or the left one of two
+abbrev pub first_below : Plan → Plan
+first_below plan.unit = plan.unit
+first_below plan.nodes = plan.nodes
+first_below (plan.rels types orientation) = plan.rels types orientation
+first_below (plan.join left right keys) = left
+first_below (plan.outer left right keys test) = left
+first_below (plan.lookup p column attribute) = p
+first_below (plan.filter p test) = p
+first_below (plan.all_different p columns) = p
+first_below (plan.project p outputs) = p
+first_below (plan.distinct p) = p
+first_below (plan.union left right) = left
+
+-- the right one of two
+abbrev pub second_below : Plan → Plan
+second_below plan.unit = plan.unit
+second_below plan.nodes = plan.nodes
+second_below (plan.rels types orientation) = plan.rels types orientation
+second_below (plan.join left right keys) = right
+second_below (plan.outer left right keys test) = right
+second_below (plan.lookup p column attribute) = p
+second_below (plan.filter p test) = p
+second_below (plan.all_different p columns) = p
+second_below (plan.project p outputs) = p
+second_below (plan.distinct p) = p
+second_below (plan.union left right) = right

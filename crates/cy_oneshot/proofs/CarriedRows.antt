@@ -1,8 +1,9 @@
--- A projection without keys gives the same of rows in which the cells that it doesn't read are null.
+-- A projection whose keys see its columns alone gives the same of rows in which the cells that it doesn't read are null.
 use Rattle.std.proofs.Common.{◌≡◌, inl, inr, ℕ, Bool, true, false, cond, List, [], ◌∷◌, ◌++◌, filter, map, refl, sym, ap, ◌∙◌}
-use Rattle.std.specs.Prelude.{Result, Ok, Err, not, pos}
+use Rattle.std.specs.Prelude.{Result, Ok, Err, Option, Some, None, ◌||◌, is_some, not, pos}
 use Rattle.std.specs.List.{AllByRecursion}
 use Rattle.std.specs.Ordering.{eq_by_cmp}
+use Rattle.std.proofs.lemmas.Bool.{and_parts}
 use Rattle.std.proofs.lemmas.List.{length-map}
 use Rattle.std.proofs.lemmas.Simd.{map-map}
 use Rattle.cy_values.specs.declared.scalars.Value.TheVariants as value
@@ -24,7 +25,7 @@ use Rattle.cy_columns.proofs.Agreeing.{cell-same}
 use Rattle.cy_queries.specs.Groups.{Grouped, aggregate_if, aggregated, and_also, cells_on, group_cells, group_keys, group_rows, grouped, grouping, over_rows, rows_of_group, taken, values_among}
 use Rattle.cy_queries.specs.Projection.{Projected, cut, distinct_rows, item_of_key, item_rows, key_cell, keyed, project, projection_rows, with_columns_alone}
 use Rattle.cy_queries.specs.Queries.{rows_after_all}
-use Rattle.cy_oneshot.specs.internal.Carried.{AreNeeded, IsEnough, IsEnoughFor, carried, carried_from}
+use Rattle.cy_oneshot.specs.internal.Carried.{AreNeeded, IsEnough, IsEnoughFor, all_repeat, carried, carried_from, sees_columns_alone}
 use Rattle.cy_queries.specs.internal.Answers.{on_value}
 use Rattle.cy_oneshot.proofs.Carried.{agree_carried, all_carried}
 use Rattle.cy_queries.proofs.SeenRows.{gathered_values}
@@ -183,47 +184,84 @@ module _ (graph : Content) (needed : List Bool) where
         | false ↦ rows_each p.items (map less rows) ∙ ap gathered (all_cells_less p.items rows read) ∙ sym (rows_each p.items rows)
       ]
 
-  -- ---- without keys the rows alone count
+  -- ---- where the keys see the columns alone, the rows alone count
 
-  module _ (p : Projection) (no_keys : p.order ≡ []) where
-    abbrev plain : List Cell → Keyed
-    plain row = record { row = row; keys = [] }
-
-    keyed_plain : (r : Projected) → keyed graph p r ≡ Ok (plain r.row)
-    keyed_plain r = ap (λ (ks : List Key). on_one (λ keys. Ok (record { row = r.row; keys = keys })) (gathered (map (λ key. key_cell graph r (item_of_key p.items key) key.expression) ks))) no_keys
-
-    all_plain : (rs : List Projected) → gathered (map (keyed graph p) rs) ≡ Ok (map plain (map row_of rs))
-    all_plain [] = refl
-    all_plain (r ∷ rs) = λ j. together (on_one (λ (k : Keyed). Ok (k ∷ [])) (keyed_plain r j)) (all_plain rs j)
-
+  module _ (p : Projection) where
     abbrev end : List Projected → Result (List (List Cell)) EvalFault
     end rs = on_one (λ ks. Ok (cut p ks)) (gathered (map (keyed graph p) rs))
 
     abbrev once : List Projected → List Projected
     once rs = cond p.distinct (distinct_rows rs) rs
 
-    once_rows : (rs qs : List Projected) → map row_of rs ≡ map row_of qs → map row_of (once rs) ≡ map row_of (once qs)
+    abbrev whole : Result (List Projected) EvalFault → Result (List (List Cell)) EvalFault
+    whole o = on_one end (on_one (λ rs. Ok (once rs)) o)
+
+    abbrev AreSame : List Projected → List Projected → Type 0
+    AreSame rs qs = map row_of rs ≡ map row_of qs
+
+    ends_same : ((rs qs : List Projected) → AreSame rs qs → end (once rs) ≡ end (once qs)) → (o q : Result (List Projected) EvalFault) → rows_in o ≡ rows_in q → whole o ≡ whole q
+    ends_same ends (Ok rs) (Ok qs) same = ends rs qs (let e : map row_of rs ≡ map row_of qs = cc same in e)
+    ends_same ends (Ok rs) (Err g) same = absurd (let e : ⊥ = cc same in e)
+    ends_same ends (Err f) (Ok qs) same = absurd (let e : ⊥ = cc same in e)
+    ends_same ends (Err f) (Err g) same = let e : f ≡ g = cc same in ap Err e
+
+    -- with DISTINCT
+    once_same : p.distinct ≡ true → (rs qs : List Projected) → AreSame rs qs → once rs ≡ once qs
+    once_same distinct rs qs same =
+        ap (λ b. cond b (distinct_rows rs) rs) distinct ∙ ap (λ rows. map with_columns_alone (each_once row_cmp rows)) same ∙ sym (ap (λ b. cond b (distinct_rows qs) qs) distinct)
+
+    -- with an aggregate
+    abbrev grouped_rows : List (List Cell) → Result (List Projected) EvalFault
+    grouped_rows rows = on_one (λ rows. Ok (map with_columns_alone rows)) (aggregated graph p.items rows)
+
+    abbrev each_row : List (List Cell) → Result (List Projected) EvalFault
+    each_row rows = gathered (map (project graph p.items) rows)
+
+    aggregates_same : has_aggregates p ≡ true → (rows : List (List Cell)) → AreRead p.items → item_rows graph p (map less rows) ≡ item_rows graph p rows
+    aggregates_same has rows read =
+        ap (λ b. cond b (grouped_rows (map less rows)) (each_row (map less rows))) has
+        ∙ ap (on_one (λ rows. Ok (map with_columns_alone rows))) (aggregated_less p.items rows read)
+        ∙ sym (ap (λ b. cond b (grouped_rows rows) (each_row rows)) has)
+
+    -- where each key repeats an item
+    key_alone : (r : Projected) (e : Expression) (place : Option ℕ) → is_some place ≡ true → key_cell graph r place e ≡ key_cell graph (with_columns_alone r.row) place e
+    key_alone r e (Some column) found = refl
+    key_alone r e None found = absurd (let e : ⊥ = cc found in e)
+
+    keys_alone : (keys : List Key) (r : Projected) → all_repeat p.items keys ≡ true
+        → map (λ key. key_cell graph r (item_of_key p.items key) key.expression) keys ≡ map (λ key. key_cell graph (with_columns_alone r.row) (item_of_key p.items key) key.expression) keys
+    keys_alone [] r all = refl
+    keys_alone (key ∷ keys) r all =
+        let parts = and_parts _ _ all in
+        λ j. key_alone r key.expression (item_of_key p.items key) parts.0 j ∷ keys_alone keys r parts.1 j
+
+    all_alone : all_repeat p.items p.order ≡ true → (rs : List Projected) → map (keyed graph p) rs ≡ map (λ row. keyed graph p (with_columns_alone row)) (map row_of rs)
+    all_alone all [] = refl
+    all_alone all (r ∷ rs) = λ j. on_one (λ keys. Ok (record { row = r.row; keys = keys })) (gathered (keys_alone p.order r all j)) ∷ all_alone all rs j
+
+    repeats_same : all_repeat p.items p.order ≡ true → (rs qs : List Projected) → AreSame rs qs → end rs ≡ end qs
+    repeats_same all rs qs same =
+        ap (λ os. on_one (λ ks. Ok (cut p ks)) (gathered os)) (all_alone all rs ∙ ap (map (λ row. keyed graph p (with_columns_alone row))) same ∙ sym (all_alone all qs))
+
+    once_rows : (rs qs : List Projected) → AreSame rs qs → AreSame (once rs) (once qs)
     once_rows rs qs same =
         elim p.distinct as (λ b. map row_of (cond b (distinct_rows rs) rs) ≡ map row_of (cond b (distinct_rows qs) qs)) [
           | true ↦ ap (λ rows. map row_of (map with_columns_alone (each_once row_cmp rows))) same
           | false ↦ same
         ]
 
-    end_rows : (rs qs : List Projected) → map row_of rs ≡ map row_of qs → end rs ≡ end qs
-    end_rows rs qs same =
-        ap (on_one (λ ks. Ok (cut p ks))) (all_plain rs ∙ ap (λ rows. Ok (map plain rows)) same ∙ sym (all_plain qs))
-
-    abbrev whole : Result (List Projected) EvalFault → Result (List (List Cell)) EvalFault
-    whole o = on_one end (on_one (λ rs. Ok (once rs)) o)
-
-    ends_same : (o q : Result (List Projected) EvalFault) → rows_in o ≡ rows_in q → whole o ≡ whole q
-    ends_same (Ok rs) (Ok qs) same = end_rows (once rs) (once qs) (once_rows rs qs (let e : map row_of rs ≡ map row_of qs = cc same in e))
-    ends_same (Ok rs) (Err g) same = absurd (let e : ⊥ = cc same in e)
-    ends_same (Err f) (Ok qs) same = absurd (let e : ⊥ = cc same in e)
-    ends_same (Err f) (Err g) same = let e : f ≡ g = cc same in ap Err e
-
-    projection_less : (rows : List (List Cell)) → AreRead p.items → projection_rows graph p (map less rows) ≡ projection_rows graph p rows
-    projection_less rows read = ends_same (item_rows graph p (map less rows)) (item_rows graph p rows) (items_less p rows read)
+    projection_less : (rows : List (List Cell)) → sees_columns_alone p ≡ true → AreRead p.items → projection_rows graph p (map less rows) ≡ projection_rows graph p rows
+    projection_less rows alone read =
+        let by_rows : ((rs qs : List Projected) → AreSame rs qs → end (once rs) ≡ end (once qs)) → projection_rows graph p (map less rows) ≡ projection_rows graph p rows =
+        λ ends. ends_same ends (item_rows graph p (map less rows)) (item_rows graph p rows) (items_less p rows read) in
+        (elim p.distinct as (λ d. p.distinct ≡ d → (d || (has_aggregates p || all_repeat p.items p.order)) ≡ true → projection_rows graph p (map less rows) ≡ projection_rows graph p rows) [
+          | true ↦ λ distinct one. by_rows (λ rs qs same. ap end (once_same distinct rs qs same))
+          | false ↦ λ distinct one.
+              (elim (has_aggregates p) as (λ a. has_aggregates p ≡ a → (a || all_repeat p.items p.order) ≡ true → projection_rows graph p (map less rows) ≡ projection_rows graph p rows) [
+                | true ↦ λ has other. ap whole (aggregates_same has rows read)
+                | false ↦ λ has all. by_rows (λ rs qs same. repeats_same all (once rs) (once qs) (once_rows rs qs same))
+              ]) refl one
+        ]) refl alone
 
   -- ---- the clauses that are left
 
@@ -232,7 +270,7 @@ module _ (graph : Content) (needed : List Bool) where
 
   projected_less : (p : Projection) (f : Result (List (List Cell)) EvalFault → Result (List (List Cell)) EvalFault) → IsEnoughFor needed p → (rows : List (List Cell))
       → f (projection_rows graph p (map less rows)) ≡ f (projection_rows graph p rows)
-  projected_less p f enough rows = ap f (projection_less p enough.0 rows enough.1)
+  projected_less p f enough rows = ap f (projection_less p rows enough.0 enough.1)
 
   -- what is left makes the same of the rows that are carried along
   pub goes_on_same : (clauses : List Clause) → IsEnough needed clauses → (o : Result (List (List Cell)) EvalFault) → on_one (rows_after_all graph clauses) (carried needed o) ≡ on_one (rows_after_all graph clauses) o

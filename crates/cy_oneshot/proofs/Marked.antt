@@ -1,12 +1,9 @@
 -- Columns that are marked as needed.
 use Rattle.std.proofs.Common.{◌≡◌, ℕ, zero, suc, ◌+◌, ◌<◌, ◌≤◌, Bool, true, List, [], ◌∷◌, ◌++◌, length, map, get_or, set, take, refl, sym, ap, subst, ◌∙◌, arith}
-use Rattle.std.specs.Prelude.{◌==◌}
-use Rattle.std.proofs.lemmas.Bool.Decides.{nat_tests}
 use Rattle.std.proofs.lemmas.List.{map-append, take_more}
 use Rattle.cy_trees.specs.declared.clauses.Item as coded
-use Rattle.cy_trees.specs.declared.clauses.Key as coded_key
 use Rattle.cy_trees.specs.Trees.{Item}
-use Rattle.cy_trees.specs.Views.{expression_of, item_of, key_of}
+use Rattle.cy_trees.specs.Views.{expression_of, item_of}
 use Rattle.cy_columns.specs.Columns.{columns_read}
 use Rattle.cy_oneshot.specs.internal.Carried.{AreNeeded, AreRead, is_needed}
 
@@ -48,11 +45,6 @@ mark_more needed after columns i within kept are is =
     (one_more after (take i columns) (get_or columns i 0) (still_needed needed after (take i columns) kept are) is)
 
 -- ---- the columns of items
-
--- a projection without keys
-pub no_keys : (keys : List coded_key.Key) (count : ℕ) → (count == 0) ≡ true → count ≡ length keys → map key_of keys ≡ []
-no_keys [] count none is = refl
-no_keys (k ∷ keys) count none is = absurd (let e : ⊥ = grind (arith, nat_tests, none, is) in e)
 
 still_read : (needed after : List Bool) (items : List Item) → Keeps needed after → AreRead needed items → AreRead after items
 still_read needed after [] kept are = tt

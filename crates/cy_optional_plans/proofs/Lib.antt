@@ -3,6 +3,7 @@ pub mod Truths
 pub mod Covering
 pub mod OneRow
 pub mod Sifted
+pub mod Trails
 pub mod PairRows
 pub mod WholePlans
 pub mod CodeLemmas

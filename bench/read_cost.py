@@ -1,6 +1,6 @@
 #!/usr/bin/env python3
-"""Counts the instructions of queries on graphs of 10,000 and of 100,000 nodes, and of UNWIND over lists of 3,000 and of 30,000 elements, by
-valgrind, and the memory of UNWIND.
+"""Counts the instructions of queries on graphs of 10,000 and of 100,000 nodes, of UNWIND over lists of 3,000 and of 30,000 elements, and
+of 700 and 2,800 keys of ORDER BY, by valgrind, and the memory of UNWIND.
 
 Run it at the top of the repository. It builds the program by `rt run` in crates/cypher_live, or takes the one that is named
 after it. Each node has five relationships, and a value of its own at `k`, which has an index. For each cost the script
@@ -9,7 +9,7 @@ and so does a query that isn't answered as it should be.
 """
 import sys
 
-from graph_cost import GROUP, SIZES, built, graph, index, joined
+from graph_cost import GROUP, SIZES, built, graph, hub, index, joined
 from session import Session, peak, report
 
 LIMIT = 1.3
@@ -19,6 +19,8 @@ SORT_LIMIT = 1.4
 TIMES = 20
 # How many elements a list has: a line has room for the longer one.
 ELEMENTS = 3_000, 30_000
+# How many keys a line has, and how many items that they repeat.
+KEYS = 700, 2_800
 
 
 def answer(text, columns, *rows):
@@ -96,6 +98,16 @@ def costs(program, size):
         yield "two hops, where WHERE fixes the node between", session.count(between), True
 
 
+def hub_costs(program, size):
+    """Names of costs of a relationship between a node and a hub with one to each node, where both are found before it."""
+    some = [size // TIMES * time + size // 50 for time in range(TIMES)]
+    with Session(program) as session:
+        session.give(list(hub(size)))
+        for name, step in (("from a hub to a node", "-[:T]->"), ("the same in either direction", "-[:T]-")):
+            text = f"MATCH (h:Hub), (n:L {{k: @}}) MATCH (h){step}(n) RETURN count(*) AS n"
+            yield name, session.count([answer(text.replace("@", str(k)), ["n"], [1]) for k in some]), True
+
+
 def row_costs(program, size):
     with Session(program) as session:
         session.give(graph(size))
@@ -106,18 +118,34 @@ def row_costs(program, size):
 def list_costs(program, count):
     """Names of costs of UNWIND over a list of so many elements that stands in the row, each for an element."""
     line = answer(f"WITH [{','.join('1' * count)}] AS l UNWIND l AS x RETURN count(*) AS n", ["n"], [count])
+    distinct = answer(f"WITH [{','.join('1' * count)}] AS l UNWIND l AS x RETURN DISTINCT x ORDER BY x", ["x"], [1])
     with Session(program) as session:
+        # Valgrind can be told nothing before the program has begun.
+        session.give([answer("RETURN 1 AS n", ["n"], [1])])
         yield "UNWIND over a list that stands in the row, an element", session.count([line]) / count, True
+        yield "the same before a key", session.count([distinct]) / count, True
     least = peak([program], [answer("RETURN 1 AS n", ["n"], [1])])
-    yield "the same, bytes of memory", (peak([program], [line]) - least) / count, True
+    yield "the same without a key, bytes of memory", (peak([program], [line]) - least) / count, True
+
+
+def key_costs(program, count):
+    """The cost of a query with so many keys, each of which repeats an item, for each of them."""
+    items = ",".join(f"{it} AS a{it}" for it in range(count))
+    keys = ",".join(str(it) for it in reversed(range(count)))
+    line = answer(f"RETURN {items} ORDER BY {keys}", [f"a{it}" for it in range(count)], list(range(count)))
+    with Session(program) as session:
+        session.give([answer("RETURN 1 AS n", ["n"], [1])])
+        yield "keys of ORDER BY that repeat items, a key", session.count([line]) / count, True
 
 
 def main():
     program = sys.argv[1] if len(sys.argv) > 1 else built()
     is_flat = report(lambda size: costs(program, size), *SIZES, LIMIT)
     is_sorted = report(lambda size: row_costs(program, size), *SIZES, SORT_LIMIT)
-    is_linear = report(lambda count: list_costs(program, count), *ELEMENTS, LIMIT)
-    return 0 if is_flat and is_sorted and is_linear else 1
+    is_near = report(lambda size: hub_costs(program, size), *SIZES, LIMIT)
+    is_linear = report(lambda count: list_costs(program, count), *ELEMENTS, SORT_LIMIT)
+    is_looked_up = report(lambda count: key_costs(program, count), *KEYS, SORT_LIMIT)
+    return 0 if is_flat and is_sorted and is_near and is_linear and is_looked_up else 1
 
 
 if __name__ == "__main__":

@@ -44,7 +44,7 @@ both_kinds (Some kind.Flag) b k at = cc
 module _ (test : Expression) where
   -- with another column, where the kind is the same
   moved : (p q : Plan) (c d : ℕ) → entity_at p c ≡ entity_at q d → CanBePushed p c test → CanBePushed q d test
-  moved p q c d same (k, at, is, asks) = (k, sym same ∙ at, is, asks)
+  moved p q c d same (k, at, is) = (k, sym same ∙ at, is)
 
   module _ (left right : Plan) (column : ℕ) where
     pub can_outer : (keys : List KeyColumns) (predicate : Expression) → CanBePushed (plan.outer left right keys predicate) column test → (column < width left) × CanBePushed left column test
@@ -58,7 +58,7 @@ module _ (test : Expression) where
             nothing is = cc
 
     pub can_union : CanBePushed (plan.union left right) column test → CanBePushed left column test × CanBePushed right column test
-    can_union (k, at, is, asks) = let both = both_kinds (entity_at left column) (entity_at right column) k at in ((k, both.0, is, asks), (k, both.1, is, asks))
+    can_union (k, at, is) = let both = both_kinds (entity_at left column) (entity_at right column) k at in ((k, both.0, is), (k, both.1, is))
 
   module _ (below : Plan) (column : ℕ) where
     pub can_lookup : (at : ℕ) (attribute : Attribute) → CanBePushed (plan.lookup below at attribute) column test → (column < width below) × CanBePushed below column test

@@ -1,7 +1,7 @@
 pub mod Columns
 pub mod Commuting
 pub mod Conjunctions
-pub mod Entities
-pub mod PlacedLists
+pub mod EntityTests
 pub mod PushedPlans
+pub mod RenumberedKinds
 pub mod Tables

@@ -25,7 +25,8 @@ use Rattle.cy_plans.specs.Within.{IsWithin}
 use Rattle.cy_plans.proofs.Counts.{count_passing}
 use Rattle.cy_row_plans.proofs.Lists.{each_weaker}
 use Rattle.cy_row_plans.proofs.OverRows.{IsLong, cond_less, long_rows, own_part, smaller_within}
-use Rattle.cy_pushdown.specs.internal.Pushed.{IsPushed, keeps_cell}
+use Rattle.cy_pushdown.specs.internal.EntityTests.{keeps_cell}
+use Rattle.cy_pushdown.specs.internal.Pushed.{IsPushed}
 use Rattle.cy_pushdown.proofs.Commuting.{left_sifted, right_sifted, sifted_mapped, sifted_twice}
 
 all_split : (P : Plan → Type 0) (xs ys : List Plan) → All P (xs ++ ys) → All P xs × All P ys

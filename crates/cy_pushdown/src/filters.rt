@@ -7,23 +7,37 @@ ghost use Rattle.cy_row_plans.specs.Rows as spec;
 ghost use Rattle.cy_pushdown.specs.internal.Pushed.{IsPushable};
 
 use crate::pushing::{entity_at, push};
-use crate::tests_of_entities::{asks_of, first_column, is_entity_test};
+use crate::tests_of_entities::{cell_test, first_variable};
 use cy_plans::Plan;
 use cy_row_plans::filter_where;
 use cy_trees::{BinaryOperator, Expr};
 use cy_values::Fault;
 use std::alloc::Global;
 
-/// The column on whose table the condition can be put: it asks of what stands there alone, and has a truth for whatever may stand there.
-fn column_to_push(below: &Plan, test: &Expr) -> Option<usize>
-    ensures { IfSome result (λ column. IsPushable (plan_of below.now) column (expression_of test.now)) }
+/// A condition on what stands in a column.
+#[derive(Drop)]
+struct ColumnTest {
+    column: usize,
+    test: Expr,
+}
+
+/// The condition on the column on whose table it can be put: it asks of what stands there alone, and has a truth for whatever may
+/// stand there.
+fn column_test(alloc: Global, below: &Plan, test: &Expr) -> Result<Option<ColumnTest>, Fault>
+    ensures { IfOk result (λ made. IfSome made (λ c. IsPushable (plan_of below.now) (expression_of test.now) c.column (expression_of c.test))) }
 {
-    let column = first_column(test)?;
-    let kind = entity_at(below.root(), column)?;
-    if is_entity_test(kind, test) && asks_of(column, test) {
-        Some(column)
-    } else {
-        None
+    let Some(variable) = first_variable(test) else {
+        return Ok(None);
+    };
+    let Some(column) = variable.column else {
+        return Ok(None);
+    };
+    let Some(kind) = entity_at(below.root(), column) else {
+        return Ok(None);
+    };
+    match cell_test(alloc, kind, variable.name.as_str(), column, test)? {
+        Some(test) => Ok(Some(ColumnTest { column, test })),
+        None => Ok(None),
     }
 }
 
@@ -32,8 +46,8 @@ fn filter_one(alloc: Global, below: Plan, test: &Expr) -> Result<Plan, Fault>
     requires { spec.IsReadOver (plan_of below) (expression_of test.now) }
     ensures { IfOk result (λ p. spec.IsFiltered (plan_of below) (expression_of test.now) (plan_of p)) }
 {
-    match column_to_push(&below, test) {
-        Some(column) => push(alloc, below.into_root(), column, test),
+    match column_test(alloc, &below, test)? {
+        Some(found) => push(alloc, below.into_root(), found.column, &found.test),
         None => filter_where(alloc, below, test),
     }
 }

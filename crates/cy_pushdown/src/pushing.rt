@@ -8,9 +8,9 @@ ghost use Rattle.cy_plans.specs.WellFormed.{IsWellFormed};
 ghost use Rattle.cy_pushdown.specs.internal.Pushed as spec;
 
 use crate::moving::plan_over;
-use crate::tests_of_entities::placed;
 use cy_kinds::Kind;
 use cy_plans::{Operator, Output, Plan};
+use cy_renumbering::renumber;
 use cy_row_plans::filter_where;
 use cy_trees::Expr;
 use cy_values::Fault;
@@ -116,7 +116,7 @@ fn push_into_table(alloc: Global, table: Plan, column: usize, test: &Expr) -> Re
     requires can { spec.CanBePushed (plan_of table) column (expression_of test.now) }
     ensures { IfOk result (λ p. spec.IsPushed (plan_of table) column (expression_of test.now) (plan_of p)) }
 {
-    let condition = placed(alloc, test, column)?;
+    let condition = renumber(alloc, test, &[column])?;
     filter_where(alloc, table, &condition)
 }
 

@@ -1,180 +1,171 @@
 //! Conditions that ask of one node or one relationship.
 
-ghost use Rattle.std.specs.Prelude.{◌≡◌, IfOk, map};
-ghost use Rattle.cy_trees.specs.Views.{expression_of, link_of, links_from};
+ghost use Rattle.std.specs.Prelude.{◌≡◌, IfOk, IfSome, map};
+ghost use Rattle.cy_trees.specs.Views.{arm_of, arms_from, expression_of, expressions_from, link_of, links_from};
 ghost use Rattle.cy_pushdown.specs.internal.EntityTests as spec;
 
-use cy_kinds::Kind;
-use cy_trees::{BinaryOperator, Expr, Link, UnaryOperator, Variable};
-use cy_values::{Duplicate, Fault, Text};
+use cy_kinds::{Kind, Scope, check_expression, is_sure_flag, resolved};
+use cy_trees::{Arm, Expr, Link, Variable};
+use cy_values::{Duplicate, Fault};
 use std::alloc::Global;
 
-/// Whether it is a literal, or a property of what a variable stands for.
-fn is_operand(expression: &Expr) -> bool
-    ensures { result ≡ spec.is_operand (expression_of expression.now) }
-{
-    match expression {
-        Expr::Null | Expr::Boolean(_) | Expr::Integer(_) | Expr::Text(_) => true,
-        Expr::Property(owner, _) => is_variable(owner),
-        _ => false,
-    }
-}
-
-fn is_variable(expression: &Expr) -> bool
-    ensures { result ≡ spec.is_variable (expression_of expression.now) }
-{
-    matches!(expression, Expr::Variable(_))
-}
-
-fn are_operands(links: &[Link]) -> bool
-    ensures { result ≡ spec.are_operands (links_from (map link_of links.now)) }
-{
-    for link in links {
-        if !is_operand(&link.operand) {
-            return false;
-        }
-    }
-    true
-}
-
-/// Whether a condition has a truth, whatever node or relationship, by the kind, its variables stand for.
-pub(crate) fn is_entity_test(kind: Kind, test: &Expr) -> bool
-    ensures { result ≡ spec.is_entity_test kind (expression_of test.now) }
-{
-    match test {
-        Expr::Comparison(first, links) => is_operand(first) && are_operands(links),
-        Expr::HasLabels(owner, _) => kind == Kind::Node && is_variable(owner),
-        Expr::Unary(UnaryOperator::Not, operand) => is_entity_test(kind, operand),
-        Expr::Unary(UnaryOperator::IsNull | UnaryOperator::IsNotNull, operand) => {
-            is_operand(operand)
-        }
-        Expr::Binary(BinaryOperator::Or | BinaryOperator::Xor | BinaryOperator::And, left, right) =>
-            is_entity_test(kind, left) && is_entity_test(kind, right),
-        _ => false,
-    }
-}
-
-/// The column of the first variable.
+/// The first variable of an expression.
 #[cycle(first)]
-pub(crate) fn first_column(expression: &Expr) -> Option<usize> {
+pub(crate) fn first_variable(expression: &Expr) -> Option<&Variable> {
     match expression {
-        Expr::Variable(variable) => variable.column,
-        Expr::Property(owner, _) => first_column(owner),
-        Expr::HasLabels(owner, _) => first_column(owner),
-        Expr::Unary(_, operand) => first_column(operand),
-        Expr::Binary(_, left, right) => match first_column(left) {
-            Some(column) => Some(column),
-            None => first_column(right),
+        Expr::Null | Expr::Boolean(_) | Expr::Integer(_) | Expr::Text(_) | Expr::CallStar(_) =>
+            None,
+        Expr::Variable(variable) => Some(variable),
+        Expr::Property(owner, _) | Expr::HasLabels(owner, _) => first_variable(owner),
+        Expr::Unary(_, operand) => first_variable(operand),
+        Expr::Binary(_, left, right) => match first_variable(left) {
+            Some(variable) => Some(variable),
+            None => first_variable(right),
         },
-        Expr::Comparison(first, links) => match first_column(first) {
-            Some(column) => Some(column),
-            None => first_column_of(links),
+        Expr::Comparison(first, links) => match first_variable(first) {
+            Some(variable) => Some(variable),
+            None => first_of_links(links),
         },
-        _ => None,
+        Expr::List(elements) => first_of(elements),
+        Expr::Case(arms, otherwise) => match first_of_arms(arms) {
+            Some(variable) => Some(variable),
+            None => match otherwise {
+                Some(otherwise) => first_variable(otherwise),
+                None => None,
+            },
+        },
+        Expr::Call(_, _, arguments) => first_of(arguments),
     }
 }
 
 #[cycle(first)]
-fn first_column_of(links: &[Link]) -> Option<usize> {
-    for link in links {
-        if let Some(column) = first_column(&link.operand) {
-            return Some(column);
+fn first_of(elements: &[Expr]) -> Option<&Variable> {
+    for element in elements {
+        if let Some(variable) = first_variable(element) {
+            return Some(variable);
         }
     }
     None
 }
 
-/// Whether each of its variables stands for the column.
+#[cycle(first)]
+fn first_of_links(links: &[Link]) -> Option<&Variable> {
+    for link in links {
+        if let Some(variable) = first_variable(&link.operand) {
+            return Some(variable);
+        }
+    }
+    None
+}
+
+#[cycle(first)]
+fn first_of_arms(arms: &[Arm]) -> Option<&Variable> {
+    for arm in arms {
+        if let Some(variable) = first_variable(&arm.condition) {
+            return Some(variable);
+        }
+        if let Some(variable) = first_variable(&arm.outcome) {
+            return Some(variable);
+        }
+    }
+    None
+}
+
+fn is_that(name: &str, column: usize, variable: &Variable) -> bool
+    ensures { result ≡ spec.is_that name.now column variable.now }
+{
+    variable.name.as_str() == name && variable.column == Some(column)
+}
+
+/// Whether each variable of an expression has the name and the column.
 #[cycle(asking)]
-pub(crate) fn asks_of(column: usize, expression: &Expr) -> bool
-    ensures { result ≡ spec.asks_of column (expression_of expression.now) }
+fn asks_of(name: &str, column: usize, expression: &Expr) -> bool
+    ensures { result ≡ spec.asks_of name.now column (expression_of expression.now) }
 {
     match expression {
-        Expr::Variable(variable) => variable.column == Some(column),
-        Expr::Property(owner, _) => asks_of(column, owner),
-        Expr::HasLabels(owner, _) => asks_of(column, owner),
-        Expr::Unary(_, operand) => asks_of(column, operand),
-        Expr::Binary(_, left, right) => asks_of(column, left) && asks_of(column, right),
-        Expr::Comparison(first, links) => asks_of(column, first) && links_ask_of(column, links),
-        _ => true,
+        Expr::Null | Expr::Boolean(_) | Expr::Integer(_) | Expr::Text(_) | Expr::CallStar(_) =>
+            true,
+        Expr::Variable(variable) => is_that(name, column, variable),
+        Expr::Property(owner, _) | Expr::HasLabels(owner, _) => asks_of(name, column, owner),
+        Expr::Unary(_, operand) => asks_of(name, column, operand),
+        Expr::Binary(_, left, right) => {
+            asks_of(name, column, left) && asks_of(name, column, right)
+        }
+        Expr::Comparison(first, links) => {
+            asks_of(name, column, first) && links_ask_of(name, column, links)
+        }
+        Expr::List(elements) => all_ask_of(name, column, elements),
+        Expr::Case(arms, otherwise) => {
+            arms_ask_of(name, column, arms)
+                && match otherwise {
+                    Some(otherwise) => asks_of(name, column, otherwise),
+                    None => true,
+                }
+        }
+        Expr::Call(_, _, arguments) => all_ask_of(name, column, arguments),
     }
 }
 
 #[cycle(asking)]
-fn links_ask_of(column: usize, links: &[Link]) -> bool
-    ensures { result ≡ spec.links_ask_of column (links_from (map link_of links.now)) }
+fn all_ask_of(name: &str, column: usize, elements: &[Expr]) -> bool
+    ensures { result ≡ spec.all_ask_of name.now column (expressions_from (map expression_of elements.now)) }
 {
-    for link in links {
-        if !asks_of(column, &link.operand) {
+    for element in elements {
+        if !asks_of(name, column, element) {
             return false;
         }
     }
     true
 }
 
-#[cycle(placing)]
-fn placed_box(alloc: Global, expression: &Expr, column: usize) -> Result<Box<Expr>, Fault>
-    ensures { IfOk result (λ e. expression_of e.value ≡ spec.placed column (expression_of expression.now)) }
+#[cycle(asking)]
+fn links_ask_of(name: &str, column: usize, links: &[Link]) -> bool
+    ensures { result ≡ spec.links_ask_of name.now column (links_from (map link_of links.now)) }
 {
-    Ok(Box::new(alloc, placed(alloc, expression, column)?)?)
-}
-
-#[cycle(placing)]
-#[tactic(auto, using(crate::proofs::PlacedLists::placed_links_list))]
-fn links_placed(alloc: Global, links: &[Link], column: usize) -> Result<Vec<Link>, Fault>
-    ensures { IfOk result (λ ls. links_from (map link_of ls.items) ≡ spec.links_placed column (links_from (map link_of links.now))) }
-{
-    let mut made = Vec::new(alloc);
     for link in links {
-        made.push(Link {
-            comparator: link.comparator,
-            operand: placed(alloc, &link.operand, column)?,
-        })?;
+        if !asks_of(name, column, &link.operand) {
+            return false;
+        }
     }
-    Ok(made)
+    true
 }
 
-fn copy_labels(alloc: Global, labels: &[Text]) -> Result<Vec<Text>, Fault>
-    ensures { IfOk result (λ twins. twins.items ≡ labels.now) }
+#[cycle(asking)]
+fn arms_ask_of(name: &str, column: usize, arms: &[Arm]) -> bool
+    ensures { result ≡ spec.arms_ask_of name.now column (arms_from (map arm_of arms.now)) }
 {
-    let mut twins = Vec::with_capacity(alloc, labels.len())?;
-    for label in labels {
-        twins.push(label.copy(alloc)?)?;
+    for arm in arms {
+        let asks = asks_of(name, column, &arm.condition) && asks_of(name, column, &arm.outcome);
+        if !asks {
+            return false;
+        }
     }
-    Ok(twins)
+    true
 }
 
-/// The expression with this column in place of each variable's. Fails only for want of memory.
-#[cycle(placing)]
-pub(crate) fn placed(alloc: Global, expression: &Expr, column: usize) -> Result<Expr, Fault>
-    ensures { IfOk result (λ e. expression_of e ≡ spec.placed column (expression_of expression.now)) }
+/// The condition on a cell alone, if all variables of the condition on rows have the name and the column, and it has a truth for whatever
+/// stands there, by the kind. Fails only for want of memory.
+pub(crate) fn cell_test(
+    alloc: Global,
+    kind: Kind,
+    name: &str,
+    column: usize,
+    test: &Expr,
+) -> Result<Option<Expr>, Fault>
+    ensures good { IfOk result (λ made. IfSome made (λ e. spec.IsCellTest kind (expression_of e))) }
+    ensures same { IfOk result (λ made. IfSome made (λ e. spec.IsOnCell (expression_of test.now) column (expression_of e))) }
 {
-    match expression {
-        Expr::Variable(_) => Ok(Expr::Variable(Variable {
-            name: Text::new(String::new(alloc)),
-            column: Some(column),
-        })),
-        Expr::Property(owner, key) => Ok(Expr::Property(
-            placed_box(alloc, owner, column)?,
-            key.copy(alloc)?,
-        )),
-        Expr::HasLabels(owner, labels) => Ok(Expr::HasLabels(
-            placed_box(alloc, owner, column)?,
-            copy_labels(alloc, labels)?,
-        )),
-        Expr::Unary(operator, operand) => Ok(Expr::Unary(
-            *operator,
-            placed_box(alloc, operand, column)?,
-        )),
-        Expr::Binary(operator, left, right) => Ok(Expr::Binary(
-            *operator,
-            placed_box(alloc, left, column)?,
-            placed_box(alloc, right, column)?,
-        )),
-        Expr::Comparison(first, links) => Ok(Expr::Comparison(
-            placed_box(alloc, first, column)?,
-            links_placed(alloc, links, column)?,
-        )),
-        _ => expression.copy(alloc),
+    if !asks_of(name, column, test) {
+        return Ok(None);
+    }
+    let none = Scope::new(alloc);
+    let mut alone = Scope::new(alloc);
+    alone.add_name(kind, name)?;
+    if !is_sure_flag(&alone, test) {
+        return Ok(None);
+    }
+    match check_expression(&none, &alone, test) {
+        Ok(_) => Ok(Some(resolved(&none, &alone, test.copy(alloc)?))),
+        Err(_) => Ok(None),
     }
 }

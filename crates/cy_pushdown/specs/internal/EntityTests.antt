@@ -1,76 +1,74 @@
--- Conditions that ask of one node or one relationship, which stands in a column. (own)
-use Rattle.std.specs.Prelude.{ℕ, ◌==◌, Bool, true, false, ◌&&◌, [], Some}
+-- Conditions that ask of one node or one relationship. (own)
+use Rattle.std.specs.Prelude.{◌≡◌, ℕ, ◌==◌, Bool, true, false, ◌&&◌, [], ◌∷◌, List, IsOk, IsTrue}
 use Rattle.std.specs.Option.{option_map_or}
-use Rattle.cy_trees.specs.declared.expressions.UnaryOperator.TheVariants.{Not, IsNull, IsNotNull}
-use Rattle.cy_trees.specs.declared.expressions.BinaryOperator.TheVariants as binary_operator
-use Rattle.cy_trees.specs.declared.expressions.Comparator.{Comparator}
-use Rattle.cy_trees.specs.Trees.{Expression, null, boolean, integer, text, variable, property, has_labels, unary, binary, comparison, Links, no_links, link}
+use Rattle.std.specs.Str.{bytes_eq}
+use Rattle.cy_values.specs.declared.rows.Cell.{Cell}
+use Rattle.cy_trees.specs.declared.expressions.Variable.{Variable}
+use Rattle.cy_trees.specs.Trees.{Name, Expression, null, boolean, integer, text, variable, property, has_labels, unary, binary, comparison, list, case, call, call_star, Expressions, no_more, more, Links, no_links, link, Arms, no_arms, arm, Otherwise, nothing, otherwise}
 use Rattle.cy_kinds.specs.declared.kinds.Kind.{Kind}
-use Rattle.cy_kinds.specs.Kinds.{is_node}
+use Rattle.cy_kinds.specs.declared.kinds.Kind.TheVariants as kind
+use Rattle.cy_kinds.specs.Kinded.{HasKind}
+use Rattle.cy_kinds.specs.Rows.{is_cell_of}
+use Rattle.cy_kinds.specs.Scopes.{Scope}
+use Rattle.cy_graph.specs.Graph.{Content}
+use Rattle.cy_expr.specs.Reading.{reads_below}
+use Rattle.cy_plans.specs.Expressions.{cell_at}
+use Rattle.cy_row_plans.specs.Rows.{condition_on, keeps}
 
--- ---- the form
+-- the variable has this name and this column
+abbrev pub is_that : Name → ℕ → Variable → Bool
+is_that name column v = bytes_eq v.name name && option_map_or (λ c. c == column) v.column false
 
-abbrev pub is_variable : Expression → Bool
-is_variable (variable v) = true
-is_variable e = false
+-- each variable of an expression has this name and this column
+module _ (name : Name) (column : ℕ) where
+  abbrev mutual
+    pub asks_of : Expression → Bool
+    asks_of null = true
+    asks_of (boolean b) = true
+    asks_of (integer n) = true
+    asks_of (text t) = true
+    asks_of (variable v) = is_that name column v
+    asks_of (property e key) = asks_of e
+    asks_of (has_labels e labels) = asks_of e
+    asks_of (unary operator e) = asks_of e
+    asks_of (binary operator a b) = asks_of a && asks_of b
+    asks_of (comparison e links) = asks_of e && links_ask_of links
+    asks_of (list es) = all_ask_of es
+    asks_of (case arms e) = arms_ask_of arms && else_asks_of e
+    asks_of (call name distinct es) = all_ask_of es
+    asks_of (call_star name) = true
 
--- a literal, or a property of what a variable stands for
-abbrev pub is_operand : Expression → Bool
-is_operand null = true
-is_operand (boolean b) = true
-is_operand (integer n) = true
-is_operand (text t) = true
-is_operand (property e key) = is_variable e
-is_operand e = false
+    pub all_ask_of : Expressions → Bool
+    all_ask_of no_more = true
+    all_ask_of (more e es) = asks_of e && all_ask_of es
 
-abbrev pub are_operands : Links → Bool
-are_operands no_links = true
-are_operands (link by e links) = is_operand e && are_operands links
+    pub links_ask_of : Links → Bool
+    links_ask_of no_links = true
+    links_ask_of (link by e links) = asks_of e && links_ask_of links
 
--- whether a condition has a truth, whatever node or relationship (by the kind) its variables stand for
-abbrev pub is_entity_test : Kind → Expression → Bool
-is_entity_test k (comparison e links) = is_operand e && are_operands links
-is_entity_test k (has_labels e labels) = is_node k && is_variable e
-is_entity_test k (unary Not e) = is_entity_test k e
-is_entity_test k (unary IsNull e) = is_operand e
-is_entity_test k (unary IsNotNull e) = is_operand e
-is_entity_test k (binary binary_operator.Or a b) = is_entity_test k a && is_entity_test k b
-is_entity_test k (binary binary_operator.Xor a b) = is_entity_test k a && is_entity_test k b
-is_entity_test k (binary binary_operator.And a b) = is_entity_test k a && is_entity_test k b
-is_entity_test k e = false
+    pub arms_ask_of : Arms → Bool
+    arms_ask_of no_arms = true
+    arms_ask_of (arm condition outcome arms) = asks_of condition && asks_of outcome && arms_ask_of arms
 
--- ---- the column
+    pub else_asks_of : Otherwise → Bool
+    else_asks_of nothing = true
+    else_asks_of (otherwise e) = asks_of e
 
--- each variable of it stands for this column
-abbrev mutual
-  pub asks_of : ℕ → Expression → Bool
-  asks_of column (variable v) = option_map_or (λ c. c == column) v.column false
-  asks_of column (property e key) = asks_of column e
-  asks_of column (has_labels e labels) = asks_of column e
-  asks_of column (unary operator e) = asks_of column e
-  asks_of column (binary operator a b) = asks_of column a && asks_of column b
-  asks_of column (comparison e links) = asks_of column e && links_ask_of column links
-  asks_of column e = true
+-- a variable alone
+abbrev pub alone : Name → Kind → Scope
+alone name k = (name, k) ∷ []
 
-  pub links_ask_of : ℕ → Links → Bool
-  links_ask_of column no_links = true
-  links_ask_of column (link by e links) = asks_of column e && links_ask_of column links
+-- A condition on rows of one cell, which has a truth for whatever stands there, by the kind.
+pub record IsCellTest (k : Kind) (test : Expression) : Type 0 where
+  pub reads : IsTrue (reads_below 1 test)
+  pub name : Name
+  pub kinded : HasKind (alone name k) test kind.Flag
+  pub has_truth : (graph : Content) (c : Cell) → IsTrue (is_cell_of k c) → IsOk (condition_on graph test (c ∷ []))
 
--- with this column in place of each variable's, and no name
-abbrev mutual
-  pub placed : ℕ → Expression → Expression
-  placed column (variable v) = variable (record { name = []; column = Some column })
-  placed column (property e key) = property (placed column e) key
-  placed column (has_labels e labels) = has_labels (placed column e) labels
-  placed column (unary operator e) = unary operator (placed column e)
-  placed column (binary operator a b) = binary operator (placed column a) (placed column b)
-  placed column (comparison e links) = comparison (placed column e) (links_placed column links)
-  placed column e = e
+-- a condition is true of a cell
+abbrev pub keeps_cell : Content → Expression → Cell → Bool
+keeps_cell graph test c = keeps graph test (c ∷ [])
 
-  pub links_placed : ℕ → Links → Links
-  links_placed column no_links = no_links
-  links_placed column (link by e links) = link by (placed column e) (links_placed column links)
-
--- a link, as a pair
-abbrev pub placed_link : ℕ → Comparator × Expression → Comparator × Expression
-placed_link column l = (l.0, placed column l.1)
+-- on each row a condition is true where another one is true of the cell in a column
+abbrev pub IsOnCell : Expression → ℕ → Expression → Type 0
+IsOnCell test column cell_test = (graph : Content) (row : List Cell) → keeps graph test row ≡ keeps_cell graph cell_test (cell_at row column)

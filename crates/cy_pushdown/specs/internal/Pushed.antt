@@ -1,12 +1,12 @@
 -- Where what stands in a column of a plan comes from, and plans with a condition on it. (own)
-use Rattle.std.specs.Prelude.{◌≡◌, ℕ, zero, suc, ◌-◌, Bool, List, [], ◌∷◌, Option, Some, None, filter, if◌then◌else◌, nat_lt, slice_get, IsTrue, ⊤}
+use Rattle.std.specs.Prelude.{◌≡◌, ℕ, zero, suc, ◌-◌, List, Option, Some, None, filter, if◌then◌else◌, nat_lt, slice_get, ⊤}
 use Rattle.std.specs.List.{All}
 use Rattle.std.specs.Option.{option_map_or}
 use Rattle.cy_values.specs.declared.rows.Cell.{Cell}
 use Rattle.cy_trees.specs.Trees.{Expression, variable}
 use Rattle.cy_kinds.specs.declared.kinds.Kind.{Kind}
 use Rattle.cy_kinds.specs.declared.kinds.Kind.TheVariants as kind
-use Rattle.cy_graph.specs.Graph.{Content, State, IsGraph}
+use Rattle.cy_graph.specs.Graph.{State, IsGraph}
 use Rattle.cy_plans.specs.Plans as plan
 use Rattle.cy_plans.specs.Plans.{Plan, Output, computed, gathered, width}
 use Rattle.cy_plans.specs.Expressions.{cell_at}
@@ -14,8 +14,7 @@ use Rattle.cy_plans.specs.Meaning.{rows_of}
 use Rattle.cy_plans.specs.Parts.{parts}
 use Rattle.cy_plans.specs.Sure.{IsSureOn}
 use Rattle.cy_plans.specs.Within.{IsWithin}
-use Rattle.cy_row_plans.specs.Rows.{keeps}
-use Rattle.cy_pushdown.specs.internal.EntityTests.{asks_of, is_entity_test, placed}
+use Rattle.cy_pushdown.specs.internal.EntityTests.{IsCellTest, IsOnCell, keeps_cell}
 
 abbrev pub variable_column : Expression → Option ℕ
 variable_column (variable v) = v.column
@@ -57,23 +56,19 @@ entity_at (plan.project p outputs) column = option_map_or (entity_at p) (column_
 entity_at (plan.distinct p) column = None
 entity_at (plan.union left right) column = common_kind (entity_at left column) (entity_at right column)
 
--- a condition is true of a cell
-abbrev pub keeps_cell : Content → Expression → Cell → Bool
-keeps_cell graph test c = keeps graph (placed 0 test) (c ∷ [])
-
 -- a table of nodes or relationships
 abbrev pub IsTable : Plan → Type 0
 IsTable plan.nodes = ⊤
 IsTable (plan.rels types orientation) = ⊤
 IsTable p = ⊥
 
--- a condition that has a truth for whatever stands in a column, which comes from such tables
+-- a condition on what stands in a column, which comes from such tables
 abbrev pub CanBePushed : Plan → ℕ → Expression → Type 0
-CanBePushed p column test = (k : Kind) × (entity_at p column ≡ Some k) × IsTrue (is_entity_test k test) × ((c : ℕ) × IsTrue (asks_of c test))
+CanBePushed p column test = (k : Kind) × (entity_at p column ≡ Some k) × IsCellTest k test
 
--- and that asks of this column
-abbrev pub IsPushable : Plan → ℕ → Expression → Type 0
-IsPushable p column test = (k : Kind) × (entity_at p column ≡ Some k) × IsTrue (is_entity_test k test) × IsTrue (asks_of column test)
+-- a condition on rows is one on what stands in a column
+abbrev pub IsPushable : Plan → Expression → ℕ → Expression → Type 0
+IsPushable p test column cell_test = CanBePushed p column cell_test × IsOnCell test column cell_test
 
 -- Of the rows of a plan, in their order, those for which a condition is true of the cell in a column.
 pub record IsPushed (below : Plan) (column : ℕ) (test : Expression) (p : Plan) : Type 0 where

@@ -13,7 +13,8 @@ pub returns-in-Some : goal.returns-in-Some
 returns-in-Some c =
     let below : Plan = plan_of c.args.below in
     let test : Expression = expression_of c.args.test.now in
-    let can : IsPushable below c.in-Some.column test = c.in-Some.ensures in
-    if_ok_map (λ p. IsPushed (plan_of c.into_root.result) c.in-Some.column test (plan_of p)) (λ p. IsFiltered below test (plan_of p))
-    (λ p pushed. pushed_filters below c.in-Some.column test can (plan_of p) (subst (λ q. IsPushed (plan_of q) c.in-Some.column test (plan_of p)) c.into_root.ensures.same pushed))
+    let cell_test : Expression = expression_of c.in-Some.found.test in
+    let can : IsPushable below test c.in-Some.found.column cell_test = rw c.in-Some.is at c.in_ok-found.ensures in
+    if_ok_map (λ p. IsPushed (plan_of c.into_root.result) c.in-Some.found.column cell_test (plan_of p)) (λ p. IsFiltered below test (plan_of p))
+    (λ p pushed. pushed_filters below test c.in-Some.found.column cell_test can.1 (plan_of p) (subst (λ q. IsPushed (plan_of q) c.in-Some.found.column cell_test (plan_of p)) c.into_root.ensures.same pushed))
     c.push.result c.push.ensures

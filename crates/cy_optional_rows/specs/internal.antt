@@ -1,0 +1,2 @@
+-- What proofs and private functions alone need.
+pub mod Trails

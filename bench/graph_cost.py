@@ -105,6 +105,39 @@ def costs(program, size):
         yield "DETACH DELETE of all nodes, a node", session.count(delete) / size, True
 
 
+def hub(size):
+    """Lines that make so many nodes, each with a value of its own, and a hub with a relationship to each of them."""
+    for first in range(0, size, GROUP):
+        nodes = ",".join(f"(:L {{k: {i}}})" for i in range(first, first + GROUP))
+        yield statement(f"CREATE {nodes}", made=GROUP)
+    yield statement("CREATE (:Hub)", made=1)
+    yield ":index L k", '{"index":["L","k"]}'
+    yield statement("MATCH (h:Hub), (n:L) CREATE (h)-[:T]->(n)", rels_made=size)
+
+
+def hub_costs(program, size):
+    """The same at a hub with so many relationships, one at a time and then all at once."""
+    some = [size // TIMES * time + size // 50 for time in range(TIMES)]
+    with Session(program) as session:
+        session.give(list(hub(size)))
+        create = [statement(f"MATCH (h:Hub), (n:L {{k: {k}}}) CREATE (h)-[:T]->(n)", rels_made=1) for k in some]
+        yield "CREATE of a relationship at a hub", session.count(create), True
+        delete = [statement(f"MATCH (:Hub)-[r:T]->(n:L {{k: {k + 1}}}) DELETE r", rels_gone=1) for k in some]
+        yield "DELETE of a relationship at a hub", session.count(delete), True
+        delete = [statement(f"MATCH (n:L {{k: {k + 2}}}) DETACH DELETE n", gone=1, rels_gone=1) for k in some]
+        yield "DETACH DELETE of a node at a hub", session.count(delete), True
+    whole = (
+        ("DELETE of all relationships at a hub, each", "MATCH (:Hub)-[r:T]->() DELETE r", 0),
+        ("DELETE of these and of the hub, each", "MATCH (h:Hub)-[r:T]->() DELETE r, h", 1),
+        ("DETACH DELETE of a hub, a relationship", "MATCH (h:Hub) DETACH DELETE h", 1),
+        ("DETACH DELETE of all nodes at a hub, each", "MATCH (n:L) DETACH DELETE n", size),
+    )
+    for name, text, gone in whole:
+        with Session(program) as session:
+            session.give(list(hub(size)))
+            yield name, session.count([statement(text, gone=gone, rels_gone=size)]) / size, True
+
+
 def falling_keys(count):
     """A line that makes a node with so many properties, in falling order of their keys."""
     entries = ",".join(f"k{i:04}:0" for i in reversed(range(count)))
@@ -170,6 +203,7 @@ def main():
     program = sys.argv[1] if len(sys.argv) > 1 else built()
     held = [has_set_cost(program), has_map_cost(program), has_memory(program), keeps_nothing(program)]
     held.append(report(lambda size: costs(program, size), *SIZES, LIMIT))
+    held.append(report(lambda size: hub_costs(program, size), *SIZES, LIMIT))
     return 0 if all(held) else 1
 
 

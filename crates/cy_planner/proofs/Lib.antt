@@ -1,7 +1,9 @@
 pub mod ClausePlans
 pub mod ClauseSteps
 pub mod GoingOn
+pub mod OptionalSteps
 pub mod PatternPremises
+pub mod QuerySteps
 pub mod Sums
 pub mod UnderWay
 pub mod ViewClauses

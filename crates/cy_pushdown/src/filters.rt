@@ -8,11 +8,34 @@ ghost use Rattle.cy_pushdown.specs.internal.Pushed.{IsPushable};
 
 use crate::pushing::{entity_at, push};
 use crate::tests_of_entities::{cell_test, first_variable};
-use cy_plans::Plan;
+use cy_plans::{Operator, Plan};
 use cy_row_plans::filter_where;
 use cy_trees::{BinaryOperator, Expr};
 use cy_values::Fault;
 use std::alloc::Global;
+
+/// A plan with more parts than these is left as it is, so that what a condition costs is bounded.
+const MOST_PARTS: usize = 192;
+
+/// What is left of a number after one for each part of a plan.
+fn left_after(part: &Operator, count: usize) -> Option<usize> {
+    let rest = count.checked_sub(1)?;
+    match part {
+        Operator::Unit | Operator::Nodes | Operator::Rels(_, _) => Some(rest),
+        Operator::Join(left, right, _)
+        | Operator::Outer(left, right, _, _)
+        | Operator::Union(left, right) => left_after(right, left_after(left, rest)?),
+        Operator::Lookup(below, _, _)
+        | Operator::Filter(below, _)
+        | Operator::AllDifferent(below, _)
+        | Operator::Project(below, _)
+        | Operator::Distinct(below) => left_after(below, rest),
+    }
+}
+
+fn is_small(plan: &Plan) -> bool {
+    left_after(plan.root(), MOST_PARTS).is_some()
+}
 
 /// A condition on what stands in a column.
 #[derive(Drop)]
@@ -26,6 +49,9 @@ struct ColumnTest {
 fn column_test(alloc: Global, below: &Plan, test: &Expr) -> Result<Option<ColumnTest>, Fault>
     ensures { IfOk result (λ made. IfSome made (λ c. IsPushable (plan_of below.now) (expression_of test.now) c.column (expression_of c.test))) }
 {
+    if !is_small(below) {
+        return Ok(None);
+    }
     let Some(variable) = first_variable(test) else {
         return Ok(None);
     };

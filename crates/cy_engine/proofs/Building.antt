@@ -19,9 +19,10 @@ use Rattle.cy_engine.specs.Faults.{of_update}
 use Rattle.cy_engine.specs.declared.faults.Fault.{Fault}
 use Rattle.cy_engine.specs.declared.faults.Fault.TheVariants as fault
 use Rattle.cy_engine.specs.Headline.{Builds, Leads}
-use Rattle.cy_engine.specs.Requests.{Asks, Request, Nothing, StatementOf, ViewOf, RowsOf, SinceOf, ListOfViews, DropOf, IndexOf, Refused, request}
+use Rattle.cy_engine.specs.Requests.{Asks, Request, Nothing, StatementOf, ViewOf, RowsOf, SinceOf, ListOfViews, ListOfSteps, DropOf, IndexOf, Refused, request}
 use Rattle.cy_engine.specs.Runs.{Event, Run}
-use Rattle.cy_engine.specs.State.{EngineState, Entries, View}
+use Rattle.cy_engine.specs.State.{EngineState}
+use Rattle.cy_views.specs.Views.{Entries, View}
 use Rattle.cy_engine.specs.Step.{Answer, Answers, Executes, Drops, Follows, Indexes, Lexed, Makes, Shows, Step, Tells}
 use Rattle.cy_engine.specs.Verdicts.{Executed, execution_verdict, index_verdict, or_fault, rows_verdict, scope_verdict, since_verdict, statement_verdict, tick_after, passes, view_verdict}
 use Rattle.cy_engine.proofs.Queries.{bind_ok, same_ok}
@@ -113,6 +114,7 @@ module _ (line : List ℕ) (old : EngineState) (answer : Answer) (entries : Entr
   answers_leads tokens made (RowsOf name) of a = shows_leads name (rows_verdict name old) a
   answers_leads tokens made (SinceOf name tick) of a = tells_leads name tick (since_verdict name tick old) a
   answers_leads tokens made ListOfViews of a = as_answered _ a.answered (graph_of a.state) (λ same. same)
+  answers_leads tokens made ListOfSteps of a = as_answered _ a.answered (graph_of a.state) (λ same. same)
   answers_leads tokens made (DropOf name) of a = drops_leads (rows_verdict name old) a
   answers_leads tokens made (IndexOf label key) of a = indexes_leads (index_verdict label key old) a
   answers_leads tokens made (Refused why) of a = refused_leads why a.answered a.state
@@ -122,7 +124,7 @@ module _ (line : List ℕ) (old : EngineState) (answer : Answer) (entries : Entr
   lexed_leads (Ok tokens) made a = answers_leads tokens made (request line tokens) refl a
 
   pub step_leads : Step old line answer entries new → LeadsOn
-  step_leads (inl a) = refused_leads fault.NoMemory a.1.answered a.1.state
+  step_leads (inl (why, lacks, a)) = refused_leads why a.answered a.state
   step_leads (inr a) = lexed_leads (tokens_of line) refl a
 
 pub run_builds : (old new : EngineState) (events : List Event) → Run old events new → Builds old.graph events new.graph

@@ -3,8 +3,9 @@ use Rattle.std.proofs.Common.{◌≡◌, ℕ, List, [], ◌∷◌, ◌++◌, map
 use Rattle.cy_graph.specs.Graph.{Content}
 use Rattle.cy_engine.specs.Runs.{Event, Run, Runs, last_entries}
 use Rattle.cy_engine.specs.Model.{Machine, state_of}
-use Rattle.cy_engine.specs.State.{EngineState, Entries, View}
-use Rattle.cy_engine.specs.Step.{Answer, AreEntries, Step}
+use Rattle.cy_engine.specs.State.{EngineState}
+use Rattle.cy_views.specs.Views.{AreEntries, Entries, View}
+use Rattle.cy_engine.specs.Step.{Answer, Step}
 
 -- where the content stays, no view gets an entry
 pub nothing_changed : (views : List View) (content : Content) (tick : ℕ) → AreEntries views content content tick []

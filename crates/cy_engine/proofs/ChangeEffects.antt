@@ -1,91 +1,68 @@
 -- What an open change does to the tick and the views.
-use Rattle.std.proofs.Common.{◌≡◌, ◌≢◌, ◌==◌, ℕ, true, false, List, [], ◌∷◌, map, length, vec_len, Vec, Global, Option, None, Some, Ok, Err, sym, ap, subst, ◌∙◌}
+use Rattle.std.proofs.Common.{◌≡◌, ◌≢◌, ◌==◌, ℕ, Bool, true, false, List, [], ◌∷◌, map, length, vec_len, Vec, Global, Option, None, Some, Ok, refl, sym, ap, subst, ◌∙◌, inl, inr}
 use Rattle.std.specs.Prelude.{IsSome, IfSome}
-use Rattle.std.specs.Cmp.{IsTotalOrder}
 use Rattle.std.proofs.lemmas.Bool.{eqb-true}
 use Rattle.std.proofs.lemmas.List.{nil_from_length}
-use Rattle.cy_values.specs.Order.{row_cmp}
-use Rattle.cy_graph.specs.Graph.{State, IsGraph}
+use Rattle.cy_graph.specs.Graph.{State, Versions, IsGraph}
 use Rattle.cy_graph.specs.Touched.{BeforeImage, before_image, AreTouched}
 use Rattle.cy_graph.specs.declared.touched.Touched.{Touched}
-use Rattle.cy_engine.specs.declared.faults.Fault.{Fault}
-use Rattle.cy_engine.specs.State.{Entries, View}
-use Rattle.cy_engine.specs.Step.{AreEntries}
-use Rattle.cy_engine.specs.Verdicts.{next_tick, tick_after}
-use Rattle.cy_engine.specs.internal.Network.{AllPrepared, AllReady, AllStand, AllTake, pending_entries, settled_one}
-use Rattle.cy_engine.specs.internal.Representation.{Registry, views_in}
-use Rattle.cy_engine.specs.internal.Stages.{HasEffect}
-use Rattle.cy_engine.proofs.Chains.{nothing_changed}
-use Rattle.cy_engine.proofs.Contents.{tick_moves, tick_stays}
-use Rattle.cy_engine.proofs.NetworkLemmas.{on_open, ready_prepared, ready_settled, stand_on, stand_settled}
-use Rattle.cy_engine.proofs.FedViews.{none_take, nothing_pending}
+use Rattle.cy_scans.specs.Changes.{before_change}
+use Rattle.cy_views.specs.declared.faults.UpkeepFault.{UpkeepFault}
+use Rattle.cy_views.specs.declared.faults.UpkeepFault.TheVariants as upkeep
+use Rattle.cy_views.specs.Upkeep.{CannotFollow, Upkeep}
+use Rattle.cy_engine.specs.Faults.{of_upkeep}
+use Rattle.cy_engine.specs.Verdicts.{next_tick, same_content, tick_after}
+use Rattle.cy_engine.specs.internal.Stages.{HasNoEffect}
+use Rattle.cy_engine.proofs.Contents.{content_decides, tick_moves}
 use Rattle.cy_engine.proofs.TouchedContents.{nothing_touched, touched_differs}
-use Rattle.cy_engine.proofs.ViewEntries.{pending_exact}
 
--- the views before the change have nothing prepared
-module _ (was : Option State) (entries : Registry) (tick : ℕ) (is_open : IsSome was) (stand : IfSome was (λ before. AllStand before.content entries)) where
-  pub take_before : AllTake tick entries
-  take_before = on_open was is_open stand (λ before s. none_take tick before.content entries s)
+-- what holds of the graph before the open change
+on_before : (P : State → Type 0) (graph : Versions) → IsSome graph.was → IfSome graph.was P → P (before_change graph)
+on_before P graph is_open holds = from graph.was is_open holds
+  where
+    from : (o : Option State) → IsSome o → IfSome o P → P (before_change (record { now = graph.now; was = o }))
+    from None is_open holds = cc
+    from (Some before) is_open holds = holds
 
-  pub pending_before : pending_entries tick entries ≡ []
-  pending_before = on_open was is_open stand (λ before s. nothing_pending tick before.content entries s)
+pub graph_before : (graph : Versions) → IsSome graph.was → IfSome graph.was (λ before. IsGraph before) → IsGraph (before_change graph)
+graph_before graph is_open holds = on_before IsGraph graph is_open holds
 
-module _ (now : State) (list : Vec Touched Global) where
+-- what it touched
+pub touched_before : (graph : Versions) (list : Vec Touched Global) → IsSome graph.was → IfSome graph.was (λ before. AreTouched before graph.now (map before_image list.items))
+    → AreTouched (before_change graph) graph.now (map before_image list.items)
+touched_before graph list is_open holds = on_before (λ before. AreTouched before graph.now (map before_image list.items)) graph is_open holds
+
+module _ (now before : State) (list : Vec Touched Global) (touched : AreTouched before now (map before_image list.items)) where
   -- nothing is in the list
   no_items : (vec_len list == 0) ≡ true → list.items ≡ []
   no_items is = nil_from_length list.items (sym list.ok.0 ∙ eqb-true _ _ is)
 
-  abbrev IsTouched : State → Type 0
-  IsTouched before = AreTouched before now (map before_image list.items)
+  pub same : (vec_len list == 0) ≡ true → IsGraph now → IsGraph before → same_content before.content now.content ≡ true
+  same is graph_now graph_before =
+      (content_decides before.content now.content).1
+      (sym (nothing_touched before now (subst (λ (es : List BeforeImage). AreTouched before now es) (ap (map before_image) (no_items is)) touched) graph_before graph_now))
 
-  same : (before : State) → (vec_len list == 0) ≡ true → IsTouched before → IsGraph now → IsGraph before → now.content ≡ before.content
-  same before is touched graph_now graph_before =
-      nothing_touched before now (subst (λ (es : List BeforeImage). AreTouched before now es) (ap (map before_image) (no_items is)) touched) graph_before graph_now
-
-  other : (before : State) → (vec_len list == 0) ≡ false → IsTouched before → now.content ≢ before.content
-  other before is touched = touched_differs before now (map before_image list.items) touched (λ none. some list.items list.ok.0 none is)
+  other : (vec_len list == 0) ≡ false → now.content ≢ before.content
+  other is = touched_differs before now (map before_image list.items) touched (λ none. some list.items list.ok.0 none is)
     where
       some : (items : List Touched) → vec_len list ≡ length items → map before_image items ≡ [] → (vec_len list == 0) ≡ false → ⊥
       some [] len none is = let wrong : true ≡ false = ap (λ n. n == 0) (sym len) ∙ is in cc
       some (t ∷ ts) len none is = cc
 
-  -- where nothing was touched, the tick stays, and no view gets an entry
-  module _ (entries : Registry) (tick : ℕ) (nothing : (vec_len list == 0) ≡ true) (graph_now : IsGraph now) where
-    pub untouched : (was : Option State) (made : Entries) → made ≡ [] → IfSome was IsTouched → IfSome was IsGraph
-        → IfSome was (λ before. HasEffect (views_in entries) before.content now.content tick (record { tick = tick; entries = made }))
-    untouched None made none touched graph = tt
-    untouched (Some before) made none touched graph =
-        let alike : now.content ≡ before.content = same before nothing touched graph_now graph in record {
-          ticks = tick_stays before.content now.content tick alike;
-          entries_are = rw (alike, none) (nothing_changed (views_in entries) before.content tick);
-        }
+  pub differs : (vec_len list == 0) ≡ false → same_content before.content now.content ≡ false
+  differs is = from (same_content before.content now.content) refl
+    where
+      from : (b : Bool) → same_content before.content now.content ≡ b → same_content before.content now.content ≡ false
+      from true alike = absurd (other is (sym ((content_decides before.content now.content).0 alike)))
+      from false alike = alike
 
-    pub untouched_stand : (was : Option State) → IsSome was → IfSome was IsTouched → IfSome was IsGraph → IfSome was (λ before. AllStand before.content entries) → AllStand now.content (map (settled_one tick) entries)
-    untouched_stand None is_open touched graph stand = cc
-    untouched_stand (Some before) is_open touched graph stand =
-        stand_settled tick now.content entries (stand_on before.content now.content entries (same before nothing touched graph_now graph) stand)
+  -- so the tick is to rise
+  pub moves_on : (vec_len list == 0) ≡ false → (tick : ℕ) → tick_after before.content now.content tick ≡ next_tick tick
+  moves_on is tick = tick_moves before.content now.content tick (other is)
 
-  -- where something was, the tick is to rise
-  module _ (tick : ℕ) (something : (vec_len list == 0) ≡ false) where
-    pub touched_late : (was : Option State) (why : Fault) → next_tick tick ≡ Err why → IfSome was IsTouched → IfSome was (λ before. tick_after before.content now.content tick ≡ Err why)
-    touched_late None why late touched = tt
-    touched_late (Some before) why late touched = tick_moves before.content now.content tick (other before something touched) ∙ late
-
-    -- and views get what is pending
-    pub touched_effect : (total : IsTotalOrder row_cmp) (was : Option State) (entries ready : Registry) (after : ℕ) (made : Entries) → next_tick tick ≡ Ok after → made ≡ pending_entries after ready
-        → views_in ready ≡ views_in entries → IfSome was IsTouched → IfSome was (λ before. AllReady before.content now.content ready)
-        → IfSome was (λ before. HasEffect (views_in entries) before.content now.content tick (record { tick = after; entries = made }))
-    touched_effect total None entries ready after made rises are views touched prepared = tt
-    touched_effect total (Some before) entries ready after made rises are views touched prepared = record {
-      ticks = tick_moves before.content now.content tick (other before something touched) ∙ rises;
-      entries_are = subst (λ (vs : List View). AreEntries vs before.content now.content after made) views
-          (subst (AreEntries (views_in ready) before.content now.content after) (sym are) (pending_exact total before.content now.content after ready prepared));
-    }
-
--- once they are ready, they have something prepared, and will stand for the graph after it
-module _ (was : Option State) (now : State) (entries : Registry) (is_open : IsSome was) (ready : IfSome was (λ before. AllReady before.content now.content entries)) where
-  pub have_prepared : AllPrepared entries
-  have_prepared = on_open was is_open ready (λ before r. ready_prepared before.content now.content entries r)
-
-  pub ready_stand : (tick : ℕ) → AllStand now.content (map (settled_one tick) entries)
-  ready_stand tick = on_open was is_open ready (λ before r. ready_settled tick before.content now.content entries r)
+-- views that can't follow refuse the change
+pub cannot_follow : (kept : List Upkeep) (before after : State) (tick next : ℕ) (why : UpkeepFault) → tick_after before.content after.content tick ≡ Ok next → CannotFollow kept after.content why
+    → HasNoEffect kept before after tick (of_upkeep why)
+cannot_follow kept before after tick next upkeep.PlanTooLarge rises cannot = absurd cannot
+cannot_follow kept before after tick next upkeep.TooManyRows rises cannot = inr (inr (refl, (next, rises, cannot)))
+cannot_follow kept before after tick next upkeep.NoMemory rises cannot = inl refl

@@ -1,132 +1,70 @@
 -- A view is taken out.
-use Rattle.std.proofs.Common.{◌≡◌, ℕ, ◌≤◌, true, false, cond, not, List, [], ◌∷◌, length, Option, Some, None, Result, Ok, Err, is_some, string_bytes, refl, sym, ap, subst, ◌∙◌, arith}
-use Rattle.std.specs.Map.{remove_entry}
+use Rattle.std.proofs.Common.{◌≡◌, ℕ, true, false, cond, not, List, [], ◌∷◌, map, filter, Option, Some, None, Ok, Err, is_some, refl, ap, ◌∙◌}
 use Rattle.std.specs.Str.{bytes_eq}
-use Rattle.std.proofs.lemmas.Slice.Eq.{bytes_eq-Decides}
-use Rattle.cy_graph.specs.Graph.{Content, Versions}
 use Rattle.cy_index.specs.Index.{StoreState}
-use Rattle.cy_engine.specs.Model.{held, machine_of, state_of, view_of}
-use Rattle.cy_engine.specs.State.{EngineState, Entries, View}
-use Rattle.cy_engine.specs.Step.{Answer, Drops, IsDropped, IsRefused, without}
+use Rattle.cy_views.specs.declared.views.Views.{Views}
+use Rattle.cy_views.specs.Upkeep.{Held, held_in, upkeep_of, view_of, views_in}
+use Rattle.cy_views.specs.Views.{Entries, View, view_among, without}
+use Rattle.cy_engine.specs.Model.{machine_of, state_of}
+use Rattle.cy_engine.specs.State.{EngineState}
+use Rattle.cy_engine.specs.Step.{Answer, Drops, IsDropped, IsRefused, unkept}
 use Rattle.cy_engine.specs.Verdicts.{rows_verdict, there}
-use Rattle.cy_engine.specs.declared.faults.Fault.{Fault}
 use Rattle.cy_engine.specs.declared.faults.Fault.TheVariants as fault
 use Rattle.cy_engine.specs.declared.replies.Reply.TheVariants as reply
-use Rattle.cy_engine.specs.declared.views.Registered.{Registered}
-use Rattle.cy_engine.specs.internal.Network.{AllStand}
-use Rattle.cy_engine.specs.internal.Representation.{AllInTime, AreNamed, IsAtRest, IsNew, Registry, named, registered_at, views_in}
-use Rattle.cy_engine.proofs.Names.{turned}
-use Rattle.cy_engine.proofs.Registry.{view_absent, view_there}
+use Rattle.cy_engine.proofs.Effects.{name_of}
+use Rattle.cy_engine.proofs.Steps.{held_alike}
 
--- where no view has the name, all stay
-pub all_stay : (name : List ℕ) (views : List View) → IsNew name views → without name views ≡ views
-all_stay name [] new = refl
-all_stay name (v ∷ views) new = ap (λ b. cond (not b) (v ∷ without name views) (without name views)) (turned v.name name new.0) ∙ ap (λ vs. v ∷ vs) (all_stay name views new.1)
+abbrev others : List ℕ → List Held → List Held
+others name hs = filter (λ h. not (bytes_eq name h.name)) hs
 
-pub new_without : (name other : List ℕ) (views : List View) → IsNew other views → IsNew other (without name views)
-new_without name other [] new = tt
-new_without name other (v ∷ views) new =
-    elim (bytes_eq name v.name) as (λ b. IsNew other (cond (not b) (v ∷ without name views) (without name views))) [
-      | true ↦ new_without name other views new.1
-      | false ↦ (new.0, new_without name other views new.1)
+other_views : (name : List ℕ) (hs : List Held) → map view_of (others name hs) ≡ without name (map view_of hs)
+other_views name [] = refl
+other_views name (h ∷ hs) =
+    elim (bytes_eq name h.name) as (λ b. map view_of (cond (not b) (h ∷ others name hs) (others name hs)) ≡ cond (not b) (view_of h ∷ without name (map view_of hs)) (without name (map view_of hs))) [
+      | true ↦ other_views name hs
+      | false ↦ ap (λ vs. view_of h ∷ vs) (other_views name hs)
     ]
 
-pub named_without : (name : List ℕ) (views : List View) → AreNamed views → AreNamed (without name views)
-named_without name [] named = tt
-named_without name (v ∷ views) named =
-    elim (bytes_eq name v.name) as (λ b. AreNamed (cond (not b) (v ∷ without name views) (without name views))) [
-      | true ↦ named_without name views named.1
-      | false ↦ (new_without name v.name views named.0, named_without name views named.1)
+other_upkeep : (name : List ℕ) (hs : List Held) → map upkeep_of (others name hs) ≡ unkept name (map upkeep_of hs)
+other_upkeep name [] = refl
+other_upkeep name (h ∷ hs) =
+    elim (bytes_eq name h.name) as (λ b. map upkeep_of (cond (not b) (h ∷ others name hs) (others name hs)) ≡ cond (not b) (upkeep_of h ∷ unkept name (map upkeep_of hs)) (unkept name (map upkeep_of hs))) [
+      | true ↦ other_upkeep name hs
+      | false ↦ ap (λ us. upkeep_of h ∷ us) (other_upkeep name hs)
     ]
-
-module _ (name : List ℕ) where
-  abbrev kept : Registry → Registry
-  kept entries = remove_entry (λ k. bytes_eq name (string_bytes k)) entries
-
-  pub views_kept : (entries : Registry) → AreNamed (views_in entries) → views_in (kept entries) ≡ without name (views_in entries)
-  views_kept [] named = refl
-  views_kept (e ∷ entries) named =
-      let v : View = view_of (held e) in
-      elim (bytes_eq name (string_bytes e.0)) as (λ b. bytes_eq name (string_bytes e.0) ≡ b → views_in (cond b entries (e ∷ kept entries)) ≡ cond (not b) (v ∷ without name (views_in entries)) (without name (views_in entries))) [
-        | true ↦ λ same. sym (all_stay name (views_in entries) (of_name (sym ((bytes_eq-Decides name (string_bytes e.0)).0 same))))
-        | false ↦ λ other. ap (λ vs. v ∷ vs) (views_kept entries named.1)
-      ] refl
-    where
-      of_name : string_bytes e.0 ≡ name → IsNew name (views_in entries)
-      of_name is = subst (λ (n : List ℕ). IsNew n (views_in entries)) is named.0
-
-  pub stand_kept : (graph : Content) (entries : Registry) → AllStand graph entries → AllStand graph (kept entries)
-  stand_kept graph [] stand = tt
-  stand_kept graph (e ∷ entries) stand =
-      elim (bytes_eq name (string_bytes e.0)) as (λ b. AllStand graph (cond b entries (e ∷ kept entries))) [
-        | true ↦ stand.1
-        | false ↦ (stand.0, stand_kept graph entries stand.1)
-      ]
-
-  pub in_time_kept : (tick : ℕ) (entries : Registry) → AllInTime tick entries → AllInTime tick (kept entries)
-  in_time_kept tick [] all = tt
-  in_time_kept tick (e ∷ entries) all =
-      elim (bytes_eq name (string_bytes e.0)) as (λ b. AllInTime tick (cond b entries (e ∷ kept entries))) [
-        | true ↦ all.1
-        | false ↦ (all.0, in_time_kept tick entries all.1)
-      ]
-
-  pub fewer_kept : (entries : Registry) → length (kept entries) ≤ length entries
-  fewer_kept [] = omega arith
-  fewer_kept (e ∷ entries) =
-      elim (bytes_eq name (string_bytes e.0)) as (λ b. length (cond b entries (e ∷ kept entries)) ≤ length (e ∷ entries)) [
-        | true ↦ omega arith
-        | false ↦ omega (arith, fewer_kept entries)
-      ]
-
-  -- where nothing is registered under the name, all stay
-  pub none_kept : (entries : Registry) → is_some (registered_at name entries) ≡ false → kept entries ≡ entries
-  none_kept [] none = refl
-  none_kept (e ∷ entries) none =
-      elim (bytes_eq name (string_bytes e.0)) as (λ b. is_some (cond b (Some e.1) (registered_at name entries)) ≡ false → cond b entries (e ∷ kept entries) ≡ e ∷ entries) [
-        | true ↦ λ some. cc
-        | false ↦ λ later. ap (λ (es : Registry). e ∷ es) (none_kept entries later)
-      ] none
-
-  -- and what holds between lines still does
-  pub kept_rest : (graph : Versions) (entries left : Registry) (tick history : ℕ) → left ≡ kept entries → IsAtRest graph entries tick history → IsAtRest graph left tick history
-  kept_rest graph entries left tick history is rest = record {
-    closed = rest.closed;
-    stand = subst (AllStand graph.now.content) (sym is) (stand_kept graph.now.content entries rest.stand);
-    named = subst (λ (es : Registry). AreNamed (views_in es)) (sym is) (subst AreNamed (sym (views_kept entries rest.named)) (named_without name (views_in entries) rest.named));
-    few = omega (arith, ap length is, fewer_kept entries, rest.few);
-    in_time = rest.in_time;
-    fed = subst (AllInTime tick) (sym is) (in_time_kept tick entries rest.fed);
-    some = rest.some;
-    most = rest.most;
-  }
 
 -- what is answered to `:drop`
-module _ (name : List ℕ) (store : StoreState) (views left : Registry) (tick history : ℕ) (before : Entries) (gone : Option Registered) (was : gone ≡ registered_at name views)
-    (leaves : left ≡ remove_entry (λ k. bytes_eq name (string_bytes k)) views) where
-  abbrev with_views : Registry → EngineState
-  with_views entries = state_of (machine_of store entries tick history before)
+module _ (name : List ℕ) (store : StoreState) (views left : Views) (tick history : ℕ) (last : Entries) where
+  abbrev with_views : Views → EngineState
+  with_views vs = state_of (machine_of store vs tick history last)
 
   abbrev DropsIt : Answer → Type 0
   DropsIt answer = Drops (rows_verdict name (with_views views)) (with_views views) answer [] (with_views left)
 
-  pub not_there : is_some gone ≡ false → DropsIt (Err fault.NoSuchView)
-  not_there missing =
-      let none : is_some (registered_at name views) ≡ false = sym (ap is_some was) ∙ missing in
-      let refused : IsRefused fault.NoSuchView (with_views views) (Err fault.NoSuchView) [] (with_views left) =
-      record { answered = refl; no_entries = refl; state = ap with_views (leaves ∙ none_kept name views none) } in
-      subst (λ (v : Result View Fault). Drops v (with_views views) (Err fault.NoSuchView) [] (with_views left)) (sym (ap (there fault.NoSuchView) (view_absent name views none))) refused
-
-  pub dropped : AreNamed (views_in views) → is_some gone ≡ true → DropsIt (Ok (reply.Dropped name))
-  dropped apart some = from gone was some
+  pub not_there : is_some (view_among name (views_in views)) ≡ false → held_in left ≡ held_in views → DropsIt (Err fault.NoSuchView)
+  not_there missing same = from (view_among name (views_in views)) missing
     where
-      from : (o : Option Registered) → o ≡ registered_at name views → is_some o ≡ true → DropsIt (Ok (reply.Dropped name))
-      from None here some = cc
-      from (Some r) here some =
-          let goes : IsDropped (named name r) (with_views views) (Ok (reply.Dropped name)) [] (with_views left) =
-          record {
-            answered = refl;
-            no_entries = refl;
-            state = ap (λ (vs : List View). let s : EngineState = record { graph = store.graph.now; indexes = store.chosen; views = vs; tick = tick; history = history } in s) (ap views_in leaves ∙ views_kept name views apart);
-          } in
-          subst (λ (v : Result View Fault). Drops v (with_views views) (Ok (reply.Dropped name)) [] (with_views left)) (sym (ap (there fault.NoSuchView) (view_there name views r here))) goes
+      from : (o : Option View) → is_some o ≡ false → Drops (there fault.NoSuchView o) (with_views views) (Err fault.NoSuchView) [] (with_views left)
+      from (Some v) missing = cc
+      from None missing = let is : IsRefused fault.NoSuchView (with_views views) (Err fault.NoSuchView) [] (with_views left) = record { answered = refl; no_entries = refl; state = held_alike store views left tick history last last same } in is
+
+  pub dropped : is_some (view_among name (views_in views)) ≡ true → held_in left ≡ others name (held_in views) → DropsIt (Ok (reply.Dropped name))
+  dropped present gone = from (view_among name (views_in views)) refl present
+    where
+      is_dropped : (v : View) → name ≡ v.name → IsDropped v (with_views views) (Ok (reply.Dropped name)) [] (with_views left)
+      is_dropped v is = record {
+        answered = ap (λ (n : List ℕ). let a : Answer = Ok (reply.Dropped n) in a) is;
+        no_entries = refl;
+        state = λ i. record {
+          graph = store.graph.now;
+          indexes = store.chosen;
+          views = (ap (map view_of) gone ∙ other_views name (held_in views) ∙ ap (λ (n : List ℕ). without n (views_in views)) is) i;
+          upkeep = (ap (map upkeep_of) gone ∙ other_upkeep name (held_in views) ∙ ap (λ (n : List ℕ). unkept n (map upkeep_of (held_in views))) is) i;
+          tick = tick;
+          history = history;
+        };
+      }
+
+      from : (o : Option View) → view_among name (views_in views) ≡ o → is_some o ≡ true → Drops (there fault.NoSuchView o) (with_views views) (Ok (reply.Dropped name)) [] (with_views left)
+      from None at present = cc
+      from (Some v) at present = is_dropped v (name_of name (views_in views) v at)

@@ -15,9 +15,10 @@ use Rattle.cy_index.specs.declared.keys.Pair.{Pair}
 use Rattle.cy_engine.specs.Faults.{of_update}
 use Rattle.cy_engine.specs.declared.faults.Fault.{Fault}
 use Rattle.cy_engine.specs.declared.faults.Fault.TheVariants.{NoSuchView}
-use Rattle.cy_engine.specs.Requests.{Request, Nothing, StatementOf, ViewOf, RowsOf, SinceOf, ListOfViews, DropOf, IndexOf, Refused, request}
-use Rattle.cy_engine.specs.State.{EngineState, Entries, View, view_at}
-use Rattle.cy_engine.specs.Step.{Answer, AreEntries, IsExecuted, IsMade, IsDropped, IsIndexed, Executes, Makes, Drops, Indexes, Shows, Follows, Tells, Answers, Lexed, Step}
+use Rattle.cy_engine.specs.Requests.{Request, Nothing, StatementOf, ViewOf, RowsOf, SinceOf, ListOfViews, ListOfSteps, DropOf, IndexOf, Refused, request}
+use Rattle.cy_engine.specs.State.{EngineState, view_at}
+use Rattle.cy_views.specs.Views.{AreEntries, Entries, View}
+use Rattle.cy_engine.specs.Step.{Answer, IsExecuted, IsMade, IsDropped, IsIndexed, Executes, Makes, Drops, Indexes, Shows, Follows, Tells, Answers, Lexed, Step}
 use Rattle.cy_engine.specs.Verdicts.{Executed, execution_verdict, index_verdict, or_fault, rows_verdict, scope_verdict, since_verdict, statement_verdict, there, tick_after, view_verdict}
 use Rattle.cy_engine.proofs.Chains.{nothing_changed}
 use Rattle.cy_engine.proofs.Queries.{IsFresh, bind_ok, same_ok, view_made}
@@ -97,6 +98,7 @@ module _ (old : EngineState) (answer : Answer) (entries : Entries) (new : Engine
   answers_effects line (RowsOf name) a = shows_effects name (rows_verdict name old) a
   answers_effects line (SinceOf name tick) a = tells_effects name tick (since_verdict name tick old) a
   answers_effects line ListOfViews a = inl (a.state, a.no_entries)
+  answers_effects line ListOfSteps a = inl (a.state, a.no_entries)
   answers_effects line (DropOf name) a = drops_effects name a
   answers_effects line (IndexOf label key) a = indexes_effects (index_verdict label key old) a
   answers_effects line (Refused why) a = inl (a.state, a.no_entries)
@@ -106,7 +108,7 @@ module _ (old : EngineState) (answer : Answer) (entries : Entries) (new : Engine
   lexed_effects line (Ok tokens) a = answers_effects line (request line tokens) a
 
   pub effects : (line : List ℕ) → Step old line answer entries new → Effects
-  effects line (inl a) = inl (a.1.state, a.1.no_entries)
+  effects line (inl (why, lacks, a)) = inl (a.state, a.no_entries)
   effects line (inr a) = lexed_effects line (tokens_of line) a
 
   abbrev pub AreExact : Type 0

@@ -17,9 +17,10 @@ use Rattle.cy_engine.specs.declared.replies.Reply.TheVariants as reply
 use Rattle.cy_engine.specs.Headline.{AreItsEntries, AsksForView, HeadlineHolds, IsItsEntry, IsMaintained, Leads, Serves, counts_in, entries_of, followed, with_entries, with_entry}
 use Rattle.cy_engine.specs.Model.{Machine, state_of}
 use Rattle.cy_engine.specs.Runs.{Event, OnlySo, Run, Runs, accepted}
-use Rattle.cy_engine.specs.State.{EngineState, Entries, View, empty_engine, entry_at, rows_of}
-use Rattle.cy_engine.specs.Step.{AreEntries, Answer, Step, fed, without}
-use Rattle.cy_engine.specs.internal.Representation.{AreNamed}
+use Rattle.cy_engine.specs.State.{EngineState, empty_engine}
+use Rattle.cy_views.specs.Views.{AreEntries, Entries, View, entry_at, fed, rows_of, without}
+use Rattle.cy_engine.specs.Step.{Answer, Step}
+use Rattle.cy_views.specs.Upkeep.{AreNamed}
 use Rattle.cy_engine.proofs.Building.{run_builds, step_leads}
 use Rattle.cy_engine.proofs.EachEntry.{each_entry}
 use Rattle.cy_engine.proofs.Effects.{Effects, effects, exact}

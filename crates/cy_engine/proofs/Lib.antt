@@ -5,17 +5,14 @@ pub mod Contents
 pub mod Dropping
 pub mod EachEntry
 pub mod Effects
-pub mod FedViews
 pub mod Following
 pub mod FromTokens
 pub mod Lines
 pub mod Making
 pub mod Names
-pub mod NetworkLemmas
 pub mod OneAnswer
 pub mod Polls
 pub mod Queries
-pub mod Registry
 pub mod Since
 pub mod StatementEnds
 pub mod StepNames
@@ -24,7 +21,6 @@ pub mod Ticks
 pub mod ToldRows
 pub mod TouchedContents
 pub mod Traces
-pub mod ViewEntries
 pub mod WorkedLines
 pub mod WorkedRows
 pub mod WorkedRun

@@ -13,9 +13,10 @@ use Rattle.cy_engine.specs.declared.replies.Reply.TheVariants as reply
 use Rattle.cy_feeds.specs.declared.feeds.Answer as feeds
 use Rattle.cy_feeds.specs.Feeds.{answer_since}
 use Rattle.cy_engine.specs.Faults.{of_lexer}
-use Rattle.cy_engine.specs.internal.Stages.{AnswersOrWants, ListsViews, ShowsChanges, ShowsRows, ShowsSince}
-use Rattle.cy_engine.specs.Requests.{Request, RowsOf, SinceOf, ListOfViews, Refused, request}
-use Rattle.cy_engine.specs.State.{EngineState, Entries, View}
+use Rattle.cy_engine.specs.internal.Stages.{AnswersOrWants, ListsSteps, ListsViews, ShowsChanges, ShowsRows, ShowsSince}
+use Rattle.cy_engine.specs.Requests.{Request, RowsOf, SinceOf, ListOfViews, ListOfSteps, Refused, request}
+use Rattle.cy_engine.specs.State.{EngineState}
+use Rattle.cy_views.specs.Views.{Entries, View}
 use Rattle.cy_engine.specs.Step.{Answer, Answers, Follows, IsRefused, IsReplied, Lexed, Shows, Step, Tells}
 use Rattle.cy_engine.proofs.FromTokens.{lexed}
 
@@ -36,7 +37,7 @@ module _ (line : List ℕ) (old : EngineState) (entries : Entries) (new : Engine
       no_want is (inr past) = let wrong : of_lexer lex.LineTooLong ≡ fault.NoMemory = ap of_lexer (sym (long past)) ∙ is in absurd (cc)
 
       from : ((of_lexer why ≡ fault.NoMemory) ⊎ ((why ≢ lex.NoMemory) × (of_lexer why ≡ fault.Lex why))) → Step old line (Err (of_lexer why)) entries new
-      from (inl is) = inl (no_want is (short_or_long (length line) longest_line), record { answered = ap Err is; no_entries = none; state = same })
+      from (inl is) = inl (fault.NoMemory, inl (refl, no_want is (short_or_long (length line) longest_line)), record { answered = ap Err is; no_entries = none; state = same })
       from (inr (is_other, is)) =
           inr (subst (λ (r : Result (List Token) LexFault). Lexed line r old (Err (of_lexer why)) entries new) (sym (said is_other))
           (let refused : IsRefused (fault.Lex why) old (Err (of_lexer why)) entries new = record { answered = ap Err is; no_entries = none; state = same } in refused))
@@ -44,12 +45,14 @@ module _ (line : List ℕ) (old : EngineState) (entries : Entries) (new : Engine
   -- a line of tokens is answered as it asks
   pub line_step : (answer : Answer) (tokens : List Token) (asked : Request) → tokens_of line ≡ Ok tokens → (longest_line < length line → ⊥) → request line tokens ≡ asked
       → AnswersOrWants line asked old answer entries new → Step old line answer entries new
-  line_step answer tokens asked made short asks (inl wants) = inl (from (short_or_long (length line) longest_line), wants)
+  line_step answer tokens asked made short asks (inl wants) = inl (fault.NoMemory, inl (refl, from (short_or_long (length line) longest_line)), wants)
     where
       from : (length line ≤ longest_line) ⊎ (longest_line < length line) → length line ≤ longest_line
       from (inl h) = h
       from (inr h) = absurd (short h)
-  line_step answer tokens asked made short asks (inr answers) =
+  line_step answer tokens asked made short asks (inr (inl (many, refused))) =
+      inl (fault.TooManyRows, inr (refl, (asked, record { tokens = tokens; lexed = made; is = asks }, many)), refused)
+  line_step answer tokens asked made short asks (inr (inr answers)) =
       inr (subst (λ (r : Result (List Token) LexFault). Lexed line r old answer entries new) (sym made)
       (subst (λ (q : Request). Answers line q old answer entries new) (sym asks) answers))
 
@@ -59,7 +62,7 @@ module _ (line : List ℕ) (old : EngineState) (entries : Entries) (new : Engine
   request_refused why tokens none same made short (inl wants) =
       line_step (Err why) tokens (request line tokens) made short refl (inl (record { answered = ap Err wants; no_entries = none; state = same }))
   request_refused why tokens none same made short (inr asks) =
-      line_step (Err why) tokens (Refused why) made short asks (inr (record { answered = refl; no_entries = none; state = same }))
+      line_step (Err why) tokens (Refused why) made short asks (inr (inr (record { answered = refl; no_entries = none; state = same })))
 
 -- what is answered to `:rows`
 pub rows_answered : (line name : List ℕ) (state : EngineState) (entries : Entries) (answer : Answer) → entries ≡ [] → ShowsRows state name answer → AnswersOrWants line (RowsOf name) state answer entries state
@@ -67,25 +70,26 @@ rows_answered line name state entries (Ok reply.Nothing) none shows = absurd sho
 rows_answered line name state entries (Ok (reply.Statement changed columns rows)) none shows = absurd shows
 rows_answered line name state entries (Ok (reply.Made columns tick view)) none shows = absurd shows
 rows_answered line name state entries (Ok (reply.Rows rows tick view)) none (found, is, are, ticks, named) =
-    inr (subst (λ (v : Result View Fault). Shows name v state (Ok (reply.Rows rows tick view)) entries state) (sym is)
-    (rows, are, record { answered = λ i. Ok (reply.Rows rows (ticks i) (named i)); no_entries = none; state = refl }))
+    inr (inr (subst (λ (v : Result View Fault). Shows name v state (Ok (reply.Rows rows tick view)) entries state) (sym is)
+    (rows, are, record { answered = λ i. Ok (reply.Rows rows (ticks i) (named i)); no_entries = none; state = refl })))
 rows_answered line name state entries (Ok (reply.Entries changes tick view)) none shows = absurd shows
 rows_answered line name state entries (Ok (reply.Dropped view)) none shows = absurd shows
 rows_answered line name state entries (Ok (reply.Views views)) none shows = absurd shows
+rows_answered line name state entries (Ok (reply.Steps steps)) none shows = absurd shows
 rows_answered line name state entries (Ok (reply.Index label key)) none shows = absurd shows
 rows_answered line name state entries (Err why) none (inl wants) = inl (record { answered = ap Err wants; no_entries = none; state = refl })
 rows_answered line name state entries (Err why) none (inr is) =
-    inr (subst (λ (v : Result View Fault). Shows name v state (Err why) entries state) (sym is)
-    (let refused : IsRefused why state (Err why) entries state = record { answered = refl; no_entries = none; state = refl } in refused))
+    inr (inr (subst (λ (v : Result View Fault). Shows name v state (Err why) entries state) (sym is)
+    (let refused : IsRefused why state (Err why) entries state = record { answered = refl; no_entries = none; state = refl } in refused)))
 
 -- what is answered to `:since`
 pub since_answered : (line name : List ℕ) (since : ℕ) (state : EngineState) (entries : Entries) (answer : Answer) → entries ≡ [] → ShowsSince state name since answer → AnswersOrWants line (SinceOf name since) state answer entries state
 since_answered line name since state entries (Err why) none (inl wants) = inl (record { answered = ap Err wants; no_entries = none; state = refl })
 since_answered line name since state entries (Err why) none (inr is) =
-    inr (subst (λ (v : Result View Fault). Tells name since v state (Err why) entries state) (sym is)
-    (let refused : IsRefused why state (Err why) entries state = record { answered = refl; no_entries = none; state = refl } in refused))
+    inr (inr (subst (λ (v : Result View Fault). Tells name since v state (Err why) entries state) (sym is)
+    (let refused : IsRefused why state (Err why) entries state = record { answered = refl; no_entries = none; state = refl } in refused)))
 since_answered line name since state entries (Ok given) none (found, is, shows) =
-    inr (subst (λ (v : Result View Fault). Tells name since v state (Ok given) entries state) (sym is) (told given shows))
+    inr (inr (subst (λ (v : Result View Fault). Tells name since v state (Ok given) entries state) (sym is) (told given shows)))
   where
     told : (given : Reply) → ShowsChanges state name since found given → Follows name found (answer_since since found.feed) state (Ok given) entries state
     told reply.Nothing shows = absurd shows
@@ -100,12 +104,18 @@ since_answered line name since state entries (Ok given) none (found, is, shows) 
         record { answered = λ i. Ok (reply.Entries changes (ticks i) (named i)); no_entries = none; state = refl } in replied)
     told (reply.Dropped view) shows = absurd shows
     told (reply.Views views) shows = absurd shows
+    told (reply.Steps steps) shows = absurd shows
     told (reply.Index label key) shows = absurd shows
 
 -- what is answered to `:views`
 pub views_answered : (line : List ℕ) (state : EngineState) (entries : Entries) (answer : Answer) → entries ≡ [] → ListsViews state answer → AnswersOrWants line ListOfViews state answer entries state
 views_answered line state entries (Err why) none wants = inl (record { answered = ap Err wants; no_entries = none; state = refl })
-views_answered line state entries (Ok given) none is = inr (record { answered = ap Ok is; no_entries = none; state = refl })
+views_answered line state entries (Ok given) none is = inr (inr (record { answered = ap Ok is; no_entries = none; state = refl }))
+
+-- what is answered to `:steps`
+pub steps_answered : (line : List ℕ) (state : EngineState) (entries : Entries) (answer : Answer) → entries ≡ [] → ListsSteps state answer → AnswersOrWants line ListOfSteps state answer entries state
+steps_answered line state entries (Err why) none wants = inl (record { answered = ap Err wants; no_entries = none; state = refl })
+steps_answered line state entries (Ok given) none is = inr (inr (record { answered = ap Ok is; no_entries = none; state = refl }))
 
 pub no_error : {A : Type 0} (x : A) (why : LexFault) → (let r : Result A LexFault = Ok x in r) ≡ Err why → ⊥
 no_error x why is = cc

@@ -12,18 +12,19 @@ use Rattle.cy_index.specs.declared.keys.Pair.{Pair}
 use Rattle.cy_queries.specs.Queries.{query_columns}
 use Rattle.cy_feeds.specs.declared.feeds.Answer as feeds
 use Rattle.cy_feeds.specs.declared.feeds.Answer.TheVariants.{Entries as Since, Lagged}
-use Rattle.cy_feeds.specs.Feeds.{answer_since, new_history}
+use Rattle.cy_feeds.specs.Feeds.{answer_since}
 use Rattle.cy_effects.specs.Faults.{◌>>=◌}
 use Rattle.cy_engine.specs.declared.faults.Fault.{Fault}
 use Rattle.cy_engine.specs.declared.faults.Fault.TheVariants as fault
 use Rattle.cy_engine.specs.declared.replies.Reply.TheVariants as reply
 use Rattle.cy_engine.specs.Headline.{AsksForView}
-use Rattle.cy_engine.specs.Requests.{Asks, Request, Nothing, StatementOf, ViewOf, RowsOf, SinceOf, ListOfViews, DropOf, IndexOf, Refused, request}
-use Rattle.cy_engine.specs.State.{EngineState, Entries, View}
+use Rattle.cy_engine.specs.Requests.{Asks, Request, Nothing, StatementOf, ViewOf, RowsOf, SinceOf, ListOfViews, ListOfSteps, DropOf, IndexOf, Refused, request}
+use Rattle.cy_engine.specs.State.{EngineState}
+use Rattle.cy_views.specs.Views.{Entries, View}
 use Rattle.cy_engine.specs.Step.{Answer, Answers, Executes, Drops, Follows, Indexes, IsMade, Lexed, Makes, Shows, Step, Tells}
-use Rattle.cy_engine.specs.Verdicts.{Executed, index_verdict, making_verdict, query_verdict, rows_verdict, scope_verdict, since_verdict, statement_verdict, passes, view_verdict}
+use Rattle.cy_engine.specs.Verdicts.{Executed, index_verdict, query_verdict, rows_verdict, scope_verdict, since_verdict, statement_verdict, passes, view_verdict}
 use Rattle.cy_engine.proofs.Building.{scoped}
-use Rattle.cy_engine.proofs.Queries.{bind_ok, same_ok}
+use Rattle.cy_engine.proofs.Queries.{bind_ok, same_ok, view_parts}
 
 -- the query of a view is the statement that is spelt, with the columns of its variables
 spelt_query : (tree query : Statement) → query_verdict tree ≡ Ok query → query ≡ resolved_statement tree
@@ -37,10 +38,8 @@ spelt_query tree query is =
 
 asked_for : (tree : Statement) (name : List ℕ) (old : EngineState) (view : View) → view_verdict tree name old ≡ Ok view → (view.name ≡ name) × (view.query ≡ resolved_statement tree)
 asked_for tree name old view is =
-    let query = bind_ok (query_verdict tree) (λ q. making_verdict name old >>= λ made. let v : View = record { name = name; query = q; made = made; feed = new_history old.history made } in Ok v) view is in
-    let made = bind_ok (making_verdict name old) (λ tick. let v : View = record { name = name; query = query.0; made = tick; feed = new_history old.history tick } in Ok v) view query.2 in
-    let same : (let v : View = record { name = name; query = query.0; made = made.0; feed = new_history old.history made.0 } in v) ≡ view = same_ok _ view made.2 in
-    (sym (ap (λ (v : View). v.name) same), sym (ap (λ (v : View). v.query) same) ∙ spelt_query tree query.0 query.1)
+    let parts = view_parts tree name old view is in
+    (sym (ap (λ (v : View). v.name) parts.same), sym (ap (λ (v : View). v.query) parts.same) ∙ spelt_query tree parts.query parts.asked)
 
 same_last : (views : List View) (one other : View) → views ++ one ∷ [] ≡ views ++ other ∷ [] → one ≡ other
 same_last [] one other is = cc
@@ -108,6 +107,7 @@ module _ (line : List ℕ) (old : EngineState) (answer : Answer) (entries : Entr
   answers_asked tokens lexed (RowsOf name) is a = shows_asked name (rows_verdict name old) a
   answers_asked tokens lexed (SinceOf name tick) is a = tells_asked name tick (since_verdict name tick old) a
   answers_asked tokens lexed ListOfViews is a = otherwise _ a.answered (λ same. cc)
+  answers_asked tokens lexed ListOfSteps is a = otherwise _ a.answered (λ same. cc)
   answers_asked tokens lexed (DropOf name) is a = drops_asked (rows_verdict name old) a
   answers_asked tokens lexed (IndexOf label key) is a = indexes_asked (index_verdict label key old) a
   answers_asked tokens lexed (Refused why) is a = refused_asked why a.answered
@@ -117,5 +117,5 @@ module _ (line : List ℕ) (old : EngineState) (answer : Answer) (entries : Entr
   lexed_asked (Ok tokens) is a = answers_asked tokens is (request line tokens) refl a
 
   pub step_asked : Step old line answer entries new → IsAsked
-  step_asked (inl a) = refused_asked fault.NoMemory a.1.answered
+  step_asked (inl (why, lacks, a)) = refused_asked why a.answered
   step_asked (inr a) = lexed_asked (tokens_of line) refl a

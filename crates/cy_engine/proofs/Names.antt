@@ -1,43 +1,14 @@
 -- Views keep names of their own.
-use Rattle.std.proofs.Common.{◌≡◌, ◌⊎◌, ◌<◌, ℕ, zero, suc, true, false, cond, List, [], ◌∷◌, ◌++◌, find, length, get_or, None, Some, refl, sym, ap, ◌∙◌, arith, inl, inr}
+use Rattle.std.proofs.Common.{◌≡◌, ◌⊎◌, ◌<◌, ℕ, zero, suc, false, cond, List, [], ◌∷◌, ◌++◌, find, length, get_or, Some, sym, ap, ◌∙◌, arith, inl, inr}
 use Rattle.std.specs.Str.{bytes_eq}
-use Rattle.std.proofs.lemmas.Slice.Eq.{bytes_eq-Decides}
-use Rattle.cy_engine.specs.State.{View}
-use Rattle.cy_engine.specs.internal.Representation.{AreNamed, IsNew}
+use Rattle.cy_views.specs.Views.{View}
+use Rattle.cy_views.specs.Upkeep.{AreNamed, IsNew}
+use Rattle.cy_views.proofs.Named.{itself}
 
 -- one of these views
 abbrev pub Among : View → List View → Type 0
 Among view [] = ⊥
 Among view (v ∷ vs) = (v ≡ view) ⊎ Among view vs
-
-same_name : (a b : List ℕ) → bytes_eq a b ≡ true → a ≡ b
-same_name a b h = (bytes_eq-Decides a b).0 h
-
-pub itself : (a : List ℕ) → bytes_eq a a ≡ true
-itself a = (bytes_eq-Decides a a).1 refl
-
-pub turned : (a b : List ℕ) → bytes_eq a b ≡ false → bytes_eq b a ≡ false
-turned a b h =
-    elim (bytes_eq b a) as (λ t. bytes_eq b a ≡ t → t ≡ false) [
-      | true ↦ λ is. let wrong : true ≡ false = sym (itself a) ∙ ap (λ (c : List ℕ). bytes_eq a c) (sym (same_name b a is)) ∙ h in absurd (cc)
-      | false ↦ λ is. refl
-    ] refl
-
--- a view that is not found is new, after the others
-pub new_last : (name : List ℕ) (v : View) (vs : List View) → v.name ≡ name → find (λ w. bytes_eq name w.name) vs ≡ None → AreNamed vs → AreNamed (vs ++ v ∷ [])
-new_last name v [] is none named = (tt, tt)
-new_last name v (w ∷ vs) is none named =
-    elim (bytes_eq name w.name) as (λ b. bytes_eq name w.name ≡ b → cond b (Some w) (find (λ u. bytes_eq name u.name) vs) ≡ None → AreNamed (w ∷ vs ++ v ∷ [])) [
-      | true ↦ λ h e. absurd (cc)
-      | false ↦ λ h e. (one_more vs named.0 (turned_name h), new_last name v vs is e named.1)
-    ] refl none
-  where
-    turned_name : bytes_eq name w.name ≡ false → bytes_eq v.name w.name ≡ false
-    turned_name h = ap (λ (n : List ℕ). bytes_eq n w.name) is ∙ h
-
-    one_more : (us : List View) → IsNew w.name us → bytes_eq v.name w.name ≡ false → IsNew w.name (us ++ v ∷ [])
-    one_more [] new other = (other, tt)
-    one_more (u ∷ us) new other = (new.0, one_more us new.1 other)
 
 pub still_among : (view : View) (vs ws : List View) → Among view vs → Among view (vs ++ ws)
 still_among view [] ws here = absurd here

@@ -20,10 +20,11 @@ use Rattle.cy_engine.specs.declared.replies.Reply.TheVariants as reply
 use Rattle.cy_engine.specs.Followers.{Copy, FollowersAgree, IsCurrent, IsLedBy, IsPoll, IsServed, TakesOver, no_copy}
 use Rattle.cy_engine.specs.Requests.{Asks, Request, RowsOf, SinceOf}
 use Rattle.cy_engine.specs.Runs.{Event, Run}
-use Rattle.cy_engine.specs.State.{EngineState, Entries, View, empty_engine, entry_at, rows_of, view_at}
-use Rattle.cy_engine.specs.Step.{Answer, Answers, AreRows, Follows, IsEntry, IsRefused, Lexed, Shows, Step, Tells, fed, without}
+use Rattle.cy_engine.specs.State.{EngineState, empty_engine, view_at}
+use Rattle.cy_views.specs.Views.{Entries, IsEntry, View, entry_at, fed, rows_of, without}
+use Rattle.cy_engine.specs.Step.{Answer, Answers, AreRows, Follows, IsRefused, Lexed, Shows, Step, Tells}
 use Rattle.cy_engine.specs.Verdicts.{needs, there}
-use Rattle.cy_engine.specs.internal.Representation.{AreNamed}
+use Rattle.cy_views.specs.Upkeep.{AreNamed}
 use Rattle.cy_feeds.proofs.Pushes.{rising_more}
 use Rattle.cy_feeds.proofs.Telling.{latest_above, latest_in_time}
 use Rattle.cy_trees.specs.Trees.{Statement}
@@ -46,10 +47,10 @@ module _ (content : ℕ → Content) (name : List ℕ) where
 
 -- ---- a poll, and what is answered to it
 
--- a line that asks for something is answered as it asks, or refused for want of memory
+-- a line that asks for something is answered as it asks, or refused
 asked_step : (line : List ℕ) (asked : Request) (old : EngineState) (answer : Answer) (entries : Entries) (new : EngineState) → Asks line asked → Step old line answer entries new
-    → IsRefused fault.NoMemory old answer entries new ⊎ Answers line asked old answer entries new
-asked_step line asked old answer entries new asks (inl wants) = inl wants.1
+    → ((why : Fault) × IsRefused why old answer entries new) ⊎ Answers line asked old answer entries new
+asked_step line asked old answer entries new asks (inl (why, lacks, a)) = inl (why, a)
 asked_step line asked old answer entries new asks (inr lexed) =
     inr (subst (λ (q : Request). Answers line q old answer entries new) asks.is
     (subst (λ (r : Result (List Token) LexFault). Lexed line r old answer entries new) asks.lexed lexed))
@@ -150,8 +151,8 @@ module _ (new_tell : NewFeedsTell) (pushed_tell : PushedFeedsTell) (quiet_tell :
           at_name None is refused = after_refusal go_on content name old answer entries new held next fault.NoSuchView refused known.right takes
           at_name (Some view) is shows = shown go_on content name old answer entries new held next known.now view is shows takes
 
-          answered : IsRefused fault.NoMemory old answer entries new ⊎ Answers line (RowsOf name) old answer entries new → IsServed name new answer held next × IsRight content name new next
-          answered (inl wants) = after_refusal go_on content name old answer entries new held next fault.NoMemory wants known.right takes
+          answered : ((why : Fault) × IsRefused why old answer entries new) ⊎ Answers line (RowsOf name) old answer entries new → IsServed name new answer held next × IsRight content name new next
+          answered (inl (why, refused)) = after_refusal go_on content name old answer entries new held next why refused known.right takes
           answered (inr shows) = at_name (view_at name old) refl shows
 
       by_since : (copy : Copy) → held ≡ Some copy → Asks line (SinceOf name copy.tick) → IsServed name new answer held next × IsRight content name new next
@@ -169,8 +170,8 @@ module _ (new_tell : NewFeedsTell) (pushed_tell : PushedFeedsTell) (quiet_tell :
           at_name None is refused = after_refusal go_on content name old answer entries new held next fault.NoSuchView refused known.right takes
           at_name (Some view) is tells = in_time (nat_le copy.tick old.tick) view is tells
 
-          answered : IsRefused fault.NoMemory old answer entries new ⊎ Answers line (SinceOf name copy.tick) old answer entries new → IsServed name new answer held next × IsRight content name new next
-          answered (inl wants) = after_refusal go_on content name old answer entries new held next fault.NoMemory wants known.right takes
+          answered : ((why : Fault) × IsRefused why old answer entries new) ⊎ Answers line (SinceOf name copy.tick) old answer entries new → IsServed name new answer held next × IsRight content name new next
+          answered (inl (why, refused)) = after_refusal go_on content name old answer entries new held next why refused known.right takes
           answered (inr tells) = at_name (view_at name old) refl tells
 
       from : (h : Option Copy) → held ≡ h → IsPoll name h line → IsServed name new answer held next × IsRight content name new next

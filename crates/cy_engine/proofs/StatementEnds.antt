@@ -1,102 +1,126 @@
 -- How the change of a statement ends, for the store and the views.
-use Rattle.std.proofs.Common.{◌≡◌, ◌⊎◌, ◌≤◌, ℕ, List, length, map, Option, None, Some, IfSome, Ok, Err, sym, ap, subst, ◌∙◌, inl, inr, arith}
-use Rattle.std.proofs.lemmas.List.{length-map}
-use Rattle.cy_graph.specs.Graph.{State, Versions}
+use Rattle.std.proofs.Common.{◌≡◌, ◌≤◌, ℕ, true, List, [], ◌∷◌, map, Option, None, Some, IfSome, Ok, Err, refl, sym, ap, subst, ◌∙◌, inl, inr}
+use Rattle.cy_graph.specs.Graph.{Content, State, Versions}
 use Rattle.cy_index.specs.Index.{StoreState}
-use Rattle.cy_index.specs.declared.keys.Pair.{Pair}
+use Rattle.cy_lexer.specs.declared.tokens.Token.{Token}
 use Rattle.cy_trees.specs.Trees.{Statement}
 use Rattle.cy_effects.specs.Statements.{Outcome, statement_outcome}
-use Rattle.cy_engine.specs.Model.{machine_of, state_of}
-use Rattle.cy_engine.specs.State.{Entries, last_tick}
-use Rattle.cy_engine.specs.Verdicts.{execution_verdict, tick_after}
+use Rattle.cy_scans.specs.Changes.{before_change}
+use Rattle.cy_views.specs.declared.views.Views.{Views}
+use Rattle.cy_views.specs.Upkeep.{AreKeptUp, Held, StandFor, Upkeep, held_in, upkeep_in, upkeep_of, view_of, views_in}
+use Rattle.cy_views.specs.Views.{Entries, View, fed}
+use Rattle.cy_engine.specs.declared.engine.Effect.{Effect}
 use Rattle.cy_engine.specs.declared.faults.Fault.{Fault}
-use Rattle.cy_engine.specs.declared.faults.Fault.TheVariants as fault
-use Rattle.cy_engine.specs.internal.Network.{AllStand, abandoned_one, pending_entries, resting_one, settled_one}
-use Rattle.cy_engine.specs.internal.Representation.{AllInTime, AreNamed, IsAtRest, Registry, views_in}
-use Rattle.cy_engine.specs.Step.{fed}
-use Rattle.cy_engine.proofs.FedViews.{in_time_abandoned, in_time_same, views_fed}
-use Rattle.cy_engine.proofs.NetworkLemmas.{count_same, stand_back, views_abandoned, views_same}
-use Rattle.cy_engine.proofs.StepNames.{named_fed}
-use Rattle.cy_engine.proofs.Steps.{carry_late}
+use Rattle.cy_engine.specs.declared.replies.Reply.{Reply}
+use Rattle.cy_engine.specs.declared.replies.Reply.TheVariants as reply
+use Rattle.cy_engine.specs.Model.{machine_of, state_of}
+use Rattle.cy_engine.specs.Requests.{StatementOf}
+use Rattle.cy_engine.specs.State.{EngineState, last_tick}
+use Rattle.cy_engine.specs.Step.{StatementHasTooMany, changed_by}
+use Rattle.cy_engine.specs.Verdicts.{same_content, scope_verdict, tick_after}
+use Rattle.cy_engine.specs.internal.Representation.{IsAtRest}
+use Rattle.cy_engine.specs.internal.Stages.{AnswersOrWants, HasNoEffect, HasTree, IsEffect}
+use Rattle.cy_engine.proofs.Chains.{nothing_changed}
+use Rattle.cy_engine.proofs.Contents.{content_decides}
+use Rattle.cy_engine.proofs.Steps.{carry_late, executed, statement_executed, statement_refused}
 
 -- what holds of what is there
 pub at_some : {A : Type 0} (P : A → Type 0) (o : Option A) (x : A) → o ≡ Some x → IfSome o P → P x
 at_some {A = A} P o x is holds = subst (λ (p : Option A). IfSome p P) is holds
 
-pub some_at : {A : Type 0} (P : A → Type 0) (o : Option A) (x : A) → o ≡ Some x → P x → IfSome o P
-some_at {A = A} P o x is holds = subst (λ (p : Option A). IfSome p P) (sym is) holds
+-- the graph before a change that was opened at it
+pub opened_before : (graph : Versions) (before : State) → graph.was ≡ Some before → before_change graph ≡ before
+opened_before graph before is = ap (λ (o : Option State). before_change (record { now = graph.now; was = o })) is
 
--- where the tick can't rise, or memory is wanting, the statement isn't executed
-pub late_or_wants : (resolved : Statement) (tick : ℕ) (outcome : Outcome) (why : Fault) (before : State) (was : Option State) → was ≡ Some before → statement_outcome before resolved ≡ Ok outcome
-    → (why ≡ fault.NoMemory) ⊎ IfSome was (λ b. tick_after b.content outcome.graph.content tick ≡ Err why) → (why ≡ fault.NoMemory) ⊎ (execution_verdict resolved before tick ≡ Err why)
-late_or_wants resolved tick outcome why before was is means (inl wants) = inl wants
-late_or_wants resolved tick outcome why before was is means (inr late) =
-    inr (carry_late resolved before tick outcome why means (at_some (λ (b : State). tick_after b.content outcome.graph.content tick ≡ Err why) was before is late))
+-- the views with no entry
+pub none_fed : (views : List View) → map (fed []) views ≡ views
+none_fed [] = refl
+none_fed (v ∷ views) = ap (λ vs. v ∷ vs) (none_fed views)
 
--- with what is prepared, from what stands at the beginning of the change
-module _ (opened prepared : StoreState) (views ready : Registry) (same : prepared ≡ opened) (back : map resting_one ready ≡ map resting_one views) where
-  -- committed and settled
-  module _ (tick : ℕ) (made : Entries) (pending : made ≡ pending_entries tick ready) (named : AreNamed (views_in views)) (ended : StoreState) (kept : Registry)
-      (commits : ended ≡ record prepared { graph = record prepared.graph { was = None } }) (settles : kept ≡ map (settled_one tick) ready) where
-    ended_graph : ended.graph.now ≡ opened.graph.now
-    ended_graph = ap (λ (s : StoreState). s.graph.now) commits ∙ ap (λ (s : StoreState). s.graph.now) same
+tick_stays : (before after : State) (tick : ℕ) → same_content before.content after.content ≡ true → tick_after before.content after.content tick ≡ Ok tick
+tick_stays before after tick same = rw same refl
 
-    ended_chosen : ended.chosen ≡ opened.chosen
-    ended_chosen = ap (λ (s : StoreState). s.chosen) commits ∙ ap (λ (s : StoreState). s.chosen) same
+-- ---- a statement that is executed
 
-    pub ended_views : views_in kept ≡ map (fed made) (views_in views)
-    ended_views =
-        let same : views_in ready ≡ views_in views = views_same ready views back in
-        ap views_in settles ∙ views_fed tick ready (subst AreNamed (sym same) named) ∙ (λ i. map (fed (sym pending i)) (same i))
+module _ (line : List ℕ) (tokens : List Token) (store : StoreState) (views : Views) (tick history : ℕ) (last : Entries) (resolved : Statement) (outcome : Outcome)
+    (tree : HasTree line tokens (λ tree. scope_verdict tree ≡ Ok resolved)) (means : statement_outcome store.graph.now resolved ≡ Ok outcome)
+    (answer : Reply) (answered : answer ≡ reply.Statement (changed_by outcome.counts) outcome.columns outcome.rows) where
+  abbrev start : EngineState
+  start = state_of (machine_of store views tick history last)
 
-    pub ended_state : (chosen : List Pair) (history : ℕ) (last : Entries) → opened.chosen ≡ chosen
-        → state_of (machine_of ended kept tick history last) ≡ record { graph = opened.graph.now; indexes = chosen; views = map (fed made) (views_in views); tick = tick; history = history }
-    ended_state chosen history last indexed =
-        λ i. record { graph = ended_graph i; indexes = (ended_chosen ∙ indexed) i; views = ended_views i; tick = tick; history = history }
+  abbrev before : State
+  before = store.graph.now
 
-    pub ended_rest : (graph : Versions) (before history : ℕ) → IsAtRest graph views before history → AllStand opened.graph.now.content (map (settled_one tick) ready) → AllInTime tick (map (settled_one tick) ready) → tick ≤ last_tick
-        → IsAtRest ended.graph kept tick history
-    ended_rest graph before history rest stand fed in_time = record {
-      closed = ap (λ (s : StoreState). s.graph.was) commits;
-      stand = subst (λ (g : State). AllStand g.content kept) (sym ended_graph) (subst (AllStand opened.graph.now.content) (sym settles) stand);
-      named = subst AreNamed (sym ended_views) (named_fed made (views_in views) named);
-      few = omega (arith, ap length settles, length-map ready (settled_one tick), count_same ready views back, rest.few);
-      in_time = in_time;
-      fed = subst (AllInTime tick) (sym settles) fed;
-      some = rest.some;
-      most = rest.most;
-    }
+  -- the store once the change is committed
+  module _ (ended : StoreState) (graph : ended.graph.now ≡ outcome.graph) (indexes : ended.chosen ≡ store.chosen) where
+    -- nothing changes in the content
+    pub kept_done : (entries : Entries) → entries ≡ [] → same_content before.content outcome.graph.content ≡ true → (left : Views) → held_in left ≡ held_in views
+        → AnswersOrWants line (StatementOf tokens) start (Ok answer) entries (state_of (machine_of ended left tick history last))
+    kept_done entries none same left held =
+        statement_executed line tokens start (Ok answer) entries (state_of (machine_of ended left tick history last)) resolved (record { outcome = outcome; tick = tick }) tree
+        (executed resolved before tick outcome tick means (tick_stays before outcome.graph tick same))
+        (record {
+          answered = ap Ok answered;
+          entries_are = rw (none, sym ((content_decides before.content outcome.graph.content).0 same)) (nothing_changed (views_in views) before.content tick);
+          upkeep = rw same (ap (map upkeep_of) held);
+          state = λ i. record {
+            graph = graph i;
+            indexes = indexes i;
+            views = (ap (map view_of) held ∙ sym (ap (λ (es : Entries). map (fed es) (views_in views)) none ∙ none_fed (views_in views))) i;
+            upkeep = upkeep_in left;
+            tick = tick;
+            history = history;
+          };
+        })
 
-  -- abandoned and rolled back
-  module _ (before : State) (was : opened.graph.was ≡ Some before) (ended : StoreState) (kept : Registry)
-      (rolls : IfSome prepared.graph.was (λ (g : State). ended ≡ record prepared { graph = record { now = g; was = None } })) (abandons : kept ≡ map abandoned_one ready) where
-    rolled : ended ≡ record prepared { graph = record { now = before; was = None } }
-    rolled = at_some (λ (g : State). ended ≡ record prepared { graph = record { now = g; was = None } }) prepared.graph.was before (ap (λ (s : StoreState). s.graph.was) same ∙ was) rolls
+    -- the content differs
+    pub changed_done : (effect : Effect) (ready left : Views) → IsEffect views ready before outcome.graph tick effect → views_in left ≡ map (fed effect.entries) (views_in ready)
+        → AreKeptUp before outcome.graph (upkeep_in ready) (upkeep_in left)
+        → AnswersOrWants line (StatementOf tokens) start (Ok answer) effect.entries (state_of (machine_of ended left effect.tick history last))
+    changed_done effect ready left does fed_so kept =
+        statement_executed line tokens start (Ok answer) effect.entries (state_of (machine_of ended left effect.tick history last)) resolved (record { outcome = outcome; tick = effect.tick }) tree
+        (executed resolved before tick outcome effect.tick means (rw does.differs does.ticks))
+        (record {
+          answered = ap Ok answered;
+          entries_are = does.entries_are;
+          upkeep = rw does.differs (subst (λ (us : List Upkeep). AreKeptUp before outcome.graph us (upkeep_in left)) (ap (map upkeep_of) does.held) kept);
+          state = λ i. record {
+            graph = graph i;
+            indexes = indexes i;
+            views = (fed_so ∙ ap (λ (hs : List Held). map (fed effect.entries) (map view_of hs)) does.held) i;
+            upkeep = upkeep_in left;
+            tick = effect.tick;
+            history = history;
+          };
+        })
 
-    rolled_graph : ended.graph.now ≡ before
-    rolled_graph = ap (λ (s : StoreState). s.graph.now) rolled
+  -- ---- a statement that isn't executed, since its change has no effect
 
-    rolled_chosen : ended.chosen ≡ opened.chosen
-    rolled_chosen = ap (λ (s : StoreState). s.chosen) rolled ∙ ap (λ (s : StoreState). s.chosen) same
+  pub no_effect : (entries : Entries) → entries ≡ [] → (new : EngineState) → new ≡ start → (why : Fault) → HasNoEffect (upkeep_in views) before outcome.graph tick why
+      → AnswersOrWants line (StatementOf tokens) start (Err why) entries new
+  no_effect entries none new same why (inl wants) = statement_refused line tokens start entries new none same resolved why tree (inl wants)
+  no_effect entries none new same why (inr (inl late)) = statement_refused line tokens start entries new none same resolved why tree (inr (carry_late resolved before tick outcome why means late))
+  no_effect entries none new same why (inr (inr (is, (next, rises, many)))) =
+      let has : StatementHasTooMany line tokens start = record {
+        tree = tree.tree;
+        executed = record { outcome = outcome; tick = next };
+        spelt = tree.spelt;
+        verdict = rw tree.that (executed resolved before tick outcome next means rises);
+        many = many;
+      } in
+      inr (inl (has, record { answered = ap Err is; no_entries = none; state = same }))
 
-    rolled_views : views_in kept ≡ views_in views
-    rolled_views = ap views_in abandons ∙ views_abandoned ready ∙ views_same ready views back
+-- ---- what holds between lines holds again
 
-    pub rolled_state : (chosen : List Pair) (tick history : ℕ) (made : Entries) → opened.chosen ≡ chosen
-        → state_of (machine_of ended kept tick history made) ≡ record { graph = before; indexes = chosen; views = views_in views; tick = tick; history = history }
-    rolled_state chosen tick history made indexed =
-        λ i. record { graph = rolled_graph i; indexes = (rolled_chosen ∙ indexed) i; views = rolled_views i; tick = tick; history = history }
+module _ (graph : Versions) (views : Views) (tick history : ℕ) (rest : IsAtRest graph views tick history) (ended : StoreState) (closed : ended.graph.was ≡ None) where
+  -- where the content stayed
+  pub kept_rest : graph.now.content ≡ ended.graph.now.content → IsAtRest ended.graph views tick history
+  kept_rest same = record { closed = closed; stand = subst (λ (c : Content). StandFor views c tick) same rest.stand; in_time = rest.in_time; some = rest.some; most = rest.most }
 
-    pub rolled_rest : (graph : Versions) (tick history : ℕ) → graph.now ≡ before → IsAtRest graph views tick history → IsAtRest ended.graph kept tick history
-    rolled_rest graph tick history is rest = record {
-      closed = ap (λ (s : StoreState). s.graph.was) rolled;
-      stand =
-          subst (λ (g : State). AllStand g.content kept) (is ∙ sym rolled_graph)
-          (subst (AllStand graph.now.content) (sym abandons) (stand_back graph.now.content views ready back rest.stand));
-      named = subst AreNamed (sym rolled_views) rest.named;
-      few = omega (arith, ap length abandons, length-map ready abandoned_one, count_same ready views back, rest.few);
-      in_time = rest.in_time;
-      fed = subst (AllInTime tick) (sym abandons) (in_time_abandoned tick ready (in_time_same tick views ready back rest.fed));
-      some = rest.some;
-      most = rest.most;
-    }
+  -- where it differs
+  pub changed_rest : (left : Views) (next : ℕ) → StandFor left ended.graph.now.content next → next ≤ last_tick → IsAtRest ended.graph left next history
+  changed_rest left next stand in_time = record { closed = closed; stand = stand; in_time = in_time; some = rest.some; most = rest.most }
+
+  -- where the change is rolled back
+  pub rolled_rest : (left : Views) → StandFor left graph.now.content tick → ended.graph.now ≡ graph.now → IsAtRest ended.graph left tick history
+  rolled_rest left stand same = record { closed = closed; stand = subst (λ (g : State). StandFor left g.content tick) (sym same) stand; in_time = rest.in_time; some = rest.some; most = rest.most }

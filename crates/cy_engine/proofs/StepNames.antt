@@ -1,15 +1,32 @@
 -- Views keep names of their own, step by step.
-use Rattle.std.proofs.Common.{◌≡◌, ℕ, List, [], ◌∷◌, map, Option, None, Some, refl, sym, ap, subst, ◌∙◌, inl, inr}
+use Rattle.std.proofs.Common.{◌≡◌, ℕ, true, false, cond, not, List, [], ◌∷◌, map, Option, None, Some, refl, sym, ap, subst, ◌∙◌, inl, inr}
 use Rattle.std.specs.Option.{option_map_or}
 use Rattle.std.specs.Str.{bytes_eq}
 use Rattle.cy_bags.specs.declared.changes.Entry.{Entry}
 use Rattle.cy_feeds.specs.Feeds.{pushed}
-use Rattle.cy_engine.specs.State.{EngineState, Entries, View, entry_at}
-use Rattle.cy_engine.specs.Step.{Answer, fed}
-use Rattle.cy_engine.specs.internal.Representation.{AreNamed, IsNew}
-use Rattle.cy_engine.proofs.Dropping.{named_without}
+use Rattle.cy_engine.specs.State.{EngineState}
+use Rattle.cy_views.specs.Views.{Entries, View, entry_at, fed, without}
+use Rattle.cy_engine.specs.Step.{Answer}
+use Rattle.cy_views.specs.Upkeep.{AreNamed, IsNew}
 use Rattle.cy_engine.proofs.Effects.{Effects}
-use Rattle.cy_engine.proofs.Names.{new_last}
+use Rattle.cy_views.proofs.Named.{new_last}
+
+-- a view that is taken out
+pub new_without : (name other : List ℕ) (views : List View) → IsNew other views → IsNew other (without name views)
+new_without name other [] new = tt
+new_without name other (v ∷ views) new =
+    elim (bytes_eq name v.name) as (λ b. IsNew other (cond (not b) (v ∷ without name views) (without name views))) [
+      | true ↦ new_without name other views new.1
+      | false ↦ (new.0, new_without name other views new.1)
+    ]
+
+pub named_without : (name : List ℕ) (views : List View) → AreNamed views → AreNamed (without name views)
+named_without name [] named = tt
+named_without name (v ∷ views) named =
+    elim (bytes_eq name v.name) as (λ b. AreNamed (cond (not b) (v ∷ without name views) (without name views))) [
+      | true ↦ named_without name views named.1
+      | false ↦ (new_without name v.name views named.0, named_without name views named.1)
+    ]
 
 -- a view that is fed is the same but for its feed
 module _ (entries : Entries) (view : View) where

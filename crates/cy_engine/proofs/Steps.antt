@@ -1,31 +1,40 @@
 -- What the parts of the engine's work on a line come to.
-use Rattle.std.proofs.Common.{◌≡◌, ◌⊎◌, ℕ, ◌<◌, ◌≤◌, Bool, true, false, nat_lt, length, map, is_some, arith, List, [], ◌∷◌, ◌++◌, Some, None, Ok, Err, refl, ap, inl, inr}
+use Rattle.std.proofs.Common.{◌≡◌, ◌⊎◌, ℕ, ◌<◌, ◌≤◌, Bool, true, false, nat_le, nat_lt, length, map, is_some, arith, List, [], ◌∷◌, ◌++◌, Option, Some, None, Ok, Err, refl, ap, ◌∙◌, inl, inr}
 use Rattle.std.proofs.lemmas.Bool.Decides.{nat_tests}
 use Rattle.cy_lexer.specs.declared.tokens.Token.{Token}
 use Rattle.cy_trees.specs.Trees.{Statement}
+use Rattle.cy_trees.specs.declared.clauses.Statement as coded
+use Rattle.cy_trees.specs.Views.{statement_of}
 use Rattle.cy_graph.specs.Graph.{State}
 use Rattle.cy_index.specs.Index.{StoreState, has_pair}
 use Rattle.cy_index.specs.declared.faults.IndexFault.{IndexFault}
 use Rattle.cy_index.specs.declared.faults.IndexFault.TheVariants as index
 use Rattle.cy_queries.specs.Queries.{query_columns}
 use Rattle.cy_feeds.specs.Feeds.{new_history}
+use Rattle.cy_plans.specs.declared.operators.Operator.{Operator}
+use Rattle.cy_plans.specs.Views.{plan_of}
+use Rattle.cy_planner.specs.Serves.{Serves}
+use Rattle.cy_planner.specs.Weight.{greatest_weight, weight}
 use Rattle.cy_effects.specs.Faults.{◌>>=◌}
 use Rattle.cy_effects.specs.Statements.{Outcome, statement_outcome}
 use Rattle.cy_effects.specs.declared.faults.UpdateFault.{UpdateFault}
 use Rattle.cy_effects.specs.declared.faults.UpdateFault.TheVariants as update
-use Rattle.cy_engine.specs.Faults.{of_index, of_update}
-use Rattle.cy_engine.specs.declared.engine.Effect.{Effect}
+use Rattle.cy_views.specs.declared.faults.UpkeepFault.{UpkeepFault}
+use Rattle.cy_views.specs.declared.faults.UpkeepFault.TheVariants as upkeep
+use Rattle.cy_views.specs.declared.views.Views.{Views}
+use Rattle.cy_views.specs.Upkeep.{IsUnkept, held_in, new_held, upkeep_of, view_of}
+use Rattle.cy_views.specs.Views.{Entries, View, view_limit}
+use Rattle.cy_engine.specs.Faults.{of_index, of_update, of_upkeep}
 use Rattle.cy_engine.specs.declared.faults.Fault.{Fault}
 use Rattle.cy_engine.specs.declared.faults.Fault.TheVariants as fault
 use Rattle.cy_engine.specs.declared.replies.Reply.{Reply}
 use Rattle.cy_engine.specs.declared.replies.Reply.TheVariants as reply
-use Rattle.cy_engine.specs.internal.Stages.{HasTree, Fails, AddsIndex, AnswersOrWants, HasEffect}
-use Rattle.cy_engine.specs.internal.Representation.{Registry, views_in}
+use Rattle.cy_engine.specs.internal.Stages.{HasTree, Fails, AddsIndex, AnswersOrWants}
 use Rattle.cy_engine.specs.Model.{machine_of, state_of}
 use Rattle.cy_engine.specs.Requests.{Request, StatementOf, ViewOf}
-use Rattle.cy_engine.specs.State.{EngineState, Entries, View, view_at, view_limit}
-use Rattle.cy_engine.specs.Step.{Answer, IsExecuted, IsMade, IsRefused, changed_by, fed}
-use Rattle.cy_engine.specs.Verdicts.{Executed, execution_verdict, making_verdict, needs, next_tick, query_verdict, scope_verdict, tick_after, passes}
+use Rattle.cy_engine.specs.State.{EngineState, view_at}
+use Rattle.cy_engine.specs.Step.{Answer, IsExecuted, IsMade, IsRefused, ViewHasTooMany}
+use Rattle.cy_engine.specs.Verdicts.{Executed, execution_verdict, making_verdict, needs, next_tick, query_verdict, scope_verdict, tick_after, passes, view_verdict}
 
 -- ---- what carrying a statement out comes to
 
@@ -44,6 +53,18 @@ module _ (resolved : Statement) (graph : State) (tick : ℕ) where
 
 -- ---- refusals
 
+-- the state where views are held as before
+pub held_alike : (store : StoreState) (views left : Views) (tick history : ℕ) (last after : Entries) → held_in left ≡ held_in views
+    → state_of (machine_of store left tick history after) ≡ state_of (machine_of store views tick history last)
+held_alike store views left tick history last after same = λ i. record {
+  graph = store.graph.now;
+  indexes = store.chosen;
+  views = map view_of (same i);
+  upkeep = map upkeep_of (same i);
+  tick = tick;
+  history = history;
+}
+
 pub refused : (why : Fault) (old : EngineState) (entries : Entries) (new : EngineState) → entries ≡ [] → new ≡ old → IsRefused why old (Err why) entries new
 refused why old entries new none same = record { answered = refl; no_entries = none; state = same }
 
@@ -54,38 +75,39 @@ module _ (line : List ℕ) (tokens : List Token) (old : EngineState) (entries : 
   -- a statement that isn't checked
   pub no_statement : (why : Fault) → Fails scope_verdict line tokens why → AnswersOrWants line (StatementOf tokens) old (Err why) entries new
   no_statement why (inl wants) = wants_memory (StatementOf tokens) why wants
-  no_statement why (inr (inl (parsed, unspelt, is))) = inr (inr (parsed, unspelt, record { answered = ap Err is; no_entries = none; state = same }))
-  no_statement why (inr (inr tree)) = inr (inl (tree.tree, tree.spelt, rw tree.that (refused why old entries new none same)))
+  no_statement why (inr (inl (parsed, unspelt, is))) = inr (inr (inr (parsed, unspelt, record { answered = ap Err is; no_entries = none; state = same })))
+  no_statement why (inr (inr tree)) = inr (inr (inl (tree.tree, tree.spelt, rw tree.that (refused why old entries new none same))))
 
   -- a query that isn't one of a view
   pub no_query : (name : List ℕ) (why : Fault) → Fails query_verdict line tokens why → AnswersOrWants line (ViewOf name tokens) old (Err why) entries new
   no_query name why (inl wants) = wants_memory (ViewOf name tokens) why wants
-  no_query name why (inr (inl (parsed, unspelt, is))) = inr (inr (parsed, unspelt, record { answered = ap Err is; no_entries = none; state = same }))
-  no_query name why (inr (inr tree)) = inr (inl (tree.tree, tree.spelt, rw tree.that (refused why old entries new none same)))
+  no_query name why (inr (inl (parsed, unspelt, is))) = inr (inr (inr (parsed, unspelt, record { answered = ap Err is; no_entries = none; state = same })))
+  no_query name why (inr (inr tree)) = inr (inr (inl (tree.tree, tree.spelt, rw tree.that (refused why old entries new none same))))
 
   -- a statement that isn't executed
   pub statement_refused : (resolved : Statement) (why : Fault) → HasTree line tokens (λ tree. scope_verdict tree ≡ Ok resolved)
       → (why ≡ fault.NoMemory) ⊎ (execution_verdict resolved old.graph old.tick ≡ Err why) → AnswersOrWants line (StatementOf tokens) old (Err why) entries new
   statement_refused resolved why tree (inl wants) = wants_memory (StatementOf tokens) why wants
-  statement_refused resolved why tree (inr verdict) = inr (inl (tree.tree, tree.spelt, rw (tree.that, verdict) (refused why old entries new none same)))
+  statement_refused resolved why tree (inr verdict) = inr (inr (inl (tree.tree, tree.spelt, rw (tree.that, verdict) (refused why old entries new none same))))
 
   -- a view that isn't made
   pub view_refused : (name : List ℕ) (query : Statement) (why : Fault) → HasTree line tokens (λ tree. query_verdict tree ≡ Ok query)
       → making_verdict name old ≡ Err why → AnswersOrWants line (ViewOf name tokens) old (Err why) entries new
-  view_refused name query why tree verdict = inr (inl (tree.tree, tree.spelt, rw (tree.that, verdict) (refused why old entries new none same)))
+  view_refused name query why tree verdict = inr (inr (inl (tree.tree, tree.spelt, rw (tree.that, verdict) (refused why old entries new none same))))
 
 -- ---- what is done
 
 module _ (line : List ℕ) (tokens : List Token) (old : EngineState) (answer : Answer) (entries : Entries) (new : EngineState) where
   pub statement_executed : (resolved : Statement) (executed : Executed) → HasTree line tokens (λ tree. scope_verdict tree ≡ Ok resolved)
       → execution_verdict resolved old.graph old.tick ≡ Ok executed → IsExecuted executed old answer entries new → AnswersOrWants line (StatementOf tokens) old answer entries new
-  statement_executed resolved executed tree verdict is = inr (inl (tree.tree, tree.spelt, rw (tree.that, verdict) is))
-
-  pub view_made : (name : List ℕ) (query : Statement) (made : ℕ) → HasTree line tokens (λ tree. query_verdict tree ≡ Ok query)
-      → making_verdict name old ≡ Ok made → IsMade (record { name = name; query = query; made = made; feed = new_history old.history made }) old answer entries new → AnswersOrWants line (ViewOf name tokens) old answer entries new
-  view_made name query made tree verdict is = inr (inl (tree.tree, tree.spelt, rw (tree.that, verdict) is))
+  statement_executed resolved executed tree verdict is = inr (inr (inl (tree.tree, tree.spelt, rw (tree.that, verdict) is)))
 
 -- ---- whether a view may be made
+
+-- no view has the name
+pub name_free : (o : Option View) → is_some o ≡ false → o ≡ None
+name_free None none = refl
+name_free (Some v) none = cc
 
 module _ (name : List ℕ) (state : EngineState) where
   pub name_taken : is_some (view_at name state) ≡ true → making_verdict name state ≡ Err fault.ViewNameTaken
@@ -105,38 +127,77 @@ module _ (name : List ℕ) (state : EngineState) where
       let few : nat_lt (length state.views) view_limit ≡ true = grind (arith, nat_tests) in
       rw (free, few) refl
 
--- ---- what is kept, and the step that it makes
+-- ---- a view that is made, or isn't
 
-module _ (line : List ℕ) (tokens : List Token) (store : StoreState) (views : Registry) (tick history : ℕ) (before : Entries) where
+mapped_last : {A B : Type 0} (f : A → B) (xs : List A) (x : A) → map f (xs ++ x ∷ []) ≡ map f xs ++ f x ∷ []
+mapped_last f [] x = refl
+mapped_last f (y ∷ xs) x = ap (λ ys. f y ∷ ys) (mapped_last f xs x)
+
+module _ (line : List ℕ) (tokens : List Token) (store : StoreState) (views : Views) (tick history : ℕ) (last : Entries) (name : List ℕ) (query : coded.Statement) (made : ℕ)
+    (tree : HasTree line tokens (λ tree. query_verdict tree ≡ Ok (statement_of query))) where
   abbrev start : EngineState
-  start = state_of (machine_of store views tick history before)
+  start = state_of (machine_of store views tick history last)
 
-  pub statement_done : (new : EngineState) (resolved : Statement) (outcome : Outcome) (effect : Effect) (entries : Entries) (answer : Reply)
-      → HasTree line tokens (λ tree. scope_verdict tree ≡ Ok resolved) → statement_outcome store.graph.now resolved ≡ Ok outcome
-      → HasEffect (views_in views) store.graph.now.content outcome.graph.content tick effect → answer ≡ reply.Statement (changed_by outcome.counts) outcome.columns outcome.rows
-      → new ≡ record start { graph = outcome.graph; views = map (fed entries) start.views; tick = effect.tick } → entries ≡ effect.entries → AnswersOrWants line (StatementOf tokens) start (Ok answer) entries new
-  statement_done new resolved outcome effect entries answer tree means does answered left made =
-      statement_executed line tokens start (Ok answer) entries new resolved (record { outcome = outcome; tick = effect.tick }) tree
-      (executed resolved store.graph.now tick outcome effect.tick means does.ticks)
-      (record { answered = ap Ok answered; entries_are = rw made does.entries_are; state = left })
+  module _ (may : making_verdict name start ≡ Ok made) where
+    abbrev view : View
+    view = record { name = name; query = statement_of query; made = made; feed = new_history history made }
 
-  pub view_done : (left : Registry) (made : ℕ) (name : List ℕ) (query : Statement) (entries after : Entries) (answer : Reply)
-      → HasTree line tokens (λ tree. query_verdict tree ≡ Ok query) → making_verdict name start ≡ Ok made
-      → entries ≡ [] → answer ≡ reply.Made (query_columns query) made name → views_in left ≡ views_in views ++ (record { name = name; query = query; made = made; feed = new_history history made }) ∷ []
-      → AnswersOrWants line (ViewOf name tokens) start (Ok answer) entries (state_of (machine_of store left made history after))
-  view_done left made name query entries after answer tree verdict none answered added =
-      view_made line tokens start (Ok answer) entries (state_of (machine_of store left made history after)) name query made tree verdict
-      (record {
-        answered = ap Ok answered;
-        no_entries = none;
-        state = ap (λ (vs : List View). let s : EngineState = record { graph = store.graph.now; indexes = store.chosen; views = vs; tick = made; history = history } in s) added;
-      })
+    light_verdict : weight (statement_of query) ≤ greatest_weight → view_verdict tree.tree name start ≡ Ok view
+    light_verdict light =
+        let few : nat_le (weight (statement_of query)) greatest_weight ≡ true = grind (arith, nat_tests) in
+        rw (tree.that, may, few) refl
+
+    pub view_done : (left : Views) (plan : Operator) (entries after : Entries) (answer : Reply) → weight (statement_of query) ≤ greatest_weight → Serves (plan_of plan) (statement_of query) → entries ≡ []
+        → answer ≡ reply.Made (query_columns (statement_of query)) made name → held_in left ≡ held_in views ++ new_held name query plan made history ∷ []
+        → AnswersOrWants line (ViewOf name tokens) start (Ok answer) entries (state_of (machine_of store left made history after))
+    view_done left plan entries after answer light serves none answered added =
+        let is : IsMade view start (Ok answer) entries (state_of (machine_of store left made history after)) = record {
+          answered = ap Ok answered;
+          no_entries = none;
+          plan = plan_of plan;
+          serves = serves;
+          state = λ i. record {
+            graph = store.graph.now;
+            indexes = store.chosen;
+            views = (ap (map view_of) added ∙ mapped_last view_of (held_in views) (new_held name query plan made history)) i;
+            upkeep = (ap (map upkeep_of) added ∙ mapped_last upkeep_of (held_in views) (new_held name query plan made history)) i;
+            tick = made;
+            history = history;
+          };
+        } in
+        inr (inr (inl (tree.tree, tree.spelt, rw (light_verdict light) is)))
+
+    -- its query has no rows that are kept
+    module _ (left : Views) (after entries : Entries) (none : entries ≡ []) (held : held_in left ≡ held_in views) where
+      abbrev same_still : EngineState
+      same_still = state_of (machine_of store left tick history after)
+
+      refused_still : (why : Fault) → IsRefused why start (Err why) entries same_still
+      refused_still why = refused why start entries same_still none (held_alike store views left tick history last after held)
+
+      pub view_unkept : (why : UpkeepFault) → IsUnkept (statement_of query) store.graph.now.content why → AnswersOrWants line (ViewOf name tokens) start (Err (of_upkeep why)) entries same_still
+      view_unkept upkeep.PlanTooLarge heavy =
+          let many : nat_le (weight (statement_of query)) greatest_weight ≡ false = grind (arith, nat_tests) in
+          let verdict : view_verdict tree.tree name start ≡ Err fault.PlanTooLarge = rw (tree.that, may, many) refl in
+          inr (inr (inl (tree.tree, tree.spelt, rw verdict (refused_still fault.PlanTooLarge))))
+      view_unkept upkeep.TooManyRows (light, (plan, serves, many)) =
+          let has : ViewHasTooMany line name tokens start = record {
+            tree = tree.tree;
+            view = view;
+            plan = plan;
+            spelt = tree.spelt;
+            verdict = light_verdict light;
+            serves = serves;
+            many = many;
+          } in
+          inr (inl (has, refused_still fault.TooManyRows))
+      view_unkept upkeep.NoMemory wants = inl (refused_still fault.NoMemory)
 
 -- an index that is made, and one that isn't
-module _ (store new : StoreState) (views : Registry) (tick history : ℕ) (before after : Entries) (label key : List ℕ) (entries : Entries) (none : entries ≡ []) where
+module _ (store new : StoreState) (views : Views) (tick history : ℕ) (before after : Entries) (label key : List ℕ) (entries : Entries) (none : entries ≡ []) where
   pub index_made : (has_pair label key store.chosen ≡ true → ⊥) → new ≡ record store { chosen = store.chosen ++ (record { label = label; key = key }) ∷ [] }
       → AddsIndex label key (state_of (machine_of store views tick history before)) (Ok (reply.Index label key)) entries (state_of (machine_of new views tick history after))
-  index_made free is = inr (rw (absent (has_pair label key store.chosen) free) (record { answered = refl; no_entries = none; state = ap (λ (s : StoreState). state_of (machine_of s views tick history after)) is }))
+  index_made free is = inr (inr (rw (absent (has_pair label key store.chosen) free) (record { answered = refl; no_entries = none; state = ap (λ (s : StoreState). state_of (machine_of s views tick history after)) is })))
     where
       absent : (b : Bool) → (b ≡ true → ⊥) → b ≡ false
       absent true never = absurd (never refl)
@@ -145,8 +206,8 @@ module _ (store new : StoreState) (views : Registry) (tick history : ℕ) (befor
   pub index_refused : (why : IndexFault) → (why ≡ index.IndexThere → has_pair label key store.chosen ≡ true) → new ≡ store
       → AddsIndex label key (state_of (machine_of store views tick history before)) (Err (of_index why)) entries (state_of (machine_of new views tick history after))
   index_refused index.IndexThere there same =
-      inr (rw (there refl) (refused fault.IndexThere (state_of (machine_of store views tick history before)) entries (state_of (machine_of new views tick history after)) none
-      (ap (λ (s : StoreState). state_of (machine_of s views tick history after)) same)))
+      inr (inr (rw (there refl) (refused fault.IndexThere (state_of (machine_of store views tick history before)) entries (state_of (machine_of new views tick history after)) none
+      (ap (λ (s : StoreState). state_of (machine_of s views tick history after)) same))))
   index_refused index.NoMemory there same =
       inl (refused fault.NoMemory (state_of (machine_of store views tick history before)) entries (state_of (machine_of new views tick history after)) none
       (ap (λ (s : StoreState). state_of (machine_of s views tick history after)) same))

@@ -10,9 +10,10 @@ use Rattle.cy_feeds.specs.Feeds.{answer_since}
 use Rattle.cy_index.specs.declared.keys.Pair.{Pair}
 use Rattle.cy_engine.specs.declared.faults.Fault.{Fault}
 use Rattle.cy_engine.specs.declared.replies.Reply.{Reply}
-use Rattle.cy_engine.specs.Requests.{Request, Nothing, StatementOf, ViewOf, RowsOf, SinceOf, ListOfViews, DropOf, IndexOf, Refused, request}
-use Rattle.cy_engine.specs.Runs.{Event, Run, Agree, IsBound, IsDetermined, OnlySo, accepted, accepted_before, is_choice, is_want}
-use Rattle.cy_engine.specs.State.{EngineState, Entries, View}
+use Rattle.cy_engine.specs.Requests.{Request, Nothing, StatementOf, ViewOf, RowsOf, SinceOf, ListOfViews, ListOfSteps, DropOf, IndexOf, Refused, request}
+use Rattle.cy_engine.specs.Runs.{Event, Run, Agree, IsBound, IsDetermined, OnlySo, accepted, accepted_before, is_choice, is_want, seen_answer, seen_event}
+use Rattle.cy_engine.specs.State.{EngineState, seen}
+use Rattle.cy_views.specs.Views.{Entries, View}
 use Rattle.cy_engine.specs.Step.{Answer, Executes, Makes, Drops, Indexes, Shows, Follows, Tells, Answers, Lexed, Step}
 use Rattle.cy_engine.specs.Verdicts.{Executed, index_verdict, rows_verdict, since_verdict, statement_verdict, view_verdict}
 
@@ -60,6 +61,7 @@ module _ (old : EngineState) (answer : Answer) (entries : Entries) (new : Engine
   answers_left line (RowsOf name) a = shows_left name (rows_verdict name old) a
   answers_left line (SinceOf name tick) a = tells_left name tick (since_verdict name tick old) a
   answers_left line ListOfViews a = a.state
+  answers_left line ListOfSteps a = a.state
   answers_left line (DropOf name) a = drops_left (rows_verdict name old) a
   answers_left line (IndexOf label key) a = indexes_left (index_verdict label key old) a
   answers_left line (Refused other) a = a.state
@@ -69,7 +71,7 @@ module _ (old : EngineState) (answer : Answer) (entries : Entries) (new : Engine
   lexed_left line (Ok tokens) a = answers_left line (request line tokens) a
 
   pub step_left : (line : List ℕ) → Step old line answer entries new → new ≡ old
-  step_left line (inl a) = a.1.state
+  step_left line (inl (why, lacks, a)) = a.state
   step_left line (inr a) = lexed_left line (tokens_of line) a
 
 pub run_accepted : (old new : EngineState) (events : List Event) → Run old events new → Run old (accepted events) new
@@ -91,7 +93,7 @@ all_accepted (e ∷ events) =
 is_bound : (answer : Answer) → is_ok answer → IsBound answer
 is_bound answer (reply, is) = ap is_want is
 
-no_parser : (answer other : Answer) → is_ok answer → Agree answer other → answer ≡ other
+no_parser : (answer other : Answer) → is_ok answer → Agree answer other → seen_answer answer ≡ seen_answer other
 no_parser answer other ok (inl same) = same
 no_parser answer other (reply, is) (inr both) = let wrong : false ≡ true = sym (ap is_choice is) ∙ both.0 in absurd (cc)
 
@@ -99,23 +101,23 @@ heads : (e f : Event) (es fs : List Event) → map (λ (x : Event). x.line) (f �
 heads e f es fs is = (cc, cc)
 
 module _ (determined : IsDetermined) where
-  runs_one : (old new other : EngineState) (es fs : List Event) → Run old es new → Run old fs other → map (λ (x : Event). x.line) fs ≡ map (λ (x : Event). x.line) es
-      → AllByRecursion (λ (x : Event). is_ok x.answer) es → AllByRecursion (λ (x : Event). IsBound x.answer) fs → (fs ≡ es) × (other ≡ new)
-  runs_one old new other [] [] run again lines ok room = (refl, again ∙ sym run)
-  runs_one old new other [] (f ∷ fs) run again lines ok room = absurd (cc)
-  runs_one old new other (e ∷ es) [] run again lines ok room = absurd (cc)
-  runs_one old new other (e ∷ es) (f ∷ fs) (mid, step, run) (mid_2, step_2, again) lines ok room =
+  runs_one : (old twin new other : EngineState) (es fs : List Event) → seen twin ≡ seen old → Run old es new → Run twin fs other → map (λ (x : Event). x.line) fs ≡ map (λ (x : Event). x.line) es
+      → AllByRecursion (λ (x : Event). is_ok x.answer) es → AllByRecursion (λ (x : Event). IsBound x.answer) fs → (map seen_event fs ≡ map seen_event es) × (seen other ≡ seen new)
+  runs_one old twin new other [] [] alike run again lines ok room = (refl, ap seen again ∙ alike ∙ sym (ap seen run))
+  runs_one old twin new other [] (f ∷ fs) alike run again lines ok room = absurd (cc)
+  runs_one old twin new other (e ∷ es) [] alike run again lines ok room = absurd (cc)
+  runs_one old twin new other (e ∷ es) (f ∷ fs) alike (mid, step, run) (mid_2, step_2, again) lines ok room =
       let line = heads e f es fs lines in
-      let step_of_e : Step old e.line f.answer f.entries mid_2 = subst (λ (l : List ℕ). Step old l f.answer f.entries mid_2) line.0 step_2 in
-      let one = determined old mid mid_2 e.line e.answer f.answer e.entries f.entries step step_of_e (is_bound e.answer ok.0) room.0 in
-      let answer : e.answer ≡ f.answer = no_parser e.answer f.answer ok.0 one.0 in
+      let step_of_e : Step twin e.line f.answer f.entries mid_2 = subst (λ (l : List ℕ). Step twin l f.answer f.entries mid_2) line.0 step_2 in
+      let one = determined old twin mid mid_2 e.line e.answer f.answer e.entries f.entries alike step step_of_e (is_bound e.answer ok.0) room.0 in
+      let answer : seen_answer e.answer ≡ seen_answer f.answer = no_parser e.answer f.answer ok.0 one.0 in
       let entries : e.entries ≡ f.entries = one.1 in
-      let rest = runs_one mid new other es fs run (subst (λ (s : EngineState). Run s fs other) (sym one.2) again) line.1 ok.1 room.1 in
-      let event : f ≡ e = λ i. record { line = line.0 i; answer = sym answer i; entries = sym entries i } in
+      let rest = runs_one mid mid_2 new other es fs (sym one.2) run again line.1 ok.1 room.1 in
+      let event : seen_event f ≡ seen_event e = λ i. record { line = line.0 i; answer = sym answer i; entries = sym entries i } in
       ((λ i. event i ∷ rest.0 i), rest.1)
 
   pub traces : (old new : EngineState) (events : List Event) → Run old events new → OnlySo old (accepted events) new
   traces old new events run = record {
     run = run_accepted old new events run;
-    only = λ other alone again lines bound. runs_one old new other (accepted events) alone (run_accepted old new events run) again lines (all_accepted events) bound;
+    only = λ other alone again lines bound. runs_one old old new other (accepted events) alone refl (run_accepted old new events run) again lines (all_accepted events) bound;
   }

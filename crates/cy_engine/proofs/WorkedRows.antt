@@ -1,5 +1,5 @@
 -- Worked rows of the definitions, computed.
-use Rattle.std.proofs.Common.{◌≡◌, ℕ, pos, List, [], ◌∷◌, Some, None, Ok, Err, String, Global, string_bytes, refl}
+use Rattle.std.proofs.Common.{◌≡◌, ℕ, pos, List, [], ◌∷◌, Some, None, Ok, Err, refl}
 use Rattle.std.specs.Prelude.{codes}
 use Rattle.std.specs.Str.{chars}
 use Rattle.std.specs.Char.{encode_utf8}
@@ -12,7 +12,6 @@ use Rattle.cy_kinds.specs.declared.faults.ScopeFault.TheVariants as scope
 use Rattle.cy_kinds.specs.declared.faults.ViewFault.TheVariants as view_fault
 use Rattle.cy_scope.specs.Resolved.{resolved_statement}
 use Rattle.cy_trees.specs.Trees.{integer, Statement}
-use Rattle.cy_trees.specs.Views.{statement_of}
 use Rattle.cy_values.specs.declared.numbers.NodeId.{NodeId}
 use Rattle.cy_values.specs.declared.scalars.Value.{Value}
 use Rattle.cy_values.specs.declared.scalars.Value.TheVariants as value
@@ -25,13 +24,16 @@ use Rattle.cy_effects.specs.declared.faults.UpdateFault.TheVariants as update
 use Rattle.cy_effects.specs.Statements.{Outcome}
 use Rattle.cy_bags.specs.declared.changes.Entry.{Entry}
 use Rattle.cy_engine.specs.declared.faults.Fault.TheVariants as fault
-use Rattle.cy_engine.specs.declared.views.Registered.{Registered}
 use Rattle.cy_engine.specs.declared.replies.Reply.TheVariants as reply
 use Rattle.cy_engine.specs.Faults.{code_of, offset_of}
 use Rattle.cy_feeds.specs.Feeds.{new_history}
 use Rattle.cy_engine.specs.Requests.{request, StatementOf, ViewOf, RowsOf, IndexOf, Refused, without_end}
 use Rattle.cy_engine.specs.Model.{machine_of, new_machine, state_of}
-use Rattle.cy_engine.specs.State.{EngineState, Entries, View, entry_at, last_tick, rows_of, view_at}
+use Rattle.cy_engine.specs.State.{EngineState, last_tick, seen, view_at}
+use Rattle.cy_plans.specs.Plans as plan
+use Rattle.cy_views.specs.declared.views.Views.{Views}
+use Rattle.cy_views.specs.Upkeep.{Upkeep, held_in, upkeep_in, views_in}
+use Rattle.cy_views.specs.Views.{Entries, View, entry_at, rows_of}
 use Rattle.cy_engine.specs.Headline.{entries_of}
 use Rattle.cy_engine.specs.Runs.{Event, accepted}
 use Rattle.cy_engine.specs.Verdicts.{execution_verdict, statement_verdict, query_verdict, rows_verdict, since_verdict, index_verdict, view_verdict}
@@ -150,8 +152,11 @@ last_tick_stays = refl
 abbrev view : View
 view = record { name = codes "v"; query = keys; made = 2; feed = new_history 64 2 }
 
+abbrev kept_with : ℕ → Upkeep
+kept_with steps = record { name = codes "v"; plan = plan.unit; steps = steps }
+
 abbrev with_view : EngineState
-with_view = record { graph = three; indexes = (record { label = codes "A"; key = codes "k" }) ∷ []; views = view ∷ []; tick = 2; history = 64 }
+with_view = record { graph = three; indexes = (record { label = codes "A"; key = codes "k" }) ∷ []; views = view ∷ []; upkeep = kept_with 3 ∷ []; tick = 2; history = 64 }
 
 -- `MATCH (n:A) SET m.k = 9`
 unknown_variable : (state : EngineState) → statement_verdict (set_tree (codes "m") (integer (pos 9))) state ≡ Err (fault.Scope scope.UnknownVariable)
@@ -191,14 +196,17 @@ another_index = refl
 -- ---- states
 
 -- a new engine
-new_engine : machine_of (record { graph = record { now = empty_state 1 1; was = None }; chosen = [] }) [] 0 64 [] ≡ new_machine 64
-new_engine = refl
+new_engine : (views : Views) → held_in views ≡ [] → machine_of (record { graph = record { now = empty_state 1 1; was = None }; chosen = [] }) views 0 64 [] ≡ new_machine 64
+new_engine views none = λ i. record { graph = empty_state 1 1; indexes = []; views = none i; tick = 0; history = 64; entries = [] }
 
--- one with nodes, an index and a view, which is registered under its name
-engine_with_view : (name : String Global) (r : Registered) → string_bytes name ≡ codes "v" → statement_of r.network.query ≡ keys → r.made ≡ 2 → r.feed.history ≡ new_history 64 2
-    → state_of (machine_of (record { graph = record { now = three; was = None }; chosen = with_view.indexes }) ((name, r) ∷ []) 2 64 []) ≡ with_view
-engine_with_view name r is query made fed =
-    λ i. record { graph = three; indexes = with_view.indexes; views = (record { name = is i; query = query i; made = made i; feed = fed i }) ∷ []; tick = 2; history = 64 }
+-- one with nodes, an index and a view
+engine_with_view : (views : Views) → views_in views ≡ view ∷ [] → upkeep_in views ≡ kept_with 3 ∷ []
+    → state_of (machine_of (record { graph = record { now = three; was = None }; chosen = with_view.indexes }) views 2 64 []) ≡ with_view
+engine_with_view views is kept = λ i. record { graph = three; indexes = with_view.indexes; views = is i; upkeep = kept i; tick = 2; history = 64 }
+
+-- the steps are free, the name of the view is not
+steps_are_free : seen with_view ≡ record with_view { upkeep = kept_with 0 ∷ [] }
+steps_are_free = refl
 
 view_is_found : view_at (codes "v") with_view ≡ Some view
 view_is_found = refl

@@ -18,8 +18,10 @@ use Rattle.cy_expr.specs.declared.faults.EvalFault.{EvalFault}
 use Rattle.cy_effects.specs.declared.faults.UpdateFault.{UpdateFault}
 use Rattle.cy_effects.specs.declared.faults.UpdateFault.TheVariants as update
 use Rattle.cy_effects.specs.Faults as updates
+use Rattle.cy_views.specs.declared.faults.UpkeepFault.{UpkeepFault}
+use Rattle.cy_views.specs.declared.faults.UpkeepFault.TheVariants as upkeep
 use Rattle.cy_engine.specs.declared.faults.Fault.{Fault}
-use Rattle.cy_engine.specs.declared.faults.Fault.TheVariants.{Lex, Parse, Scope, View, Update, Full, ViewNameTaken, NoSuchView, TooManyViews, UnknownCommand, IndexThere, BadArgument, FutureTick, NoMemory}
+use Rattle.cy_engine.specs.declared.faults.Fault.TheVariants.{Lex, Parse, Scope, View, Update, Full, ViewNameTaken, NoSuchView, PlanTooLarge, TooManyViews, TooManyRows, UnknownCommand, IndexThere, BadArgument, FutureTick, NoMemory}
 
 abbrev pub code_of : Fault → ℕ
 code_of (Lex fault) = lexer.code_of fault
@@ -30,7 +32,9 @@ code_of (Update fault) = updates.code_of fault
 code_of Full = 53
 code_of ViewNameTaken = 60
 code_of NoSuchView = 61
+code_of PlanTooLarge = 67
 code_of TooManyViews = 68
+code_of TooManyRows = 69
 code_of UnknownCommand = 70
 code_of IndexThere = 71
 code_of BadArgument = 72
@@ -73,3 +77,8 @@ of_graph fault = of_update (updates.of_graph fault)
 abbrev pub of_index : IndexFault → Fault
 of_index index.IndexThere = IndexThere
 of_index index.NoMemory = NoMemory
+
+abbrev pub of_upkeep : UpkeepFault → Fault
+of_upkeep upkeep.PlanTooLarge = PlanTooLarge
+of_upkeep upkeep.TooManyRows = TooManyRows
+of_upkeep upkeep.NoMemory = NoMemory

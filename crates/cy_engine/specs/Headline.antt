@@ -16,8 +16,9 @@ use Rattle.cy_engine.specs.declared.replies.Reply.TheVariants as reply
 use Rattle.cy_engine.specs.Model.{Machine, new_machine, state_of}
 use Rattle.cy_engine.specs.Requests.{Asks, StatementOf, ViewOf}
 use Rattle.cy_engine.specs.Runs.{Event, OnlySo, Run, Runs, accepted}
-use Rattle.cy_engine.specs.State.{EngineState, Entries, View, empty_engine, entry_at, rows_of, view_at}
-use Rattle.cy_engine.specs.Step.{Answer, AreEntries, AreRows, Step, changed_by}
+use Rattle.cy_engine.specs.State.{EngineState, empty_engine, view_at}
+use Rattle.cy_views.specs.Views.{AreEntries, Entries, View, entry_at, rows_of}
+use Rattle.cy_engine.specs.Step.{Answer, AreRows, Step, changed_by}
 
 -- ---- the graph
 

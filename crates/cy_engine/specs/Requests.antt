@@ -26,6 +26,8 @@ pub data Request : Type 0 where
   ListOfViews : Request
   -- `:drop NAME`
   DropOf : (name : List ℕ) → Request
+  -- `:steps`
+  ListOfSteps : Request
   -- `:index LABEL KEY`
   IndexOf : (label : List ℕ) → (key : List ℕ) → Request
   -- a command that is refused
@@ -79,6 +81,11 @@ abbrev pub views_request : List Token → Request
 views_request [] = ListOfViews
 views_request (t ∷ ts) = Refused BadArgument
 
+-- nothing more
+abbrev pub steps_request : List Token → Request
+steps_request [] = ListOfSteps
+steps_request (t ∷ ts) = Refused BadArgument
+
 -- one name and no more
 abbrev pub drop_request : List ℕ → List Token → Request
 drop_request line (name ∷ []) = if is_word name.kind then DropOf (denotes line name) else Refused BadArgument
@@ -103,6 +110,7 @@ command_request line (word ∷ arguments) =
     else if is_command (codes "SINCE") line word then since_request line (without_end arguments)
     else if is_command (codes "VIEWS") line word then views_request (without_end arguments)
     else if is_command (codes "DROP") line word then drop_request line (without_end arguments)
+    else if is_command (codes "STEPS") line word then steps_request (without_end arguments)
     else if is_command (codes "INDEX") line word then index_request line (without_end arguments)
     else Refused UnknownCommand
 

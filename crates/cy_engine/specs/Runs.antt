@@ -3,7 +3,9 @@ use Rattle.std.specs.Prelude.{◌≡◌, ◌⊎◌, ℕ, Bool, true, false, IsTr
 use Rattle.std.specs.List.{AllByRecursion}
 use Rattle.cy_engine.specs.declared.faults.Fault.TheVariants as fault
 use Rattle.cy_engine.specs.Model.{Machine, state_of}
-use Rattle.cy_engine.specs.State.{EngineState, Entries}
+use Rattle.cy_engine.specs.declared.replies.Reply.TheVariants as reply
+use Rattle.cy_engine.specs.State.{EngineState, seen}
+use Rattle.cy_views.specs.Views.{Entries}
 use Rattle.cy_engine.specs.Step.{Answer, Step}
 
 -- a line, its answer and the entries that it made
@@ -32,9 +34,10 @@ pub record Runs (old new : Machine) (lines : List (List ℕ)) (answers : List An
 
 -- ---- what is free
 
--- a refusal that may come of any line, whatever it asks for: memory is wanting
+-- a refusal that may come whatever a line asks: memory is wanting, or the views have too many rows
 abbrev pub is_want : Answer → Bool
 is_want (Err fault.NoMemory) = true
+is_want (Err fault.TooManyRows) = true
 is_want _ = false
 
 -- the parser refused the line; which of its faults it gives, it may choose
@@ -42,23 +45,29 @@ abbrev pub is_choice : Answer → Bool
 is_choice (Err (fault.Parse why)) = true
 is_choice _ = false
 
--- This is all that is free in the answer to a line: whether memory is wanting, and, where the parser refuses it, with which of its
--- faults. An answer is bound where memory isn't wanting; and two answers agree where they differ in a choice alone.
+-- an answer but for the numbers of steps
+abbrev pub seen_answer : Answer → Answer
+seen_answer (Ok (reply.Steps steps)) = Ok (reply.Steps (map (λ s. (s.0, 0)) steps))
+seen_answer answer = answer
+
+-- This is all that is free in the answer to a line: whether memory is wanting, or a view has too many rows; where the parser refuses it, with which
+-- of its faults; and the numbers of steps. An answer is bound where nothing is wanting; and two answers agree where they differ in a choice or in
+-- these numbers alone.
 abbrev pub IsBound : Answer → Type 0
 IsBound answer = is_want answer ≡ false
 
 abbrev pub Agree : Answer → Answer → Type 0
-Agree answer other = (answer ≡ other) ⊎ (IsTrue (is_choice answer) × IsTrue (is_choice other))
+Agree answer other = (seen_answer answer ≡ seen_answer other) ⊎ (IsTrue (is_choice answer) × IsTrue (is_choice other))
 
 -- ---- what is determined
 
--- What becomes of a line is determined, but for what is free: from one state its bound answers agree, it makes the same entries and
--- leads to the same state.
+-- What becomes of a line is determined, but for what is free: from states that differ in how views are kept up alone its bound answers agree,
+-- it makes the same entries, and it leads to states that differ in this alone.
 abbrev pub IsDetermined : Type 0
 IsDetermined =
-    (old new other : EngineState) (line : List ℕ) (answer again : Answer) (entries more : Entries)
-    → Step old line answer entries new → Step old line again more other → IsBound answer → IsBound again
-    → Agree answer again × (entries ≡ more) × (new ≡ other)
+    (old twin new other : EngineState) (line : List ℕ) (answer again : Answer) (entries more : Entries) → seen twin ≡ seen old
+    → Step old line answer entries new → Step twin line again more other → IsBound answer → IsBound again
+    → Agree answer again × (entries ≡ more) × (seen new ≡ seen other)
 
 -- ---- refused lines
 
@@ -71,12 +80,17 @@ abbrev pub accepted : List Event → List Event
 accepted [] = []
 accepted (e ∷ events) = accepted_before e.answer e (accepted events)
 
+-- a line with its answer and entries, but for the numbers of steps
+abbrev pub seen_event : Event → Event
+seen_event e = record e { answer = seen_answer e.answer }
+
 -- From one state to another some lines may be answered as they were; and they have to be: wherever the same lines are answered from
--- that state, and the answers are bound, the answers, their entries and the state that they lead to are the same.
+-- that state, and the answers are bound, the answers, their entries and the state that they lead to are the same, but for how views are
+-- kept up.
 pub record OnlySo (old : EngineState) (events : List Event) (new : EngineState) : Type 0 where
   pub run : Run old events new
   pub only : (other : EngineState) (alone : List Event) → Run old alone other → map (λ e. e.line) alone ≡ map (λ e. e.line) events
-      → AllByRecursion (λ e. IsBound e.answer) alone → (alone ≡ events) × (other ≡ new)
+      → AllByRecursion (λ e. IsBound e.answer) alone → (map seen_event alone ≡ map seen_event events) × (seen other ≡ seen new)
 
 -- Refused lines leave no trace: the lines that were not refused are answered as they were without the others, and lead to the
 -- same state.

@@ -1,6 +1,5 @@
 -- The engine as a machine: the steps that a line allows (own).
-use Rattle.std.specs.Prelude.{◌≡◌, ◌≢◌, ℕ, ◌≤◌, ◌⊎◌, not, List, [], ◌∷◌, ◌++◌, filter, length, map, Result, Ok, Err}
-use Rattle.std.specs.Option.{option_map_or}
+use Rattle.std.specs.Prelude.{◌≡◌, ◌≢◌, ℕ, ◌≤◌, ◌⊎◌, Bool, true, false, not, List, [], ◌∷◌, ◌++◌, filter, length, map, Result, Ok, Err}
 use Rattle.std.specs.Str.{bytes_eq}
 use Rattle.cy_lexer.specs.declared.faults.LexFault.{LexFault}
 use Rattle.cy_lexer.specs.declared.tokens.Token.{Token}
@@ -12,25 +11,26 @@ use Rattle.cy_parser.specs.Faults.{PointsAtPlace}
 use Rattle.cy_grammar.specs.SpellsClauses.{SpellsStatement}
 use Rattle.cy_trees.specs.Trees.{Statement}
 use Rattle.cy_values.specs.declared.rows.Cell.{Cell}
-use Rattle.cy_values.specs.Bag.{IsBagOf, IsCanonical, IsSameBag}
-use Rattle.cy_graph.specs.Graph.{Content}
+use Rattle.cy_graph.specs.Graph.{State}
 use Rattle.cy_index.specs.declared.keys.Pair.{Pair}
 use Rattle.cy_queries.specs.Queries.{query_columns}
 use Rattle.cy_effects.specs.Counts.{Counts}
-use Rattle.cy_bags.specs.declared.changes.Entry.{Entry}
 use Rattle.cy_feeds.specs.declared.feeds.Answer as feeds
 use Rattle.cy_feeds.specs.declared.feeds.Answer.TheVariants.{Entries as Since, Lagged}
-use Rattle.cy_feeds.specs.Feeds.{answer_since, pushed}
+use Rattle.cy_feeds.specs.Feeds.{answer_since}
+use Rattle.cy_plans.specs.Plans.{Plan}
+use Rattle.cy_network.specs.Networks.{HasTooManyRows}
+use Rattle.cy_planner.specs.Serves.{Serves}
+use Rattle.cy_views.specs.Upkeep.{AreKeptUp, SomeHasTooManyRows, Upkeep}
+use Rattle.cy_views.specs.Views.{AreEntries, AreRowsOf, Entries, View, fed, listed, without}
 use Rattle.cy_engine.specs.declared.faults.Fault.{Fault}
 use Rattle.cy_engine.specs.declared.faults.Fault.TheVariants as fault
 use Rattle.cy_engine.specs.declared.replies.Changed.{Changed}
 use Rattle.cy_engine.specs.declared.replies.Reply.{Reply}
-use Rattle.cy_engine.specs.declared.replies.ViewListing.{ViewListing}
 use Rattle.cy_engine.specs.declared.replies.Reply.TheVariants as reply
-use Rattle.cy_bags.specs.Difference.{IsDifference}
-use Rattle.cy_engine.specs.Requests.{Request, Nothing, StatementOf, ViewOf, RowsOf, SinceOf, ListOfViews, DropOf, IndexOf, Refused, request}
-use Rattle.cy_engine.specs.State.{EngineState, Entries, View, entry_at, rows_of}
-use Rattle.cy_engine.specs.Verdicts.{Executed, statement_verdict, view_verdict, rows_verdict, since_verdict, index_verdict}
+use Rattle.cy_engine.specs.Requests.{Asks, Request, Nothing, StatementOf, ViewOf, RowsOf, SinceOf, ListOfViews, ListOfSteps, DropOf, IndexOf, Refused, request}
+use Rattle.cy_engine.specs.State.{EngineState}
+use Rattle.cy_engine.specs.Verdicts.{Executed, same_content, statement_verdict, view_verdict, rows_verdict, since_verdict, index_verdict}
 
 -- ---- what is answered
 
@@ -38,23 +38,8 @@ abbrev pub Answer : Type 0
 Answer = Result Reply Fault
 
 -- the rows, each once, in canonical order, with their counts, that a view's query means on the graph
-pub record AreRows (state : EngineState) (view : View) (rows : List (List Cell × ℕ)) : Type 0 where
-  pub bag : IsBagOf (rows_of view.query state.graph.content) rows
-  pub canonical : IsCanonical rows
-
--- what a line changed in the rows of a query: they are another bag, and the change is the difference
-pub record IsEntry (query : Statement) (before after : Content) (tick : ℕ) (entry : Entry) : Type 0 where
-  pub differs : ¬ (IsSameBag (rows_of query before) (rows_of query after))
-  pub tick_is : entry.tick ≡ tick
-  pub difference : IsDifference (rows_of query before) (rows_of query after) entry.change
-
--- the entries that views get, in the order of the views: one for each view whose rows are another bag, and none else
-abbrev pub AreEntries : List View → Content → Content → ℕ → Entries → Type 0
-AreEntries [] before after tick entries = entries ≡ []
-AreEntries (view ∷ views) before after tick entries =
-    (IsSameBag (rows_of view.query before) (rows_of view.query after) × AreEntries views before after tick entries)
-    ⊎ ((entry : Entry) × (others : Entries) × (entries ≡ (view.name, entry) ∷ others)
-    × IsEntry view.query before after tick entry × AreEntries views before after tick others)
+abbrev pub AreRows : EngineState → View → List (List Cell × ℕ) → Type 0
+AreRows state view rows = AreRowsOf view.query state.graph.content rows
 
 -- ---- what a line may lead to, from the state old: an answer, entries and the state new
 
@@ -74,29 +59,34 @@ pub record IsReplied (reply : Reply) (old : EngineState) (answer : Answer) (entr
 abbrev pub changed_by : Counts → Changed
 changed_by counts = record { nodes_made = counts.made_nodes; nodes_gone = counts.gone_nodes; rels_made = counts.made_rels; rels_gone = counts.gone_rels }
 
--- a view with the entry that it gets, if it gets one, in its feed
-abbrev pub fed : Entries → View → View
-fed entries view = option_map_or (λ entry. record view { feed = pushed entry view.feed }) (entry_at view.name entries) view
+-- how views are kept up after a line: as before where the content of the graph stays, else with numbers of steps within the bound
+abbrev pub KeepsUp : Bool → State → State → List Upkeep → List Upkeep → Type 0
+KeepsUp true before after upkeep next = next ≡ upkeep
+KeepsUp false before after upkeep next = AreKeptUp before after upkeep next
 
 pub record IsExecuted (executed : Executed) (old : EngineState) (answer : Answer) (entries : Entries) (new : EngineState) : Type 0 where
   pub answered : answer ≡ Ok (reply.Statement (changed_by executed.outcome.counts) executed.outcome.columns executed.outcome.rows)
   pub entries_are : AreEntries old.views old.graph.content executed.outcome.graph.content executed.tick entries
-  pub state : new ≡ record old { graph = executed.outcome.graph; views = map (fed entries) old.views; tick = executed.tick }
+  pub upkeep : KeepsUp (same_content old.graph.content executed.outcome.graph.content) old.graph executed.outcome.graph old.upkeep new.upkeep
+  pub state : new ≡ record old { graph = executed.outcome.graph; views = map (fed entries) old.views; upkeep = new.upkeep; tick = executed.tick }
 
 pub record IsMade (view : View) (old : EngineState) (answer : Answer) (entries : Entries) (new : EngineState) : Type 0 where
   pub answered : answer ≡ Ok (reply.Made (query_columns view.query) view.made view.name)
   pub no_entries : entries ≡ []
-  pub state : new ≡ record old { views = old.views ++ view ∷ []; tick = view.made }
+  -- kept up by a plan that serves its query; which one, the engine may choose
+  pub plan : Plan
+  pub serves : Serves plan view.query
+  pub state : new ≡ record old { views = old.views ++ view ∷ []; upkeep = old.upkeep ++ (record { name = view.name; plan = plan; steps = 0 }) ∷ []; tick = view.made }
 
--- the views without the one of a name
-abbrev pub without : List ℕ → List View → List View
-without name views = filter (λ v. not (bytes_eq name v.name)) views
+-- the upkeep of the views without the one of a name
+abbrev pub unkept : List ℕ → List Upkeep → List Upkeep
+unkept name upkeep = filter (λ u. not (bytes_eq name u.name)) upkeep
 
 -- the view of the name is gone, and nothing else differs
 pub record IsDropped (view : View) (old : EngineState) (answer : Answer) (entries : Entries) (new : EngineState) : Type 0 where
   pub answered : answer ≡ Ok (reply.Dropped view.name)
   pub no_entries : entries ≡ []
-  pub state : new ≡ record old { views = without view.name old.views }
+  pub state : new ≡ record old { views = without view.name old.views; upkeep = unkept view.name old.upkeep }
 
 -- the label and the key have an index, and nothing else differs
 pub record IsIndexed (pair : Pair) (old : EngineState) (answer : Answer) (entries : Entries) (new : EngineState) : Type 0 where
@@ -123,10 +113,6 @@ Indexes (Err why) = IsRefused why
 abbrev pub Drops : Result View Fault → EngineState → Answer → Entries → EngineState → Type 0
 Drops (Ok view) = IsDropped view
 Drops (Err why) = IsRefused why
-
--- the columns, the tick made and the name of a view
-abbrev pub listed : View → ViewListing
-listed view = record { columns = query_columns view.query; made = view.made; name = view.name }
 
 -- the rows of a view are shown, or there is no such view
 abbrev pub Shows : List ℕ → Result View Fault → EngineState → Answer → Entries → EngineState → Type 0
@@ -166,6 +152,7 @@ Answers line (ViewOf name tokens) old = Reads line tokens (λ tree. Makes (view_
 Answers line (RowsOf name) old = Shows name (rows_verdict name old) old
 Answers line (SinceOf name tick) old = Tells name tick (since_verdict name tick old) old
 Answers line ListOfViews old = IsReplied (reply.Views (map listed old.views)) old
+Answers line ListOfSteps old = IsReplied (reply.Steps (map (λ u. (u.name, u.steps)) old.upkeep)) old
 Answers line (DropOf name) old = Drops (rows_verdict name old) old
 Answers line (IndexOf label key) old = Indexes (index_verdict label key old) old
 Answers line (Refused why) old = IsRefused why old
@@ -175,9 +162,39 @@ abbrev pub Lexed : List ℕ → Result (List Token) LexFault → EngineState →
 Lexed line (Err why) = IsRefused (fault.Lex why)
 Lexed line (Ok tokens) = Answers line (request line tokens)
 
--- From old, the machine may answer the line so, make these entries and go on to new. Want of memory may refuse any line that isn't
--- too long: its tokens take memory.
+-- the tokens spell a statement that leaves too many rows: on its graph a part of the plan of some view has a row that counts more than 2^62 - 1
+pub record StatementHasTooMany (line : List ℕ) (tokens : List Token) (old : EngineState) : Type 0 where
+  pub tree : Statement
+  pub executed : Executed
+  pub spelt : SpellsStatement line tree tokens
+  pub verdict : statement_verdict tree old ≡ Ok executed
+  pub many : SomeHasTooManyRows executed.outcome.graph.content old.upkeep
+
+-- they spell the query of a view with too many rows: a part of a plan that serves it has a row that counts more than 2^62 - 1
+pub record ViewHasTooMany (line name : List ℕ) (tokens : List Token) (old : EngineState) : Type 0 where
+  pub tree : Statement
+  pub view : View
+  pub plan : Plan
+  pub spelt : SpellsStatement line tree tokens
+  pub verdict : view_verdict tree name old ≡ Ok view
+  pub serves : Serves plan view.query
+  pub many : HasTooManyRows old.graph.content plan
+
+-- what is asked for has too many rows
+abbrev pub HasTooMany : List ℕ → Request → EngineState → Type 0
+HasTooMany line (StatementOf tokens) old = StatementHasTooMany line tokens old
+HasTooMany line (ViewOf name tokens) old = ViewHasTooMany line name tokens old
+HasTooMany line asked old = ⊥
+
+-- What is lacking may refuse a line that else is answered: memory, where the line isn't too long, since its tokens take memory; and numbers for
+-- the rows of views.
+abbrev pub Lacks : List ℕ → EngineState → Fault → Type 0
+Lacks line old why =
+    ((why ≡ fault.NoMemory) × (length line ≤ longest_line))
+    ⊎ ((why ≡ fault.TooManyRows) × ((asked : Request) × Asks line asked × HasTooMany line asked old))
+
+-- From old, the machine may answer the line so, make these entries and go on to new.
 abbrev pub Step : EngineState → List ℕ → Answer → Entries → EngineState → Type 0
 Step old line answer entries new =
-    ((length line ≤ longest_line) × IsRefused fault.NoMemory old answer entries new)
+    ((why : Fault) × Lacks line old why × IsRefused why old answer entries new)
     ⊎ Lexed line (tokens_of line) old answer entries new

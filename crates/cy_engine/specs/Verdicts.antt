@@ -13,6 +13,7 @@ use Rattle.cy_values.specs.Order.{value_order}
 use Rattle.cy_values.specs.declared.numbers.NodeId.{NodeId}
 use Rattle.cy_values.specs.declared.numbers.RelId.{RelId}
 use Rattle.cy_values.specs.declared.scalars.Value.{Value}
+use Rattle.cy_planner.specs.Weight.{greatest_weight, weight}
 use Rattle.cy_graph.specs.Graph.{Content, State}
 use Rattle.cy_graph.specs.declared.nodes.Node.{Node}
 use Rattle.cy_graph.specs.declared.nodes.Rel.{Rel}
@@ -24,7 +25,8 @@ use Rattle.cy_effects.specs.Faults.{◌>>=◌}
 use Rattle.cy_effects.specs.Statements.{Outcome, statement_outcome}
 use Rattle.cy_engine.specs.Faults.{of_update}
 use Rattle.cy_feeds.specs.Feeds.{new_history}
-use Rattle.cy_engine.specs.State.{EngineState, View, view_at, last_tick, view_limit}
+use Rattle.cy_engine.specs.State.{EngineState, view_at, last_tick}
+use Rattle.cy_views.specs.Views.{View, view_limit}
 
 -- nothing is against it, or this is
 abbrev pub passes : {F : Type 0} → (F → Fault) → Option F → Result (Unit {0}) Fault
@@ -117,10 +119,12 @@ making_verdict name state =
     needs (nat_lt (length state.views) view_limit) fault.TooManyViews >>= λ _.
     next_tick state.tick
 
+-- the view of this name and query that is made next; or after these reasons the query weighs too much to be planned
 abbrev pub view_verdict : Statement → List ℕ → EngineState → Result View Fault
 view_verdict tree name state =
     query_verdict tree >>= λ query.
     making_verdict name state >>= λ made.
+    needs (nat_le (weight query) greatest_weight) fault.PlanTooLarge >>= λ _.
     Ok (record { name = name; query = query; made = made; feed = new_history state.history made })
 
 -- ---- commands

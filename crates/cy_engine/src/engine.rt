@@ -1,33 +1,34 @@
 //! The engine: one line at a time.
 
-ghost use Rattle.std.specs.Prelude.{◌≡◌, ◌≤◌, ◌⊎◌, [], IfErr, IfOk, IfSome, IsOk, IsSome, Ok, Err, map};
+ghost use Rattle.std.specs.Prelude.{◌≡◌, ◌≤◌, ◌⊎◌, [], IfErr, IfOk, IsOk, IsSome, OnErr, Ok, Err};
 ghost use Rattle.std.specs.Option.{option_copied};
+ghost use Rattle.cy_trees.specs.Views.{statement_of};
+ghost use Rattle.cy_queries.specs.Queries.{query_columns};
 ghost use Rattle.cy_updates.specs.Answers.{outcome_seen};
 ghost use Rattle.cy_graph.specs.Graph.{State};
+ghost use Rattle.cy_scans.specs.Changes.{before_change};
+ghost use Rattle.cy_views.specs.Upkeep.{StandFor, held_in, upkeep_in};
+ghost use Rattle.cy_views.specs.Views.{View, entry_at};
 ghost use Rattle.cy_engine.specs.Model.{new_machine, state_of};
 ghost use Rattle.cy_engine.specs.Requests.{StatementOf, ViewOf};
-ghost use Rattle.cy_engine.specs.State.{View, entry_at, last_tick};
+ghost use Rattle.cy_engine.specs.State.{last_tick};
 ghost use Rattle.cy_engine.specs.Step.{AreRows, Drops, Step, changed_by};
-ghost use Rattle.cy_engine.specs.Verdicts.{making_verdict, next_tick, rows_verdict, tick_after};
-ghost use Rattle.cy_engine.specs.internal.Network.{AllStand, AllTake, pending_entries, resting_one, settled_one};
-ghost use Rattle.cy_engine.specs.internal.Representation.{AllInTime, views_in};
-ghost use Rattle.cy_engine.specs.internal.Stages.{AddsIndex, AnswersOrWants, HasEffect, ListsViews, ShowsRows, ShowsSince};
+ghost use Rattle.cy_engine.specs.Verdicts.{making_verdict, next_tick, rows_verdict};
+ghost use Rattle.cy_engine.specs.internal.Stages.{AddsIndex, AnswersOrWants, HasEffect, HasNoEffect, ListsSteps, ListsViews, ShowsRows, ShowsSince};
 
-use crate::entries::entries_of;
 use crate::faults::Fault;
-use crate::network::Network;
 use crate::reading::{read_query, read_statement};
 use crate::replies::{Changed, Reply};
 use crate::requests::{Request, read_request};
-use crate::views::{Registered, abandon, listings, made_reply, prepare, register, settle};
-use cy_bags::{Entry, copied};
-use cy_feeds::{Answer, Feed};
+use cy_bags::Entry;
+use cy_feeds::Answer;
 use cy_index::Store;
 use cy_lexer::{Token, lex};
 use cy_oneshot::Table;
+use cy_scope::ViewQuery;
 use cy_updates::{StatementAnswer, execute};
-use cy_values::{Duplicate, Row, Sequence, Text, row_order_laws};
-use indexmap::IndexMap;
+use cy_values::{Duplicate, Row, Sequence, Text};
+use cy_views::{Views, columns_of};
 use std::alloc::Global;
 use std::marker::Model;
 
@@ -42,15 +43,14 @@ const VIEW_LIMIT: usize = 256;
 pub struct Engine {
     alloc: Global,
     store: Store,
-    /// By name, in the order in which they were made.
-    views: IndexMap<String, Registered>,
+    views: Views,
     tick: u64,
     history: usize,
     /// What the last line changed in the rows of views.
     entries: Sequence<(Text, Entry)>,
 }
 
-// What a change does to the tick and the views: the tick that follows, and the entries.
+// What a change of the content does: the tick that follows, and the entries of the views.
 #[derive(Drop)]
 struct Effect {
     tick: u64,
@@ -60,18 +60,19 @@ struct Effect {
 impl Model for Engine {
     ghost use Rattle.std.specs.Coded.{codes};
     ghost use Rattle.cy_trees.specs.contracts.expressions.Expr as expr;
+    ghost use Rattle.cy_plans.specs.contracts.operators.Operator as operator;
     ghost use Rattle.cy_engine.specs.Model.{Machine};
 
     ghost Value = { Machine };
 
-    ghost coded = { Prim.hlevel (codes, expr.the_row.coded) };
+    ghost coded = { Prim.hlevel (codes, expr.the_row.coded, operator.the_row.coded) };
 
     ghost use Rattle.cy_engine.specs.internal.Representation.{IsAtRest};
     ghost use Rattle.cy_engine.specs.Model.{machine_of};
 
-    ghost view = { λ e. machine_of e.store e.views.entries e.tick e.history e.entries };
+    ghost view = { λ e. machine_of e.store e.views e.tick e.history e.entries };
 
-    ghost invariant = { λ e. IsAtRest e.store.graph e.views.entries e.tick e.history };
+    ghost invariant = { λ e. IsAtRest e.store.graph e.views e.tick e.history };
 }
 
 impl Engine {
@@ -84,7 +85,7 @@ impl Engine {
         Engine {
             alloc,
             store: Store::new(alloc),
-            views: IndexMap::new(alloc),
+            views: Views::new(alloc),
             tick: 0,
             history,
             entries: Sequence::new(Vec::new(alloc)),
@@ -96,9 +97,10 @@ impl Engine {
     /// The line is made of tokens, or `Lex`. A colon begins a command: `UnknownCommand` or `BadArgument` where it isn't one. A
     /// statement is, in this order, `Parse`, `Scope`, `Update` where its meaning on the graph is a fault, or `Full` where it would
     /// change the content of the graph and the tick is the last. A view is, in this order, `Parse`, `Scope`, `View`,
-    /// `ViewNameTaken`, `TooManyViews`, or `Full` where the last tick was given out. Rows, what changed since a tick and the end of
-    /// a view are refused as `NoSuchView`, a tick above the current one then as `FutureTick`, an index as `IndexThere`. `NoMemory`
-    /// may come of any line that isn't too long.
+    /// `ViewNameTaken`, `TooManyViews`, `Full` where the last tick was given out, or `PlanTooLarge` where its query weighs too much. Rows,
+    /// what changed since a tick and the end of a view are refused as `NoSuchView`, a tick above the current one then as `FutureTick`,
+    /// an index as `IndexThere`. `TooManyRows` may come of a statement or a view that else is executed, where a part of a plan has a row
+    /// that counts more than 2^62 - 1, and `NoMemory` of any line that isn't too long.
     pub fn line(&mut self, line: &str) -> Result<Reply, Fault>
         ensures { Step (state_of self.old) line.now result self.new.entries (state_of self.new) }
     {
@@ -121,10 +123,7 @@ impl Engine {
         ensures rows { IfOk result (λ rows. (found : View) × (rows_verdict view.now (state_of self.now) ≡ Ok found) × AreRows (state_of self.now) found rows.items) }
         ensures refused { IfErr result (λ fault. (rows_verdict view.now (state_of self.now) ≡ Err fault) ⊎ ((fault ≡ Fault.NoMemory) × IsOk (rows_verdict view.now (state_of self.now)))) }
     {
-        match self.views.get(view) {
-            Some(found) => Ok(copied(self.alloc, found.network.rows())?),
-            None => Err(Fault::NoSuchView),
-        }
+        self.views.rows(view)?.ok_or(Fault::NoSuchView)
     }
 
     /// The entries that the last line made, with the names of their views, in the order in which these were made: none
@@ -161,6 +160,7 @@ impl Engine {
             Request::Rows { name } => self.show_rows(name.as_str()),
             Request::Since { name, tick } => self.show_since(name.as_str(), tick),
             Request::ListOfViews => self.list_views(),
+            Request::ListOfSteps => self.list_steps(),
             Request::Drop { name } => self.drop_view(name),
             Request::Index { label, key } => self.add_index(label, key),
         }
@@ -179,20 +179,18 @@ impl Engine {
         let checked = read_statement(self.alloc, line, tokens)?;
         let outcome = execute(self.alloc, &mut self.store, &checked)?;
         match effect_of(self.alloc, &mut self.store, &mut self.views, self.tick) {
-            Ok(
-                Effect {
-                    tick,
-                    entries: made,
-                },
-            ) => {
+            Ok(None) => {
                 self.store.commit();
-                settle(&mut self.views, tick);
-                self.tick = tick;
-                *entries = made;
+                Ok(statement_reply(outcome))
+            }
+            Ok(Some(effect)) => {
+                self.store.commit();
+                self.views.settle(effect.tick);
+                self.tick = effect.tick;
+                *entries = effect.entries;
                 Ok(statement_reply(outcome))
             }
             Err(fault) => {
-                abandon(&mut self.views);
                 self.store.rollback();
                 Err(fault)
             }
@@ -206,18 +204,8 @@ impl Engine {
         let query = read_query(self.alloc, line, tokens)?;
         let made = self.next_view(name)?;
         let reply = made_reply(self.alloc, &query, made, name)?;
-        let network = Network::build(self.alloc, query, &self.store)?;
-        let feed = Feed::new(self.alloc, self.history, made);
-        register(
-            self.alloc,
-            &mut self.views,
-            name,
-            Registered {
-                network,
-                made,
-                feed,
-            },
-        )?;
+        self.views
+            .make(name, query, made, self.history, &self.store)?;
         self.tick = made;
         Ok(reply)
     }
@@ -227,7 +215,7 @@ impl Engine {
         ensures made { result ≡ making_verdict name.now (state_of self.now) }
         ensures in_time { IfOk result (λ made. made ≤ last_tick) }
     {
-        if self.views.contains_key(name) {
+        if self.views.contains(name) {
             return Err(Fault::ViewNameTaken);
         }
         if self.views.len() >= VIEW_LIMIT {
@@ -264,19 +252,20 @@ impl Engine {
     fn show_since(&self, name: &str, tick: u64) -> Result<Reply, Fault>
         ensures { ShowsSince (state_of self.now) name.now tick result }
     {
-        let Some(view) = self.views.get(name) else {
+        if !self.views.contains(name) {
             return Err(Fault::NoSuchView);
-        };
+        }
         if tick > self.tick {
             return Err(Fault::FutureTick);
         }
-        match view.feed.since(tick)? {
-            Answer::Entries(entries) => Ok(Reply::Entries {
+        match self.views.since(name, tick)? {
+            Some(Answer::Entries(entries)) => Ok(Reply::Entries {
                 entries,
                 tick: self.tick,
                 view: Text::from_str(self.alloc, name)?,
             }),
-            Answer::Lagged => self.show_rows(name),
+            Some(Answer::Lagged) => self.show_rows(name),
+            None => Err(Fault::NoSuchView),
         }
     }
 
@@ -285,7 +274,16 @@ impl Engine {
         ensures { ListsViews (state_of self.now) result }
     {
         Ok(Reply::Views {
-            views: Sequence::new(listings(self.alloc, &self.views)?),
+            views: Sequence::new(self.views.listings()?),
+        })
+    }
+
+    // Lists the steps of the views.
+    fn list_steps(&self) -> Result<Reply, Fault>
+        ensures { ListsSteps (state_of self.now) result }
+    {
+        Ok(Reply::Steps {
+            steps: Sequence::new(self.views.steps()?),
         })
     }
 
@@ -293,8 +291,7 @@ impl Engine {
     fn drop_view(&mut self, name: Text) -> Result<Reply, Fault>
         ensures { Drops (rows_verdict name (state_of self.old)) (state_of self.old) result [] (state_of self.new) }
     {
-        let gone = self.views.shift_remove(name.as_str());
-        if gone.is_none() {
+        if !self.views.remove(name.as_str()) {
             return Err(Fault::NoSuchView);
         }
         Ok(Reply::Dropped { view: name })
@@ -337,26 +334,33 @@ fn statement_reply(outcome: StatementAnswer) -> Reply
     }
 }
 
-// What the open change does to the tick and the views. They are then ready for its end; after a fault the views are to be abandoned,
-// and the change is to be rolled back.
+// The answer to `:view`, where the view is made.
+fn made_reply(alloc: Global, query: &ViewQuery, tick: u64, name: &str) -> Result<Reply, Fault>
+    ensures reply { IfOk result (λ reply. reply ≡ Reply.Made (query_columns (statement_of query.now)) tick name.now) }
+    ensures memory { IfErr result (λ fault. fault ≡ Fault.NoMemory) }
+{
+    Ok(Reply::Made {
+        columns: Sequence::new(columns_of(alloc, query)?),
+        tick,
+        view: Text::from_str(alloc, name)?,
+    })
+}
+
+// What the open change does, if it changes the content. The views are then ready for its end; after a fault they are as before, and the change
+// is to be rolled back.
 fn effect_of(
     alloc: Global,
     store: &mut Store,
-    views: &mut IndexMap<String, Registered>,
+    views: &mut Views,
     tick: u64,
-) -> Result<Effect, Fault>
+) -> Result<Option<Effect>, Fault>
     requires open { IsSome store.old.graph.was }
-    requires stand { IfSome store.old.graph.was (λ before. AllStand before.content views.old.entries) }
+    requires stand { StandFor views.old (before_change store.old.graph).content tick }
     requires in_time { tick ≤ last_tick }
-    requires fed { AllInTime tick views.old.entries }
-    ensures effect { IfOk result (λ effect. IfSome store.old.graph.was (λ before. HasEffect (views_in views.old.entries) before.content store.old.graph.now.content tick effect)) }
-    ensures refused { IfErr result (λ fault. (fault ≡ Fault.NoMemory) ⊎ IfSome store.old.graph.was (λ before. tick_after before.content store.old.graph.now.content tick ≡ Err fault)) }
-    ensures on { IfOk result (λ effect. AllStand store.old.graph.now.content (map (settled_one effect.tick) views.new.entries)) }
-    ensures pending { IfOk result (λ effect. effect.entries ≡ pending_entries effect.tick views.new.entries) }
-    ensures takes { IfOk result (λ effect. AllTake effect.tick views.new.entries) }
-    ensures fed { IfOk result (λ effect. AllInTime effect.tick (map (settled_one effect.tick) views.new.entries)) }
-    ensures back { map resting_one views.new.entries ≡ map resting_one views.old.entries }
-    ensures in_time { IfOk result (λ effect. effect.tick ≤ last_tick) }
+    ensures effect { IfOk result (HasEffect views.old views.new (before_change store.old.graph) store.old.graph.now tick) }
+    ensures refused { IfErr result (HasNoEffect (upkeep_in views.old) (before_change store.old.graph) store.old.graph.now tick) }
+    ensures back { OnErr result (StandFor views.new (before_change store.old.graph).content tick) }
+    ensures held { held_in views.new ≡ held_in views.old }
     ensures same { store.new ≡ store.old }
 {
     let effect = view_effect(alloc, store, views, tick)?;
@@ -368,35 +372,25 @@ fn effect_of(
 fn view_effect(
     alloc: Global,
     store: &Store,
-    views: &mut IndexMap<String, Registered>,
+    views: &mut Views,
     tick: u64,
-) -> Result<Effect, Fault>
+) -> Result<Option<Effect>, Fault>
     requires open { IsSome store.now.graph.was }
-    requires stand { IfSome store.now.graph.was (λ before. AllStand before.content views.old.entries) }
+    requires stand { StandFor views.old (before_change store.now.graph).content tick }
     requires in_time { tick ≤ last_tick }
-    requires fed { AllInTime tick views.old.entries }
-    ensures effect { IfOk result (λ effect. IfSome store.now.graph.was (λ before. HasEffect (views_in views.old.entries) before.content store.now.graph.now.content tick effect)) }
-    ensures refused { IfErr result (λ fault. (fault ≡ Fault.NoMemory) ⊎ IfSome store.now.graph.was (λ before. tick_after before.content store.now.graph.now.content tick ≡ Err fault)) }
-    ensures on { IfOk result (λ effect. AllStand store.now.graph.now.content (map (settled_one effect.tick) views.new.entries)) }
-    ensures pending { IfOk result (λ effect. effect.entries ≡ pending_entries effect.tick views.new.entries) }
-    ensures takes { IfOk result (λ effect. AllTake effect.tick views.new.entries) }
-    ensures fed { IfOk result (λ effect. AllInTime effect.tick (map (settled_one effect.tick) views.new.entries)) }
-    ensures back { map resting_one views.new.entries ≡ map resting_one views.old.entries }
-    ensures in_time { IfOk result (λ effect. effect.tick ≤ last_tick) }
+    ensures effect { IfOk result (HasEffect views.old views.new (before_change store.now.graph) store.now.graph.now tick) }
+    ensures refused { IfErr result (HasNoEffect (upkeep_in views.old) (before_change store.now.graph) store.now.graph.now tick) }
+    ensures back { OnErr result (StandFor views.new (before_change store.now.graph).content tick) }
+    ensures held { held_in views.new ≡ held_in views.old }
 {
     let touched = store.touched(alloc)?;
     if touched.is_empty() {
-        return Ok(Effect {
-            tick,
-            entries: Sequence::new(Vec::new(alloc)),
-        });
+        return Ok(None);
     }
-    let tick = next_tick(tick)?;
-    prepare(alloc, views, store)?;
-    let entries = entries_of(alloc, views, tick)?;
-    row_order_laws();
-    Ok(Effect {
-        tick,
-        entries: Sequence::new(entries),
-    })
+    let next = next_tick(tick)?;
+    let entries = views.prepare(store, next)?;
+    Ok(Some(Effect {
+        tick: next,
+        entries,
+    }))
 }

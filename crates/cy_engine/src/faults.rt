@@ -1,7 +1,7 @@
 //! Why a line was refused.
 
 ghost use Rattle.std.specs.Prelude.{◌≡◌};
-ghost use Rattle.cy_engine.specs.Faults.{code_of, offset_of, of_evaluation, of_graph, of_index, of_lexer, of_parser, of_scope, of_update, of_view};
+ghost use Rattle.cy_engine.specs.Faults.{code_of, offset_of, of_evaluation, of_graph, of_index, of_lexer, of_parser, of_scope, of_update, of_upkeep, of_view};
 ghost use Rattle.cy_engine.specs.declared.faults.Fault.TheVariants.{NoMemory};
 
 use cy_effects::UpdateFault;
@@ -11,6 +11,7 @@ use cy_index::IndexFault;
 use cy_kinds::{ScopeFault, ViewFault};
 use cy_lexer::LexFault;
 use cy_parser::ParseFault;
+use cy_views::UpkeepFault;
 use std::alloc::{AllocError, AllocFailed};
 use thiserror::Error;
 
@@ -39,9 +40,15 @@ pub enum Fault {
     ViewNameTaken,
     #[error("no view has this name")]
     NoSuchView,
+    /// The query of a view weighs more than 512.
+    #[error("the plan is too large")]
+    PlanTooLarge,
     /// There are 256 views.
     #[error("too many views")]
     TooManyViews,
+    /// A row of a part of a view's plan would count more than 2^62 - 1.
+    #[error("too many rows")]
+    TooManyRows,
     /// The word of a command is missing, quoted or no command's.
     #[error("unknown command")]
     UnknownCommand,
@@ -73,7 +80,9 @@ impl Fault {
             Fault::Full => 53,
             Fault::ViewNameTaken => 60,
             Fault::NoSuchView => 61,
+            Fault::PlanTooLarge => 67,
             Fault::TooManyViews => 68,
+            Fault::TooManyRows => 69,
             Fault::UnknownCommand => 70,
             Fault::IndexThere => 71,
             Fault::BadArgument => 72,
@@ -197,5 +206,17 @@ impl From<cy_values::Fault> for Fault {
 
     fn from(_fault: cy_values::Fault) -> Fault {
         Fault::NoMemory
+    }
+}
+
+impl From<UpkeepFault> for Fault {
+    ghost from_gives = { λ refused fault. fault ≡ of_upkeep refused };
+
+    fn from(refused: UpkeepFault) -> Fault {
+        match refused {
+            UpkeepFault::PlanTooLarge => Fault::PlanTooLarge,
+            UpkeepFault::TooManyRows => Fault::TooManyRows,
+            UpkeepFault::NoMemory => Fault::NoMemory,
+        }
     }
 }

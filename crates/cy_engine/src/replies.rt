@@ -2,6 +2,7 @@
 
 use cy_bags::Entry;
 use cy_values::{Row, Sequence, Text};
+use cy_views::ViewListing;
 
 /// How many nodes and relationships a line made and removed.
 #[derive(Clone, Copy, Debug, PartialEq, Eq)]
@@ -10,15 +11,6 @@ pub struct Changed {
     pub nodes_gone: u64,
     pub rels_made: u64,
     pub rels_gone: u64,
-}
-
-/// A view in the list of views.
-#[derive(Debug, Drop)]
-pub struct ViewListing {
-    pub columns: Sequence<Text>,
-    /// The tick at which the view was made.
-    pub made: u64,
-    pub name: Text,
 }
 
 /// The answer to a line that is executed.
@@ -58,6 +50,10 @@ pub enum Reply {
     /// The views, in the order in which they were made.
     Views {
         views: Sequence<ViewListing>,
+    },
+    /// The steps that the upkeep of each view took for the last line that changed the graph while the view stood, 0 where there was none.
+    Steps {
+        steps: Sequence<(Text, u64)>,
     },
     /// An index was made.
     Index {

@@ -25,6 +25,8 @@ pub(crate) enum Request<'a> {
     Since { name: Text, tick: u64 },
     /// `:views`.
     ListOfViews,
+    /// `:steps`.
+    ListOfSteps,
     /// `:drop NAME`.
     Drop { name: Text },
     /// `:index LABEL KEY`.
@@ -73,6 +75,8 @@ fn command_request<'a>(
         views_request(without_end(arguments))
     } else if is_command("DROP", line, word) {
         drop_request(alloc, without_end(arguments), line)
+    } else if is_command("STEPS", line, word) {
+        steps_request(without_end(arguments))
     } else if is_command("INDEX", line, word) {
         index_request(alloc, without_end(arguments), line)
     } else {
@@ -127,6 +131,15 @@ fn views_request<'a>(arguments: &[Token]) -> Result<Request<'a>, Fault>
 {
     match arguments {
         [] => Ok(Request::ListOfViews),
+        _ => Err(Fault::BadArgument),
+    }
+}
+
+fn steps_request<'a>(arguments: &[Token]) -> Result<Request<'a>, Fault>
+    ensures { MatchResult result (λ request. spec.steps_request arguments.now ≡ shown request) (λ fault. spec.steps_request arguments.now ≡ spec.Refused fault) }
+{
+    match arguments {
+        [] => Ok(Request::ListOfSteps),
         _ => Err(Fault::BadArgument),
     }
 }

@@ -14,3 +14,5 @@ mod options;
 mod stops;
 #[cfg(test)]
 mod streams;
+#[cfg(test)]
+mod upkeep;

@@ -5,7 +5,7 @@ use Rattle.cy_values.specs.declared.rows.Cell.{Cell}
 use Rattle.cy_bags.specs.declared.changes.Entry.{Entry}
 use Rattle.cy_engine.specs.declared.replies.Changed.{Changed}
 use Rattle.cy_engine.specs.declared.replies.Reply.{Reply}
-use Rattle.cy_engine.specs.declared.replies.ViewListing.{ViewListing}
+use Rattle.cy_views.specs.declared.listings.ViewListing.{ViewListing}
 use Rattle.cy_engine.specs.declared.replies.Reply.TheVariants as reply
 use Rattle.cy_shell.specs.Json.{keyed, list_json, row_json, counted_json}
 use Rattle.cy_shell.specs.Words.{word_of}
@@ -63,6 +63,14 @@ listing_json listing =
 abbrev pub views_json : List ViewListing → Data
 views_json views = keyed (codes "views") (list_json listing_json views)
 
+-- [name,n]
+abbrev pub upkeep_json : List ℕ × ℕ → Data
+upkeep_json upkeep = array (item (string upkeep.0) (item (number (unsigned upkeep.1)) no_items))
+
+-- {"steps":[[name,n],..]}
+abbrev pub steps_json : List (List ℕ × ℕ) → Data
+steps_json steps = keyed (codes "steps") (list_json upkeep_json steps)
+
 -- {"index":[label,key]}
 abbrev pub index_json : List ℕ → List ℕ → Data
 index_json label key = keyed (codes "index") (array (item (string label) (item (string key) no_items)))
@@ -76,6 +84,7 @@ reply_json (reply.Rows rows tick name) = Some (rows_json rows tick name)
 reply_json (reply.Entries entries tick name) = Some (entries_json entries tick name)
 reply_json (reply.Dropped name) = Some (dropped_json name)
 reply_json (reply.Views views) = Some (views_json views)
+reply_json (reply.Steps steps) = Some (steps_json steps)
 reply_json (reply.Index label key) = Some (index_json label key)
 
 -- {"added":[..],"removed":[..],"tick":t,"view":name}

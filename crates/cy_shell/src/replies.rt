@@ -1,7 +1,7 @@
 //! The JSON of replies, entries and faults, written token by token.
 
 ghost use Rattle.std.specs.Prelude.{◌≡◌, ◌++◌, OnOk};
-ghost use Rattle.cy_shell.specs.Replies.{changed_json, statement_json, made_json, rows_json, entries_json, dropped_json, views_json, index_json, offset_json};
+ghost use Rattle.cy_shell.specs.Replies.{changed_json, statement_json, made_json, rows_json, entries_json, dropped_json, views_json, steps_json, index_json, offset_json};
 ghost use Rattle.cy_shell.specs.internal.Tokens.{tokens_of};
 
 use crate::json_values::{WriteJson, write_field};
@@ -38,6 +38,7 @@ impl WriteJson for Reply {
             } => write_entries(out, entries, *tick, view),
             Reply::Dropped { view } => write_dropped(out, view),
             Reply::Views { views } => write_views(out, views),
+            Reply::Steps { steps } => write_steps(out, steps),
             Reply::Index { label, key } => write_index(out, label, key),
         }
     }
@@ -164,6 +165,29 @@ impl WriteJson for ViewListing {
         write_field(out, "made", &self.made)?;
         write_field(out, "name", &self.name)?;
         out.end_object()
+    }
+}
+
+fn write_steps(out: &mut Writer, steps: &Sequence<(Text, u64)>) -> Result<(), AllocError>
+    ensures tokens { OnOk result (out.new.tokens ≡ out.old.tokens ++ tokens_of (steps_json steps.now)) }
+    ensures before { out.new.before ≡ out.old.before }
+{
+    out.begin_object()?;
+    write_field(out, "steps", steps)?;
+    out.end_object()
+}
+
+/// The name of a view with its steps.
+impl WriteJson for (Text, u64) {
+    ghost use Rattle.cy_shell.specs.Replies.{upkeep_json};
+
+    ghost json = { upkeep_json };
+
+    fn write_json(&self, out: &mut Writer) -> Result<(), AllocError> {
+        out.begin_array()?;
+        self.0.write_json(out)?;
+        self.1.write_json(out)?;
+        out.end_array()
     }
 }
 

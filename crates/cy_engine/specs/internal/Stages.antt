@@ -1,10 +1,10 @@
 -- What the stages of the engine's work on a line promise one another.
-use Rattle.std.specs.Prelude.{◌≡◌, ℕ, ◌⊎◌, List, map, Result, Ok, Err}
+use Rattle.std.specs.Prelude.{◌≡◌, ℕ, ◌⊎◌, ◌≤◌, true, false, List, map, Option, None, Some, Result, Ok, Err}
 use Rattle.cy_lexer.specs.declared.tokens.Token.{Token}
 use Rattle.cy_grammar.specs.SpellsClauses.{SpellsStatement}
 use Rattle.cy_parser.specs.declared.faults.ParseFault.{ParseFault}
 use Rattle.cy_trees.specs.Trees.{Statement}
-use Rattle.cy_graph.specs.Graph.{Content}
+use Rattle.cy_graph.specs.Graph.{State}
 use Rattle.cy_engine.specs.declared.engine.Effect.{Effect}
 use Rattle.cy_engine.specs.declared.faults.Fault.{Fault}
 use Rattle.cy_engine.specs.declared.faults.Fault.TheVariants as fault
@@ -14,10 +14,13 @@ use Rattle.cy_engine.specs.declared.requests.Request.{Request as Code}
 use Rattle.cy_engine.specs.declared.requests.Request.TheVariants as code
 use Rattle.cy_feeds.specs.declared.feeds.Answer.TheVariants.{Entries as Since, Lagged}
 use Rattle.cy_feeds.specs.Feeds.{answer_since}
-use Rattle.cy_engine.specs.Requests.{Request, Nothing, StatementOf, ViewOf, RowsOf, SinceOf, ListOfViews, DropOf, IndexOf}
-use Rattle.cy_engine.specs.State.{EngineState, Entries, View}
-use Rattle.cy_engine.specs.Step.{Answer, Answers, AreEntries, AreRows, Indexes, IsRefused, IsUnspelt, listed}
-use Rattle.cy_engine.specs.Verdicts.{index_verdict, rows_verdict, since_verdict, tick_after}
+use Rattle.cy_engine.specs.Requests.{Request, Nothing, StatementOf, ViewOf, RowsOf, SinceOf, ListOfViews, ListOfSteps, DropOf, IndexOf}
+use Rattle.cy_engine.specs.State.{EngineState, last_tick}
+use Rattle.cy_views.specs.Views.{AreEntries, Entries, View, listed}
+use Rattle.cy_views.specs.declared.views.Views.{Views}
+use Rattle.cy_views.specs.Upkeep.{AreReady, SomeHasTooManyRows, Upkeep, held_in, views_in}
+use Rattle.cy_engine.specs.Step.{Answer, Answers, AreRows, HasTooMany, Indexes, IsRefused, IsUnspelt}
+use Rattle.cy_engine.specs.Verdicts.{index_verdict, next_tick, rows_verdict, same_content, since_verdict, tick_after}
 
 -- the request that the code has
 abbrev pub shown : Code → Request
@@ -27,6 +30,7 @@ shown (code.View name query) = ViewOf name query.now
 shown (code.Rows name) = RowsOf name
 shown (code.Since name tick) = SinceOf name tick
 shown code.ListOfViews = ListOfViews
+shown code.ListOfSteps = ListOfSteps
 shown (code.Drop name) = DropOf name
 shown (code.Index label key) = IndexOf label key
 
@@ -46,19 +50,44 @@ abbrev pub Gives : {X A : Type 0} → (X → A) → (Statement → Result A Faul
 Gives see verdict line tokens (Ok x) = HasTree line tokens (λ tree. verdict tree ≡ Ok (see x))
 Gives see verdict line tokens (Err why) = Fails verdict line tokens why
 
--- a line that asks for this is answered, or refused for want of memory
+-- a line that asks for this is answered, or refused for want of memory or for too many rows
 abbrev pub AnswersOrWants : List ℕ → Request → EngineState → Answer → Entries → EngineState → Type 0
-AnswersOrWants line asked old answer entries new = IsRefused fault.NoMemory old answer entries new ⊎ Answers line asked old answer entries new
+AnswersOrWants line asked old answer entries new =
+    IsRefused fault.NoMemory old answer entries new
+    ⊎ ((HasTooMany line asked old × IsRefused fault.TooManyRows old answer entries new) ⊎ Answers line asked old answer entries new)
 
 -- what is answered to `:index`, or want of memory
 abbrev pub AddsIndex : List ℕ → List ℕ → EngineState → Answer → Entries → EngineState → Type 0
 AddsIndex label key old answer entries new =
-    IsRefused fault.NoMemory old answer entries new ⊎ Indexes (index_verdict label key old) old answer entries new
+    IsRefused fault.NoMemory old answer entries new
+    ⊎ ((⊥ × IsRefused fault.TooManyRows old answer entries new) ⊎ Indexes (index_verdict label key old) old answer entries new)
 
--- what a change from one content to another does: the tick after it, and the entries of the views
-pub record HasEffect (views : List View) (before after : Content) (tick : ℕ) (effect : Effect) : Type 0 where
-  pub ticks : tick_after before after tick ≡ Ok effect.tick
-  pub entries_are : AreEntries views before after effect.tick effect.entries
+-- a change for which the content of the graph differs: the tick that follows, and the views ready for its end with their entries
+pub record IsEffect (views ready : Views) (before after : State) (tick : ℕ) (effect : Effect) : Type 0 where
+  pub differs : same_content before.content after.content ≡ false
+  pub ticks : next_tick tick ≡ Ok effect.tick
+  pub in_time : effect.tick ≤ last_tick
+  pub entries_are : AreEntries (views_in views) before.content after.content effect.tick effect.entries
+  pub ready_are : AreReady ready before after effect.tick effect.entries
+  pub held : held_in ready ≡ held_in views
+
+-- what a change from one graph to another does, at most: nothing where the content stays; else the tick rises, and the views are ready for the end
+-- of the change, with their entries
+abbrev pub HasEffect : Views → Views → State → State → ℕ → Option Effect → Type 0
+HasEffect views ready before after tick None = (same_content before.content after.content ≡ true) × (ready ≡ views)
+HasEffect views ready before after tick (Some effect) = IsEffect views ready before after tick effect
+
+-- why it is refused: memory is wanting, the tick is the last, or the views have too many rows
+abbrev pub HasNoEffect : List Upkeep → State → State → ℕ → Fault → Type 0
+HasNoEffect upkeep before after tick why =
+    (why ≡ fault.NoMemory)
+    ⊎ ((tick_after before.content after.content tick ≡ Err why)
+    ⊎ ((why ≡ fault.TooManyRows) × ((next : ℕ) × (tick_after before.content after.content tick ≡ Ok next) × SomeHasTooManyRows after.content upkeep)))
+
+-- what is answered to `:steps`
+abbrev pub ListsSteps : EngineState → Result Reply Fault → Type 0
+ListsSteps state (Ok given) = given ≡ reply.Steps (map (λ u. (u.name, u.steps)) state.upkeep)
+ListsSteps state (Err why) = why ≡ fault.NoMemory
 
 -- what is answered to `:rows`
 abbrev pub ShowsRows : EngineState → List ℕ → Result Reply Fault → Type 0

@@ -1,7 +1,7 @@
 use Rattle.std.proofs.Common.{◌<◌, ◌+◌, ℕ, sym, subst, arith}
 use Rattle.cy_bags.specs.declared.changes.Entry.{Entry}
 use Rattle.cy_feeds.specs.Feeds.{Kept, latest}
-use Rattle.cy_engine.proofs.FedViews.{latest_pushed}
+use Rattle.cy_views.proofs.Feeding.{latest_pushed}
 use Rattle.cy_sessions.proofs.feeds.feed.Goals as goal
 
 abbrev latest_of : Kept → ℕ

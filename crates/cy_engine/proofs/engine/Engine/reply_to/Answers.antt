@@ -2,11 +2,11 @@ use Rattle.std.proofs.Common.{◌≡◌, List, ℕ, refl, sym, ap, subst, ◌∙
 use Rattle.std.proofs.lemmas.Result.{err_from_is_err_and}
 use Rattle.cy_lexer.specs.Tokens.{tokens_of}
 use Rattle.cy_engine.specs.internal.Stages.{AnswersOrWants, shown}
-use Rattle.cy_engine.specs.Requests.{Nothing, StatementOf, ViewOf, RowsOf, SinceOf, ListOfViews, DropOf, request}
+use Rattle.cy_engine.specs.Requests.{Nothing, StatementOf, ViewOf, RowsOf, SinceOf, ListOfViews, ListOfSteps, DropOf, request}
 use Rattle.cy_engine.specs.Model.{state_of}
-use Rattle.cy_engine.specs.State.{Entries}
+use Rattle.cy_views.specs.Views.{Entries}
 use Rattle.cy_engine.specs.Step.{Answers}
-use Rattle.cy_engine.proofs.Lines.{lex_refused, line_step, request_refused, rows_answered, since_answered, views_answered, no_error, same_error}
+use Rattle.cy_engine.proofs.Lines.{lex_refused, line_step, request_refused, rows_answered, since_answered, steps_answered, views_answered, no_error, same_error}
 use Rattle.cy_engine.proofs.engine.Engine.reply_to.Goals as goal
 
 pub returns-in_err-tokens : goal.returns-in_err-tokens
@@ -27,7 +27,7 @@ returns-in-Nothing c =
     let made : tokens_of c.args.line.now ≡ Ok c.as_slice.result.now = c.in_ok-tokens.ensures.tokens ∙ ap Ok (sym c.as_slice.ensures.value) in
     let asks : request c.args.line.now c.as_slice.result.now ≡ Nothing = c.in_ok-read_request.ensures ∙ ap shown c.in-Nothing.is in
     line_step c.args.line.now (state_of c.args.self.now) c.args.entries.now _ _ c.as_slice.result.now Nothing made (λ long. no_error _ _ (c.in_ok-tokens.ensures.long long)) asks
-    (inr (record { answered = refl; no_entries = c.requires.none; state = refl }))
+    (inr (inr (record { answered = refl; no_entries = c.requires.none; state = refl })))
 
 pub returns-in-Statement : goal.returns-in-Statement
 returns-in-Statement c =
@@ -67,9 +67,16 @@ returns-in-ListOfViews c =
     line_step c.args.line.now (state_of c.args.self.now) c.args.entries.now _ _ c.as_slice.result.now ListOfViews made (λ long. no_error _ _ (c.in_ok-tokens.ensures.long long)) asks
     (views_answered c.args.line.now (state_of c.args.self.now) c.args.entries.now c.list_views.result c.requires.none c.list_views.ensures)
 
+pub returns-in-ListOfSteps : goal.returns-in-ListOfSteps
+returns-in-ListOfSteps c =
+    let made : tokens_of c.args.line.now ≡ Ok c.as_slice.result.now = c.in_ok-tokens.ensures.tokens ∙ ap Ok (sym c.as_slice.ensures.value) in
+    let asks : request c.args.line.now c.as_slice.result.now ≡ ListOfSteps = c.in_ok-read_request.ensures ∙ ap shown c.in-ListOfSteps.is in
+    line_step c.args.line.now (state_of c.args.self.now) c.args.entries.now _ _ c.as_slice.result.now ListOfSteps made (λ long. no_error _ _ (c.in_ok-tokens.ensures.long long)) asks
+    (steps_answered c.args.line.now (state_of c.args.self.now) c.args.entries.now c.list_steps.result c.requires.none c.list_steps.ensures)
+
 pub returns-in-Drop : goal.returns-in-Drop
 returns-in-Drop c =
     let made : tokens_of c.args.line.now ≡ Ok c.as_slice.result.now = c.in_ok-tokens.ensures.tokens ∙ ap Ok (sym c.as_slice.ensures.value) in
     let asks : request c.args.line.now c.as_slice.result.now ≡ DropOf c.in-Drop.name = c.in_ok-read_request.ensures ∙ ap shown c.in-Drop.is in
     line_step c.args.line.now (state_of c.args.self.now) _ _ _ c.as_slice.result.now (DropOf c.in-Drop.name) made (λ long. no_error _ _ (c.in_ok-tokens.ensures.long long)) asks
-    (inr (subst (λ (es : Entries). Answers c.args.line.now (DropOf c.in-Drop.name) (state_of c.args.self.now) c.drop_view.result es (state_of c.drop_view.new.self)) (sym c.requires.none) c.drop_view.ensures))
+    (inr (inr (subst (λ (es : Entries). Answers c.args.line.now (DropOf c.in-Drop.name) (state_of c.args.self.now) c.drop_view.result es (state_of c.drop_view.new.self)) (sym c.requires.none) c.drop_view.ensures)))

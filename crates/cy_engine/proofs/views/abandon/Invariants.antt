@@ -1,7 +1,0 @@
-use Rattle.std.proofs.Common.{◌≡◌}
-use Rattle.cy_engine.specs.internal.Network.{abandoned_view}
-use Rattle.cy_engine.proofs.NetworkLemmas.{done}
-use Rattle.cy_engine.proofs.views.abandon.Given as goal
-
-abbrev pub invariant-loop-at : goal.invariant-loop-at
-invariant-loop-at l = l.views.entries ≡ done abandoned_view l.at l.initial.views.entries

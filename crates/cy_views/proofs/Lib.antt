@@ -1,0 +1,10 @@
+pub mod Columns
+pub mod Feeding
+pub mod Going
+pub mod Gone
+pub mod Making
+pub mod Named
+pub mod Pending
+pub mod Readying
+pub mod Served
+pub mod Steps

@@ -1,0 +1,15 @@
+use Rattle.std.proofs.Common.{◌∙◌}
+use Rattle.cy_scans.specs.Changes.{before_change}
+use Rattle.cy_views.specs.declared.views.Views.{Views}
+use Rattle.cy_views.proofs.Making.{few_alike, named_alike}
+use Rattle.cy_views.proofs.views.Views.prepare.Goals as goal
+
+pub returns-in-Err-clause-err : goal.returns-in-Err-clause-err
+returns-in-Err-clause-err c = λ last stand.
+    let left : Views = record c.make_ready.new.self { registered = c.abandon_all.new.registry } in
+    let held = c.abandon_all.ensures.held ∙ c.in-Err.ensures.held in
+    record {
+      rest = c.abandon_all.ensures.rest (before_change c.args.store.now.graph).content last (c.in-Err.ensures.back last stand);
+      named = named_alike c.args.self.now left held stand.named;
+      few = few_alike c.args.self.now left held stand.few;
+    }

@@ -1,0 +1,4 @@
+pub mod Views
+pub mod Upkeep
+pub mod Faults
+pub mod internal

@@ -1,0 +1,44 @@
+//! The views in a list of them.
+
+ghost use Rattle.std.specs.Prelude.{◌≡◌, IfErr, IfOk, map};
+ghost use Rattle.cy_trees.specs.Views.{item_of, statement_of};
+ghost use Rattle.cy_queries.specs.Queries.{query_columns};
+
+use cy_scope::ViewQuery;
+use cy_trees::{Clause, Item};
+use cy_values::{Duplicate, Fault, Sequence, Text};
+use std::alloc::Global;
+
+/// A view in the list of views.
+#[derive(Debug, Drop)]
+pub struct ViewListing {
+    pub columns: Sequence<Text>,
+    /// The tick at which the view was made.
+    pub made: u64,
+    pub name: Text,
+}
+
+/// The columns of a view's query, which are those of the RETURN at its end. Fails only for want of memory.
+pub fn columns_of(alloc: Global, query: &ViewQuery) -> Result<Vec<Text>, Fault>
+    ensures { IfOk result (λ columns. columns.items ≡ query_columns (statement_of query.now)) }
+{
+    let statement = query.checked().statement();
+    let Some(last) = statement.clauses.last() else {
+        return Ok(Vec::new(alloc));
+    };
+    match last {
+        Clause::Return(projection) => Ok(names_of(alloc, &projection.items)?),
+        _ => Ok(Vec::new(alloc)),
+    }
+}
+
+// The columns of the items of a RETURN. Fails only for want of memory.
+fn names_of(alloc: Global, items: &[Item]) -> Result<Vec<Text>, Fault>
+    ensures { IfOk result (λ names. names.items ≡ map (λ i. i.column) (map item_of items.now)) }
+{
+    let mut names = Vec::with_capacity(alloc, items.len())?;
+    for item in items {
+        names.push(item.column.copy(alloc)?)?;
+    }
+    Ok(names)
+}

@@ -7,4 +7,4 @@ rows-requires c = (c.requires.0, record { rows = c.requires.1.network.rows; posi
 pub returns : goal.returns
 returns c = λ graph stands.
     counted_rows c.args.self.now graph c.in_ok-rows.rows.items stands
-        (c.in_ok-rows.ensures.bag graph (record { rows = stands.network.rows; positive = stands.network.positive })) c.in_ok-rows.ensures.canonical
+    (c.in_ok-rows.ensures.bag graph (record { rows = stands.network.rows; positive = stands.network.positive })) c.in_ok-rows.ensures.canonical

@@ -30,7 +30,7 @@ returns-clause-entries c =
     subst (λ (g : Versions). AllRest (before_change g).content stand.0 c.args.self.now.registered.entries → AllReady (before_change g) g.now c.args.tick now) (ap (λ s. s.graph) c.sight-sight.ensures)
     (λ rest. c.in_ok-prepare_all.ensures.ready stand.0 c.args.tick rest stand.1) stand.2.rest
     in
-    subst (λ (es : Entries). AreEntries (views_in c.args.self.now) (before_change graph).content graph.now.content c.args.tick es) (sym (c.new.ensures ∙ c.in_ok-entries.ensures))
+    subst (λ (es : Entries). AreEntries (views_in c.args.self.now) (before_change graph).content graph.now.content c.args.tick es) (sym (c.new-2.ensures ∙ c.in_ok-entries.ensures))
     (subst (λ (hs : List Held). AreEntries (map view_of hs) (before_change graph).content graph.now.content c.args.tick (entries_in c.args.tick now)) c.prepare_all.ensures.held
     (are_entries (before_change graph) graph.now c.args.tick now ready))
 
@@ -64,11 +64,11 @@ returns-clause-ready c =
       ready = ready;
       named = named_alike c.args.self.now left c.prepare_all.ensures.held stand.2.named;
       few = few_alike c.args.self.now left c.prepare_all.ensures.held stand.2.few;
-      are = c.new.ensures ∙ c.in_ok-entries.ensures;
+      are = c.new-2.ensures ∙ c.in_ok-entries.ensures;
     }
 
-pub new-touched-requires : goal.new-touched-requires
-new-touched-requires c = subst (λ (g : Versions). IsSome g.was) (sym (ap (λ s. s.graph) c.sight-sight.ensures)) c.requires.«open»
+pub new-requires : goal.new-requires
+new-requires c = subst (λ (g : Versions). IsSome g.was) (sym (ap (λ s. s.graph) c.sight-sight.ensures)) c.requires.«open»
 
 -- nothing is prepared yet
 pub returns-in_err-touched-clause-back : goal.returns-in_err-touched-clause-back

@@ -1,3 +1,4 @@
+pub mod Bounds
 pub mod Building
 pub mod Chains
 pub mod ChangeEffects
@@ -7,6 +8,7 @@ pub mod EachEntry
 pub mod Effects
 pub mod Following
 pub mod FromTokens
+pub mod Limits
 pub mod Lines
 pub mod Making
 pub mod Names
@@ -17,6 +19,7 @@ pub mod Since
 pub mod StatementEnds
 pub mod StepNames
 pub mod Steps
+pub mod TakenOver
 pub mod Ticks
 pub mod ToldRows
 pub mod TouchedContents

@@ -1,5 +1,5 @@
 -- Followers agree: what holds of a follower's copy, line by line.
-use Rattle.std.proofs.Common.{◌≡◌, ◌⊎◌, ℕ, ◌+◌, ◌≤◌, ◌<◌, nat_le, Bool, true, false, cond, not, List, [], ◌∷◌, ◌++◌, find, map, Option, None, Some, IfSome, Result, Ok, Err, length, ◌-◌, refl, sym, ap, subst, ◌∙◌, arith, inl, inr}
+use Rattle.std.proofs.Common.{◌≡◌, ◌⊎◌, ℕ, ◌+◌, ◌≤◌, nat_le, Bool, true, false, cond, not, List, [], ◌∷◌, ◌++◌, find, map, Option, None, Some, Result, Ok, Err, refl, sym, ap, subst, ◌∙◌, arith, inl, inr}
 use Rattle.std.specs.List.{AllByRecursion}
 use Rattle.std.specs.Str.{bytes_eq}
 use Rattle.std.proofs.lemmas.Bool.Decides.{nat_tests}
@@ -7,11 +7,9 @@ use Rattle.std.proofs.lemmas.Slice.Eq.{bytes_eq-Decides}
 use Rattle.cy_lexer.specs.declared.faults.LexFault.{LexFault}
 use Rattle.cy_lexer.specs.declared.tokens.Token.{Token}
 use Rattle.cy_values.specs.declared.rows.Cell.{Cell}
-use Rattle.cy_values.specs.Bag.{count_of}
 use Rattle.cy_graph.specs.Graph.{Content}
-use Rattle.cy_bags.specs.declared.changes.Entry.{Entry}
 use Rattle.cy_feeds.specs.declared.feeds.Answer.TheVariants.{Entries as Since, Lagged}
-use Rattle.cy_feeds.specs.Feeds.{History, entries_after, latest}
+use Rattle.cy_feeds.specs.Feeds.{History, entries_after}
 use Rattle.cy_feeds.specs.Following.{FollowersGoOn, IsCopy, NewFeedsTell, PushedFeedsTell, QuietFeedsTell}
 use Rattle.cy_effects.specs.Faults.{◌>>=◌}
 use Rattle.cy_engine.specs.declared.faults.Fault.{Fault}
@@ -21,18 +19,16 @@ use Rattle.cy_engine.specs.Followers.{Copy, FollowersAgree, IsCurrent, IsLedBy, 
 use Rattle.cy_engine.specs.Requests.{Asks, Request, RowsOf, SinceOf}
 use Rattle.cy_engine.specs.Runs.{Event, Run}
 use Rattle.cy_engine.specs.State.{EngineState, empty_engine, view_at}
-use Rattle.cy_views.specs.Views.{Entries, IsEntry, View, entry_at, fed, rows_of, without}
+use Rattle.cy_views.specs.Views.{Entries, View, entry_at, fed, rows_of, without}
 use Rattle.cy_engine.specs.Step.{Answer, Answers, AreRows, Follows, IsRefused, Lexed, Shows, Step, Tells}
 use Rattle.cy_engine.specs.Verdicts.{needs, there}
 use Rattle.cy_views.specs.Upkeep.{AreNamed}
-use Rattle.cy_feeds.proofs.Pushes.{rising_more}
-use Rattle.cy_feeds.proofs.Telling.{latest_above, latest_in_time}
 use Rattle.cy_trees.specs.Trees.{Statement}
-use Rattle.cy_engine.proofs.EachEntry.{each_entry}
-use Rattle.cy_engine.proofs.Effects.{Effects, effects, exact}
+use Rattle.cy_engine.proofs.Bounds.{AllLimited, IsLater, base_rises, later_entries, limited_step}
+use Rattle.cy_engine.proofs.Effects.{Effects, effects}
 use Rattle.cy_engine.proofs.StepNames.{effects_named, fed_name, fed_query}
-use Rattle.cy_engine.proofs.Ticks.{Moves, content_at, content_first, content_next, later, moves}
-use Rattle.cy_engine.proofs.ToldRows.{AllTold, IsTold, rows_at, told_step, with_one}
+use Rattle.cy_engine.proofs.Ticks.{content_at, content_first, content_next, later, moves}
+use Rattle.cy_engine.proofs.ToldRows.{AllTold, IsTold, rows_at, told_step}
 
 -- ---- what holds of a copy between lines
 
@@ -48,7 +44,7 @@ module _ (content : ℕ → Content) (name : List ℕ) where
 -- ---- a poll, and what is answered to it
 
 -- a line that asks for something is answered as it asks, or refused
-asked_step : (line : List ℕ) (asked : Request) (old : EngineState) (answer : Answer) (entries : Entries) (new : EngineState) → Asks line asked → Step old line answer entries new
+pub asked_step : (line : List ℕ) (asked : Request) (old : EngineState) (answer : Answer) (entries : Entries) (new : EngineState) → Asks line asked → Step old line answer entries new
     → ((why : Fault) × IsRefused why old answer entries new) ⊎ Answers line asked old answer entries new
 asked_step line asked old answer entries new asks (inl (why, lacks, a)) = inl (why, a)
 asked_step line asked old answer entries new asks (inr lexed) =
@@ -124,14 +120,15 @@ module _ (go_on : FollowersGoOn) (content : ℕ → Content) (name : List ℕ) (
 
 module _ (new_tell : NewFeedsTell) (pushed_tell : PushedFeedsTell) (quiet_tell : QuietFeedsTell) (go_on : FollowersGoOn) (content : ℕ → Content) (name : List ℕ) where
   -- what is known between lines
-  record Known (state : EngineState) (held : Option Copy) : Type 0 where
-    named : AreNamed state.views
-    told : AllTold content state.tick state.views
-    now : content state.tick ≡ state.graph.content
-    right : IsRight content name state held
+  pub record Known (state : EngineState) (held : Option Copy) : Type 0 where
+    pub named : AreNamed state.views
+    pub told : AllTold content state.tick state.views
+    pub limited : AllLimited content state.tick state.views
+    pub now : content state.tick ≡ state.graph.content
+    pub right : IsRight content name state held
 
   -- what holds of each view holds of the one that has the name
-  found_each : (P : View → Type 0) (views : List View) (view : View) → find (λ v. bytes_eq name v.name) views ≡ Some view → AllByRecursion P views → P view
+  pub found_each : (P : View → Type 0) (views : List View) (view : View) → find (λ v. bytes_eq name v.name) views ≡ Some view → AllByRecursion P views → P view
   found_each P [] view is all = cc
   found_each P (v ∷ views) view is all =
       elim (bytes_eq name v.name) as (λ b. cond b (Some v) (find (λ w. bytes_eq name w.name) views) ≡ Some view → P view) [
@@ -180,14 +177,6 @@ module _ (new_tell : NewFeedsTell) (pushed_tell : PushedFeedsTell) (quiet_tell :
       from (Some copy) has (inr asks) = by_since copy has asks
 
   -- ---- one line, whoever sent it
-
-  -- the base of a feed only rises
-  base_rises : (now : ℕ) (view : View) (o : Option Entry) → IsTold content now view → IfSome o (λ e. now < e.tick) → view.feed.base ≤ (with_one view o).feed.base
-  base_rises now view None told later = omega arith
-  base_rises now view (Some e) told later =
-      let all = view.feed.entries ++ e ∷ [] in
-      let above : latest view.feed.base view.feed.entries < e.tick = omega (arith, later, latest_in_time view.feed.base now view.feed.entries told.based told.tells.in_time) in
-      latest_above view.feed.base (length all - view.feed.limit) all (rising_more view.feed.base view.feed.entries e told.tells.rising above)
 
   -- the view that has a name once entries went into the feeds had it before
   before_fed : (entries : Entries) (views : List View) (view : View) → find (λ v. bytes_eq name v.name) (map (fed entries) views) ≡ Some view
@@ -259,24 +248,12 @@ module _ (new_tell : NewFeedsTell) (pushed_tell : PushedFeedsTell) (quiet_tell :
         fits (inr (inl (executed, timed, a))) view at low =
             let was = before_fed entries old.views view (subst (λ (s : EngineState). view_at name s ≡ Some view) a.state at) in
             let told = found_each (IsTold content old.tick) old.views was.0 was.1 known.told in
-            let rises : was.0.feed.base ≤ (fed entries was.0).feed.base = base_rises old.tick was.0 (entry_at was.0.name entries) told (found_each EntryLater old.views was.0 was.1 later_entries) in
+            let rises : was.0.feed.base ≤ (fed entries was.0).feed.base = base_rises content old.tick was.0 (entry_at was.0.name entries) told (found_each (IsLater content old answer entries new) old.views was.0 was.1 (later_entries content old answer entries new stepped known.named)) in
             let base : was.0.feed.base ≤ copy.tick = omega (arith, rises, ap (λ (v : View). v.feed.base) was.2, low) in
             subst (λ (q : Statement). IsCopy copy.rows (rows_at content q copy.tick)) (sym (fed_query entries was.0) ∙ ap (λ (v : View). v.query) was.2) (was_right was.0 was.1 base)
           where
-            EntryLater : View → Type 0
-            EntryLater v = IfSome (entry_at v.name entries) (λ e. old.tick < e.tick)
-
             stepped : Effects old answer entries new
             stepped = inr (inl (executed, timed, a))
-
-            gets : Moves old new → (v : View) (e : Entry) → IsEntry v.query old.graph.content new.graph.content new.tick e → old.tick < e.tick
-            gets (inl rises) v e is = omega (arith, rises, is.tick_is)
-            gets (inr (stays, same)) v e is = absurd (is.differs (λ row. ap (λ (c : Content). count_of row (rows_of v.query c)) (sym same)))
-
-            later_entries : AllByRecursion EntryLater old.views
-            later_entries =
-                each_entry old.graph.content new.graph.content new.tick (λ v o. IfSome o (λ e. old.tick < e.tick)) (λ v same. tt) (gets (moves old answer entries new stepped)) old.views entries known.named
-                (exact old answer entries new stepped)
         fits (inr (inr (inl (made, fresh, a)))) view at low = either (before_made old.views made view (subst (λ (s : EngineState). view_at name s ≡ Some view) a.state at))
           where
             either : (find (λ v. bytes_eq name v.name) old.views ≡ Some view) ⊎ (made ≡ view) → IsCopy copy.rows (rows_at content view.query copy.tick)
@@ -292,6 +269,7 @@ module _ (new_tell : NewFeedsTell) (pushed_tell : PushedFeedsTell) (quiet_tell :
     known_step does then_is held known = record {
       named = effects_named old answer entries new does known.named;
       told = told_step new_tell pushed_tell quiet_tell content old answer entries new known.now then_is does known.named known.told;
+      limited = limited_step content old answer entries new then_is does known.named known.told known.limited;
       now = then_is;
       right = right_step does held known;
     }
@@ -299,7 +277,7 @@ module _ (new_tell : NewFeedsTell) (pushed_tell : PushedFeedsTell) (quiet_tell :
   -- ---- all lines
 
   -- the contents are those of a run, from its first tick on
-  abbrev Agrees : (old new : EngineState) (events : List Event) → Run old events new → Type 0
+  abbrev pub Agrees : (old new : EngineState) (events : List Event) → Run old events new → Type 0
   Agrees old new events run = (tick : ℕ) → old.tick ≤ tick → content tick ≡ content_at old events new run tick
 
   module _ (old mid new : EngineState) (e : Event) (events : List Event) (step : Step old e.line e.answer e.entries mid) (run : Run mid events new) (agrees : Agrees old new (e ∷ events) (mid, step, run)) where
@@ -318,10 +296,10 @@ module _ (new_tell : NewFeedsTell) (pushed_tell : PushedFeedsTell) (quiet_tell :
     served : (held next : Option Copy) → Known old held → IsPoll name held e.line → TakesOver held e.answer next → Known mid next
     served held next known poll takes =
         let after = stepped held known in
-        record { named = after.named; told = after.told; now = after.now; right = (polled old e.line e.answer e.entries mid held next known poll step takes).1 }
+        record { named = after.named; told = after.told; limited = after.limited; now = after.now; right = (polled old e.line e.answer e.entries mid held next known poll step takes).1 }
 
   -- what is known after a run
-  known_run : (old new : EngineState) (events : List Event) (run : Run old events new) → Agrees old new events run → (held last : Option Copy) → IsLedBy name events held last → Known old held → Known new last
+  pub known_run : (old new : EngineState) (events : List Event) (run : Run old events new) → Agrees old new events run → (held last : Option Copy) → IsLedBy name events held last → Known old held → Known new last
   known_run old new [] run agrees held last led known = subst (λ (h : Option Copy). Known new h) (sym led) (subst (λ (s : EngineState). Known s held) (sym run) known)
   known_run old new (e ∷ events) (mid, step, run) agrees held last (inl others) known =
       known_run mid new events run (agrees_on old mid new e events step run agrees) held last others (stepped old mid new e events step run agrees held known)
@@ -334,6 +312,6 @@ module _ (new_tell : NewFeedsTell) (pushed_tell : PushedFeedsTell) (quiet_tell :
       let content = content_at (empty_engine history) events before run in
       let known =
       known_run new_tell pushed_tell quiet_tell go_on content name (empty_engine history) before events run (λ tick low. refl) no_copy held led
-      (record { named = tt; told = tt; now = content_first (empty_engine history) events before run; right = tt })
+      (record { named = tt; told = tt; limited = tt; now = content_first (empty_engine history) events before run; right = tt })
       in
       (polled new_tell pushed_tell quiet_tell go_on content name before poll.line poll.answer poll.entries after held next known polls step takes).0

@@ -7,7 +7,7 @@ use Rattle.cy_trees.specs.Trees.{Statement}
 use Rattle.cy_effects.specs.Statements.{Outcome, statement_outcome}
 use Rattle.cy_scans.specs.Changes.{before_change}
 use Rattle.cy_views.specs.declared.views.Views.{Views}
-use Rattle.cy_views.specs.Upkeep.{AreKeptUp, Held, StandFor, Upkeep, held_in, upkeep_in, upkeep_of, view_of, views_in}
+use Rattle.cy_views.specs.Upkeep.{AreKeptUp, Held, SomeHasTooManyRows, StandFor, Upkeep, held_in, upkeep_in, upkeep_of, view_of, views_in}
 use Rattle.cy_views.specs.Views.{Entries, View, fed}
 use Rattle.cy_engine.specs.declared.engine.Effect.{Effect}
 use Rattle.cy_engine.specs.declared.faults.Fault.{Fault}
@@ -16,12 +16,13 @@ use Rattle.cy_engine.specs.declared.replies.Reply.TheVariants as reply
 use Rattle.cy_engine.specs.Model.{machine_of, state_of}
 use Rattle.cy_engine.specs.Requests.{StatementOf}
 use Rattle.cy_engine.specs.State.{EngineState, last_tick}
-use Rattle.cy_engine.specs.Step.{StatementHasTooMany, changed_by}
+use Rattle.cy_engine.specs.Step.{AreBounded, StatementHasTooMany, changed_by}
 use Rattle.cy_engine.specs.Verdicts.{same_content, scope_verdict, tick_after}
 use Rattle.cy_engine.specs.internal.Representation.{IsAtRest}
 use Rattle.cy_engine.specs.internal.Stages.{AnswersOrWants, HasNoEffect, HasTree, IsEffect}
 use Rattle.cy_engine.proofs.Chains.{nothing_changed}
 use Rattle.cy_engine.proofs.Contents.{content_decides}
+use Rattle.cy_engine.proofs.Limits.{stand_bounded, stand_within}
 use Rattle.cy_engine.proofs.Steps.{carry_late, executed, statement_executed, statement_refused}
 
 -- what holds of what is there
@@ -53,16 +54,29 @@ module _ (line : List ℕ) (tokens : List Token) (store : StoreState) (views : V
 
   -- the store once the change is committed
   module _ (ended : StoreState) (graph : ended.graph.now ≡ outcome.graph) (indexes : ended.chosen ≡ store.chosen) where
+    -- the views that stand for its graph
+    module _ (left : Views) (next : ℕ) (stand : StandFor left outcome.graph.content next) where
+      abbrev on_graph : StandFor left ended.graph.now.content next
+      on_graph = subst (λ (g : State). StandFor left g.content next) (sym graph) stand
+
+      left_bounded : AreBounded ended.graph.now.content (views_in left)
+      left_bounded = stand_bounded left ended.graph.now.content next on_graph
+
+      left_within : SomeHasTooManyRows ended.graph.now.content (upkeep_in left) → ⊥
+      left_within = stand_within left ended.graph.now.content next on_graph
+
     -- nothing changes in the content
-    pub kept_done : (entries : Entries) → entries ≡ [] → same_content before.content outcome.graph.content ≡ true → (left : Views) → held_in left ≡ held_in views
+    pub kept_done : (entries : Entries) → entries ≡ [] → same_content before.content outcome.graph.content ≡ true → (left : Views) → held_in left ≡ held_in views → StandFor left outcome.graph.content tick
         → AnswersOrWants line (StatementOf tokens) start (Ok answer) entries (state_of (machine_of ended left tick history last))
-    kept_done entries none same left held =
+    kept_done entries none same left held stand =
         statement_executed line tokens start (Ok answer) entries (state_of (machine_of ended left tick history last)) resolved (record { outcome = outcome; tick = tick }) tree
         (executed resolved before tick outcome tick means (tick_stays before outcome.graph tick same))
         (record {
           answered = ap Ok answered;
           entries_are = rw (none, sym ((content_decides before.content outcome.graph.content).0 same)) (nothing_changed (views_in views) before.content tick);
           upkeep = rw same (ap (map upkeep_of) held);
+          bounded = left_bounded left tick stand;
+          within = left_within left tick stand;
           state = λ i. record {
             graph = graph i;
             indexes = indexes i;
@@ -75,15 +89,17 @@ module _ (line : List ℕ) (tokens : List Token) (store : StoreState) (views : V
 
     -- the content differs
     pub changed_done : (effect : Effect) (ready left : Views) → IsEffect views ready before outcome.graph tick effect → views_in left ≡ map (fed effect.entries) (views_in ready)
-        → AreKeptUp before outcome.graph (upkeep_in ready) (upkeep_in left)
+        → AreKeptUp before outcome.graph (upkeep_in ready) (upkeep_in left) → StandFor left outcome.graph.content effect.tick
         → AnswersOrWants line (StatementOf tokens) start (Ok answer) effect.entries (state_of (machine_of ended left effect.tick history last))
-    changed_done effect ready left does fed_so kept =
+    changed_done effect ready left does fed_so kept stand =
         statement_executed line tokens start (Ok answer) effect.entries (state_of (machine_of ended left effect.tick history last)) resolved (record { outcome = outcome; tick = effect.tick }) tree
         (executed resolved before tick outcome effect.tick means (rw does.differs does.ticks))
         (record {
           answered = ap Ok answered;
           entries_are = does.entries_are;
           upkeep = rw does.differs (subst (λ (us : List Upkeep). AreKeptUp before outcome.graph us (upkeep_in left)) (ap (map upkeep_of) does.held) kept);
+          bounded = left_bounded left effect.tick stand;
+          within = left_within left effect.tick stand;
           state = λ i. record {
             graph = graph i;
             indexes = indexes i;

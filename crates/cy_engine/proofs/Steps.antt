@@ -22,7 +22,7 @@ use Rattle.cy_effects.specs.declared.faults.UpdateFault.TheVariants as update
 use Rattle.cy_views.specs.declared.faults.UpkeepFault.{UpkeepFault}
 use Rattle.cy_views.specs.declared.faults.UpkeepFault.TheVariants as upkeep
 use Rattle.cy_views.specs.declared.views.Views.{Views}
-use Rattle.cy_views.specs.Upkeep.{IsUnkept, held_in, new_held, upkeep_of, view_of}
+use Rattle.cy_views.specs.Upkeep.{IsUnkept, StandFor, held_in, new_held, upkeep_of, view_of}
 use Rattle.cy_views.specs.Views.{Entries, View, view_limit}
 use Rattle.cy_engine.specs.Faults.{of_index, of_update, of_upkeep}
 use Rattle.cy_engine.specs.declared.faults.Fault.{Fault}
@@ -35,6 +35,7 @@ use Rattle.cy_engine.specs.Requests.{Request, StatementOf, ViewOf}
 use Rattle.cy_engine.specs.State.{EngineState, view_at}
 use Rattle.cy_engine.specs.Step.{Answer, IsExecuted, IsMade, IsRefused, ViewHasTooMany}
 use Rattle.cy_engine.specs.Verdicts.{Executed, execution_verdict, making_verdict, needs, next_tick, query_verdict, scope_verdict, tick_after, passes, view_verdict}
+use Rattle.cy_engine.proofs.Limits.{stand_bounded, stand_within}
 
 -- ---- what carrying a statement out comes to
 
@@ -148,14 +149,16 @@ module _ (line : List ℕ) (tokens : List Token) (store : StoreState) (views : V
         rw (tree.that, may, few) refl
 
     pub view_done : (left : Views) (plan : Operator) (entries after : Entries) (answer : Reply) → weight (statement_of query) ≤ greatest_weight → Serves (plan_of plan) (statement_of query) → entries ≡ []
-        → answer ≡ reply.Made (query_columns (statement_of query)) made name → held_in left ≡ held_in views ++ new_held name query plan made history ∷ []
+        → answer ≡ reply.Made (query_columns (statement_of query)) made name → held_in left ≡ held_in views ++ new_held name query plan made history ∷ [] → StandFor left store.graph.now.content made
         → AnswersOrWants line (ViewOf name tokens) start (Ok answer) entries (state_of (machine_of store left made history after))
-    view_done left plan entries after answer light serves none answered added =
+    view_done left plan entries after answer light serves none answered added stand =
         let is : IsMade view start (Ok answer) entries (state_of (machine_of store left made history after)) = record {
           answered = ap Ok answered;
           no_entries = none;
           plan = plan_of plan;
           serves = serves;
+          bounded = stand_bounded left store.graph.now.content made stand;
+          within = stand_within left store.graph.now.content made stand;
           state = λ i. record {
             graph = store.graph.now;
             indexes = store.chosen;

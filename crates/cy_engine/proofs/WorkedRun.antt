@@ -1,10 +1,13 @@
 -- A run of worked lines from a new engine, computed: what each is answered, the entries that it makes, and the state after it.
-use Rattle.std.proofs.Common.{◌≡◌, ◌<◌, ◌≤◌, ℕ, ◌+◌, pos, List, [], ◌∷◌, Result, Ok, Err, refl, sym, subst, inl, inr, arith}
+use Rattle.std.proofs.Common.{◌≡◌, ◌<◌, ◌≤◌, ℕ, zero, suc, ◌+◌, pos, List, [], ◌∷◌, length, Result, Ok, Err, refl, sym, subst, inl, inr, arith}
 use Rattle.std.specs.Prelude.{IsTrue, codes, map}
+use Rattle.std.specs.List.{AllByRecursion, Contains}
+use Rattle.std.specs.Ordering.{eq_by_cmp}
 use Rattle.std.specs.Str.{chars}
 use Rattle.std.specs.Char.{encode_utf8}
 use Rattle.std.specs.Cmp.{IsTotalOrder}
 use Rattle.std.specs.declared.cmp.Ordering.TheVariants.{Equal}
+use Rattle.std.proofs.lemmas.List.Sums.{count_by-le-length}
 use Rattle.cy_lexer.specs.declared.faults.LexFault.{LexFault}
 use Rattle.cy_lexer.specs.declared.keywords.Keyword.TheVariants as word
 use Rattle.cy_lexer.specs.declared.tokens.Token.{Token}
@@ -27,12 +30,16 @@ use Rattle.cy_bags.specs.declared.changes.Entry.{Entry}
 use Rattle.cy_engine.specs.Requests.{request}
 use Rattle.cy_engine.specs.Runs.{Event, Run}
 use Rattle.cy_engine.specs.State.{EngineState, empty_engine}
+use Rattle.cy_feeds.specs.Following.{last_count}
+use Rattle.cy_plans.specs.Meaning as plans
 use Rattle.cy_plans.specs.Plans.{Plan}
+use Rattle.cy_plans.specs.Within.{CountsWithin, IsWithin}
 use Rattle.cy_planner.specs.Serves.{Serves}
+use Rattle.cy_planner.specs.WideTables.{wide_tables}
 use Rattle.cy_graph.specs.Graph.{State, IsGraph, number_end}
 use Rattle.cy_graph.specs.Maps.{rises}
 use Rattle.cy_graph.specs.Stored.{IsStorable}
-use Rattle.cy_views.specs.Upkeep.{IsWithinCost, Upkeep}
+use Rattle.cy_views.specs.Upkeep.{IsWithinCost, SomeHasTooManyRows, Upkeep}
 use Rattle.cy_views.specs.Views.{Entries, View}
 use Rattle.cy_engine.specs.Step.{Answer, Answers, Lexed, Step}
 use Rattle.cy_bags.specs.internal.Counting.{counted_rows}
@@ -113,6 +120,31 @@ module _ (p : Plan) (serves : Serves p keys) (within : (before after : State) �
   abbrev int : ℕ → Value
   int n = value.Int (pos n)
 
+  -- ---- no row counts too often
+
+  abbrev AreFew : List (List (List Cell)) → Type 0
+  AreFew tables = AllByRecursion (λ (t : List (List Cell)). length t ≤ 1) tables
+
+  of_few : (tables : List (List (List Cell))) (table : List (List Cell)) → AreFew tables → Contains tables table → length table ≤ 1
+  of_few [] table few (k, less, is) = absurd (omega (arith, less))
+  of_few (t ∷ tables) table few (zero, less, is) = subst (λ (x : List (List Cell)). length x ≤ 1) is few.0
+  of_few (t ∷ tables) table few (suc k, less, is) = of_few tables table few.1 (k, omega (arith, less), is)
+
+  -- no part of the plan has such a row, where the wide tables of the query have a row at most
+  few_within : (graph : State) → IsGraph graph → AreFew (wide_tables graph.content keys) → SomeHasTooManyRows graph.content (kept (view [] ∷ [])) → ⊥
+  few_within graph is few (inl (k, part, less, at, (r, many))) =
+      once (subst (λ (q : Plan). IsWithin graph.content (wide_tables graph.content keys) q) at (serves.bounded graph is k part less) r)
+    where
+      once : CountsWithin (wide_tables graph.content keys) (count_of r (plans.rows_of graph.content part)) → ⊥
+      once (inl le) = omega (arith, le, many)
+      once (inr (table, there, (other, le))) =
+          omega (arith, le, many, count_by-le-length (eq_by_cmp row_cmp other) table, of_few (wide_tables graph.content keys) table few there)
+  few_within graph is few (inr none) = absurd none
+
+  -- nor has the view
+  one_bounded : (v : Value) (r : List Cell) → count_of r ((cell.Value v ∷ []) ∷ []) ≤ last_count
+  one_bounded v r = omega (arith, count_by-le-length (eq_by_cmp row_cmp r) ((cell.Value v ∷ []) ∷ []))
+
   -- what a statement is answered that made and removed so many nodes
   abbrev statement : ℕ → ℕ → Answer
   statement made gone = Ok (reply.Statement (record { nodes_made = made; nodes_gone = gone; rels_made = 0; rels_gone = 0 }) [] [])
@@ -154,13 +186,13 @@ module _ (p : Plan) (serves : Serves p keys) (within : (before after : State) �
   -- `CREATE (:A {k: 7})`
   created : Step (empty_engine 64) create_line (statement 1 0) [] (one 1 (node (int 7)) 1 [])
   created = lexed (empty_engine 64) (one 1 (node (int 7)) 1 []) create_line create_tokens (statement 1 0) [] create_lexed
-      (inl (create_tree, create_spelt, record { answered = refl; entries_are = refl; upkeep = refl; state = refl }))
+      (inl (create_tree, create_spelt, record { answered = refl; entries_are = refl; upkeep = refl; bounded = tt; within = λ many. absurd many; state = refl }))
 
   -- `:view v MATCH (n:A) RETURN n.k`
   made : Step (one 1 (node (int 7)) 1 []) view_line (Ok (reply.Made (codes "n.k" ∷ []) 2 (codes "v"))) [] (one 1 (node (int 7)) 2 (view [] ∷ []))
   unfolding denotes slice_in chars encode_utf8
   made = lexed (one 1 (node (int 7)) 1 []) (one 1 (node (int 7)) 2 (view [] ∷ [])) view_line view_tokens (Ok (reply.Made (codes "n.k" ∷ []) 2 (codes "v"))) [] view_lexed
-      (inl (query_tree, query_spelt, record { answered = refl; no_entries = refl; plan = p; serves = serves; state = refl }))
+      (inl (query_tree, query_spelt, record { answered = refl; no_entries = refl; plan = p; serves = serves; bounded = (one_bounded (int 7), tt); within = few_within _ (int_graph 7) (omega arith, (omega arith, tt)); state = refl }))
 
   -- `MATCH (n:A) SET m.k = 9`
   unknown : (tick : ℕ) (views : List View) → Step (one 1 (node (int 8)) tick views) unknown_line (Err (fault.Scope scope.UnknownVariable)) [] (one 1 (node (int 8)) tick views)
@@ -223,6 +255,8 @@ module _ (p : Plan) (serves : Serves p keys) (within : (before after : State) �
               refl,
             );
             upkeep = (0, [], refl, within _ _ (int_graph 7) (int_graph 8), refl);
+            bounded = (one_bounded (int 8), tt);
+            within = few_within _ (int_graph 8) (omega arith, (omega arith, tt));
             state = refl;
           },
         ))
@@ -230,7 +264,7 @@ module _ (p : Plan) (serves : Serves p keys) (within : (before after : State) �
     -- the same again
     set_again : Step (one 1 (node (int 8)) 3 (view fed_set ∷ [])) set_line (statement 0 0) [] (one 1 (node (int 8)) 3 (view fed_set ∷ []))
     set_again = lexed (one 1 (node (int 8)) 3 (view fed_set ∷ [])) (one 1 (node (int 8)) 3 (view fed_set ∷ [])) set_line (set_tokens (digit 8 22 ∷ [])) (statement 0 0) [] set_lexed
-        (inl (set_tree (codes "n") (integer (pos 8)), set_spelt, record { answered = refl; entries_are = inl ((λ r. refl), refl); upkeep = refl; state = refl }))
+        (inl (set_tree (codes "n") (integer (pos 8)), set_spelt, record { answered = refl; entries_are = inl ((λ r. refl), refl); upkeep = refl; bounded = (one_bounded (int 8), tt); within = few_within _ (int_graph 8) (omega arith, (omega arith, tt)); state = refl }))
 
     -- `MATCH (n:A) SET n.k = null`
     set_null : Step (one 1 (node (int 8)) 3 (view fed_set ∷ [])) null_line (statement 0 0) (entry 4 (counted (int 8)) (counted value.Null)) (one 1 bare 4 (view fed_null ∷ []))
@@ -252,6 +286,8 @@ module _ (p : Plan) (serves : Serves p keys) (within : (before after : State) �
               refl,
             );
             upkeep = (0, [], refl, within _ _ (int_graph 8) bare_graph, refl);
+            bounded = (one_bounded value.Null, tt);
+            within = few_within _ bare_graph (omega arith, (omega arith, tt));
             state = refl;
           },
         ))
@@ -276,6 +312,8 @@ module _ (p : Plan) (serves : Serves p keys) (within : (before after : State) �
               refl,
             );
             upkeep = (0, [], refl, within _ _ bare_graph none_graph, refl);
+            bounded = (λ r. omega arith, tt);
+            within = few_within _ none_graph (omega arith, (omega arith, tt));
             state = refl;
           },
         ))
@@ -300,6 +338,8 @@ module _ (p : Plan) (serves : Serves p keys) (within : (before after : State) �
               refl,
             );
             upkeep = (0, [], refl, within _ _ none_graph next_graph, refl);
+            bounded = (one_bounded value.Null, tt);
+            within = few_within _ next_graph (omega arith, (omega arith, tt));
             state = refl;
           },
         ))

@@ -1,7 +1,10 @@
 -- Followers: whoever polls a view goes on from the copy of its rows that it has (own).
-use Rattle.std.specs.Prelude.{◌≡◌, ◌⊎◌, ℕ, List, [], ◌∷◌, Option, None, Some, Ok, Err}
+use Rattle.std.specs.Prelude.{◌≡◌, ◌⊎◌, ◌≤◌, ℕ, List, [], ◌∷◌, Option, None, Some, Ok, Err}
 use Rattle.cy_values.specs.declared.rows.Cell.{Cell}
-use Rattle.cy_feeds.specs.Following.{Follows}
+use Rattle.cy_values.specs.Bag.{IsCanonical, weight_of}
+use Rattle.cy_bags.specs.declared.changes.Change.{Change}
+use Rattle.cy_bags.specs.declared.changes.Entry.{Entry}
+use Rattle.cy_feeds.specs.Following.{Follows, IsBounded, IsChangedBy}
 use Rattle.cy_engine.specs.declared.replies.Reply.TheVariants as reply
 use Rattle.cy_engine.specs.Requests.{Asks, RowsOf, SinceOf}
 use Rattle.cy_engine.specs.Runs.{Event, Run}
@@ -69,3 +72,27 @@ FollowersAgree =
     → Run (empty_engine history) events before → Step before poll.line poll.answer poll.entries after
     → IsLedBy name events no_copy held → IsPoll name held poll.line → TakesOver held poll.answer next
     → IsServed name after poll.answer held next
+
+-- ---- what a follower can take over
+
+-- a change can be taken over: both its sides are in canonical order, as the rows are, what it removes is there, and no row counts more
+-- than 2^62 - 1 after it
+pub record CanChange (copy : List (List Cell × ℕ)) (change : Change) : Type 0 where
+  pub rows : IsCanonical copy
+  pub removed : IsCanonical change.removed
+  pub added : IsCanonical change.added
+  pub held : (row : List Cell) → weight_of row change.removed ≤ weight_of row copy
+  pub bounded : IsBounded copy change
+
+-- and so can entries, one after another
+abbrev pub CanFollow : List (List Cell × ℕ) → List Entry → Type 0
+CanFollow rows [] = Unit {0}
+CanFollow rows (e ∷ es) = CanChange rows e.change × ((next : List (List Cell × ℕ)) → IsChangedBy rows e.change next → CanFollow next es)
+
+-- In every run from an empty engine, a follower whose poll is answered with entries can take them over.
+abbrev pub EntriesCanBeTaken : Type 0
+EntriesCanBeTaken =
+    (history : ℕ) (events : List Event) (before after : EngineState) (poll : Event) (name view : List ℕ) (copy : Copy) (entries : List Entry) (tick : ℕ)
+    → Run (empty_engine history) events before → Step before poll.line poll.answer poll.entries after
+    → IsLedBy name events no_copy (Some copy) → IsPoll name (Some copy) poll.line → poll.answer ≡ Ok (reply.Entries entries tick view)
+    → CanFollow copy.rows entries

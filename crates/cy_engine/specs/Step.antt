@@ -1,5 +1,6 @@
 -- The engine as a machine: the steps that a line allows (own).
 use Rattle.std.specs.Prelude.{◌≡◌, ◌≢◌, ℕ, ◌≤◌, ◌⊎◌, Bool, true, false, not, List, [], ◌∷◌, ◌++◌, filter, length, map, Result, Ok, Err}
+use Rattle.std.specs.List.{AllByRecursion}
 use Rattle.std.specs.Str.{bytes_eq}
 use Rattle.cy_lexer.specs.declared.faults.LexFault.{LexFault}
 use Rattle.cy_lexer.specs.declared.tokens.Token.{Token}
@@ -11,18 +12,20 @@ use Rattle.cy_parser.specs.Faults.{PointsAtPlace}
 use Rattle.cy_grammar.specs.SpellsClauses.{SpellsStatement}
 use Rattle.cy_trees.specs.Trees.{Statement}
 use Rattle.cy_values.specs.declared.rows.Cell.{Cell}
-use Rattle.cy_graph.specs.Graph.{State}
+use Rattle.cy_values.specs.Bag.{count_of}
+use Rattle.cy_graph.specs.Graph.{Content, State}
 use Rattle.cy_index.specs.declared.keys.Pair.{Pair}
 use Rattle.cy_queries.specs.Queries.{query_columns}
 use Rattle.cy_effects.specs.Counts.{Counts}
 use Rattle.cy_feeds.specs.declared.feeds.Answer as feeds
 use Rattle.cy_feeds.specs.declared.feeds.Answer.TheVariants.{Entries as Since, Lagged}
 use Rattle.cy_feeds.specs.Feeds.{answer_since}
+use Rattle.cy_feeds.specs.Following.{last_count}
 use Rattle.cy_plans.specs.Plans.{Plan}
 use Rattle.cy_network.specs.Networks.{HasTooManyRows}
 use Rattle.cy_planner.specs.Serves.{Serves}
 use Rattle.cy_views.specs.Upkeep.{AreKeptUp, SomeHasTooManyRows, Upkeep}
-use Rattle.cy_views.specs.Views.{AreEntries, AreRowsOf, Entries, View, fed, listed, without}
+use Rattle.cy_views.specs.Views.{AreEntries, AreRowsOf, Entries, View, fed, listed, rows_of, without}
 use Rattle.cy_engine.specs.declared.faults.Fault.{Fault}
 use Rattle.cy_engine.specs.declared.faults.Fault.TheVariants as fault
 use Rattle.cy_engine.specs.declared.replies.Changed.{Changed}
@@ -55,6 +58,10 @@ pub record IsReplied (reply : Reply) (old : EngineState) (answer : Answer) (entr
   pub no_entries : entries ≡ []
   pub state : new ≡ old
 
+-- no row of these views counts more than 2^62 - 1
+abbrev pub AreBounded : Content → List View → Type 0
+AreBounded graph views = AllByRecursion (λ (v : View). (row : List Cell) → count_of row (rows_of v.query graph) ≤ last_count) views
+
 -- how many nodes and relationships were made and removed, as a reply has it
 abbrev pub changed_by : Counts → Changed
 changed_by counts = record { nodes_made = counts.made_nodes; nodes_gone = counts.gone_nodes; rels_made = counts.made_rels; rels_gone = counts.gone_rels }
@@ -68,6 +75,9 @@ pub record IsExecuted (executed : Executed) (old : EngineState) (answer : Answer
   pub answered : answer ≡ Ok (reply.Statement (changed_by executed.outcome.counts) executed.outcome.columns executed.outcome.rows)
   pub entries_are : AreEntries old.views old.graph.content executed.outcome.graph.content executed.tick entries
   pub upkeep : KeepsUp (same_content old.graph.content executed.outcome.graph.content) old.graph executed.outcome.graph old.upkeep new.upkeep
+  -- no row counts more than 2^62 - 1 after it, of a view and of a part of its plan: else it is refused
+  pub bounded : AreBounded new.graph.content new.views
+  pub within : SomeHasTooManyRows new.graph.content new.upkeep → ⊥
   pub state : new ≡ record old { graph = executed.outcome.graph; views = map (fed entries) old.views; upkeep = new.upkeep; tick = executed.tick }
 
 pub record IsMade (view : View) (old : EngineState) (answer : Answer) (entries : Entries) (new : EngineState) : Type 0 where
@@ -76,6 +86,9 @@ pub record IsMade (view : View) (old : EngineState) (answer : Answer) (entries :
   -- kept up by a plan that serves its query; which one, the engine may choose
   pub plan : Plan
   pub serves : Serves plan view.query
+  -- no row counts more than 2^62 - 1: else it is refused
+  pub bounded : AreBounded new.graph.content new.views
+  pub within : SomeHasTooManyRows new.graph.content new.upkeep → ⊥
   pub state : new ≡ record old { views = old.views ++ view ∷ []; upkeep = old.upkeep ++ (record { name = view.name; plan = plan; steps = 0 }) ∷ []; tick = view.made }
 
 -- the upkeep of the views without the one of a name

@@ -1,6 +1,6 @@
 //! What holds of every run, by the step relation alone.
 
-ghost use Rattle.cy_engine.specs.Followers.{FollowersAgree};
+ghost use Rattle.cy_engine.specs.Followers.{EntriesCanBeTaken, FollowersAgree};
 ghost use Rattle.cy_engine.specs.Headline.{EntriesAreExact, HeadlineHolds};
 ghost use Rattle.cy_engine.specs.Runs.{IsDetermined, RefusedLinesLeaveNoTrace};
 
@@ -39,6 +39,16 @@ pub fn headline()
 /// with the tick of its copy, has after each answered poll exactly the rows that the view has then.
 pub fn followers()
     ensures { FollowersAgree }
+{
+    followers_go_on();
+    feeds_tell();
+}
+
+/// What a follower is answered meets what `cy_feeds::apply` asks of its copy and of each entry. In every run from an empty engine, whatever
+/// sessions its lines came from, copy and entries are in canonical order, what an entry removes is in the copy, and no row counts more than
+/// 2^62 - 1 after it.
+pub fn entries_can_be_taken()
+    ensures { EntriesCanBeTaken }
 {
     followers_go_on();
     feeds_tell();

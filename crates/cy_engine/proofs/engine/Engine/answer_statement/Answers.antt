@@ -1,7 +1,7 @@
 use Rattle.std.proofs.Common.{◌≡◌, true, None, Some, map, refl, sym, ap, subst, ◌∙◌}
 use Rattle.std.specs.Prelude.{IfSome, IsSome}
 use Rattle.std.proofs.lemmas.Result.{err_from_is_err_and}
-use Rattle.cy_graph.specs.Graph.{State}
+use Rattle.cy_graph.specs.Graph.{Content, State}
 use Rattle.cy_effects.specs.Statements.{Outcome}
 use Rattle.cy_index.specs.Index.{StoreState}
 use Rattle.cy_scans.specs.Changes.{before_change}
@@ -72,7 +72,9 @@ returns-in-Ok-None c =
     rw (← c.self.view_is) (kept_done c.args.line.now c.args.tokens.now old.store old.views old.tick old.history old.entries (statement_of c.in_ok-checked.checked) (outcome_seen mid.graph.now c.in_ok-outcome.outcome)
     c.in_ok-checked.ensures c.in_ok-outcome.ensures.meaning c.statement_reply.result (c.statement_reply.ensures mid.graph.now)
     c.commit.new.self (ap (λ (s : StoreState). s.graph.now) ended) (ap (λ (s : StoreState). s.chosen) ended ∙ ap (λ (s : StoreState). s.chosen) c.in_ok-outcome.ensures.open)
-    c.args.entries.now c.requires.none same c.effect_of.new.views c.effect_of.ensures.held)
+    c.args.entries.now c.requires.none same c.effect_of.new.views c.effect_of.ensures.held
+    (subst (λ (v : Views). StandFor v mid.graph.now.content old.tick) (sym (rw c.in-Ok-None.field-0-is at c.in-Ok-None.ensures.effect).1)
+    (subst (λ (b : Content). StandFor old.views b old.tick) ((content_decides old.store.graph.now.content mid.graph.now.content).0 same) c.self.invariant.stand)))
 
 pub invariant_of-self-in-Ok-None : goal.invariant_of-self-in-Ok-None
 invariant_of-self-in-Ok-None c =
@@ -102,7 +104,8 @@ returns-in-Ok-Some c =
     rw (← c.self.view_is) (changed_done c.args.line.now c.args.tokens.now old.store old.views old.tick old.history old.entries (statement_of c.in_ok-checked.checked) (outcome_seen mid.graph.now c.in_ok-outcome.outcome)
     c.in_ok-checked.ensures c.in_ok-outcome.ensures.meaning c.statement_reply-in-Ok-Some.result (c.statement_reply-in-Ok-Some.ensures mid.graph.now)
     c.commit-in-Ok-Some.new.self (ap (λ (s : StoreState). s.graph.now) ended) (ap (λ (s : StoreState). s.chosen) ended ∙ ap (λ (s : StoreState). s.chosen) c.in_ok-outcome.ensures.open)
-    effect c.effect_of.new.views c.settle.new.self does (c.settle.ensures.fed old.store.graph.now mid.graph.now effect.entries does.ready_are) (c.settle.ensures.kept old.store.graph.now mid.graph.now effect.entries does.ready_are))
+    effect c.effect_of.new.views c.settle.new.self does (c.settle.ensures.fed old.store.graph.now mid.graph.now effect.entries does.ready_are) (c.settle.ensures.kept old.store.graph.now mid.graph.now effect.entries does.ready_are)
+    (c.settle.ensures.stand old.store.graph.now mid.graph.now effect.entries does.ready_are))
 
 pub invariant_of-self-in-Ok-Some : goal.invariant_of-self-in-Ok-Some
 invariant_of-self-in-Ok-Some c =

@@ -69,6 +69,8 @@ pub returns : goal.returns
 returns c =
     let old = c.self.inside in
     let verdict = sym c.in_ok-made.ensures.made in
+    let next : c.in_ok-made.made ≡ old.tick + 1 = rw (← c.self.view_is) at (made_rises c.args.name.now (state_of c.args.self.now) c.in_ok-made.made verdict) in
     let made = c.in_ok-make.ensures.made in
     rw (← c.self.view_is) (view_done c.args.line.now c.args.tokens.now old.store old.views old.tick old.history old.entries c.args.name.now c.in_ok-query.query c.in_ok-made.made c.in_ok-query.ensures
-    (rw (← c.self.view_is) at verdict) c.make.new.self made.0 [] old.entries c.in_ok-reply.reply c.in_ok-make.ensures.light made.1 refl c.in_ok-reply.ensures.reply made.2)
+    (rw (← c.self.view_is) at verdict) c.make.new.self made.0 [] old.entries c.in_ok-reply.reply c.in_ok-make.ensures.light made.1 refl c.in_ok-reply.ensures.reply made.2
+    (c.in_ok-make.ensures.stand old.tick c.self.invariant.stand (omega (arith, next))))

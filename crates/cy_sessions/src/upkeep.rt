@@ -100,9 +100,12 @@ fn expect_steps(rt: &impl Abort, engine: &mut Engine, others: u64) -> Result<(),
 
 #[test]
 fn takes_few_steps(rt: HostRuntime) -> Result<(), Fail> {
-    for others in [1_000, 2_000] {
-        let mut engine = Engine::new(rt.alloc(), 64);
-        expect_steps(&rt, &mut engine, others)?;
-    }
-    Ok(())
+    let mut engine = Engine::new(rt.alloc(), 64);
+    expect_steps(&rt, &mut engine, 1_000)
+}
+
+#[test]
+fn takes_as_few_among_more_nodes(rt: HostRuntime) -> Result<(), Fail> {
+    let mut engine = Engine::new(rt.alloc(), 64);
+    expect_steps(&rt, &mut engine, 2_000)
 }

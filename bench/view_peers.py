@@ -2,164 +2,183 @@
 """Counts the instructions of the program's views and of SQLite's triggers on the same data and changes, by valgrind.
 
 Run it at the top of the repository, with Debian's package sqlite3. It builds the program by `rt run` in crates/cypher_live, or
-takes the one that is named after it. For each of the four examples both load a graph of 1,000 and of 100,000 nodes, a line each, and
-keep a view of it: the program by `:view`, SQLite by a table that triggers written by hand keep. Then both make the same changes.
-For each the script prints how many instructions a change takes in both, and their ratio, and compares the rows of the views
-in the end. It has no limit: it says how things stand. It ends with status 1 where the rows differ.
+takes the one that is named after it. For each of the four examples of `network_cost.py` both load a graph of 1,000 and of 100,000
+nodes, and then make a view of it: the program by `:view`, SQLite by a table that triggers written by hand keep, for the kind of
+change that follows. Then both make the same changes, a line each. For each the script prints how many instructions a change takes
+in both, and their ratio, and compares the rows of the views in the end. It has no limit: it says how things stand. It ends with
+status 1 where the rows differ.
 """
 import json
-import random
 import re
 import subprocess
 import sys
 import tempfile
+from typing import NamedTuple
 
 from graph_cost import built
+from network_cost import BLOCK, SIZES, VIEWS, blocks, graph
 from session import Session
 
-SIZES, CHANGES, AT_ONCE = (1_000, 100_000), 500, 50
+HALF = BLOCK // 2
 
 
-class Example:
-    """Lines of the program and of SQLite that load a graph and then change it, with a view of it in both."""
+class Example(NamedTuple):
+    """A view, whose graph and changes are those of `network_cost.py`, and the same in SQLite."""
 
-    def __init__(self, name, size):
-        self.name, self.chance = name, random.Random(1)
-        self.view, self.shown, self.schema = "", "", ""
-        self.load, self.sql_load, self.changes, self.sql_changes = [], [], [], []
-        getattr(self, name)(size)
+    query: str
+    tables: str
+    # The statements that fill the tables with a block of the graph that begins at this number.
+    rows: object
+    # What makes the view of tables that are filled, and keeps it.
+    view: str
+    # A change, by the numbers of a block and of another one.
+    change: object
+    # What shows the view's rows with their counts.
+    shown: str
 
-    def pair(self, before, after):
-        self.load.append(before)
-        self.sql_load.append(after)
 
-    def change(self, before, after):
-        self.changes.append(before)
-        self.sql_changes.append(after)
+def insert(table, rows):
+    return f"INSERT INTO {table} VALUES {','.join(rows)};"
 
-    def access(self, size):
-        """Users are members of groups, which may read files."""
-        users, groups, files = size * 8 // 10, size // 10, size // 10
-        self.view = "MATCH (u:User)-[:MEMBER_OF]->(g:Group)-[:MAY_READ]->(f:File) RETURN u.k AS u, f.k AS f"
-        self.shown = "SELECT u, f, n FROM seen WHERE n > 0"
-        self.schema = """CREATE TABLE member (u INTEGER, g INTEGER); CREATE INDEX member_g ON member (g); CREATE INDEX member_u ON member (u);
-CREATE TABLE may_read (g INTEGER, f INTEGER); CREATE INDEX may_read_g ON may_read (g);
-CREATE TABLE seen (u INTEGER, f INTEGER, n INTEGER, PRIMARY KEY (u, f));
+
+def members(first):
+    yield insert("member", (f"({first + i}, {first})" for i in range(BLOCK - 11)))
+    yield insert("may", (f"({first}, {first + i}, '{'read' if i % 2 else 'write'}')" for i in range(10)))
+
+
+def needs(first):
+    yield insert("needs (a, b)", (f"({first + i}, {first + (i + j) % BLOCK})" for i in range(BLOCK) for j in (1, 2)))
+
+
+def payments(first):
+    yield insert("uses", (f"({first + i}, {first + (i + j) % HALF})" for i in range(HALF) for j in (0, 1)))
+    yield insert("pays (a, b, amount)", (f"({first + i}, {first + (i + j) % HALF}, 10)" for i in range(HALF) for j in (1, 2, 3)))
+
+
+def statuses(first):
+    yield insert("host", (f"({first + i}, 'h{first + i}')" for i in range(HALF)))
+    yield insert("status", (f"({first + i}, {int(i % 2 == 0)}, 'load')" for i in range(HALF)))
+    yield insert("has", (f"({first + i}, {first + i})" for i in range(HALF)))
+
+
+COUNTED = "ON CONFLICT DO UPDATE SET times = times + excluded.times"
+EXAMPLES = {
+    "access rules": Example(
+        "MATCH (u:User)-[:IN]->(g:Group)-[m:MAY]->(r:Resource) WHERE m.role = 'read' RETURN DISTINCT u.k AS u, r.k AS r",
+        """CREATE TABLE member (u INTEGER, g INTEGER); CREATE INDEX member_g ON member (g); CREATE INDEX member_u ON member (u);
+CREATE TABLE may (g INTEGER, r INTEGER, role TEXT); CREATE INDEX may_g ON may (g, role);
+""",
+        members,
+        f"""CREATE TABLE seen (u INTEGER, r INTEGER, times INTEGER, PRIMARY KEY (u, r)) WITHOUT ROWID;
+INSERT INTO seen SELECT u, r, count(*) FROM member JOIN may USING (g) WHERE role = 'read' GROUP BY u, r;
 CREATE TRIGGER member_in AFTER INSERT ON member BEGIN
-INSERT INTO seen SELECT new.u, f, count(*) FROM may_read WHERE g = new.g GROUP BY f ON CONFLICT DO UPDATE SET n = n + excluded.n; END;
-CREATE TRIGGER member_out AFTER DELETE ON member BEGIN
-UPDATE seen SET n = n - (SELECT count(*) FROM may_read WHERE g = old.g AND f = seen.f) WHERE u = old.u AND f IN (SELECT f FROM may_read WHERE g = old.g);
-DELETE FROM seen WHERE u = old.u AND n = 0; END;
-CREATE TRIGGER may_read_in AFTER INSERT ON may_read BEGIN
-INSERT INTO seen SELECT u, new.f, count(*) FROM member WHERE g = new.g GROUP BY u ON CONFLICT DO UPDATE SET n = n + excluded.n; END;
-"""
-        for label, count in (("User", users), ("Group", groups), ("File", files)):
-            for k in range(count):
-                self.pair(f"CREATE (:{label} {{k: {k}}})", "")
-        of = [self.chance.randrange(groups) for _ in range(users)]
-        for user, group in enumerate(of):
-            self.pair(f"MATCH (u:User {{k: {user}}}), (g:Group {{k: {group}}}) CREATE (u)-[:MEMBER_OF]->(g)", f"INSERT INTO member VALUES ({user}, {group});")
-        for file in range(files):
-            group = self.chance.randrange(groups)
-            self.pair(f"MATCH (g:Group {{k: {group}}}), (f:File {{k: {file}}}) CREATE (g)-[:MAY_READ]->(f)", f"INSERT INTO may_read VALUES ({group}, {file});")
-        for user in self.chance.sample(range(users), CHANGES):
-            group = (of[user] + 1) % groups
-            self.change(f"MATCH (u:User {{k: {user}}})-[m:MEMBER_OF]->(), (g:Group {{k: {group}}}) CREATE (u)-[:MEMBER_OF]->(g) DELETE m",
-                f"BEGIN; INSERT INTO member VALUES ({user}, {group}); DELETE FROM member WHERE u = {user} AND g = {of[user]}; COMMIT;")
-
-    def dashboard(self, size):
-        """Pumps of stations, with a state each."""
-        stations, pumps = size // 10, size * 9 // 10
-        self.view = "MATCH (s:Station)-[:HAS]->(p:Pump) RETURN s.k AS s, p.state AS state"
-        self.shown = "SELECT s, state, n FROM seen WHERE n > 0"
-        self.schema = """CREATE TABLE pump (k INTEGER PRIMARY KEY, s INTEGER, state INTEGER);
-CREATE TABLE seen (s INTEGER, state INTEGER, n INTEGER, PRIMARY KEY (s, state));
-CREATE TRIGGER pump_in AFTER INSERT ON pump BEGIN
-INSERT INTO seen VALUES (new.s, new.state, 1) ON CONFLICT DO UPDATE SET n = n + 1; END;
-CREATE TRIGGER pump_state AFTER UPDATE OF state ON pump BEGIN
-UPDATE seen SET n = n - 1 WHERE s = old.s AND state = old.state;
-INSERT INTO seen VALUES (new.s, new.state, 1) ON CONFLICT DO UPDATE SET n = n + 1; END;
-"""
-        for k in range(stations):
-            self.pair(f"CREATE (:Station {{k: {k}}})", "")
-        for k in range(pumps):
-            self.pair(f"MATCH (s:Station {{k: {k % stations}}}) CREATE (s)-[:HAS]->(:Pump {{k: {k}, state: 1}})", f"INSERT INTO pump VALUES ({k}, {k % stations}, 1);")
-        for k in self.chance.sample(range(pumps), CHANGES):
-            self.change(f"MATCH (p:Pump {{k: {k}}}) SET p.state = 2", f"UPDATE pump SET state = 2 WHERE k = {k};")
-
-    def fraud(self, size):
-        """Accounts that pay one another, and rings of three."""
-        self.view = "MATCH (a:Account)-[:PAID]->(b:Account)-[:PAID]->(c:Account)-[:PAID]->(a) WHERE id(a) < id(b) AND id(a) < id(c) RETURN a.k AS a, b.k AS b, c.k AS c"
-        self.shown = "SELECT a, b, c, n FROM seen WHERE n > 0"
-        ring = "INSERT INTO seen SELECT {0}, {1}, {2}, count(*) FROM paid p JOIN paid q ON q.a = p.b AND q.b = new.a WHERE p.a = new.b AND {3} GROUP BY 1, 2, 3 ON CONFLICT DO UPDATE SET n = n + excluded.n; "
-        self.schema = """CREATE TABLE paid (id INTEGER PRIMARY KEY, a INTEGER, b INTEGER); CREATE INDEX paid_a ON paid (a, b);
-CREATE TABLE seen (a INTEGER, b INTEGER, c INTEGER, n INTEGER, PRIMARY KEY (a, b, c));
-CREATE TRIGGER paid_in AFTER INSERT ON paid BEGIN
-""" + ring.format("new.a", "new.b", "p.b", "new.a < new.b AND new.a < p.b") + ring.format("new.b", "p.b", "new.a", "new.b < p.b AND new.b < new.a") + ring.format("p.b", "new.a", "new.b", "p.b < new.a AND p.b < new.b") + "END;\n"
-        for k in range(size):
-            self.pair(f"CREATE (:Account {{k: {k}}})", "")
-        pay = "MATCH (a:Account {{k: {}}}), (b:Account {{k: {}}}) CREATE (a)-[:PAID]->(b)"
-        for k in range(size):
-            for other in ((k + 1) % size, (k + 7) % size):
-                self.pair(pay.format(k, other), f"INSERT INTO paid (a, b) VALUES ({k}, {other});")
-        for k in self.chance.sample(range(size - 2), CHANGES):
-            self.change(pay.format(k + 2, k), f"INSERT INTO paid (a, b) VALUES ({k + 2}, {k});")
-
-    def dependencies(self, size):
-        """Services that need others, and those that nobody needs."""
-        self.view = "MATCH (s:Service) OPTIONAL MATCH (user:Service)-[:NEEDS]->(s) WITH s, user WHERE user IS NULL RETURN s.k AS s"
-        self.shown = "SELECT k, 1 FROM seen"
-        self.schema = """CREATE TABLE service (k INTEGER PRIMARY KEY); CREATE TABLE needs (a INTEGER, b INTEGER); CREATE INDEX needs_b ON needs (b);
-CREATE TABLE seen (k INTEGER PRIMARY KEY);
-CREATE TRIGGER service_in AFTER INSERT ON service BEGIN INSERT INTO seen VALUES (new.k); END;
-CREATE TRIGGER needs_in AFTER INSERT ON needs BEGIN DELETE FROM seen WHERE k = new.b; END;
-CREATE TRIGGER needs_out AFTER DELETE ON needs WHEN NOT EXISTS (SELECT 1 FROM needs WHERE b = old.b) BEGIN INSERT INTO seen VALUES (old.b); END;
-"""
-        for k in range(size):
-            self.pair(f"CREATE (:Service {{k: {k}}})", f"INSERT INTO service VALUES ({k});")
-        for k in range(size // 2):
-            self.pair(f"MATCH (a:Service {{k: {k}}}), (b:Service {{k: {k + size // 2}}}) CREATE (a)-[:NEEDS]->(b)", f"INSERT INTO needs VALUES ({k}, {k + size // 2});")
-        for k in self.chance.sample(range(size // 2), CHANGES):
-            self.change(f"MATCH (a:Service {{k: {k}}})-[r:NEEDS]->() DELETE r", f"DELETE FROM needs WHERE b = {k + size // 2};")
+INSERT INTO seen SELECT new.u, r, count(*) FROM may WHERE g = new.g AND role = 'read' GROUP BY r {COUNTED}; END;
+""",
+        lambda first, other: f"INSERT INTO member VALUES ({first}, {other});",
+        "SELECT u, r, 1 FROM seen",
+    ),
+    "dependency map": Example(
+        "MATCH (a:Service)-[r:NEEDS*1..3]->(b) RETURN a.k AS a, b.k AS b, size(r) AS n",
+        """CREATE TABLE needs (id INTEGER PRIMARY KEY, a INTEGER, b INTEGER); CREATE INDEX needs_a ON needs (a); CREATE INDEX needs_b ON needs (b);
+""",
+        needs,
+        f"""CREATE TABLE seen (a INTEGER, b INTEGER, n INTEGER, times INTEGER, PRIMARY KEY (a, b, n)) WITHOUT ROWID;
+INSERT INTO seen SELECT a, b, n, count(*) FROM (SELECT a, b, 1 AS n FROM needs
+UNION ALL SELECT p.a, q.b, 2 FROM needs p JOIN needs q ON q.a = p.b WHERE p.id <> q.id
+UNION ALL SELECT p.a, r.b, 3 FROM needs p JOIN needs q ON q.a = p.b JOIN needs r ON r.a = q.b WHERE p.id <> q.id AND q.id <> r.id AND p.id <> r.id) GROUP BY a, b, n;
+CREATE TRIGGER needs_in AFTER INSERT ON needs BEGIN
+INSERT INTO seen SELECT a, b, n, count(*) FROM (SELECT new.a AS a, new.b AS b, 1 AS n
+UNION ALL SELECT p.a, new.b, 2 FROM needs p WHERE p.b = new.a AND p.id <> new.id
+UNION ALL SELECT new.a, q.b, 2 FROM needs q WHERE q.a = new.b AND q.id <> new.id
+UNION ALL SELECT o.a, new.b, 3 FROM needs p JOIN needs o ON o.b = p.a WHERE p.b = new.a AND p.id <> new.id AND o.id NOT IN (p.id, new.id)
+UNION ALL SELECT p.a, q.b, 3 FROM needs p JOIN needs q ON q.a = new.b WHERE p.b = new.a AND p.id <> new.id AND q.id NOT IN (p.id, new.id)
+UNION ALL SELECT new.a, r.b, 3 FROM needs q JOIN needs r ON r.a = q.b WHERE q.a = new.b AND q.id <> new.id AND r.id NOT IN (q.id, new.id))
+WHERE true GROUP BY a, b, n {COUNTED}; END;
+""",
+        lambda first, _: f"INSERT INTO needs (a, b) VALUES ({first + 5}, {first + 30});",
+        "SELECT a, b, n, times FROM seen",
+    ),
+    "fraud pattern": Example(
+        "MATCH (a:Account)-[:USES]->(d:Device)<-[:USES]-(b:Account), (a)-[p:PAYS]->(b) WHERE p.amount > 1000"
+        " RETURN a.k AS a, b.k AS b, d.k AS d, p.amount AS amount",
+        """CREATE TABLE uses (a INTEGER, d INTEGER); CREATE INDEX uses_a ON uses (a, d); CREATE INDEX uses_d ON uses (d);
+CREATE TABLE pays (id INTEGER PRIMARY KEY, a INTEGER, b INTEGER, amount INTEGER); CREATE INDEX pays_a ON pays (a);
+""",
+        payments,
+        f"""CREATE TABLE seen (a INTEGER, b INTEGER, d INTEGER, amount INTEGER, times INTEGER, PRIMARY KEY (a, b, d, amount)) WITHOUT ROWID;
+INSERT INTO seen SELECT p.a, p.b, u.d, p.amount, count(*) FROM pays p JOIN uses u ON u.a = p.a JOIN uses v ON v.a = p.b AND v.d = u.d
+WHERE p.amount > 1000 AND u.rowid <> v.rowid GROUP BY 1, 2, 3, 4;
+CREATE TRIGGER pays_in AFTER INSERT ON pays WHEN new.amount > 1000 BEGIN
+INSERT INTO seen SELECT new.a, new.b, u.d, new.amount, count(*) FROM uses u JOIN uses v ON v.a = new.b AND v.d = u.d
+WHERE u.a = new.a AND u.rowid <> v.rowid GROUP BY u.d {COUNTED}; END;
+""",
+        lambda first, _: f"INSERT INTO pays (a, b, amount) VALUES ({first + 3}, {first + 4}, 5000);",
+        "SELECT a, b, d, amount, times FROM seen",
+    ),
+    # A host without an open status has an empty text in SQLite.
+    "dashboard": Example(
+        VIEWS["dashboard"][0],
+        """CREATE TABLE host (k INTEGER PRIMARY KEY, name TEXT); CREATE TABLE status (k INTEGER PRIMARY KEY, open INTEGER, text TEXT);
+CREATE TABLE has (h INTEGER, s INTEGER); CREATE INDEX has_h ON has (h); CREATE INDEX has_s ON has (s);
+""",
+        statuses,
+        f"""CREATE TABLE seen (host TEXT, status TEXT, times INTEGER, PRIMARY KEY (host, status)) WITHOUT ROWID;
+INSERT INTO seen SELECT name, ifnull(text, ''), count(*) FROM host LEFT JOIN (SELECT h, text FROM has JOIN status ON status.k = s WHERE open) ON h = host.k GROUP BY 1, 2;
+CREATE TRIGGER status_closed AFTER UPDATE OF open ON status WHEN old.open AND NOT new.open BEGIN
+UPDATE seen SET times = times - 1 WHERE status = old.text AND host IN (SELECT name FROM has JOIN host ON host.k = h WHERE s = old.k);
+DELETE FROM seen WHERE times = 0 AND status = old.text AND host IN (SELECT name FROM has JOIN host ON host.k = h WHERE s = old.k);
+INSERT INTO seen SELECT name, '', 1 FROM has JOIN host ON host.k = h WHERE s = old.k
+AND NOT EXISTS (SELECT 1 FROM has o JOIN status ON status.k = o.s WHERE o.h = has.h AND open) {COUNTED}; END;
+""",
+        lambda first, _: f"UPDATE status SET open = 0 WHERE k = {first};",
+        "SELECT host, status, times FROM seen",
+    ),
+}
 
 
-LABELS = {"access": ("User", "Group", "File"), "dashboard": ("Station", "Pump"), "fraud": ("Account",), "dependencies": ("Service",)}
+def changes(name, size):
+    """The changes of an example, each with the beginning of its answer, and those of SQLite."""
+    update, change = VIEWS[name][3], EXAMPLES[name].change
+    for first, other in blocks(size):
+        yield (update(first, other)[0], '{"changed":['), change(first, other)
 
 
-def ours(program, example):
+def ours(program, name, size):
     """The mean instructions of a change, and the rows of the view in the end."""
+    _, make, labels, _, _ = VIEWS[name]
     with Session(program) as session:
-        session.give([(f":index {label} k", '{"index":[') for label in LABELS[example.name]])
-        session.give([(f":view v {example.view}", '{"columns":[')])
-        session.give([(line, '{"changed":[') for line in example.load])
-        count = session.count([(line, '{"changed":[') for line in example.changes], AT_ONCE)
+        session.give([(f":{line}" if line.startswith("index") else line, "{") for line, _ in graph(make, labels, size)])
+        session.give([(f":view v {EXAMPLES[name].query}", '{"columns":[')])
+        count = session.count([line for line, _ in changes(name, size)], 10)
         session.run.stdin.write(":rows v\n")
         session.run.stdin.flush()
         rows = json.loads(session.run.stdout.readline())["rows"]
-    return count, sorted(tuple(row) + (times,) for row, times in rows)
+    return count, sorted("|".join("" if cell is None else str(cell) for cell in (*row, times)) for row, times in rows)
 
 
-def theirs(example):
+def theirs(name, size):
     """The same for SQLite."""
+    example = EXAMPLES[name]
     with tempfile.NamedTemporaryFile("w+") as told:
-        tell = f".shell vgdb --pid=$PPID status internal >> {told.name} 2>/dev/null; vgdb --pid=$PPID zero >/dev/null 2>&1\n"
-        lines = [line for line in example.sql_load if line]
-        text = example.schema + "\n".join(lines) + "\n" + tell + "\n".join(example.sql_changes) + "\n" + tell + example.shown + ";\n"
-        words = ["valgrind", "--tool=callgrind", "--callgrind-out-file=/dev/null", "sqlite3", "-batch", ":memory:"]
-        run = subprocess.run(words, input=text, capture_output=True, check=True, text=True)
+        begin = ".shell vgdb --pid=$PPID instrumentation on >/dev/null 2>&1; vgdb --pid=$PPID zero >/dev/null 2>&1"
+        end = f".shell vgdb --pid=$PPID status internal >> {told.name} 2>/dev/null"
+        load = [line for first in range(0, size, BLOCK) for line in example.rows(first)]
+        made = [line for _, line in changes(name, size)]
+        lines = [example.tables, "BEGIN;", *load, "COMMIT;", example.view, begin, *made, end, f"{example.shown};"]
+        words = ["valgrind", "--tool=callgrind", "--callgrind-out-file=/dev/null", "--instr-atstart=no", "sqlite3", "-batch", ":memory:"]
+        run = subprocess.run(words, input="\n".join(lines) + "\n", capture_output=True, check=True, text=True)
         told.seek(0)
-        counts = [int(it) for it in re.findall(r"events-1: (\d+)", told.read())]
-    return counts[1] / CHANGES, sorted(tuple(int(it) for it in line.split("|")) for line in run.stdout.splitlines())
+        (count,) = re.findall(r"events-1: (\d+)", told.read())
+    return int(count) / len(made), sorted(run.stdout.splitlines())
 
 
 def main():
     program = sys.argv[1] if len(sys.argv) > 1 else built()
     print(f"{'':32} {'nodes':>8} {'here':>12} {'SQLite':>12}")
     is_same = True
-    for name in LABELS:
+    for name in EXAMPLES:
         for size in SIZES:
-            example = Example(name, size)
-            (here, rows), (there, others) = ours(program, example), theirs(example)
+            (here, rows), (there, others) = ours(program, name, size), theirs(name, size)
             is_same = is_same and rows == others
             print(f"{name:32} {size:8,} {here:12,.0f} {there:12,.0f} {here / there:6.2f}{'' if rows == others else '  rows differ'}", flush=True)
     return 0 if is_same else 1

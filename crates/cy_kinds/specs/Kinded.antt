@@ -66,6 +66,10 @@ abbrev mutual
   LastHasKind scope nothing k = k ≡ Flag
   LastHasKind scope (otherwise e) k = HasKind scope e k
 
+-- of whatever kind
+abbrev pub IsKinded : Scope → Expression → Type 0
+IsKinded scope e = (k : Kind) × HasKind scope e k
+
 -- an aggregate, whose arguments have none in them; `*` is counted alone
 abbrev pub IsAggregate : Scope → Expression → Kind → Type 0
 IsAggregate scope (call name distinct es) k =

@@ -72,6 +72,11 @@ pub record StandsFor (graph : Content) (n : NetworkState) : Type 0 where
   pub positive : ArePositive n.rows
   pub idle : n.pending ≡ None
 
+-- the network has the rows of its plan on the graph, whether or not a change is prepared
+pub record HasRows (graph : Content) (n : NetworkState) : Type 0 where
+  pub rows : counted n.rows ≡ counts (rows_of graph n.plan)
+  pub positive : ArePositive n.rows
+
 -- The network is prepared from one graph to another: it still has the rows of the first, what is staged stands for the second, and the difference
 -- is pending.
 pub record IsPrepared (before after : Content) (n : NetworkState) : Type 0 where

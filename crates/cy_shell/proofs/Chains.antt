@@ -38,7 +38,7 @@ no_feed feed result text answered = record { answer = text; entry_texts = []; is
 -- want of memory may refuse it
 left_answer : (state : Serving) (line : List ℕ) → length line ≤ line_limit → IsUtf8 line → HasAnswer state line
 left_answer state line short utf8 =
-    (no_memory_text, Executed (Err fault.NoMemory) [] short utf8 (inl (short, record { answered = refl; no_entries = refl; state = refl })) refl (no_feed state.feed (Err fault.NoMemory) no_memory_text (inr refl)))
+    (no_memory_text, Executed (Err fault.NoMemory) [] short utf8 (inl (fault.NoMemory, inl (refl, short), record { answered = refl; no_entries = refl; state = refl })) refl (no_feed state.feed (Err fault.NoMemory) no_memory_text (inr refl)))
 
 short_answer : (state : Serving) (line : List ℕ) → length line ≤ line_limit → (b : Bool) → is_utf8 line ≡ b → HasAnswer state line
 short_answer state line short true is = left_answer state line short (IsUtf8-from_is_utf8 line is)

@@ -1,9 +1,9 @@
 //! What is registered under the name of a view.
 
-ghost use Rattle.std.specs.Prelude.{◌≡◌, ℕ, ◌<◌, ◌≤◌, IfErr, IfSome, IsSome, OnErr, OnOk};
-ghost use Rattle.cy_graph.specs.Graph.{Content, IsGraph};
+ghost use Rattle.std.specs.Prelude.{◌≡◌, ℕ, ◌<◌, ◌≤◌, IfErr, IfSome, OnErr, OnOk};
+ghost use Rattle.cy_graph.specs.Graph.{Content};
 ghost use Rattle.cy_feeds.specs.Feeds.{latest};
-ghost use Rattle.cy_scans.specs.Changes.{before_change};
+ghost use Rattle.cy_scans.specs.Changes.{IsChange, before_change};
 ghost use Rattle.cy_views.specs.Upkeep.{CannotFollowBy, IsReady, Rests, network_of};
 ghost use Rattle.cy_views.specs.internal.Loops.{CanRest, IsOne, IsSettledFrom, Takes};
 
@@ -12,6 +12,7 @@ use crate::rows::QueryRows;
 use cy_bags::{Change, Entry};
 use cy_feeds::Feed;
 use cy_index::Sight;
+use cy_scans::GraphChange;
 use cy_values::{Duplicate, row_order_laws};
 use std::alloc::Global;
 
@@ -31,15 +32,15 @@ pub(crate) struct Registered {
 }
 
 impl Registered {
-    /// Makes the view ready for the end of the open change: its rows, and its feed where they change. After a refusal it is to be
-    /// abandoned.
-    pub(crate) fn prepare(
+    /// Makes the view ready for the end of the open change, which touched this: its rows, and its feed where they change. After a refusal it
+    /// is to be abandoned.
+    pub(crate) fn prepare<'a>(
         &mut self,
         alloc: Global,
-        sight: &mut Sight<'_>,
+        touched: &GraphChange<'a>,
+        sight: &mut Sight<'a>,
     ) -> Result<(), UpkeepFault>
-        requires open { IsSome sight.old.graph.was }
-        requires graph { IsGraph sight.old.graph.now }
+        requires touched { IsChange (before_change sight.old.graph) sight.old.graph.now touched.now }
         requires rests { (last : ℕ) × Rests self.old (before_change sight.old.graph).content last }
         ensures ready { OnOk result ((last tick : ℕ) → Rests self.old (before_change sight.old.graph).content last → last < tick → IsReady self.new (before_change sight.old.graph) sight.old.graph.now tick) }
         ensures err { OnErr result ((last : ℕ) → Rests self.old (before_change sight.old.graph).content last → CanRest self.new (before_change sight.old.graph).content last) }
@@ -48,7 +49,7 @@ impl Registered {
         ensures sight { sight.new.graph ≡ sight.old.graph }
     {
         row_order_laws();
-        self.rows.prepare(alloc, sight)?;
+        self.rows.prepare(alloc, touched, sight)?;
         self.prepared = true;
         let change = self.rows.pending();
         if change.is_empty() {

@@ -1,26 +1,27 @@
 //! All views, and each step of a change for all of them, in the order in which they were made.
 
-ghost use Rattle.std.specs.Prelude.{◌≡◌, ℕ, ◌<◌, IfErr, IsSome, OnErr, OnOk, map};
+ghost use Rattle.std.specs.Prelude.{◌≡◌, ℕ, ◌<◌, IfErr, OnErr, OnOk, map};
 ghost use Rattle.std.specs.List.{AllByRecursion};
-ghost use Rattle.cy_graph.specs.Graph.{Content, IsGraph};
-ghost use Rattle.cy_scans.specs.Changes.{before_change};
+ghost use Rattle.cy_graph.specs.Graph.{Content};
+ghost use Rattle.cy_scans.specs.Changes.{IsChange, before_change};
 ghost use Rattle.cy_views.specs.Upkeep.{CannotFollow, held, upkeep_of};
 ghost use Rattle.cy_views.specs.internal.Loops.{AllAreSettled, AllCanRest, AllReady, AllRest, AllTake};
 
 use crate::faults::UpkeepFault;
 use crate::registered::Registered;
 use cy_index::Sight;
+use cy_scans::GraphChange;
 use indexmap::IndexMap;
 use std::alloc::Global;
 
-/// Makes all views ready for the end of the open change. After a refusal they are to be abandoned.
-pub(crate) fn prepare_all(
+/// Makes all views ready for the end of the open change, which touched this. After a refusal they are to be abandoned.
+pub(crate) fn prepare_all<'a>(
     alloc: Global,
     registry: &mut IndexMap<String, Registered>,
-    sight: &mut Sight<'_>,
+    touched: &GraphChange<'a>,
+    sight: &mut Sight<'a>,
 ) -> Result<(), UpkeepFault>
-    requires open { IsSome sight.old.graph.was }
-    requires graph { IsGraph sight.old.graph.now }
+    requires touched { IsChange (before_change sight.old.graph) sight.old.graph.now touched.now }
     requires rest { (last : ℕ) × AllRest (before_change sight.old.graph).content last registry.old.entries }
     ensures ready { OnOk result ((last tick : ℕ) → AllRest (before_change sight.old.graph).content last registry.old.entries → last < tick → AllReady (before_change sight.old.graph) sight.old.graph.now tick registry.new.entries) }
     ensures back { (last : ℕ) → AllRest (before_change sight.old.graph).content last registry.old.entries → AllCanRest (before_change sight.old.graph).content last registry.new.entries }
@@ -29,7 +30,7 @@ pub(crate) fn prepare_all(
 {
     for at in 0..registry.len() {
         if let Some(view) = registry.get_index_mut(at) {
-            view.prepare(alloc, sight)?;
+            view.prepare(alloc, touched, sight)?;
         }
     }
     Ok(())

@@ -1,10 +1,10 @@
 //! The rows of a view's query, which follow the graph.
 
-ghost use Rattle.std.specs.Prelude.{◌≡◌, ◌≤◌, IfErr, IfOk, IsSome, OnErr, OnOk, Some};
+ghost use Rattle.std.specs.Prelude.{◌≡◌, ◌≤◌, IfErr, IfOk, OnErr, OnOk, Some};
 ghost use Rattle.cy_trees.specs.Views.{statement_of};
-ghost use Rattle.cy_graph.specs.Graph.{Content, State, IsGraph};
+ghost use Rattle.cy_graph.specs.Graph.{Content, State};
 ghost use Rattle.cy_planner.specs.Weight.{greatest_weight, weight};
-ghost use Rattle.cy_scans.specs.Changes.{before_change};
+ghost use Rattle.cy_scans.specs.Changes.{IsChange, before_change};
 ghost use Rattle.cy_bags.specs.Difference.{IsDifference};
 ghost use Rattle.cy_network.specs.Networks.{operator_of};
 ghost use Rattle.cy_views.specs.Upkeep.{CannotFollowBy, IsPrepared, IsUnkept, StandsFor, network_of};
@@ -16,6 +16,7 @@ use cy_index::{Sight, Store};
 use cy_memory::KeyedMemory;
 use cy_network::Network;
 use cy_planner::plan;
+use cy_scans::GraphChange;
 use cy_scope::ViewQuery;
 use cy_values::{Fault, Row};
 use std::alloc::Global;
@@ -46,15 +47,15 @@ impl QueryRows {
         Ok(QueryRows { query, network })
     }
 
-    /// Makes the rows ready for the end of the open change. After a refusal they are as before. `TooManyRows` only where a part of the
-    /// plan has a row that counts more than 2^62 - 1 on the graph of the change.
-    pub(crate) fn prepare(
+    /// Makes the rows ready for the end of the open change, which touched this. After a refusal they are as before. `TooManyRows` only where a
+    /// part of the plan has a row that counts more than 2^62 - 1 on the graph of the change.
+    pub(crate) fn prepare<'a>(
         &mut self,
         alloc: Global,
-        sight: &mut Sight<'_>,
+        change: &GraphChange<'a>,
+        sight: &mut Sight<'a>,
     ) -> Result<(), UpkeepFault>
-        requires open { IsSome sight.old.graph.was }
-        requires graph { IsGraph sight.old.graph.now }
+        requires change { IsChange (before_change sight.old.graph) sight.old.graph.now change.now }
         requires stands { StandsFor self.old (before_change sight.old.graph).content }
         ensures prepared { OnOk result (IsPrepared self.new (before_change sight.old.graph) sight.old.graph.now) }
         ensures err { OnErr result (StandsFor self.new (before_change sight.old.graph).content) }
@@ -63,7 +64,7 @@ impl QueryRows {
         ensures plan { operator_of self.new.network ≡ operator_of self.old.network }
         ensures sight { sight.new.graph ≡ sight.old.graph }
     {
-        self.network.prepare(alloc, sight)?;
+        self.network.prepare_change(alloc, change, sight)?;
         Ok(())
     }
 

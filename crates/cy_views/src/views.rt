@@ -23,6 +23,7 @@ use crate::rows::QueryRows;
 use cy_bags::Entry;
 use cy_feeds::{Answer, Feed};
 use cy_index::Store;
+use cy_scans::GraphChange;
 use cy_scope::ViewQuery;
 use cy_values::{Fault, Row, Sequence, Text};
 use indexmap::IndexMap;
@@ -200,7 +201,8 @@ impl Views {
     {
         store.laws();
         let mut sight = store.sight();
-        prepare_all(self.alloc, &mut self.registered, &mut sight)?;
+        let touched = GraphChange::new(self.alloc, &sight)?;
+        prepare_all(self.alloc, &mut self.registered, &touched, &mut sight)?;
         let entries = entries_of(self.alloc, &self.registered, tick)?;
         Ok(Sequence::new(entries))
     }

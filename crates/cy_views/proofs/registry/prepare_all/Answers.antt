@@ -1,8 +1,7 @@
 use Rattle.std.proofs.Common.{◌≡◌, ◌+◌, ◌<◌, ℕ, List, map, refl, sym, ap, subst, ◌∙◌, arith}
 use Rattle.std.proofs.lemmas.Result.{err_from_is_err_and}
-use Rattle.std.specs.Prelude.{IsSome}
-use Rattle.cy_graph.specs.Graph.{Versions, IsGraph}
-use Rattle.cy_scans.specs.Changes.{before_change}
+use Rattle.cy_graph.specs.Graph.{Versions}
+use Rattle.cy_scans.specs.Changes.{IsChange, before_change}
 use Rattle.cy_views.specs.declared.registered.Registered.{Registered}
 use Rattle.cy_views.specs.Upkeep.{CannotFollow, Held, IsReady, Registry, Rests, held, upkeep_of}
 use Rattle.cy_views.specs.internal.Loops.{CanRest, IsOne}
@@ -36,8 +35,7 @@ prepare-requires c =
     let same = sym c.loop-at.invariant.graph in
     let rest = c.requires.rest in
     record {
-      «open» = subst (λ (g : Versions). IsSome g.was) same c.requires.«open»;
-      graph = subst (λ (g : Versions). IsGraph g.now) same c.requires.graph;
+      touched = subst (λ (g : Versions). IsChange (before_change g) g.now c.args.touched.now) same c.requires.touched;
       rests = (
         rest.0,
         subst (λ (g : Versions). Rests c.in-Some.view.now (before_change g).content rest.0) same

@@ -6,7 +6,7 @@ use Rattle.cy_views.proofs.Readying.{ready_changed, ready_unchanged}
 use Rattle.cy_views.proofs.registered.Registered.prepare.Goals as goal
 
 pub prepare-requires : goal.prepare-requires
-prepare-requires c = record { «open» = c.requires.«open»; graph = c.requires.graph; stands = c.requires.rests.1.rows }
+prepare-requires c = record { change = c.requires.touched; stands = c.requires.rests.1.rows }
 
 pub pending-change-requires : goal.pending-change-requires
 pending-change-requires c = (before_change c.args.sight.now.graph, (c.args.sight.now.graph.now, c.in_ok-prepare.ensures.prepared))

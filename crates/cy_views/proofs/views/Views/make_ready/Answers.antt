@@ -1,21 +1,22 @@
 use Rattle.std.proofs.Common.{List, map, sym, ap, subst, ◌∙◌}
 use Rattle.std.specs.Prelude.{IsSome}
-use Rattle.cy_graph.specs.Graph.{Versions, IsGraph}
+use Rattle.cy_graph.specs.Graph.{Versions}
 use Rattle.cy_scans.specs.Changes.{before_change}
-use Rattle.cy_views.specs.Upkeep.{Held, entries_in, view_of, views_in}
+use Rattle.cy_views.specs.Upkeep.{Held, Rests, entries_in, view_of, views_in}
 use Rattle.cy_views.specs.Views.{AreEntries, Entries}
-use Rattle.cy_views.specs.internal.Loops.{AllCanRest, AllReady, AllRest}
+use Rattle.cy_views.specs.internal.Loops.{AllCanRest, AllReady, AllRest, CanRest}
 use Rattle.cy_views.specs.declared.views.Views.{Views}
+use Rattle.cy_views.proofs.Going.{all_hold, none_done}
 use Rattle.cy_views.proofs.Making.{few_alike, named_alike}
 use Rattle.cy_views.proofs.Pending.{are_entries}
+use Rattle.cy_views.proofs.Steps.{IsHeldBack, rests_back}
 use Rattle.cy_views.proofs.views.Views.make_ready.Goals as goal
 
 pub prepare_all-requires : goal.prepare_all-requires
 prepare_all-requires c =
     let same = sym (ap (λ s. s.graph) c.sight-sight.ensures) in
     record {
-      «open» = subst (λ (g : Versions). IsSome g.was) same c.requires.«open»;
-      graph = subst (λ (g : Versions). IsGraph g.now) same c.laws.ensures;
+      touched = c.in_ok-touched.ensures.change;
       rest = (c.requires.stand.0, subst (λ (g : Versions). AllRest (before_change g).content c.requires.stand.0 c.args.self.now.registered.entries) same c.requires.stand.2.rest);
     }
 
@@ -29,7 +30,7 @@ returns-clause-entries c =
     subst (λ (g : Versions). AllRest (before_change g).content stand.0 c.args.self.now.registered.entries → AllReady (before_change g) g.now c.args.tick now) (ap (λ s. s.graph) c.sight-sight.ensures)
     (λ rest. c.in_ok-prepare_all.ensures.ready stand.0 c.args.tick rest stand.1) stand.2.rest
     in
-    subst (λ (es : Entries). AreEntries (views_in c.args.self.now) (before_change graph).content graph.now.content c.args.tick es) (sym (c.new.ensures ∙ c.in_ok-entries.ensures))
+    subst (λ (es : Entries). AreEntries (views_in c.args.self.now) (before_change graph).content graph.now.content c.args.tick es) (sym (c.new-2.ensures ∙ c.in_ok-entries.ensures))
     (subst (λ (hs : List Held). AreEntries (map view_of hs) (before_change graph).content graph.now.content c.args.tick (entries_in c.args.tick now)) c.prepare_all.ensures.held
     (are_entries (before_change graph) graph.now c.args.tick now ready))
 
@@ -63,5 +64,16 @@ returns-clause-ready c =
       ready = ready;
       named = named_alike c.args.self.now left c.prepare_all.ensures.held stand.2.named;
       few = few_alike c.args.self.now left c.prepare_all.ensures.held stand.2.few;
-      are = c.new.ensures ∙ c.in_ok-entries.ensures;
+      are = c.new-2.ensures ∙ c.in_ok-entries.ensures;
     }
+
+pub new-requires : goal.new-requires
+new-requires c = subst (λ (g : Versions). IsSome g.was) (sym (ap (λ s. s.graph) c.sight-sight.ensures)) c.requires.«open»
+
+-- nothing is prepared yet
+pub returns-in_err-touched-clause-back : goal.returns-in_err-touched-clause-back
+returns-in_err-touched-clause-back c = λ last stand.
+    let before = (before_change c.args.store.now.graph).content in
+    let entries = c.args.self.now.registered.entries in
+    all_hold (IsHeldBack before) (λ view. Rests view before last) (λ view. CanRest view before last) (λ view next rests held. held.back last rests) (λ view. rests_back before last view)
+    entries entries 0 (none_done (IsHeldBack before) entries) stand.rest

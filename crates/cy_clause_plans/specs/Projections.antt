@@ -16,7 +16,8 @@ use Rattle.cy_plans.specs.Parts.{parts}
 use Rattle.cy_plans.specs.Meaning.{rows_of}
 use Rattle.cy_plans.specs.Sure.{IsSureOn}
 use Rattle.cy_plans.specs.Within.{IsWithin}
-use Rattle.cy_row_plans.specs.Rows.{FitsRows, IsKinded}
+use Rattle.cy_row_plans.specs.Rows.{FitsRows}
+use Rattle.cy_kinds.specs.Kinded.{IsKinded}
 use Rattle.cy_clause_plans.specs.Matched.{IsTestKinded}
 
 abbrev pub expressions_in : List Item → List Expression

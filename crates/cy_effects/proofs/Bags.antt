@@ -62,7 +62,7 @@ module _ (total : IsTotalOrder row_cmp) where
   pub same_update : (graph : State) (clause : Clause) (rows others : List (List Cell)) → IsSameBag rows others → updated graph clause rows ≡ updated graph clause others
   same_update graph clause rows others same = ap (rows_taken graph clause) (same_order rows others same)
 
-  module _ (reading : (graph : Content) (clause : Clause) (rows others : List (List Cell)) → IsSameBag rows others
+  module _ (reading : (graph : Content) (clause : Clause) (rows others : List (List Cell)) → is_update clause ≡ false → IsSameBag rows others
       → IsSameOutcome (rows_after graph clause rows) (rows_after graph clause others)) where
     same_updating : (clause : Clause) (one other : Progress) → IsSameProgress one other → IsSameResult (after_updating clause one) (after_updating clause other)
     same_updating clause one other same =
@@ -70,17 +70,17 @@ module _ (total : IsTotalOrder row_cmp) where
         same_update one.graph clause one.rows other.rows same.1 ∙ ap (λ graph. updated graph clause other.rows) same.0 in
         subst (λ r. IsSameResult (after_updating clause one) r) (λ i. changed (same.0 i) (same.2 i) (outcomes i)) (same_itself (after_updating clause one))
 
-    same_reading : (clause : Clause) (one other : Progress) → IsSameProgress one other → IsSameResult (after_reading clause one) (after_reading clause other)
-    same_reading clause one other same =
+    same_reading : (clause : Clause) (one other : Progress) → is_update clause ≡ false → IsSameProgress one other → IsSameResult (after_reading clause one) (after_reading clause other)
+    same_reading clause one other reads same =
         subst (λ r. IsSameResult (after_reading clause one) r) (λ i. read (same.0 i) (same.2 i) (rows_after ((same.0 i).content) clause other.rows))
-        (same_read one.graph one.counts (rows_after one.graph.content clause one.rows) (rows_after one.graph.content clause other.rows) (reading one.graph.content clause one.rows other.rows same.1))
+        (same_read one.graph one.counts (rows_after one.graph.content clause one.rows) (rows_after one.graph.content clause other.rows) (reading one.graph.content clause one.rows other.rows reads same.1))
 
     same_clause : (clause : Clause) (one other : Progress) → IsSameProgress one other → IsSameResult (after_clause clause one) (after_clause clause other)
     same_clause clause one other same =
-        elim (is_update clause) as (λ b. IsSameResult (cond b (after_updating clause one) (after_reading clause one)) (cond b (after_updating clause other) (after_reading clause other))) [
-          | true ↦ same_updating clause one other same
-          | false ↦ same_reading clause one other same
-        ]
+        elim (is_update clause) as (λ b. is_update clause ≡ b → IsSameResult (cond b (after_updating clause one) (after_reading clause one)) (cond b (after_updating clause other) (after_reading clause other))) [
+          | true ↦ λ writes. same_updating clause one other same
+          | false ↦ λ reads. same_reading clause one other reads same
+        ] refl
 
     pub same_clauses : (clauses : List Clause) (one other : Progress) → IsSameProgress one other
         → IsSameResult (each_in_turn after_clause clauses one) (each_in_turn after_clause clauses other)

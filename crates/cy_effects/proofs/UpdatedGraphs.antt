@@ -1,5 +1,5 @@
 -- What an updating clause, and a statement, leaves: a graph, with which the counts agree, and rows that name what is in it.
-use Rattle.std.proofs.Common.{◌≡◌, ℕ, ◌+◌, ◌<◌, ◌≤◌, true, false, cond, not, List, [], ◌∷◌, ◌++◌, length, sym, subst, arith}
+use Rattle.std.proofs.Common.{◌≡◌, ℕ, ◌+◌, ◌<◌, ◌≤◌, true, false, cond, not, refl, List, [], ◌∷◌, ◌++◌, length, sym, subst, arith}
 use Rattle.std.specs.Prelude.{fold, Result, Ok, Err, IfOk}
 use Rattle.std.specs.List.{AllByRecursion}
 use Rattle.cy_values.specs.declared.numbers.NodeId.{NodeId}
@@ -131,7 +131,7 @@ added a b c some others first second =
       rels = omega (arith, joined_one, joined_two);
     }
 
-module _ (reading : (graph : Content) (clause : Clause) (rows : List (List Cell)) → AreInGraph graph rows → IfOk (rows_after graph clause rows) (AreInGraph graph)) (first : State) where
+module _ (reading : (graph : Content) (clause : Clause) (rows : List (List Cell)) → is_update clause ≡ false → AreInGraph graph rows → IfOk (rows_after graph clause rows) (AreInGraph graph)) (first : State) where
   updating_next : (clause : Clause) (p : Progress) → Come first p → IfOk (after_updating clause p) (Come first)
   updating_next clause p come =
       and_then (Updated p.graph) (Come first)
@@ -143,8 +143,8 @@ module _ (reading : (graph : Content) (clause : Clause) (rows : List (List Cell)
       })
       (updated p.graph clause p.rows) (clause_updated p.graph clause p.rows come.is come.rows)
 
-  reading_next : (clause : Clause) (p : Progress) → Come first p → IfOk (after_reading clause p) (Come first)
-  reading_next clause p come = read (rows_after p.graph.content clause p.rows) (reading p.graph.content clause p.rows come.rows)
+  reading_next : (clause : Clause) (p : Progress) → is_update clause ≡ false → Come first p → IfOk (after_reading clause p) (Come first)
+  reading_next clause p reads come = read (rows_after p.graph.content clause p.rows) (reading p.graph.content clause p.rows reads come.rows)
     where
       read : (r : Result (List (List Cell)) EvalFault) → IfOk r (AreInGraph p.graph.content) → IfOk (evaluated r >>= λ rows. Ok (record p { rows = rows })) (Come first)
       read (Ok rows) here = record { is = come.is; counted = come.counted; rows = here }
@@ -152,10 +152,10 @@ module _ (reading : (graph : Content) (clause : Clause) (rows : List (List Cell)
 
   pub clause_come : (clause : Clause) (p : Progress) → Come first p → IfOk (after_clause clause p) (Come first)
   clause_come clause p come =
-      elim (is_update clause) as (λ b. IfOk (cond b (after_updating clause p) (after_reading clause p)) (Come first)) [
-        | true ↦ updating_next clause p come
-        | false ↦ reading_next clause p come
-      ]
+      elim (is_update clause) as (λ b. is_update clause ≡ b → IfOk (cond b (after_updating clause p) (after_reading clause p)) (Come first)) [
+        | true ↦ λ writes. updating_next clause p come
+        | false ↦ λ reads. reading_next clause p reads come
+      ] refl
 
   all_come : (clauses : List Clause) (p : Progress) → Come first p → IfOk (each_in_turn after_clause clauses p) (Come first)
   all_come [] p come = come

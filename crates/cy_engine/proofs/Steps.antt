@@ -37,7 +37,7 @@ use Rattle.cy_engine.specs.Step.{Answer, IsExecuted, IsMade, IsRefused, ViewHasT
 use Rattle.cy_engine.specs.Verdicts.{Executed, execution_verdict, making_verdict, needs, next_tick, query_verdict, scope_verdict, tick_after, passes, view_verdict}
 use Rattle.cy_engine.proofs.Limits.{stand_bounded, stand_within}
 
--- ---- what carrying a statement out comes to
+-- ---- what executing a statement comes to
 
 module _ (resolved : Statement) (graph : State) (tick : ℕ) where
   pub executed : (outcome : Outcome) (after : ℕ) → statement_outcome graph resolved ≡ Ok outcome → tick_after graph.content outcome.graph.content tick ≡ Ok after

@@ -93,7 +93,7 @@ pub record Executed : Type 0 where
   pub outcome : Outcome
   pub tick : ℕ
 
--- what carrying a checked statement out from a graph and a tick gives, or its fault; then the last tick
+-- what executing a checked statement on a graph at a tick gives, or its fault; then the last tick
 abbrev pub execution_verdict : Statement → State → ℕ → Result Executed Fault
 execution_verdict resolved graph tick =
     or_fault of_update (statement_outcome graph resolved) >>= λ outcome.

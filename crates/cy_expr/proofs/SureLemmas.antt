@@ -36,7 +36,8 @@ use Rattle.cy_kinds.specs.Kinds.{is_entity, is_flag, is_node, is_relationship, i
 use Rattle.cy_kinds.specs.Scopes.{Scope, find_column, kind_in}
 use Rattle.cy_kinds.specs.Rows.{row_fits, is_cell_of}
 use Rattle.cy_kinds.specs.ExpressionKinds.{kind_of}
-use Rattle.cy_kinds.specs.ExpressionFaults.{are_compared, are_taken, are_values, arms_fault, call_fault, compares, expression_fault, expressions_fault, have_values, is_value_otherwise, links_fault, otherwise_fault, takes_unary}
+use Rattle.cy_kinds.specs.ExpressionFaults.{are_compared, are_taken, are_values, arms_fault, call_fault, expression_fault, expressions_fault, have_values, is_value_otherwise, links_fault, otherwise_fault}
+use Rattle.cy_kinds.specs.Operands.{compares, takes_unary}
 use Rattle.cy_kinds.specs.ResolvedExpressions.{resolved, resolved_arms, resolved_expressions, resolved_links, resolved_otherwise}
 use Rattle.cy_kinds.specs.Sure.{are_sure, are_sure_arms, are_sure_elements, are_sure_links, gives_labels, has_size, have_size, is_known_list, is_literal, is_sure, is_sure_binary, is_sure_call, is_sure_otherwise, is_sure_unary}
 use Rattle.cy_expr.specs.declared.faults.EvalFault.{EvalFault}

@@ -10,7 +10,8 @@ use Rattle.cy_values.specs.declared.numbers.NodeId.{NodeId}
 use Rattle.cy_values.specs.declared.numbers.RelId.{RelId}
 use Rattle.cy_graph.specs.declared.nodes.Node.{Node}
 use Rattle.cy_graph.specs.declared.nodes.Rel.{Rel}
-use Rattle.cy_graph.specs.Graph.{rel_order, rels_from, rels_into, rels_with}
+use Rattle.cy_graph.specs.Graph.{rel_order, rels_with}
+use Rattle.cy_graph.specs.internal.Ends.{rels_from, rels_into}
 use Rattle.cy_graph.specs.Model.{rels_of}
 use Rattle.cy_graph.specs.internal.Slots.{value_under}
 use Rattle.cy_graph.proofs.Graphs.{EndsIn}

@@ -79,13 +79,6 @@ outgoing node rels = filter (λ e. eqb node.0 e.1.source.0) rels
 abbrev pub incoming : NodeId → List (RelId × Rel) → List (RelId × Rel)
 incoming node rels = filter (λ e. eqb node.0 e.1.target.0) rels
 
--- their numbers
-abbrev pub rels_from : NodeId → List (RelId × Rel) → List RelId
-rels_from node rels = map (λ e. e.0) (outgoing node rels)
-
-abbrev pub rels_into : NodeId → List (RelId × Rel) → List RelId
-rels_into node rels = map (λ e. e.0) (incoming node rels)
-
 -- the numbers of those of which it is either
 abbrev pub rels_with : NodeId → List (RelId × Rel) → List RelId
 rels_with node rels = map (λ e. e.0) (filter (λ e. eqb node.0 e.1.source.0 || eqb node.0 e.1.target.0) rels)

@@ -3,6 +3,7 @@ pub mod Adjacency
 pub mod BeforeImages
 pub mod Contents
 pub mod Differences
+pub mod Ends
 pub mod Images
 pub mod Listed
 pub mod Place

@@ -1,41 +1,17 @@
 -- The first fault of an expression in a scope: parts before the whole, in the order of the text (own).
 use Rattle.std.specs.Prelude.{Bool, true, false, not, ◌&&◌, ◌||◌, Option, Some, None}
-use Rattle.cy_trees.specs.declared.expressions.UnaryOperator.{UnaryOperator}
-use Rattle.cy_trees.specs.declared.expressions.UnaryOperator.TheVariants as unary_operator
-use Rattle.cy_trees.specs.declared.expressions.Comparator.{Comparator}
-use Rattle.cy_trees.specs.declared.expressions.Comparator.TheVariants as comparator
 use Rattle.cy_trees.specs.Trees.{Expression, null, boolean, integer, text, variable, property, has_labels, unary, binary, comparison, list, case, call, call_star, Expressions, no_more, more, Links, no_links, link, Arms, no_arms, arm, Otherwise, nothing, otherwise}
 use Rattle.cy_kinds.specs.declared.kinds.Kind.{Kind}
 use Rattle.cy_kinds.specs.declared.faults.ScopeFault.{ScopeFault}
 use Rattle.cy_kinds.specs.declared.faults.ScopeFault.TheVariants.{UnknownVariable, WrongKind, AggregateHere, UnknownFunction, WrongArguments}
 use Rattle.cy_kinds.specs.declared.functions.Function.{Function}
 use Rattle.cy_kinds.specs.declared.functions.Function.TheVariants as function
-use Rattle.cy_kinds.specs.Kinds.{is_value, is_entity, is_node, is_relationship}
+use Rattle.cy_kinds.specs.Kinds.{is_value}
+use Rattle.cy_kinds.specs.Operands.{takes_property, takes_labels, takes_unary, takes_binary, compares, takes_element, takes_condition, takes_result}
 use Rattle.cy_kinds.specs.Functions.{function_named, is_aggregate, has_form, takes}
 use Rattle.cy_kinds.specs.Scopes.{Scope, is_bound}
 use Rattle.cy_kinds.specs.ExpressionKinds.{kind_of}
 use Rattle.cy_kinds.specs.Faults.{first, unless}
-
--- IS NULL takes whatever there is, the others a value
-abbrev pub takes_unary : UnaryOperator → Kind → Bool
-takes_unary unary_operator.Not k = is_value k
-takes_unary unary_operator.Plus k = is_value k
-takes_unary unary_operator.Minus k = is_value k
-takes_unary unary_operator.IsNull k = true
-takes_unary unary_operator.IsNotNull k = true
-
--- two nodes, two relationships, or two values
-abbrev pub are_alike : Kind → Kind → Bool
-are_alike a b = (is_node a && is_node b) || (is_relationship a && is_relationship b) || (is_value a && is_value b)
-
--- `=` and `<>` compare what is alike, the others values
-abbrev pub compares : Comparator → Kind → Kind → Bool
-compares comparator.Equal a b = are_alike a b
-compares comparator.NotEqual a b = are_alike a b
-compares comparator.Less a b = is_value a && is_value b
-compares comparator.LessOrEqual a b = is_value a && is_value b
-compares comparator.Greater a b = is_value a && is_value b
-compares comparator.GreaterOrEqual a b = is_value a && is_value b
 
 -- each operand of a chain and the one before it, which has the kind
 abbrev pub are_compared : Scope → Kind → Links → Bool
@@ -44,15 +20,15 @@ are_compared scope k (link by e links) = compares by k (kind_of scope e) && are_
 
 abbrev pub are_values : Scope → Expressions → Bool
 are_values scope no_more = true
-are_values scope (more e es) = is_value (kind_of scope e) && are_values scope es
+are_values scope (more e es) = takes_element (kind_of scope e) && are_values scope es
 
 abbrev pub have_values : Scope → Arms → Bool
 have_values scope no_arms = true
-have_values scope (arm condition outcome arms) = is_value (kind_of scope condition) && is_value (kind_of scope outcome) && have_values scope arms
+have_values scope (arm condition outcome arms) = takes_condition (kind_of scope condition) && takes_result (kind_of scope outcome) && have_values scope arms
 
 abbrev pub is_value_otherwise : Scope → Otherwise → Bool
 is_value_otherwise scope nothing = true
-is_value_otherwise scope (otherwise e) = is_value (kind_of scope e)
+is_value_otherwise scope (otherwise e) = takes_result (kind_of scope e)
 
 abbrev pub are_taken : Function → Scope → Expressions → Bool
 are_taken function scope no_more = true
@@ -86,11 +62,11 @@ abbrev mutual
   expression_fault scope (integer n) = None
   expression_fault scope (text t) = None
   expression_fault scope (variable v) = unless (is_bound scope v.name) UnknownVariable
-  expression_fault scope (property e key) = first (expression_fault scope e) (unless (is_entity (kind_of scope e)) WrongKind)
-  expression_fault scope (has_labels e labels) = first (expression_fault scope e) (unless (is_node (kind_of scope e)) WrongKind)
+  expression_fault scope (property e key) = first (expression_fault scope e) (unless (takes_property (kind_of scope e)) WrongKind)
+  expression_fault scope (has_labels e labels) = first (expression_fault scope e) (unless (takes_labels (kind_of scope e)) WrongKind)
   expression_fault scope (unary operator e) = first (expression_fault scope e) (unless (takes_unary operator (kind_of scope e)) WrongKind)
   expression_fault scope (binary operator a b) =
-      first (expression_fault scope a) (first (expression_fault scope b) (unless (is_value (kind_of scope a) && is_value (kind_of scope b)) WrongKind))
+      first (expression_fault scope a) (first (expression_fault scope b) (unless (takes_binary operator (kind_of scope a) (kind_of scope b)) WrongKind))
   expression_fault scope (comparison e links) =
       first (expression_fault scope e) (first (links_fault scope links) (unless (are_compared scope (kind_of scope e) links) WrongKind))
   expression_fault scope (list es) = first (expressions_fault scope es) (unless (are_values scope es) WrongKind)

@@ -4,6 +4,7 @@ pub mod Aggregates
 pub mod Faults
 pub mod Scopes
 pub mod ExpressionKinds
+pub mod Operands
 pub mod ExpressionFaults
 pub mod Same
 pub mod Sure

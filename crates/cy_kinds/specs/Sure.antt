@@ -12,6 +12,7 @@ use Rattle.cy_kinds.specs.Kinds.{is_flag, is_relationships}
 use Rattle.cy_kinds.specs.Functions.{function_named}
 use Rattle.cy_kinds.specs.ExpressionKinds.{kind_of}
 
+-- null, a boolean, an integer or a text that is written out: no row and no graph changes it
 abbrev pub is_literal : Expression → Bool
 is_literal null = true
 is_literal (boolean b) = true

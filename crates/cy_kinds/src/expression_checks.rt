@@ -9,6 +9,7 @@ ghost use Rattle.cy_kinds.specs.Faults.{first, unless};
 ghost use Rattle.cy_kinds.specs.ExpressionKinds.{kind_of, call_kind, are_flags, gives_flags, is_flag_otherwise};
 ghost use Rattle.cy_kinds.specs.internal.Answers.{Fault};
 ghost use Rattle.cy_kinds.specs.internal.ExpressionTrees.{otherwise_of};
+ghost use Rattle.cy_kinds.specs.Operands as operands;
 ghost use Rattle.cy_kinds.specs.ExpressionFaults as spec;
 
 use crate::expression_kinds::{binary_kind, call_kind, unary_kind};
@@ -38,7 +39,7 @@ pub fn find_kind(front: &Scope, back: &Scope, name: &str) -> Option<Kind>
 
 /// Whether an operator takes an operand of the kind.
 fn takes_unary(operator: UnaryOperator, kind: Kind) -> bool
-    ensures { result ≡ spec.takes_unary operator kind }
+    ensures { result ≡ operands.takes_unary operator kind }
 {
     match operator {
         UnaryOperator::Not | UnaryOperator::Plus | UnaryOperator::Minus => kind.is_value(),
@@ -48,7 +49,7 @@ fn takes_unary(operator: UnaryOperator, kind: Kind) -> bool
 
 /// Whether both are nodes, relationships or values.
 fn are_alike(left: Kind, right: Kind) -> bool
-    ensures { result ≡ spec.are_alike left right }
+    ensures { result ≡ operands.are_alike left right }
 {
     match (left, right) {
         (Kind::Node, Kind::Node) | (Kind::Relationship, Kind::Relationship) => true,
@@ -58,7 +59,7 @@ fn are_alike(left: Kind, right: Kind) -> bool
 
 /// Whether operands of the kinds can be compared.
 fn compares(comparator: Comparator, left: Kind, right: Kind) -> bool
-    ensures { result ≡ spec.compares comparator left right }
+    ensures { result ≡ operands.compares comparator left right }
 {
     match comparator {
         Comparator::Equal | Comparator::NotEqual => are_alike(left, right),

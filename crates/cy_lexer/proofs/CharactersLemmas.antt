@@ -1,16 +1,18 @@
 -- Lemmas on the characters of a line.
-use Rattle.std.proofs.Common.{◌≡◌, ℕ, suc, ◌+◌, ◌-◌, ◌<◌, Bool, true, false, ◌||◌, ◌==◌, List, ◌∷◌, ◌++◌, length, take, drop, get_or, refl, sym, ap, ◌∙◌, arith, add-one}
+use Rattle.std.proofs.Common.{◌≡◌, ℕ, zero, suc, ◌+◌, ◌-◌, ◌<◌, Bool, true, false, if◌then◌else◌, ◌||◌, ◌==◌, List, [], ◌∷◌, ◌++◌, length, take, drop, get_or, nat_eq, refl, sym, ap, ◌∙◌, arith, add-one}
 use Rattle.std.specs.Char.{encode_utf8, is_ascii, is_ascii_alphabetic, is_ascii_alphanumeric}
 use Rattle.std.specs.List.{prefix_len}
+use Rattle.std.specs.Cmp.Lexicographic.{pointwise}
 use Rattle.std.proofs.Math.Seq.{drop-cons}
 use Rattle.std.specs.Str.{chars, IsUtf8, encode_utf8_all, IsCharBoundary}
 use Rattle.std.proofs.lemmas.Str.{encode_ascii, chars_past_char, IsUtf8-drop, encodes-chars, encodes-append, IsCharBoundary-at_seam}
-use Rattle.std.proofs.lemmas.List.{drop-drop, take-append-drop, length-append, take_at, drop_at}
+use Rattle.std.proofs.lemmas.List.{drop-drop, take-append-drop, length-append, length-drop, take_at, drop_at}
+use Rattle.std.proofs.lemmas.Slice.Eq.{bytes_eq-Decides}
 use borrow.Author.Tests.{ltb-true}
 use Rattle.unicode_ident.proofs.IdentLemmas.{is_xid_start-ascii, is_xid_continue-ascii}
 use Rattle.cy_lexer.specs.declared.characters.Run.{Run}
 use Rattle.cy_lexer.specs.declared.characters.Run.TheVariants.{Name}
-use Rattle.cy_lexer.specs.Characters.{offset_in, starts_name, goes_on}
+use Rattle.cy_lexer.specs.Characters.{before, offset_in, starts_name, goes_on}
 use Rattle.cy_lexer.specs.internal.Reading.{offset}
 
 -- how many bytes characters take, part by part
@@ -45,6 +47,21 @@ take_front bs xs ds e = rw e (take_at xs ds _ (omega (arith, length-append xs ds
 drop_front : (bs xs ds : List ℕ) → bs ≡ xs ++ ds → drop (length bs - length ds) bs ≡ ds
 drop_front bs xs ds e = rw e (drop_at xs ds _ (omega (arith, length-append xs ds)))
 
+-- what stands before the last characters of a line are its first ones
+not_left : (c : ℕ) (cs : List ℕ) (n : ℕ) (b : Bool) → pointwise nat_eq (c ∷ cs) (drop n cs) ≡ b → b ≡ false
+not_left c cs n true same =
+    let e : length (c ∷ cs) ≡ length (drop n cs) = ap length ((bytes_eq-Decides (c ∷ cs) (drop n cs)).0 same) in
+    absurd (omega (arith, e, length-drop n cs))
+not_left c cs n false same = refl
+
+before-drop : (n : ℕ) (cs : List ℕ) → before cs (drop n cs) ≡ take n cs
+before-drop zero [] = refl
+before-drop (suc n) [] = refl
+before-drop zero (c ∷ cs) = ap (λ (b : Bool). if b then [] else c ∷ before cs (c ∷ cs)) ((bytes_eq-Decides (c ∷ cs) (c ∷ cs)).1 refl)
+before-drop (suc n) (c ∷ cs) =
+    ap (λ (b : Bool). if b then [] else c ∷ before cs (drop n cs)) (not_left c cs n (pointwise nat_eq (c ∷ cs) (drop n cs)) refl)
+    ∙ ap (λ (x : List ℕ). c ∷ x) (before-drop n cs)
+
 -- where the last characters of a line begin, by what stands before them and by the line's end
 pub offset_in-offset : (line : List ℕ) (n : ℕ) → IsUtf8 line → offset_in (chars line) (drop n (chars line)) ≡ offset (length line) (drop n (chars line))
 offset_in-offset line n u =
@@ -52,7 +69,7 @@ offset_in-offset line n u =
     let parts : cs ≡ take n cs ++ drop n cs = sym (take-append-drop n cs) in
     let sizes : length (encode_utf8_all cs) ≡ length (encode_utf8_all (take n cs)) + length (encode_utf8_all (drop n cs)) = ap (λ (x : List ℕ). length (encode_utf8_all x)) parts ∙ size_of (take n cs) (drop n cs) in
     let whole : length (encode_utf8_all cs) ≡ length line = ap length (encodes-chars line u) in
-    ap (λ (x : List ℕ). length (encode_utf8_all x)) (take_front cs (take n cs) (drop n cs) parts) ∙ omega (arith, sizes, whole)
+    ap (λ (x : List ℕ). length (encode_utf8_all x)) (before-drop n cs) ∙ omega (arith, sizes, whole)
 
 -- the bytes before the last characters, and where these begin
 pub take-suffix : (bs ds : List ℕ) (n : ℕ) → IsUtf8 bs → IsUtf8 ds → chars ds ≡ drop n (chars bs) → take (length bs - length ds) bs ≡ encode_utf8_all (take n (chars bs))

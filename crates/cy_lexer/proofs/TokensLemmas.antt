@@ -162,3 +162,20 @@ AreSpansOf-all line from to (t ∷ ts) s = All-cons (IsSpanOf line) t ts s.1 (Ar
 
 pub IsRead-slices : (line rest : List ℕ) (ts : List Token) → IsRead line rest ts → All (IsSpanOf line) ts
 IsRead-slices line rest ts known = AreSpansOf-all line 0 (length line - length rest) ts known.3
+
+-- where a token was read, the line isn't one without tokens
+with_one : (front : List Token) (t : Token) (more : List Token) → (front ++ t ∷ []) ++ more ≡ [] → ⊥
+with_one [] t more is = cc
+with_one (s ∷ front) t more is = cc
+
+not_none : (front : List Token) (t : Token) (read : Result (List Token) LexFault) → map_ok (λ more. (front ++ t ∷ []) ++ more) read ≡ Ok [] → ⊥
+not_none front t (Ok more) is = with_one front t more (ok_is ((front ++ t ∷ []) ++ more) [] is)
+not_none front t (Err f) is = cc
+
+pub IsRead-some : (line left : List ℕ) (front : List Token) (t : Token) → IsUtf8 line → length line ≤ longest_line → IsRead line left (front ++ t ∷ []) → tokens_of line ≡ Ok [] → ⊥
+IsRead-some line left front t u short known none =
+    not_none front t (tokens_from (offset (length line)) 0 (chars left)) (known.0 ∙ sym (tokens_of-short line u short) ∙ none)
+
+-- a line with a fault isn't one without tokens
+pub is_fault : (fault : LexFault) (line : List ℕ) → tokens_of line ≡ Err fault → tokens_of line ≡ Ok [] → ⊥
+is_fault fault line bad none = let wrong : Err fault ≡ done [] = sym bad ∙ none in cc

@@ -87,8 +87,8 @@ fn after_quoted_name(total: usize, at: usize, text: &str) -> Result<&str, LexFau
         ≡ map_ok (taken (chars text.now)) (quoted_name (offset total) at (chars text.now)) }
     ensures shorter { IfOk result (λ s. length s.now ≤ length text.now) }
 {
-    if let Some((second, behind)) = split_first(text)
-        && closes('`', second, behind)
+    if let Some((second, after)) = split_first(text)
+        && closes('`', second, after)
     {
         return Err(LexFault::BadCharacter(at));
     }

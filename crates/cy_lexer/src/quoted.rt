@@ -69,7 +69,7 @@ fn character(quote: char, first: char, after: &str) -> Option<(char, &str)>
     match first {
         '\\' if quote != '`' => escape(after),
         '`' if quote == '`' => match split_first(after) {
-            Some((_, behind)) => Some((first, behind)),
+            Some((_, left)) => Some((first, left)),
             None => Some((first, after)),
         },
         _ => Some((first, after)),

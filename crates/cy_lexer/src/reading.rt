@@ -14,11 +14,12 @@ use crate::tokens::Token;
 use std::alloc::Global;
 
 /// The tokens of a line, or the first fault that reading it from the left meets. Fails with `LineTooLong` above 65,536
-/// bytes, and may fail with `NoMemory` at any token. Nothing but white space and comments stands between
-/// the tokens.
+/// bytes, and may fail with `NoMemory` at any token, but not where there is none. Nothing but white space and comments
+/// stands between the tokens.
 pub fn lex(alloc: Global, line: &str) -> Result<Vec<Token>, LexFault>
     ensures tokens { IfOk result (λ tokens. tokens_of line.now ≡ Ok tokens.items) }
     ensures fault { IfErr result (λ fault. fault ≢ LexFault.NoMemory → tokens_of line.now ≡ Err fault) }
+    ensures memory { IfErr result (λ fault. fault ≡ LexFault.NoMemory → tokens_of line.now ≢ Ok []) }
     ensures long { longest_line < length line.now → result ≡ Err LexFault.LineTooLong }
     ensures slices { IfOk result (λ tokens. All (IsSpanOf line.now) tokens.items) }
     ensures gaps { IfOk result (λ tokens. LeavesGaps 0 (chars line.now) tokens.items) }

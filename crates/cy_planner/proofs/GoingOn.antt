@@ -7,8 +7,9 @@ use Rattle.std.proofs.lemmas.List.Elements.{All-cons, All-nil}
 use Rattle.cy_values.specs.declared.rows.Cell.{Cell}
 use Rattle.cy_values.specs.Bag.{count_of, IsSameBag}
 use Rattle.cy_values.specs.Order.{row_cmp}
-use Rattle.cy_trees.specs.Trees.{Clause, Statement}
+use Rattle.cy_trees.specs.Trees.{Clause, «match», unwind, «with», «return», create, set, remove, delete, Statement}
 use Rattle.cy_kinds.specs.Scopes.{Scope}
+use Rattle.cy_scope.specs.Views.{is_update}
 use Rattle.cy_graph.specs.Graph.{Content, State, IsGraph}
 use Rattle.cy_expr.specs.declared.faults.EvalFault.{EvalFault}
 use Rattle.cy_expr.specs.Faults.{on_one}
@@ -121,12 +122,22 @@ serves query scope p stands well = record {
 
 -- ---- one clause more
 
+unselected_reads : (c : Clause) → is_update c ≡ false → is_update (unselected c) ≡ false
+unselected_reads («match» optional paths test) reads = refl
+unselected_reads (unwind e v) reads = refl
+unselected_reads («with» p test) reads = refl
+unselected_reads («return» p) reads = refl
+unselected_reads (create paths) reads = reads
+unselected_reads (set items) reads = reads
+unselected_reads (remove items) reads = reads
+unselected_reads (delete detach variables) reads = reads
+
 if_ok_value : (P : List (List Cell) → Type 0) (o : Outcome) (rows : List (List Cell)) → o ≡ Ok rows → IfOk o P → P rows
 if_ok_value P o rows is here = subst (λ (q : Outcome). IfOk q P) is here
 
-module _ (total : IsTotalOrder row_cmp) (bags : (graph : Content) (clause : Clause) (rows others : List (List Cell)) → IsSameBag rows others → IsSameOutcome (rows_after graph clause rows) (rows_after graph clause others))
+module _ (total : IsTotalOrder row_cmp) (bags : (graph : Content) (clause : Clause) (rows others : List (List Cell)) → is_update clause ≡ false → IsSameBag rows others → IsSameOutcome (rows_after graph clause rows) (rows_after graph clause others))
     (query : Statement) (done : List Clause) (c : Clause) (rest : List Clause) (splits : query.clauses ≡ done ++ c ∷ rest) (ok : (graph : State) → IsGraph graph → IsOk (query_rows graph.content query))
-    (scope : Scope) (below : Plan) (stands : Stands query done scope below) where
+    (scope : Scope) (below : Plan) (stands : Stands query done scope below) (reads : is_update c ≡ false) where
   module _ (graph : State) (is : IsGraph graph) where
     abbrev start : List (List Cell)
     start = [] ∷ []
@@ -146,7 +157,7 @@ module _ (total : IsTotalOrder row_cmp) (bags : (graph : Content) (clause : Clau
     same_before = subst (λ (o : Outcome). IsSameOutcome (Ok before) o) meant.1 (stands.rows graph is)
 
     same_after : IsSameOutcome (rows_after graph.content c before) (rows_after graph.content c meant.0)
-    same_after = bags graph.content c before meant.0 same_before
+    same_after = bags graph.content c before meant.0 reads same_before
 
     -- the clause has no fault on the rows of the plan
     pub clause_ok : IsOk (rows_after graph.content c before)
@@ -183,7 +194,7 @@ module _ (total : IsTotalOrder row_cmp) (bags : (graph : Content) (clause : Clau
           subst (λ (cs : List Clause). Contains (tables_after graph.content cs (start graph is)) table) (sym splits) (table_there graph.content done c rest (start graph is) (meant graph is).0 (meant graph is).1)
 
       same_wide : IsSameOutcome (rows_after graph.content (unselected c) (meant graph is).0) (rows_after graph.content (unselected c) (before graph is))
-      same_wide = same_back (rows_after graph.content (unselected c) (before graph is)) (rows_after graph.content (unselected c) (meant graph is).0) (bags graph.content (unselected c) (before graph is) (meant graph is).0 (same_before graph is))
+      same_wide = same_back (rows_after graph.content (unselected c) (before graph is)) (rows_after graph.content (unselected c) (meant graph is).0) (bags graph.content (unselected c) (before graph is) (meant graph is).0 (unselected_reads c reads) (same_before graph is))
 
       table_is : (o : Outcome) → IsOk o → o ≡ Ok (rows_or_none o)
       table_is (Ok rows) so = refl

@@ -1,5 +1,5 @@
 -- The plan of a query, clause by clause.
-use Rattle.std.proofs.Common.{List, [], ◌∷◌, ◌++◌, append_assoc, append-nil, refl, sym, subst, ◌∙◌}
+use Rattle.std.proofs.Common.{◌≡◌, false, List, [], ◌∷◌, ◌++◌, append_assoc, append-nil, refl, sym, subst, ◌∙◌}
 use Rattle.std.specs.Prelude.{IsOk}
 use Rattle.std.specs.Cmp.{IsTotalOrder}
 use Rattle.cy_values.specs.declared.rows.Cell.{Cell}
@@ -8,6 +8,7 @@ use Rattle.cy_values.specs.Order.{row_cmp}
 use Rattle.cy_trees.specs.Trees.{Clause, Statement}
 use Rattle.cy_scope.specs.Checked.{ClausesAreKinded, IsChecked, IsViewQuery}
 use Rattle.cy_scope.specs.ClauseScopes.{scope_after}
+use Rattle.cy_scope.specs.Views.{is_update}
 use Rattle.cy_graph.specs.Graph.{Content, State, IsGraph}
 use Rattle.cy_patterns.specs.Outcomes.{IsSameOutcome}
 use Rattle.cy_queries.specs.Queries.{query_rows, rows_after}
@@ -24,12 +25,12 @@ use Rattle.cy_planner.proofs.ViewClauses.{view_query}
 pub under_way : ((tree : Statement) → IsChecked tree → ClausesAreKinded [] tree.clauses) → (query : Statement) → IsViewQuery query → IsUnderWay query query.clauses plan.unit
 under_way kinds query is = ([], [], refl, begins query, view_query kinds query is)
 
-module _ (total : IsTotalOrder row_cmp) (bags : (graph : Content) (clause : Clause) (rows others : List (List Cell)) → IsSameBag rows others → IsSameOutcome (rows_after graph clause rows) (rows_after graph clause others))
+module _ (total : IsTotalOrder row_cmp) (bags : (graph : Content) (clause : Clause) (rows others : List (List Cell)) → is_update clause ≡ false → IsSameBag rows others → IsSameOutcome (rows_after graph clause rows) (rows_after graph clause others))
     (query : Statement) (ok : (graph : State) → IsGraph graph → IsOk (query_rows graph.content query)) (c : Clause) (left : List Clause) (below : Plan) where
   pub next_given : IsUnderWay query (c ∷ left) below → CanBePlanned c below
   next_given (done, scope, splits, stands, views) =
       let has : HasScope scope below = record { long = stands.long; fits = stands.fits } in
-      (scope, views.0, has, λ graph is. clause_ok total bags query done c left splits ok scope below stands graph is)
+      (scope, views.0, has, λ graph is. clause_ok total bags query done c left splits ok scope below stands views.0.reads graph is)
 
   pub next_planned : (p : Plan) → IsUnderWay query (c ∷ left) below → IsPlanned c below p → IsUnderWay query left p
   next_planned p (done, scope, splits, stands, views) planned =
@@ -37,7 +38,7 @@ module _ (total : IsTotalOrder row_cmp) (bags : (graph : Content) (clause : Clau
         done ++ c ∷ [],
         scope_after scope c,
         splits ∙ sym (append_assoc done (c ∷ []) left),
-        goes_on total bags query done c left splits ok scope below stands (scope_after scope c) p (planned scope views.0 has),
+        goes_on total bags query done c left splits ok scope below stands views.0.reads (scope_after scope c) p (planned scope views.0 has),
         views.1,
       )
 

@@ -10,7 +10,7 @@ use Rattle.cy_trees.specs.Trees.{Expression, null, boolean, integer, text, varia
 use Rattle.cy_kinds.specs.declared.functions.Function.{Function}
 use Rattle.cy_kinds.specs.declared.kinds.Kind.{Kind}
 use Rattle.cy_kinds.specs.Aggregates.{has_aggregates, is_aggregate_call, is_aggregate_if}
-use Rattle.cy_kinds.specs.Kinded.{HasKind, IsAggregate}
+use Rattle.cy_kinds.specs.Kinded.{HasKind, IsAggregate, IsKinded}
 use Rattle.cy_kinds.specs.Scopes.{Scope, with_paths}
 use Rattle.cy_scope.specs.Checked.{ClausesAreKinded, FilterGivesValue, IsChecked, IsViewQuery, ItemIsKinded, ProjectionIsKinded, item_column}
 use Rattle.cy_scope.specs.ClauseFaults.{clause_fault, clauses_fault, where_fault}
@@ -29,7 +29,6 @@ use Rattle.cy_graph.specs.Graph.{Content}
 use Rattle.cy_queries.proofs.ScopeClauses.{clause_fits, projection_fits}
 use Rattle.cy_queries.specs.Projection.{projection_rows}
 use Rattle.cy_queries.specs.Queries.{rows_after}
-use Rattle.cy_row_plans.specs.Rows.{IsKinded}
 use Rattle.cy_clause_plans.specs.Matched.{IsTestKinded}
 use Rattle.cy_clause_plans.specs.Projections.{expressions_in}
 use Rattle.cy_planner.specs.internal.ClausePlans.{Fits}

@@ -21,7 +21,8 @@ use Rattle.cy_expr.specs.Operators.{value_in_cell}
 use Rattle.cy_plans.specs.Plans.{Plan, width}
 use Rattle.cy_plans.specs.Expressions.{is_true}
 use Rattle.cy_plans.specs.Meaning.{rows_of}
-use Rattle.cy_row_plans.specs.Rows.{FitsRows, IsFiltered, IsKinded, IsReadOver, condition_on, keeps}
+use Rattle.cy_row_plans.specs.Rows.{FitsRows, IsFiltered, IsReadOver, condition_on, keeps}
+use Rattle.cy_kinds.specs.Kinded.{IsKinded}
 
 -- ---- AND
 

@@ -6,7 +6,6 @@ use Rattle.cy_trees.specs.Trees.{Name, Expression, null, boolean, integer, text,
 use Rattle.cy_kinds.specs.declared.functions.Function.{Function}
 use Rattle.cy_kinds.specs.declared.functions.Function.TheVariants as function
 use Rattle.cy_kinds.specs.declared.kinds.Kind.{Kind}
-use Rattle.cy_kinds.specs.declared.kinds.Kind.TheVariants as kind
 use Rattle.cy_kinds.specs.Functions.{fit, is_aggregate, is_none, is_one, is_property, takes}
 use Rattle.cy_kinds.specs.Kinded.{AreComparable, ArmsHaveKinds, HasKind, HaveKinds, LastHasKind, is_call_of}
 use Rattle.cy_kinds.specs.Scopes.{Scope}
@@ -65,7 +64,7 @@ module _ (columns : List ℕ) where
       kind_renumbered (text t) k h = h
       kind_renumbered (variable v) k h = (new_column columns h.0, ap (λ (c : Option ℕ). option_map (new_column columns) c) h.1, same h.0 (v.name, k) h.2)
       kind_renumbered (property e key) k h = (h.0, h.1, kind_renumbered e h.1 h.2, h.3)
-      kind_renumbered (has_labels e labels) k h = (h.0, kind_renumbered e kind.Node h.1)
+      kind_renumbered (has_labels e labels) k h = (h.0, h.1, kind_renumbered e h.1 h.2, h.3)
       kind_renumbered (unary operator e) k h = (h.0, h.1, kind_renumbered e h.1 h.2, h.3)
       kind_renumbered (binary operator a b) k h = (h.0, h.1, h.2, kind_renumbered a h.1 h.3, kind_renumbered b h.2 h.4, h.5)
       kind_renumbered (comparison e links) k h = (h.0, h.1, kind_renumbered e h.1 h.2, links_renumbered links h.1 h.3)

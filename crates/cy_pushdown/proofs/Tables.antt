@@ -22,7 +22,8 @@ use Rattle.cy_plans.specs.Plans as plan
 use Rattle.cy_plans.specs.Plans.{Plan, width}
 use Rattle.cy_plans.specs.Expressions.{cell_at, is_true}
 use Rattle.cy_plans.specs.Meaning.{backwards, forwards, has_type, is_loop, rows_of, rows_of_rel, ways}
-use Rattle.cy_row_plans.specs.Rows.{FitsRows, IsFiltered, IsKinded, IsReadOver, condition_on}
+use Rattle.cy_row_plans.specs.Rows.{FitsRows, IsFiltered, IsReadOver, condition_on}
+use Rattle.cy_kinds.specs.Kinded.{IsKinded}
 use Rattle.cy_renumbering.specs.Renumbered.{new_column, renumbered}
 use Rattle.cy_pushdown.specs.internal.EntityTests.{IsCellTest, IsOnCell, alone}
 use Rattle.cy_pushdown.specs.internal.Pushed.{CanBePushed, IsPushed, IsTable, entity_at, kind_of_nodes, kind_of_rels}

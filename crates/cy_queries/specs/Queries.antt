@@ -13,8 +13,8 @@ use Rattle.cy_patterns.specs.Outcomes.{joined}
 use Rattle.cy_patterns.specs.Places.{Place, places, variable_at}
 use Rattle.cy_queries.specs.Projection.{projection_rows}
 
--- The rows after a reading clause, or its fault. They are a bag, but for those after RETURN, which stand in their order. An
--- updating clause reads nothing.
+-- The rows after a reading clause, or its fault. They are a bag, but for those after RETURN, which stand in their order. What an
+-- updating clause means is no matter of this, and no law speaks of one here.
 abbrev pub rows_after : Content → Clause → List (List Cell) → Result (List (List Cell)) EvalFault
 rows_after graph («match» false paths test) rows = joined (map (matched graph paths test) rows)
 rows_after graph («match» true paths test) rows = joined (map (optionally_matched graph paths test) rows)

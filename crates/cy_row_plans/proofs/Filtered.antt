@@ -32,7 +32,8 @@ use Rattle.cy_lowering.specs.Places.{place}
 use Rattle.cy_lowering.proofs.LoweredLemmas.{same}
 use Rattle.cy_row_plans.specs.internal.Asked.{asked, with_asked}
 use Rattle.cy_row_plans.specs.internal.Lookups.{narrowed, over, with_values}
-use Rattle.cy_row_plans.specs.Rows.{FitsRows, IsFiltered, IsKinded, IsReadOver, condition_on, keeps}
+use Rattle.cy_row_plans.specs.Rows.{FitsRows, IsFiltered, IsReadOver, condition_on, keeps}
+use Rattle.cy_kinds.specs.Kinded.{IsKinded}
 use Rattle.cy_row_plans.proofs.Lists.{all_of_each, each_both_of, each_mapped, sifted_same}
 use Rattle.cy_row_plans.proofs.Lowerable.{good, inside}
 use Rattle.cy_row_plans.proofs.OverRows.{IsInside, cond_less, filter_within, long_rows, own_part, parts_narrowed, parts_over, rows_narrowed, rows_over, smaller_within, sure_narrowed, sure_over, width_narrowed, well_over, width_over, within_over}

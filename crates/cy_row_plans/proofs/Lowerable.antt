@@ -329,7 +329,7 @@ module _ (scope : Scope) (wanted : List Wanted) where
     inside (text t) k h = tt
     inside (variable v) k h = tt
     inside (property e key) k h = owner_inside e h.1 (Property key) h.2 h.3
-    inside (has_labels e labels) k h = owner_inside e kind.Node Labels h.1 refl
+    inside (has_labels e labels) k h = owner_inside e h.1 Labels h.2 h.3
     inside (unary operator e) k h = inside e h.1 h.2
     inside (binary operator l r) k h = each_both IsInside (asked l) (asked r) (inside l h.1 h.3) (inside r h.2 h.4)
     inside (comparison e links) k h = each_both IsInside (asked e) (asked_by_links links) (inside e h.1 h.2) (links_inside links h.1 h.3)
@@ -367,7 +367,7 @@ module _ (scope : Scope) (wanted : List Wanted) where
     good (variable v) k h among = (refl, kept_below v k h, kept v k h)
     good (property e key) k h among = owner e h.1 (Property key) h.2 h.3 among
     good (has_labels e labels) k h among =
-        let owned : Owned e Labels = owner e kind.Node Labels h.1 refl among in
+        let owned : Owned e Labels = owner e h.1 Labels h.2 h.3 among in
         (all_in_columns (looked_up at e Labels) labels owned.0, all_in_below wide (looked_up at e Labels) labels owned.1, owned.2)
     good (unary operator e) k h among = good e h.1 h.2 among
     good (binary operator l r) k h among =

@@ -25,7 +25,8 @@ use Rattle.cy_lowering.specs.Lowered.{lowered}
 use Rattle.cy_lowering.specs.Places.{place}
 use Rattle.cy_row_plans.specs.internal.Asked.{asked, with_asked}
 use Rattle.cy_row_plans.specs.internal.Lookups.{over, with_values}
-use Rattle.cy_row_plans.specs.Rows.{AreReadOver, FitsRows, IsKinded, IsProjected, cells_on}
+use Rattle.cy_row_plans.specs.Rows.{AreReadOver, FitsRows, IsProjected, cells_on}
+use Rattle.cy_kinds.specs.Kinded.{IsKinded}
 use Rattle.cy_row_plans.proofs.Filtered.{lowered_over, same_value}
 use Rattle.cy_row_plans.proofs.Lists.{all_of_each, each_both_of, each_mapped, map_twice}
 use Rattle.cy_row_plans.proofs.Lowerable.{each_both, each_left, each_right, inside}

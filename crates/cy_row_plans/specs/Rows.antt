@@ -5,8 +5,7 @@ use Rattle.std.specs.List.{All, AllByRecursion}
 use Rattle.cy_values.specs.declared.rows.Cell.{Cell}
 use Rattle.cy_values.specs.declared.truth.Truth.{Truth}
 use Rattle.cy_trees.specs.Trees.{Expression}
-use Rattle.cy_kinds.specs.declared.kinds.Kind.{Kind}
-use Rattle.cy_kinds.specs.Kinded.{HasKind}
+use Rattle.cy_kinds.specs.Kinded.{IsKinded}
 use Rattle.cy_kinds.specs.Rows.{row_fits}
 use Rattle.cy_kinds.specs.Scopes.{Scope}
 use Rattle.cy_graph.specs.Graph.{Content, State, IsGraph}
@@ -38,10 +37,6 @@ cells_on graph es row = map (λ e. cell_or_null (cell_of (lookups graph) row e))
 -- the rows of a plan fit a scope
 abbrev pub FitsRows : Scope → Content → Plan → Type 0
 FitsRows scope graph p = (length scope ≡ width p) × AllByRecursion (λ row. IsTrue (row_fits scope row)) (rows_of graph p)
-
--- an expression has a kind in a scope
-abbrev pub IsKinded : Scope → Expression → Type 0
-IsKinded scope e = (k : Kind) × HasKind scope e k
 
 -- an expression has a kind in some scope of the rows of a plan
 abbrev pub IsReadOver : Plan → Expression → Type 0

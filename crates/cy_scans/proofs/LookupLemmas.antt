@@ -47,7 +47,7 @@ ending_of [] c = refl
 ending_of (x ∷ []) c = refl
 ending_of (x ∷ y ∷ row) c = ending_of (y ∷ row) c
 
--- a row that is another one with a cell behind it begins with that one
+-- a row that is another one with a cell after it begins with that one
 longer_front : (row other : List Cell) (c : Cell) → is_row row (other ++ c ∷ []) ≡ true → front row ≡ other
 longer_front row other c is = ap front (same_row row (other ++ c ∷ []) is) ∙ front_of other c
 

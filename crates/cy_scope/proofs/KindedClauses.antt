@@ -24,8 +24,8 @@ use Rattle.cy_kinds.specs.Same.{same}
 use Rattle.cy_scope.specs.ProjectionFaults.{has_name, item_place_fault, items_fault, repeats, keys_fault, seen_by_keys, projection_fault}
 use Rattle.cy_scope.specs.ClauseFaults.{where_fault, entity_fault, node_only_fault, set_fault, sets_fault, remove_fault, removes_fault, deletes_fault, clause_fault, clauses_fault}
 use Rattle.cy_scope.specs.Resolved.{resolved, resolved_expressions, resolved_variable, resolved_path, resolved_item, resolved_key, resolved_projection, resolved_set, resolved_remove, resolved_where, resolved_clause, resolved_clauses}
-use Rattle.cy_kinds.specs.Kinded.{IsColumn, HasKind, HaveKinds, IsAggregate}
-use Rattle.cy_scope.specs.Checked.{IsChecked, IsKinded, IsEntityColumn, FilterGivesValue, PathIsKinded, ItemIsKinded, item_column, ProjectionIsKinded, SetIsKinded, RemoveIsKinded, ClauseIsKinded, ClausesAreKinded}
+use Rattle.cy_kinds.specs.Kinded.{IsColumn, HasKind, HaveKinds, IsAggregate, IsKinded}
+use Rattle.cy_scope.specs.Checked.{IsChecked, IsEntityColumn, FilterGivesValue, PathIsKinded, ItemIsKinded, item_column, ProjectionIsKinded, SetIsKinded, RemoveIsKinded, ClauseIsKinded, ClausesAreKinded}
 use Rattle.cy_scope.proofs.Columns.{reads-same, reads-variable, reads-paths, keeps-same, added_here}
 use Rattle.cy_scope.proofs.KindedExpressions.{first_none, unless_none, node_is, kinds_of, good_call, call_is, call_kind_is, has_kind, have_kinds, gives_value}
 use Rattle.cy_scope.proofs.KindedPatterns.{paths_kinded}

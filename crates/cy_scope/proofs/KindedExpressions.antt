@@ -15,7 +15,8 @@ use Rattle.cy_kinds.specs.Kinds.{is_value, is_flag, is_entity, is_node, flag_if}
 use Rattle.cy_kinds.specs.Functions.{function_named, is_aggregate, is_none, is_one, is_property, fit, takes}
 use Rattle.cy_kinds.specs.Scopes.{Scope, find_kind, is_bound, kind_in}
 use Rattle.cy_kinds.specs.ExpressionKinds.{kind_of, are_flags, gives_flags, is_flag_otherwise, function_kind, call_kind}
-use Rattle.cy_kinds.specs.ExpressionFaults.{takes_unary, compares, are_compared, are_values, have_values, is_value_otherwise, are_taken, call_fault, star_fault, expression_fault, expressions_fault, links_fault, arms_fault, otherwise_fault, value_fault}
+use Rattle.cy_kinds.specs.ExpressionFaults.{are_compared, are_values, have_values, is_value_otherwise, are_taken, call_fault, star_fault, expression_fault, expressions_fault, links_fault, arms_fault, otherwise_fault, value_fault}
+use Rattle.cy_kinds.specs.Operands.{takes_unary, compares}
 use Rattle.cy_kinds.specs.Faults.{first, unless}
 use Rattle.cy_kinds.specs.ResolvedExpressions.{resolved, resolved_expressions, resolved_links, resolved_arms, resolved_otherwise}
 use Rattle.cy_kinds.specs.Kinded.{HasKind, HaveKinds, AreComparable, ArmsHaveKinds, LastHasKind, is_call_of}
@@ -203,7 +204,7 @@ module _ (before after : Scope) (reads : Reads before after) where
         (refl, kind_of before e, has_kind e inner, unless_none (is_entity (kind_of before e)) WrongKind kinds)
     has_kind (has_labels e labels) good =
         let (inner, kinds) = first_none (expression_fault before e) (unless (is_node (kind_of before e)) WrongKind) good in
-        (refl, subst (λ k. HasKind before (resolved after e) k) (node_is (kind_of before e) (unless_none (is_node (kind_of before e)) WrongKind kinds)) (has_kind e inner))
+        (refl, kind_of before e, has_kind e inner, unless_none (is_node (kind_of before e)) WrongKind kinds)
     has_kind (unary operator e) good =
         let (inner, kinds) = first_none (expression_fault before e) (unless (takes_unary operator (kind_of before e)) WrongKind) good in
         (refl, kind_of before e, has_kind e inner, unless_none (takes_unary operator (kind_of before e)) WrongKind kinds)

@@ -13,7 +13,7 @@ use Rattle.cy_scope.specs.ClauseFaults.{statement_fault}
 use Rattle.cy_scope.specs.ProjectionFaults.{seen_by_keys}
 use Rattle.cy_scope.specs.Resolved.{resolved_statement}
 use Rattle.cy_scope.specs.Views.{view_fault}
-use Rattle.cy_kinds.specs.Kinded.{IsColumn, HasKind, IsAggregate}
+use Rattle.cy_kinds.specs.Kinded.{IsColumn, HasKind, IsKinded, IsAggregate}
 
 -- it came of a statement without a fault, by setting the columns of its variables
 abbrev pub IsChecked : Statement → Type 0
@@ -22,10 +22,7 @@ IsChecked tree = (s : Statement) × (statement_fault s ≡ None) × (tree ≡ re
 abbrev pub IsViewQuery : Statement → Type 0
 IsViewQuery tree = IsChecked tree × (view_fault tree ≡ None)
 
--- an expression of whatever kind, and one that is a value
-abbrev pub IsKinded : Scope → Expression → Type 0
-IsKinded scope e = (k : Kind) × HasKind scope e k
-
+-- an expression that is a value
 abbrev pub GivesValue : Scope → Expression → Type 0
 GivesValue scope e = (k : Kind) × HasKind scope e k × IsTrue (is_value k)
 

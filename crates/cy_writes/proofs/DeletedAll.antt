@@ -13,7 +13,8 @@ use Rattle.cy_values.specs.declared.numbers.RelId.{RelId}
 use Rattle.cy_values.specs.declared.numbers.Entity.{Entity}
 use Rattle.cy_values.specs.declared.rows.Cell.{Cell}
 use Rattle.cy_trees.specs.declared.expressions.Variable.{Variable}
-use Rattle.cy_graph.specs.Graph.{State, IsGraph, rels_from, rels_into, rels_with, with_nodes, with_rels}
+use Rattle.cy_graph.specs.Graph.{State, IsGraph, rels_with, with_nodes, with_rels}
+use Rattle.cy_graph.specs.internal.Ends.{rels_from, rels_into}
 use Rattle.cy_graph.specs.declared.nodes.Node.{Node}
 use Rattle.cy_graph.specs.declared.nodes.Rel.{Rel}
 use Rattle.cy_effects.specs.declared.faults.UpdateFault.TheVariants.{StillConnected}

@@ -3,7 +3,8 @@
 ghost use Rattle.std.specs.Prelude.{◌≡◌, ◌+◌, ◌++◌, ◌∷◌, ◌&&◌, ◌||◌, List, None, [], filter, flat_map, length, map, option_to_list, slice_get, IfErr, IfOk, IsSome, OnOk};
 ghost use Rattle.cy_values.specs.declared.numbers.NodeId.{NodeId};
 ghost use Rattle.cy_values.specs.declared.numbers.RelId.{RelId};
-ghost use Rattle.cy_graph.specs.Graph.{rels_from, rels_into, rels_with};
+ghost use Rattle.cy_graph.specs.Graph.{rels_with};
+ghost use Rattle.cy_graph.specs.internal.Ends.{rels_from, rels_into};
 ghost use Rattle.cy_effects.specs.declared.faults.UpdateFault.TheVariants.{NoMemory};
 ghost use Rattle.cy_effects.specs.Deleting.{deleted};
 ghost use Rattle.cy_effects.specs.Deleting as spec;

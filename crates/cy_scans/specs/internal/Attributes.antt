@@ -39,7 +39,7 @@ rel_attribute Labels rel = value.Null
 abbrev pub AreAttributes : Value → Value → Attributes → Type 0
 AreAttributes old new values = (values.value ≡ new) × MatchOption values.was (old ≡ new) (λ was. (was ≡ old) × (old ≢ new))
 
--- the shifts of a row with such a value behind it
+-- the shifts of a row with such a value after it
 abbrev pub valued : Attributes → Shift → List Shift
 valued values s =
     option_map_or (λ was. shift_between (s.row ++ cell.Value was ∷ []) s.before 0 ++ shift_between (s.row ++ cell.Value values.value ∷ []) 0 s.after)

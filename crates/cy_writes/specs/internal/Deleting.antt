@@ -7,7 +7,8 @@ use Rattle.cy_values.specs.declared.numbers.Entity.{Entity}
 use Rattle.cy_values.specs.declared.numbers.Entity.TheVariants as entity
 use Rattle.cy_graph.specs.declared.nodes.Node.{Node}
 use Rattle.cy_graph.specs.declared.nodes.Rel.{Rel}
-use Rattle.cy_graph.specs.Graph.{State, rels_from, rels_into, with_nodes, with_rels}
+use Rattle.cy_graph.specs.Graph.{State, with_nodes, with_rels}
+use Rattle.cy_graph.specs.internal.Ends.{rels_from, rels_into}
 
 -- the nodes, and the relationships, among entities
 abbrev pub nodes_among : List Entity → List NodeId

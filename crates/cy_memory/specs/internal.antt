@@ -1,4 +1,5 @@
 -- What proofs alone need.
+pub mod Buckets
 pub mod Maps
 pub mod Tables
 pub mod Lists

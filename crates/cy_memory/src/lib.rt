@@ -1,6 +1,7 @@
 //! Memories: rows with counts, as they were and as they are staged, found by a key.
 #![tactic(auto)]
 
+mod buckets;
 mod faults;
 mod keyed;
 mod listed;

@@ -76,7 +76,7 @@ semicolon_not (kind.Symbol s) other = symbol_not s other
 
 -- ---- faults of the layers
 
-pub lexed : (why : LexFault) → (of_lexer why ≡ fault.NoMemory) ⊎ ((why ≢ lex.NoMemory) × (of_lexer why ≡ fault.Lex why))
+pub lexed : (why : LexFault) → ((why ≡ lex.NoMemory) × (of_lexer why ≡ fault.NoMemory)) ⊎ ((why ≢ lex.NoMemory) × (of_lexer why ≡ fault.Lex why))
 lexed (lex.BadCharacter at) = inr ((λ e. cc), refl)
 lexed (lex.UnclosedText at) = inr ((λ e. cc), refl)
 lexed (lex.BadEscape at) = inr ((λ e. cc), refl)
@@ -86,7 +86,7 @@ lexed (lex.BadNumber at) = inr ((λ e. cc), refl)
 lexed (lex.NumberTooLarge at) = inr ((λ e. cc), refl)
 lexed lex.LineTooLong = inr ((λ e. cc), refl)
 lexed (lex.NotUtf8 at) = inr ((λ e. cc), refl)
-lexed lex.NoMemory = inl refl
+lexed lex.NoMemory = inl (refl, refl)
 
 parsed : (why : ParseFault) → (of_parser why ≡ fault.NoMemory) ⊎ ((why ≢ parse.NoMemory) × (of_parser why ≡ fault.Parse why))
 parsed (parse.NumberTooLarge at) = inr ((λ e. cc), refl)

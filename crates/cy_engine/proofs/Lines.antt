@@ -14,7 +14,7 @@ use Rattle.cy_feeds.specs.declared.feeds.Answer as feeds
 use Rattle.cy_feeds.specs.Feeds.{answer_since}
 use Rattle.cy_engine.specs.Faults.{of_lexer}
 use Rattle.cy_engine.specs.internal.Stages.{AnswersOrWants, ListsSteps, ListsViews, ShowsChanges, ShowsRows, ShowsSince}
-use Rattle.cy_engine.specs.Requests.{Request, RowsOf, SinceOf, ListOfViews, ListOfSteps, Refused, request}
+use Rattle.cy_engine.specs.Requests.{Request, Nothing, RowsOf, SinceOf, ListOfViews, ListOfSteps, Refused, request}
 use Rattle.cy_engine.specs.State.{EngineState}
 use Rattle.cy_views.specs.Views.{Entries, View}
 use Rattle.cy_engine.specs.Step.{Answer, Answers, Follows, IsRefused, IsReplied, Lexed, Shows, Step, Tells}
@@ -27,42 +27,54 @@ short_or_long n m =
       | false ↦ λ h. inl (grind (arith, nat_tests))
     ] refl
 
+-- a line that asks for something has tokens
+pub asks_some : (line : List ℕ) (tokens : List Token) (asked : Request) → request line tokens ≡ asked → (Nothing ≡ asked → ⊥) → tokens ≡ [] → ⊥
+asks_some line tokens asked asks real none = real (sym (ap (request line) none) ∙ asks)
+
 module _ (line : List ℕ) (old : EngineState) (entries : Entries) (new : EngineState) where
   -- a line that isn't made of tokens
-  pub lex_refused : (why : LexFault) → entries ≡ [] → new ≡ old → (why ≢ lex.NoMemory → tokens_of line ≡ Err why) → (longest_line < length line → why ≡ lex.LineTooLong) → Step old line (Err (of_lexer why)) entries new
-  lex_refused why none same said long = from (lexed why)
+  pub lex_refused : (why : LexFault) → entries ≡ [] → new ≡ old → (why ≢ lex.NoMemory → tokens_of line ≡ Err why) → (longest_line < length line → why ≡ lex.LineTooLong)
+      → (why ≡ lex.NoMemory → tokens_of line ≢ Ok []) → Step old line (Err (of_lexer why)) entries new
+  lex_refused why none same said long memory = from (lexed why)
     where
       no_want : of_lexer why ≡ fault.NoMemory → (length line ≤ longest_line) ⊎ (longest_line < length line) → length line ≤ longest_line
       no_want is (inl short) = short
       no_want is (inr past) = let wrong : of_lexer lex.LineTooLong ≡ fault.NoMemory = ap of_lexer (sym (long past)) ∙ is in absurd (cc)
 
-      from : ((of_lexer why ≡ fault.NoMemory) ⊎ ((why ≢ lex.NoMemory) × (of_lexer why ≡ fault.Lex why))) → Step old line (Err (of_lexer why)) entries new
-      from (inl is) = inl (fault.NoMemory, inl (refl, no_want is (short_or_long (length line) longest_line)), record { answered = ap Err is; no_entries = none; state = same })
+      from : (((why ≡ lex.NoMemory) × (of_lexer why ≡ fault.NoMemory)) ⊎ ((why ≢ lex.NoMemory) × (of_lexer why ≡ fault.Lex why))) → Step old line (Err (of_lexer why)) entries new
+      from (inl (wants, is)) = inl (fault.NoMemory, inl (refl, no_want is (short_or_long (length line) longest_line), memory wants), record { answered = ap Err is; no_entries = none; state = same })
       from (inr (is_other, is)) =
           inr (subst (λ (r : Result (List Token) LexFault). Lexed line r old (Err (of_lexer why)) entries new) (sym (said is_other))
           (let refused : IsRefused (fault.Lex why) old (Err (of_lexer why)) entries new = record { answered = ap Err is; no_entries = none; state = same } in refused))
 
-  -- a line of tokens is answered as it asks
-  pub line_step : (answer : Answer) (tokens : List Token) (asked : Request) → tokens_of line ≡ Ok tokens → (longest_line < length line → ⊥) → request line tokens ≡ asked
-      → AnswersOrWants line asked old answer entries new → Step old line answer entries new
-  line_step answer tokens asked made short asks (inl wants) = inl (fault.NoMemory, inl (refl, from (short_or_long (length line) longest_line)), wants)
-    where
-      from : (length line ≤ longest_line) ⊎ (longest_line < length line) → length line ≤ longest_line
-      from (inl h) = h
-      from (inr h) = absurd (short h)
-  line_step answer tokens asked made short asks (inr (inl (many, refused))) =
-      inl (fault.TooManyRows, inr (refl, (asked, record { tokens = tokens; lexed = made; is = asks }, many)), refused)
-  line_step answer tokens asked made short asks (inr (inr answers)) =
+  -- a line of tokens is answered as it asks, where nothing is lacking
+  pub answered_step : (answer : Answer) (tokens : List Token) (asked : Request) → tokens_of line ≡ Ok tokens → request line tokens ≡ asked → Answers line asked old answer entries new → Step old line answer entries new
+  answered_step answer tokens asked made asks answers =
       inr (subst (λ (r : Result (List Token) LexFault). Lexed line r old answer entries new) (sym made)
       (subst (λ (q : Request). Answers line q old answer entries new) (sym asks) answers))
 
+  -- and where something may be
+  pub line_step : (answer : Answer) (tokens : List Token) (asked : Request) → tokens_of line ≡ Ok tokens → (longest_line < length line → ⊥) → request line tokens ≡ asked → (tokens ≡ [] → ⊥)
+      → AnswersOrWants line asked old answer entries new → Step old line answer entries new
+  line_step answer tokens asked made short asks some (inl wants) = inl (fault.NoMemory, inl (refl, from (short_or_long (length line) longest_line), λ none. some (same_tokens none)), wants)
+    where
+      same_tokens : tokens_of line ≡ Ok [] → tokens ≡ []
+      same_tokens none = let same : (let r : Result (List Token) LexFault = Ok tokens in r) ≡ Ok [] = sym made ∙ none in cc
+
+      from : (length line ≤ longest_line) ⊎ (longest_line < length line) → length line ≤ longest_line
+      from (inl h) = h
+      from (inr h) = absurd (short h)
+  line_step answer tokens asked made short asks some (inr (inl (many, refused))) =
+      inl (fault.TooManyRows, inr (refl, (asked, record { tokens = tokens; lexed = made; is = asks }, many)), refused)
+  line_step answer tokens asked made short asks some (inr (inr answers)) = answered_step answer tokens asked made asks answers
+
   -- a command that is refused
-  pub request_refused : (why : Fault) (tokens : List Token) → entries ≡ [] → new ≡ old → tokens_of line ≡ Ok tokens → (longest_line < length line → ⊥)
+  pub request_refused : (why : Fault) (tokens : List Token) → entries ≡ [] → new ≡ old → tokens_of line ≡ Ok tokens → (longest_line < length line → ⊥) → (tokens ≡ [] → ⊥)
       → (why ≡ fault.NoMemory) ⊎ (request line tokens ≡ Refused why) → Step old line (Err why) entries new
-  request_refused why tokens none same made short (inl wants) =
-      line_step (Err why) tokens (request line tokens) made short refl (inl (record { answered = ap Err wants; no_entries = none; state = same }))
-  request_refused why tokens none same made short (inr asks) =
-      line_step (Err why) tokens (Refused why) made short asks (inr (inr (record { answered = refl; no_entries = none; state = same })))
+  request_refused why tokens none same made short some (inl wants) =
+      line_step (Err why) tokens (request line tokens) made short refl some (inl (record { answered = ap Err wants; no_entries = none; state = same }))
+  request_refused why tokens none same made short some (inr asks) =
+      line_step (Err why) tokens (Refused why) made short asks some (inr (inr (record { answered = refl; no_entries = none; state = same })))
 
 -- what is answered to `:rows`
 pub rows_answered : (line name : List ℕ) (state : EngineState) (entries : Entries) (answer : Answer) → entries ≡ [] → ShowsRows state name answer → AnswersOrWants line (RowsOf name) state answer entries state

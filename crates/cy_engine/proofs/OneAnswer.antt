@@ -219,7 +219,7 @@ module _ (total : IsTotalOrder row_cmp) where
     lexed_one line (Ok tokens) a b = answers_one line (request line tokens) a b
 
   no_lack : (line : List ℕ) (state : EngineState) (answer : Answer) (why : Fault) → Lacks line state why → answer ≡ Err why → IsBound answer → ⊥
-  no_lack line state answer why (inl (is, short)) answered bound = let wrong : true ≡ false = sym (ap is_want (answered ∙ ap Err is)) ∙ bound in cc
+  no_lack line state answer why (inl (is, short, some)) answered bound = let wrong : true ≡ false = sym (ap is_want (answered ∙ ap Err is)) ∙ bound in cc
   no_lack line state answer why (inr (is, many)) answered bound = let wrong : true ≡ false = sym (ap is_want (answered ∙ ap Err is)) ∙ bound in cc
 
   pub step_one : IsOne → (old twin new other : EngineState) (line : List ℕ) (answer again : Answer) (entries more : Entries) → seen twin ≡ seen old → Step old line answer entries new → Step twin line again more other

@@ -199,11 +199,11 @@ HasTooMany line (StatementOf tokens) old = StatementHasTooMany line tokens old
 HasTooMany line (ViewOf name tokens) old = ViewHasTooMany line name tokens old
 HasTooMany line asked old = ⊥
 
--- What is lacking may refuse a line that else is answered: memory, where the line isn't too long, since its tokens take memory; and numbers for
--- the rows of views.
+-- What is lacking may refuse a line that else is answered: memory, where the line isn't too long and isn't one without tokens, since tokens take
+-- memory; and numbers for the rows of views.
 abbrev pub Lacks : List ℕ → EngineState → Fault → Type 0
 Lacks line old why =
-    ((why ≡ fault.NoMemory) × (length line ≤ longest_line))
+    ((why ≡ fault.NoMemory) × (length line ≤ longest_line) × (tokens_of line ≢ Ok []))
     ⊎ ((why ≡ fault.TooManyRows) × ((asked : Request) × Asks line asked × HasTooMany line asked old))
 
 -- From old, the machine may answer the line so, make these entries and go on to new.

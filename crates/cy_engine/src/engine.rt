@@ -100,7 +100,7 @@ impl Engine {
     /// `ViewNameTaken`, `TooManyViews`, `Full` where the last tick was given out, or `PlanTooLarge` where its query weighs too much. Rows,
     /// what changed since a tick and the end of a view are refused as `NoSuchView`, a tick above the current one then as `FutureTick`,
     /// an index as `IndexThere`. `TooManyRows` may come of a statement or a view that else is executed, where a part of a plan has a row
-    /// that counts more than 2^62 - 1, and `NoMemory` of any line that isn't too long.
+    /// that counts more than 2^62 - 1, and `NoMemory` of any line that has tokens and isn't too long.
     pub fn line(&mut self, line: &str) -> Result<Reply, Fault>
         ensures { Step (state_of self.old) line.now result self.new.entries (state_of self.new) }
     {

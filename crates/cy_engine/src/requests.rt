@@ -1,6 +1,6 @@
 //! What a line asks for, by its tokens.
 
-ghost use Rattle.std.specs.Prelude.{◌≡◌, MatchResult, ◌⊎◌};
+ghost use Rattle.std.specs.Prelude.{◌≡◌, ◌≢◌, [], MatchResult, OnErr, ◌⊎◌};
 ghost use Rattle.cy_engine.specs.Requests as spec;
 ghost use Rattle.cy_engine.specs.internal.Stages.{shown};
 
@@ -43,7 +43,8 @@ pub(crate) fn read_request<'a>(
     tokens: &'a [Token],
     line: &str,
 ) -> Result<Request<'a>, Fault>
-    ensures { MatchResult result (λ request. spec.request line.now tokens.now ≡ shown request) (λ fault. (fault ≡ Fault.NoMemory) ⊎ (spec.request line.now tokens.now ≡ spec.Refused fault)) }
+    ensures request { MatchResult result (λ request. spec.request line.now tokens.now ≡ shown request) (λ fault. (fault ≡ Fault.NoMemory) ⊎ (spec.request line.now tokens.now ≡ spec.Refused fault)) }
+    ensures some { OnErr result (tokens.now ≢ []) }
 {
     match tokens.split_first() {
         None => Ok(Request::Nothing),

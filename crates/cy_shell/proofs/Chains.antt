@@ -1,15 +1,20 @@
 -- Printed runs, one after another.
-use Rattle.std.proofs.Common.{◌≡◌, ℕ, ◌≤◌, List, [], ◌∷◌, ◌++◌, length, Option, Result, Err, Bool, true, false, refl, sym, ◌∙◌, ap, subst, append_assoc, inl, inr}
+use Rattle.std.proofs.Common.{◌≡◌, ℕ, ◌≤◌, List, [], ◌∷◌, ◌++◌, length, Option, Result, Ok, Err, Bool, true, false, refl, sym, ◌∙◌, ap, subst, append_assoc, inl, inr}
 use Rattle.std.proofs.lemmas.Bool.{leb-true, leb-false}
 use Rattle.std.proofs.lemmas.List.{append-nil}
 use lib.Dec.{leb}
 use Rattle.std.proofs.lemmas.Str.{IsUtf8-from_is_utf8, is_utf8-from_IsUtf8}
 use Rattle.std.specs.Str.{IsUtf8, is_utf8}
+use Rattle.cy_lexer.specs.declared.faults.LexFault.{LexFault}
+use Rattle.cy_lexer.specs.declared.tokens.Token.{Token}
+use Rattle.cy_lexer.specs.Tokens.{tokens_of}
 use Rattle.cy_engine.specs.declared.faults.Fault.TheVariants as fault
 use Rattle.cy_shell.specs.Lines.{line_limit}
 use Rattle.cy_shell.specs.Printed.{no_memory_text, IsAnswerText, IsFeedText, IsLineText, fed}
 use Rattle.cy_engine.specs.declared.faults.Fault.{Fault}
 use Rattle.cy_engine.specs.declared.replies.Reply.{Reply}
+use Rattle.cy_engine.specs.declared.replies.Reply.TheVariants as reply
+use Rattle.cy_engine.specs.Step.{Lexed}
 use Rattle.cy_shell.specs.Runs.{Serving, Answered, TooLong, NotUtf8, Executed, PrintedRun, WritesRun, WritesBeginning}
 use Rattle.cy_shell.specs.Streams.{appended}
 use Rattle.cy_shell.specs.internal.Writing.{AppendsFront}
@@ -35,10 +40,21 @@ nothing_fed false = refl
 no_feed : (feed : Bool) (result : Result Reply Fault) (text : List ℕ) → IsAnswerText result text → IsLineText feed result [] text
 no_feed feed result text answered = record { answer = text; entry_texts = []; is = sym (append-nil text); answered = answered; feeds = nothing_fed feed }
 
--- want of memory may refuse it
+-- want of memory may refuse it, unless it has no tokens
 left_answer : (state : Serving) (line : List ℕ) → length line ≤ line_limit → IsUtf8 line → HasAnswer state line
-left_answer state line short utf8 =
-    (no_memory_text, Executed (Err fault.NoMemory) [] short utf8 (inl (fault.NoMemory, inl (refl, short), record { answered = refl; no_entries = refl; state = refl })) refl (no_feed state.feed (Err fault.NoMemory) no_memory_text (inr refl)))
+left_answer state line short utf8 = from (tokens_of line) refl
+  where
+    refused : (tokens_of line ≡ Ok [] → ⊥) → HasAnswer state line
+    refused some =
+        (no_memory_text, Executed (Err fault.NoMemory) [] short utf8 (inl (fault.NoMemory, inl (refl, short, some), record { answered = refl; no_entries = refl; state = refl })) refl (no_feed state.feed (Err fault.NoMemory) no_memory_text (inr refl)))
+
+    from : (lexed : Result (List Token) LexFault) → tokens_of line ≡ lexed → HasAnswer state line
+    from (Err why) is = refused (λ none. let wrong : (let r : Result (List Token) LexFault = Err why in r) ≡ Ok [] = sym is ∙ none in cc)
+    from (Ok (t ∷ ts)) is = refused (λ none. let wrong : (let r : Result (List Token) LexFault = Ok (t ∷ ts) in r) ≡ Ok [] = sym is ∙ none in cc)
+    from (Ok []) is =
+        ([], Executed (Ok reply.Nothing) [] short utf8
+        (inr (subst (λ (r : Result (List Token) LexFault). Lexed line r state.engine (Ok reply.Nothing) [] state.engine) (sym is) (record { answered = refl; no_entries = refl; state = refl }))) refl
+        (no_feed state.feed (Ok reply.Nothing) [] refl))
 
 short_answer : (state : Serving) (line : List ℕ) → length line ≤ line_limit → (b : Bool) → is_utf8 line ≡ b → HasAnswer state line
 short_answer state line short true is = left_answer state line short (IsUtf8-from_is_utf8 line is)

@@ -4,3 +4,4 @@ pub mod Staging
 pub mod Merged
 pub mod WholeRows
 pub mod Changes
+pub mod OneToOne

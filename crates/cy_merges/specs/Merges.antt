@@ -1,5 +1,5 @@
 -- What changes below a projection or a union, and what its memory holds before. (own)
-use Rattle.std.specs.Prelude.{◌≡◌, ℕ, ◌≤◌, List, ◌++◌, map}
+use Rattle.std.specs.Prelude.{◌≡◌, ℕ, ◌≤◌, List, ◌++◌, length, map}
 use Rattle.std.specs.List.{All, range_with_len}
 use Rattle.cy_values.specs.declared.rows.Cell.{Cell}
 use Rattle.cy_memory.specs.Counts.{Counts, greatest_count, key_of}
@@ -24,6 +24,10 @@ AreBounded counted = (row : List Cell) → counted row ≤ greatest_count
 pub record IsProjectChange (outputs : List Output) (was : Counts) (shifts : List Shift) (before after : List (List Cell)) : Type 0 where
   pub delta : IsDelta (counts before) (counts after) shifts
   pub held : was ≡ counts (map (projected outputs) before)
+
+-- of two rows that are so wide and differ a projection makes rows that differ
+abbrev pub IsOneToOne : ℕ → List Output → Type 0
+IsOneToOne width outputs = (row other : List Cell) → length row ≡ width → length other ≡ width → projected outputs row ≡ projected outputs other → row ≡ other
 
 -- the rows of the two parts of a union
 pub record Sides : Type 0 where

@@ -8,5 +8,5 @@ mod projections;
 mod stages;
 mod unions;
 
-pub use projections::project;
+pub use projections::{project, rearrange};
 pub use unions::union;

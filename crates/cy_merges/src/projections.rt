@@ -1,6 +1,6 @@
 //! How a change goes through `Project`.
 
-ghost use Rattle.std.specs.Prelude.{◌≡◌, ◌+◌, ◌*◌, ◌<◌, ◌≤◌, true, List, IfOk, IfErr, OnOk, length, map};
+ghost use Rattle.std.specs.Prelude.{◌≡◌, ◌+◌, ◌*◌, ◌<◌, ◌≤◌, true, ℕ, List, IfOk, IfErr, OnOk, length, map};
 ghost use Rattle.std.specs.List.{All};
 ghost use Rattle.cy_values.specs.declared.rows.Cell.{Cell};
 ghost use Rattle.cy_expr.specs.Lookups.{IsNumbered};
@@ -9,8 +9,8 @@ ghost use Rattle.cy_memory.specs.Counts.{greatest_count};
 ghost use Rattle.cy_plans.specs.Expressions as expressions;
 ghost use Rattle.cy_plans.specs.Sure.{HasCells};
 ghost use Rattle.cy_plans.specs.Views.{output_of};
-ghost use Rattle.cy_deltas.specs.Deltas.{IsBounded, IsDelta, counts};
-ghost use Rattle.cy_merges.specs.Merges.{AreBounded, IsProjectChange, all_columns};
+ghost use Rattle.cy_deltas.specs.Deltas.{AreWide, IsBounded, IsDelta, counts};
+ghost use Rattle.cy_merges.specs.Merges.{AreBounded, IsOneToOne, IsProjectChange, all_columns};
 ghost use Rattle.cy_merges.specs.internal.Sums.{image};
 
 use crate::merges::merge;
@@ -52,6 +52,20 @@ pub fn project<M: Memory>(
 {
     let images = images_of(alloc, outputs, shifts)?;
     merge(alloc, memory, images)
+}
+
+/// What changes of the rows of a projection that makes different rows of different ones: each row that it makes counts as often as the
+/// one row of which it makes it, so no memory is needed. Fails only for want of memory, and never where nothing changes.
+pub fn rearrange(alloc: Global, outputs: &[Output], shifts: Vec<Shift>) -> Result<Vec<Shift>, Fault>
+    requires sure { All (λ s. HasCells (map output_of outputs.now) s.row) shifts.items }
+    requires numbered { All (λ s. All IsNumbered s.row) shifts.items }
+    ensures delta { IfOk result (λ made. (width : ℕ) (before after : List (List Cell)) → IsOneToOne width (map output_of outputs.now) → AreWide width (counts before) (counts after)
+        → IsDelta (counts before) (counts after) shifts.items
+        → IsDelta (counts (map (expressions.projected (map output_of outputs.now)) before)) (counts (map (expressions.projected (map output_of outputs.now)) after)) made.items) }
+    ensures bounded { IfOk result (λ made. All IsBounded shifts.items → All IsBounded made.items) }
+    ensures nothing { IfErr result (λ _. 0 < length shifts.items) }
+{
+    images_of(alloc, outputs, shifts)
 }
 
 // The shifts with the rows that the projection makes of theirs. Fails only for want of memory, and never where there are none.

@@ -89,7 +89,7 @@ module _ (total : IsTotalOrder row_cmp) (graph : State) (is : IsGraph graph) (ro
       each_of_same total (AllByRecursion (IsInGraph next.graph.content)) next (after_clause c (progress graph rows no_counts)) same
       (same_graph next (after_clause c (progress graph rows no_counts)) same (λ g. AllByRecursion (IsInGraph g.content))
       (if_ok_weaker (Come graph) (λ (q : Progress). AreInGraph q.graph.content q.rows) (λ q come. come.rows) (after_clause c (progress graph rows no_counts))
-      (clause_come (λ content clause others here. clause_there content clause others here) graph c (progress graph rows no_counts) come_first)))
+      (clause_come (λ content clause others reads here. clause_there content clause others here) graph c (progress graph rows no_counts) come_first)))
 
 -- ---- one clause more
 

@@ -66,7 +66,7 @@ loop-clause-preserved c =
     let total = c.row_order_laws.ensures.total in
     let after = c.in_ok-after.ensures in
     record {
-      reached = reached_more total (same_clauses total (λ graph clause rows others same. same_clause total graph rows others same clause)) (λ graph p rows others same. same_rows_of total graph rows others same p)
+      reached = reached_more total (same_clauses total (λ graph clause rows others reads same. same_clause total graph rows others same clause)) (λ graph p rows others same. same_rows_of total graph rows others same p)
           c.args.store.now.graph.now l.store.graph.now c.after_clause.new.store.graph.now statement l.done c.in_ok-after.after (clause_of c.clause-item.result)
           (map clause_of (drop (l.clause-index + 1) clauses)) (map clause_of (drop l.clause-index clauses))
           (next_in clause_of clauses l.clause-index c.clause-item.result c.loop-clause-test.true c.clause-item.is) l.invariant.reached l.invariant.graph

@@ -1,0 +1,4 @@
+pub mod Congruent
+pub mod Layering
+pub mod Projections
+pub mod Rules

@@ -4,6 +4,7 @@ pub mod GoingOn
 pub mod OptionalSteps
 pub mod PatternPremises
 pub mod QuerySteps
+pub mod Rewriting
 pub mod Sums
 pub mod UnderWay
 pub mod ViewClauses

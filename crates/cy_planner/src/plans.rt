@@ -13,6 +13,7 @@ use crate::faults::PlanFault;
 use crate::weight::is_too_large;
 use cy_plans::Plan;
 use cy_queries::laws::{clauses_on_bags, view_queries};
+use cy_rewriting::rewritten;
 use cy_scope::{ViewQuery, checked_statements};
 use cy_trees::Clause;
 use cy_values::{Fault, row_order_laws};
@@ -45,6 +46,7 @@ fn query_rows(alloc: Global, clauses: &[Clause]) -> Result<Plan, Fault>
 /// A plan that serves the query of a view: on every graph its rows are, as a bag, those of the query, no expression of it has a fault,
 /// and no part of it counts a row more often than once or than some row of the query's wide tables. `PlanTooLarge` exactly where the
 /// query weighs more than 512; else it fails only with `NoMemory` (own).
+#[tactic(auto, using(crate::proofs::Rewriting::serves_rewritten))]
 pub fn plan(alloc: Global, query: &ViewQuery) -> Result<Plan, PlanFault>
     ensures too_large { IsErrOf result PlanFault.PlanTooLarge ↔ greatest_weight < weight (statement_of query.now) }
     ensures serves { IfOk result (λ p. Serves (plan_of p) (statement_of query.now)) }
@@ -53,5 +55,6 @@ pub fn plan(alloc: Global, query: &ViewQuery) -> Result<Plan, PlanFault>
         return Err(PlanFault::PlanTooLarge);
     }
     let statement = query.checked().statement();
-    Ok(query_rows(alloc, statement.clauses.as_slice())?)
+    let rows = query_rows(alloc, statement.clauses.as_slice())?;
+    Ok(rewritten(alloc, rows)?)
 }

@@ -8,3 +8,8 @@ pub mod LookupDeltas
 pub mod AttributeLemmas
 pub mod CostLemmas
 pub mod Determined
+pub mod Through
+pub mod ThroughSteps
+pub mod ThroughCounts
+pub mod Recounting
+pub mod ThroughScans

@@ -35,7 +35,7 @@ node_shifts now touched = flat_map (λ e. node_changes e.0 e.1 (node_under now e
 abbrev pub rel_shifts : List Name → Orientation → State → List (ℕ × Option Rel) → List Shift
 rel_shifts types orientation now touched = flat_map (λ e. rel_changes types orientation e.0 e.1 (rel_under now e.0)) touched
 
-node_rows_of : (es : List (NodeId × Node)) → map (λ n. cell.Node n.0 ∷ []) es ≡ flat_map (λ e. node_rows e.0.0 (Some e.1)) es
+pub node_rows_of : (es : List (NodeId × Node)) → map (λ n. cell.Node n.0 ∷ []) es ≡ flat_map (λ e. node_rows e.0.0 (Some e.1)) es
 node_rows_of [] = refl
 node_rows_of (e ∷ es) = ap (λ rest. (cell.Node e.0 ∷ []) ∷ rest) (node_rows_of es)
 

@@ -51,7 +51,7 @@ other_row owner row other n false is of apart = refl
 other_row owner row other n true is of apart =
     absurd (true≢false (sym (number_itself n) ∙ ap (λ (o : Option ℕ). owns o n) (sym of ∙ sym (ap owner (same_row row other is))) ∙ apart))
 
-none_counted : (owner : List Cell → Option ℕ) (row : List Cell) (n : ℕ) (rows : List (List Cell)) → All (λ r. owner r ≡ Some n) rows → owns (owner row) n ≡ false → count_of row rows ≡ 0
+pub none_counted : (owner : List Cell → Option ℕ) (row : List Cell) (n : ℕ) (rows : List (List Cell)) → All (λ r. owner r ≡ Some n) rows → owns (owner row) n ≡ false → count_of row rows ≡ 0
 none_counted owner row n [] each apart = refl
 none_counted owner row n (r ∷ rows) each apart =
     let rest = none_counted owner row n rows (All-tail (λ r. owner r ≡ Some n) r rows each) apart in

@@ -1,3 +1,4 @@
 pub mod Changes
 pub mod Costs
+pub mod Scans
 pub mod internal

@@ -3,3 +3,4 @@ pub mod Attributes
 pub mod Images
 pub mod Named
 pub mod Rows
+pub mod Through

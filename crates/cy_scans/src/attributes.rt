@@ -135,8 +135,12 @@ pub(crate) fn rel_attributes<'a>(
     }
 }
 
-// The value of an attribute of a node, if it is there.
-fn node_value(alloc: Global, attribute: &Attribute, node: Option<&Node>) -> Result<Value, Fault>
+/// The value of an attribute of a node, if it is there. Fails only for want of memory.
+pub(crate) fn node_value(
+    alloc: Global,
+    attribute: &Attribute,
+    node: Option<&Node>,
+) -> Result<Value, Fault>
     ensures { IfOk result (λ v. v ≡ node_attribute attribute.now (option_copied node.entry)) }
 {
     match (attribute, node) {
@@ -147,8 +151,12 @@ fn node_value(alloc: Global, attribute: &Attribute, node: Option<&Node>) -> Resu
     }
 }
 
-// The value of an attribute of a relationship, if it is there.
-fn rel_value(alloc: Global, attribute: &Attribute, rel: Option<&Rel>) -> Result<Value, Fault>
+/// The value of an attribute of a relationship, if it is there. Fails only for want of memory.
+pub(crate) fn rel_value(
+    alloc: Global,
+    attribute: &Attribute,
+    rel: Option<&Rel>,
+) -> Result<Value, Fault>
     ensures { IfOk result (λ v. v ≡ rel_attribute attribute.now (option_copied rel.entry)) }
 {
     match (attribute, rel) {

@@ -3,10 +3,16 @@
 
 mod attributes;
 mod changes;
+mod entities;
 pub mod laws;
 mod lookups;
+mod recounts;
+mod scan_columns;
+mod scanning;
 mod scans;
 
 pub use changes::GraphChange;
 pub use lookups::lookup;
+pub use scan_columns::column_over;
+pub use scanning::scan;
 pub use scans::{nodes, rels};

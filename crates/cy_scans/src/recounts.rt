@@ -1,0 +1,72 @@
+//! What changes where other rows stand in place of some.
+
+ghost use Rattle.std.specs.Prelude.{◌≡◌, ◌≤◌, ◌+◌, ◌++◌, ℕ, List, IfOk, OnOk, length, not};
+ghost use Rattle.std.specs.Prelude as std;
+ghost use Rattle.std.specs.List.{All};
+ghost use Rattle.cy_values.specs.declared.rows.Cell.{Cell};
+ghost use Rattle.cy_values.specs.Bag.{count_of};
+ghost use Rattle.cy_memory.specs.Counts.{greatest_count, is_row};
+ghost use Rattle.cy_deltas.specs.Deltas.{IsBounded, shift_between, shifts_of};
+ghost use Rattle.cy_scans.specs.internal.Through.{recounted};
+
+use cy_deltas::{Shift, add_shift};
+use cy_values::{Fault, Row, row_order};
+use std::cmp::Ordering;
+
+/// Adds a shift of each row that counts otherwise among the new rows than among the old ones. Fails only for want of memory.
+pub(crate) fn add_recounted(
+    shifts: &mut Vec<Shift>,
+    old: Vec<Row>,
+    new: Vec<Row>,
+) -> Result<(), Fault>
+    requires old { length old.items ≤ greatest_count }
+    requires new { length new.items ≤ greatest_count }
+    ensures recounted { OnOk result ((row : List Cell) → shifts_of row shifts.new.items ≡ shifts_of row shifts.old.items ++ recounted old.items new.items row) }
+    ensures bounded { OnOk result (All IsBounded shifts.old.items → All IsBounded shifts.new.items) }
+{
+    let mut new = new;
+    add_gone(shifts, old, &mut new)?;
+    add_come(shifts, new)
+}
+
+// Adds a shift of each of the old rows that counts otherwise among the new ones, and takes it from these.
+fn add_gone(shifts: &mut Vec<Shift>, old: Vec<Row>, new: &mut Vec<Row>) -> Result<(), Fault>
+    requires old { length old.items ≤ greatest_count }
+    requires new { length new.old.items ≤ greatest_count }
+    ensures recounted { OnOk result ((row : List Cell) → shifts_of row shifts.new.items ++ shift_between row 0 (count_of row new.new.items)
+        ≡ shifts_of row shifts.old.items ++ recounted old.items new.old.items row) }
+    ensures bounded { OnOk result (All IsBounded shifts.old.items → All IsBounded shifts.new.items) }
+    ensures fewer { OnOk result (length new.new.items ≤ length new.old.items) }
+{
+    let mut old = old;
+    while let Some(row) = old.pop() {
+        let before = 1 + take_same(&mut old, &row);
+        let after = take_same(new, &row);
+        add_shift(shifts, row, before, after)?;
+    }
+    Ok(())
+}
+
+// Adds a shift of each of the rows, which come.
+fn add_come(shifts: &mut Vec<Shift>, new: Vec<Row>) -> Result<(), Fault>
+    requires { length new.items ≤ greatest_count }
+    ensures recounted { OnOk result ((row : List Cell) → shifts_of row shifts.new.items ≡ shifts_of row shifts.old.items ++ shift_between row 0 (count_of row new.items)) }
+    ensures bounded { OnOk result (All IsBounded shifts.old.items → All IsBounded shifts.new.items) }
+{
+    let mut new = new;
+    while let Some(row) = new.pop() {
+        let after = 1 + take_same(&mut new, &row);
+        add_shift(shifts, row, 0, after)?;
+    }
+    Ok(())
+}
+
+// Takes a row from among others, as often as it stands there.
+fn take_same(rows: &mut Vec<Row>, row: &Row) -> u64
+    ensures taken { result ≡ count_of row.now rows.old.items }
+    ensures left { rows.new.items ≡ std.filter (λ other. not (is_row row.now other)) rows.old.items }
+{
+    let all = rows.len();
+    rows.retain(|other| row_order(row, other) != Ordering::Equal);
+    (all - rows.len()) as u64
+}

@@ -1,20 +1,18 @@
 -- Rows of which UNWIND carries along what is needed.
-use Rattle.std.proofs.Common.{◌≡◌, ℕ, zero, suc, ◌+◌, ◌<◌, Bool, true, false, cond, List, [], ◌∷◌, ◌++◌, get_or, length, map, take, refl, sym, ap, subst, ◌∙◌, arith}
-use Rattle.std.specs.Prelude.{None, Some, Result, Ok, Err, IfOk, slice_get, slice_index_or}
+use Rattle.std.proofs.Common.{◌≡◌, ℕ, zero, suc, ◌+◌, ◌<◌, ◌≤◌, Bool, true, false, cond, List, [], ◌∷◌, ◌++◌, get_or, length, map, take, refl, sym, ap, subst, ◌∙◌, arith}
+use Rattle.std.specs.Prelude.{Some, Result, Ok, Err, IfOk, slice_get, slice_index_or}
 use Rattle.std.specs.List.{AllByRecursion}
-use Rattle.std.proofs.lemmas.List.{map-append, take_more}
+use Rattle.std.proofs.lemmas.List.{length-append, map-append, take_more}
 use Rattle.cy_values.specs.declared.scalars.Value.TheVariants as value
 use Rattle.cy_values.specs.declared.rows.Cell.{Cell}
 use Rattle.cy_values.specs.declared.rows.Cell.TheVariants as cell
-use Rattle.cy_trees.specs.declared.clauses.Clause as coded
 use Rattle.cy_trees.specs.Trees.{Clause, «match», unwind, «with», «return», create, set, remove, delete}
-use Rattle.cy_trees.specs.Views.{clause_of}
 use Rattle.cy_graph.specs.Graph.{Content}
 use Rattle.cy_expr.specs.declared.faults.EvalFault.{EvalFault}
 use Rattle.cy_patterns.specs.Outcomes.{joined, together}
 use Rattle.cy_queries.specs.Reading.{AreInGraph, IsInGraph}
 use Rattle.cy_columns.specs.Columns.{AgreeOn}
-use Rattle.cy_oneshot.specs.internal.Carried.{AreNeeded, IsEnough, carried, carried_by, carried_from, is_needed}
+use Rattle.cy_oneshot.specs.internal.Carried.{AreNeeded, carried, carried_by, carried_from, is_needed}
 
 -- ---- one row
 
@@ -63,7 +61,7 @@ carried_after needed row cells count c last whole many is =
     ∙ sym (carried_last needed row c)
 
 -- a needed column has its cell
-column_carried : (needed : List Bool) (place : ℕ) (row : List Cell) (column : ℕ) → is_needed needed (place + column) ≡ true
+pub column_carried : (needed : List Bool) (place : ℕ) (row : List Cell) (column : ℕ) → is_needed needed (place + column) ≡ true
     → slice_index_or row column (cell.Value value.Null) ≡ slice_index_or (carried_from needed place row) column (cell.Value value.Null)
 column_carried needed place [] column is = refl
 column_carried needed place (c ∷ row) zero is =
@@ -76,7 +74,7 @@ agree_carried needed [] row are = tt
 agree_carried needed (c ∷ columns) row are =
     (sym (column_carried needed 0 row c (ap (is_needed needed) (let e : 0 + c ≡ c = omega arith in e) ∙ are.0)), agree_carried needed columns row are.1)
 
-row_there : (graph : Content) (needed : List Bool) (place : ℕ) (row : List Cell) → AllByRecursion (IsInGraph graph) row → AllByRecursion (IsInGraph graph) (carried_from needed place row)
+pub row_there : (graph : Content) (needed : List Bool) (place : ℕ) (row : List Cell) → AllByRecursion (IsInGraph graph) row → AllByRecursion (IsInGraph graph) (carried_from needed place row)
 row_there graph needed place [] there = tt
 row_there graph needed place (c ∷ row) there = (
   elim (is_needed needed place) as (λ b. IsInGraph graph (cond b c (cell.Value value.Null))) [
@@ -86,9 +84,45 @@ row_there graph needed place (c ∷ row) there = (
   row_there graph needed (place + 1) row there.1,
 )
 
+-- ---- rows of which each column from a number on is needed
+
+module _ (needed : List Bool) where
+  -- each column from a number on is needed
+  abbrev pub NeededFrom : ℕ → Type 0
+  NeededFrom count = (column : ℕ) → count ≤ column → is_needed needed column ≡ true
+
+  pub from_more : (row : List Cell) (c : Cell) → NeededFrom (length row) → NeededFrom (length (row ++ c ∷ []))
+  from_more row c from = λ column past. from column (let long : length (row ++ c ∷ []) ≡ length row + 1 = length-append row (c ∷ []) in omega arith)
+
+  pub less_last : (row : List Cell) (c : Cell) → NeededFrom (length row) → carried_from needed 0 (row ++ c ∷ []) ≡ carried_from needed 0 row ++ c ∷ []
+  less_last row c from = carried_last needed row c ∙ ap (λ b. carried_from needed 0 row ++ cond b c (cell.Value value.Null) ∷ []) (from (length row) (omega arith))
+
+  pub get_from : (place : ℕ) (row : List Cell) (column : ℕ) → is_needed needed (place + column) ≡ true → slice_get (carried_from needed place row) column ≡ slice_get row column
+  get_from place [] column is = refl
+  get_from place (c ∷ row) zero is =
+      ap (λ (b : Bool). Some (cond b c (cell.Value value.Null))) (ap (is_needed needed) (let e : place ≡ place + 0 = omega arith in e) ∙ is)
+  get_from place (c ∷ row) (suc column) is =
+      get_from (place + 1) row column (ap (is_needed needed) (let e : place + 1 + column ≡ place + suc column = omega arith in e) ∙ is)
+
+  needed_past : (column : ℕ) (flags : List Bool) → length flags ≤ column → is_needed flags column ≡ true
+  needed_past column [] past = refl
+  needed_past zero (b ∷ flags) past = absurd (omega arith)
+  needed_past (suc column) (b ∷ flags) past = needed_past column flags (omega arith)
+
+  pub from_long : (row : List Cell) → length needed ≤ length row → NeededFrom (length row)
+  from_long row long = λ column past. needed_past column needed (omega arith)
+
 -- ---- all rows
 
-rows_whole : (rows : List (List Cell)) → map (carried_from [] 0) rows ≡ rows
+-- each row has a cell at each place that isn't needed
+abbrev pub AreLong : List Bool → List (List Cell) → Type 0
+AreLong needed rows = AllByRecursion (λ row. length needed ≤ length row) rows
+
+pub wide_long : (needed : List Bool) (width : ℕ) → length needed ≤ width → (rows : List (List Cell)) → AllByRecursion (λ row. length row ≡ width) rows → AreLong needed rows
+wide_long needed width within [] wide = tt
+wide_long needed width within (row ∷ rows) wide = (let long : length row ≡ width = wide.0 in omega (arith, long, within), wide_long needed width within rows wide.1)
+
+pub rows_whole : (rows : List (List Cell)) → map (carried_from [] 0) rows ≡ rows
 rows_whole [] = refl
 rows_whole (row ∷ rows) = λ i. row_whole 0 row i ∷ rows_whole rows i
 
@@ -96,7 +130,7 @@ pub all_carried : (outcome : Result (List (List Cell)) EvalFault) → carried []
 all_carried (Ok rows) = ap Ok (rows_whole rows)
 all_carried (Err fault) = refl
 
-carried_together : (needed : List Bool) (o q : Result (List (List Cell)) EvalFault) → carried needed (together o q) ≡ together (carried needed o) (carried needed q)
+pub carried_together : (needed : List Bool) (o q : Result (List (List Cell)) EvalFault) → carried needed (together o q) ≡ together (carried needed o) (carried needed q)
 carried_together needed (Ok xs) (Ok ys) = ap Ok (map-append (carried_from needed 0) xs ys)
 carried_together needed (Ok xs) (Err g) = refl
 carried_together needed (Err f) (Ok ys) = refl
@@ -115,7 +149,7 @@ pub carried_wide : (needed : List Bool) (width : ℕ) (o : Result (List (List Ce
 carried_wide needed width (Ok rows) wide = wide_rows needed width rows wide
 carried_wide needed width (Err fault) wide = tt
 
-there_rows : (graph : Content) (needed : List Bool) (rows : List (List Cell)) → AreInGraph graph rows → AreInGraph graph (map (carried_from needed 0) rows)
+pub there_rows : (graph : Content) (needed : List Bool) (rows : List (List Cell)) → AreInGraph graph rows → AreInGraph graph (map (carried_from needed 0) rows)
 there_rows graph needed [] there = tt
 there_rows graph needed (row ∷ rows) there = (row_there graph needed 0 row there.0, there_rows graph needed rows there.1)
 
@@ -142,12 +176,3 @@ carried_either P (delete detach variables) needed o some all = all
 -- where all is needed all is carried along
 pub all_by : (c : Clause) (o : Result (List (List Cell)) EvalFault) → carried_by c [] o ≡ o
 all_by c o = carried_either (λ q. q ≡ o) c [] o (all_carried o) refl
-
--- the first of the clauses, if there is one
-pub enough_first : (needed : List Bool) (clauses : List coded.Clause) (c : coded.Clause) → Some c ≡ slice_get clauses 0 → ((others : List Clause) → IsEnough needed (clause_of c ∷ others)) → IsEnough needed (map clause_of clauses)
-enough_first needed [] c is enough = absurd (let e : ⊥ = cc is in e)
-enough_first needed (d ∷ clauses) c is enough = subst (λ (e : coded.Clause). IsEnough needed (clause_of e ∷ map clause_of clauses)) (let e : c ≡ d = cc is in e) (enough (map clause_of clauses))
-
-pub enough_last : (needed : List Bool) (clauses : List coded.Clause) → None ≡ slice_get clauses 0 → needed ≡ [] → IsEnough needed (map clause_of clauses)
-enough_last needed [] is none = none
-enough_last needed (d ∷ clauses) is none = absurd (let e : ⊥ = cc is in e)

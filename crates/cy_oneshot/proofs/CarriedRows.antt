@@ -1,15 +1,16 @@
--- A projection whose keys see its columns alone gives the same of rows in which the cells that it doesn't read are null.
-use Rattle.std.proofs.Common.{◌≡◌, inl, inr, ℕ, Bool, true, false, cond, List, [], ◌∷◌, ◌++◌, filter, map, refl, sym, ap, ◌∙◌}
-use Rattle.std.specs.Prelude.{Result, Ok, Err, Option, Some, None, ◌||◌, is_some, not, pos}
-use Rattle.std.specs.List.{AllByRecursion}
+-- A projection gives the same of rows in which the cells that it doesn't read are null.
+use Rattle.std.proofs.Common.{◌≡◌, inl, inr, ℕ, zero, suc, ◌+◌, ◌-◌, Bool, true, false, cond, List, [], ◌∷◌, ◌++◌, filter, map, refl, sym, ap, subst, ◌∙◌, arith}
+use Rattle.std.specs.Prelude.{Result, Ok, Err, IfOk, Option, Some, None, ◌||◌, length, not, pos, slice_index_or}
+use Rattle.std.specs.List.{AllByRecursion, list_any}
 use Rattle.std.specs.Ordering.{eq_by_cmp}
-use Rattle.std.proofs.lemmas.Bool.{and_parts}
+use Rattle.std.proofs.lemmas.Bool.{or_parts}
 use Rattle.std.proofs.lemmas.List.{length-map}
 use Rattle.std.proofs.lemmas.Simd.{map-map}
 use Rattle.cy_values.specs.declared.scalars.Value.TheVariants as value
 use Rattle.cy_values.specs.declared.rows.Cell.{Cell}
+use Rattle.cy_values.specs.declared.rows.Cell.TheVariants as cell
 use Rattle.cy_values.specs.Order.{row_cmp}
-use Rattle.cy_trees.specs.Trees.{Expression, null, boolean, integer, text, variable, property, has_labels, unary, binary, comparison, list, case, call, call_star, no_more, more, Item, Key, Projection, Clause, «match», unwind, «with», «return», create, set, remove, delete}
+use Rattle.cy_trees.specs.Trees.{Name, Expression, null, boolean, integer, text, variable, property, has_labels, unary, binary, comparison, list, case, call, call_star, no_more, more, Item, Key, Projection, Clause, «match», unwind, «with», «return», create, set, remove, delete}
 use Rattle.cy_graph.specs.Graph.{Content}
 use Rattle.cy_kinds.specs.Aggregates.{has_aggregates, is_aggregate_call}
 use Rattle.cy_kinds.specs.Functions.{function_named}
@@ -20,15 +21,17 @@ use Rattle.cy_expr.specs.Graphs.{lookups}
 use Rattle.cy_queries.specs.Order.{Keyed, each_once}
 use Rattle.cy_patterns.specs.Matching.{selected}
 use Rattle.cy_patterns.specs.Outcomes.{gathered, joined, together}
-use Rattle.cy_columns.specs.Columns.{columns_read}
+use Rattle.cy_columns.specs.Columns.{AgreeOn, columns_read}
 use Rattle.cy_columns.proofs.Agreeing.{cell-same}
 use Rattle.cy_queries.specs.Groups.{Grouped, aggregate_if, aggregated, and_also, cells_on, group_cells, group_keys, group_rows, grouped, grouping, over_rows, rows_of_group, taken, values_among}
 use Rattle.cy_queries.specs.Projection.{Projected, cut, distinct_rows, item_of_key, item_rows, key_cell, keyed, project, projection_rows, with_columns_alone}
-use Rattle.cy_queries.specs.Queries.{rows_after_all}
-use Rattle.cy_oneshot.specs.internal.Carried.{AreNeeded, IsEnough, IsEnoughFor, all_repeat, carried, carried_from, sees_columns_alone}
+use Rattle.cy_queries.specs.Queries.{rows_after, rows_after_all}
+use Rattle.cy_oneshot.specs.internal.Carried.{AreKeysRead, AreNeeded, AreRead, AreSeen, IsClauseRead, IsEnough, IsProjectionRead, IsSeen, carried, carried_from, is_last, is_needed, is_projection}
 use Rattle.cy_queries.specs.internal.Answers.{on_value}
-use Rattle.cy_oneshot.proofs.Carried.{agree_carried, all_carried}
-use Rattle.cy_queries.proofs.SeenRows.{gathered_values}
+use Rattle.cy_oneshot.proofs.Carried.{AreLong, all_carried, column_carried}
+use Rattle.cy_oneshot.proofs.CarriedMatch.{cell_less, long_grown, reading_less}
+use Rattle.cy_scope.specs.Views.{is_update}
+use Rattle.cy_queries.proofs.SeenRows.{cells_length, gathered_values}
 
 -- ---- outcomes
 
@@ -55,24 +58,18 @@ module _ (graph : Content) (needed : List Bool) where
   abbrev less : List Cell → List Cell
   less row = carried_from needed 0 row
 
-  abbrev AreRead : List Item → Type 0
-  AreRead items = AllByRecursion (λ i. AreNeeded needed (columns_read i.expression)) items
-
-  -- an expression that reads what is needed
-  cell_less : (e : Expression) (row : List Cell) → AreNeeded needed (columns_read e) → cell_of (lookups graph) (less row) e ≡ cell_of (lookups graph) row e
-  cell_less e row read = cell-same (lookups graph) (less row) row e (agree_carried needed (columns_read e) row read)
-
-  cells_less : (items : List Item) (row : List Cell) → AreRead items → map (λ i. cell_of (lookups graph) (less row) i.expression) items ≡ map (λ i. cell_of (lookups graph) row i.expression) items
+  -- expressions that read what is needed
+  cells_less : (items : List Item) (row : List Cell) → AreRead needed items → map (λ i. cell_of (lookups graph) (less row) i.expression) items ≡ map (λ i. cell_of (lookups graph) row i.expression) items
   cells_less [] row read = refl
-  cells_less (i ∷ items) row read = λ j. cell_less i.expression row read.0 j ∷ cells_less items row read.1 j
+  cells_less (i ∷ items) row read = λ j. cell_less graph needed i.expression row read.0 j ∷ cells_less items row read.1 j
 
-  on_less : (items : List Item) (row : List Cell) → AreRead items → cells_on graph items (less row) ≡ cells_on graph items row
+  on_less : (items : List Item) (row : List Cell) → AreRead needed items → cells_on graph items (less row) ≡ cells_on graph items row
   on_less items row read = ap gathered (cells_less items row read)
 
   -- an expression on each row
   each_less : (e : Expression) (rows : List (List Cell)) → AreNeeded needed (columns_read e) → map (λ row. cell_of (lookups graph) row e) (map less rows) ≡ map (λ row. cell_of (lookups graph) row e) rows
   each_less e [] read = refl
-  each_less e (row ∷ rows) read = λ j. cell_less e row read j ∷ each_less e rows read j
+  each_less e (row ∷ rows) read = λ j. cell_less graph needed e row read j ∷ each_less e rows read j
 
   -- ---- groups
 
@@ -99,7 +96,7 @@ module _ (graph : Content) (needed : List Bool) where
   over_less (list es) rows read = refl
   over_less (case arms e) rows read = refl
 
-  group_less : (items : List Item) (key : List Cell) (rows : List (List Cell)) → AreRead items → group_cells graph items key (map less rows) ≡ group_cells graph items key rows
+  group_less : (items : List Item) (key : List Cell) (rows : List (List Cell)) → AreRead needed items → group_cells graph items key (map less rows) ≡ group_cells graph items key rows
   group_less [] key rows read = refl
   group_less (i ∷ items) [] rows read = λ j. as_cell (over_less i.expression rows read.0 j) ∷ group_less items [] rows read.1 j
   group_less (i ∷ items) (c ∷ key) rows read =
@@ -121,15 +118,15 @@ module _ (graph : Content) (needed : List Bool) where
   keys_less [] gs = refl
   keys_less (i ∷ items) gs = ap (each_once row_cmp) (map-map (λ (g : Grouped). g.key) grouped_less gs)
 
-  group_rows_less : (items : List Item) (gs : List Grouped) → AreRead items → group_rows graph items (map grouped_less gs) ≡ group_rows graph items gs
+  group_rows_less : (items : List Item) (gs : List Grouped) → AreRead needed items → group_rows graph items (map grouped_less gs) ≡ group_rows graph items gs
   group_rows_less items gs read =
       ap (λ keys. gathered (map (λ key. gathered (group_cells graph items key (rows_of_group key (map grouped_less gs)))) keys)) (keys_less (grouping items) gs)
       ∙ (λ j. gathered (map (λ key. gathered ((ap (group_cells graph items key) (rows_less key gs) ∙ group_less items key (rows_of_group key gs) read) j)) (group_keys (grouping items) gs)))
 
-  grouping_read : (items : List Item) → AreRead items → AreRead (grouping items)
+  grouping_read : (items : List Item) → AreRead needed items → AreRead needed (grouping items)
   grouping_read [] read = tt
   grouping_read (i ∷ items) read =
-      elim (not (is_aggregate_call i.expression)) as (λ b. AreRead (cond b (i ∷ grouping items) (grouping items))) [
+      elim (not (is_aggregate_call i.expression)) as (λ b. AreRead needed (cond b (i ∷ grouping items) (grouping items))) [
         | true ↦ (read.0, grouping_read items read.1)
         | false ↦ grouping_read items read.1
       ]
@@ -138,16 +135,16 @@ module _ (graph : Content) (needed : List Bool) where
   key_less row (Ok key) = refl
   key_less row (Err fault) = refl
 
-  grouped_is : (items : List Item) (row : List Cell) → AreRead items → grouped graph items (less row) ≡ on_value grouped_less (grouped graph items row)
+  grouped_is : (items : List Item) (row : List Cell) → AreRead needed items → grouped graph items (less row) ≡ on_value grouped_less (grouped graph items row)
   grouped_is items row read =
       ap (on_one (λ key. Ok (record { key = key; row = less row }))) (on_less (grouping items) row (grouping_read items read))
       ∙ key_less row (cells_on graph (grouping items) row)
 
-  all_grouped : (items : List Item) (rows : List (List Cell)) → AreRead items → map (grouped graph items) (map less rows) ≡ map (λ row. on_value grouped_less (grouped graph items row)) rows
+  all_grouped : (items : List Item) (rows : List (List Cell)) → AreRead needed items → map (grouped graph items) (map less rows) ≡ map (λ row. on_value grouped_less (grouped graph items row)) rows
   all_grouped items [] read = refl
   all_grouped items (row ∷ rows) read = λ j. grouped_is items row read j ∷ all_grouped items rows read j
 
-  aggregated_less : (items : List Item) (rows : List (List Cell)) → AreRead items → aggregated graph items (map less rows) ≡ aggregated graph items rows
+  aggregated_less : (items : List Item) (rows : List (List Cell)) → AreRead needed items → aggregated graph items (map less rows) ≡ aggregated graph items rows
   aggregated_less items rows read =
       ap (λ os. and_also (gathered os) (group_rows graph items (values_among os))) (all_grouped items rows read)
       ∙ ap (λ o. and_also o (group_rows graph items (values_among (map (λ row. on_value grouped_less (grouped graph items row)) rows)))) (gathered_values grouped_less (grouped graph items) rows)
@@ -172,11 +169,11 @@ module _ (graph : Content) (needed : List Bool) where
       sym (gathered_values row_of (project graph items) rows)
       ∙ (λ j. gathered (map (λ row. row_alone row (cells_on graph items row) j) rows))
 
-  all_cells_less : (items : List Item) (rows : List (List Cell)) → AreRead items → map (cells_on graph items) (map less rows) ≡ map (cells_on graph items) rows
+  all_cells_less : (items : List Item) (rows : List (List Cell)) → AreRead needed items → map (cells_on graph items) (map less rows) ≡ map (cells_on graph items) rows
   all_cells_less items [] read = refl
   all_cells_less items (row ∷ rows) read = λ j. on_less items row read j ∷ all_cells_less items rows read j
 
-  items_less : (p : Projection) (rows : List (List Cell)) → AreRead p.items → rows_in (item_rows graph p (map less rows)) ≡ rows_in (item_rows graph p rows)
+  items_less : (p : Projection) (rows : List (List Cell)) → AreRead needed p.items → rows_in (item_rows graph p (map less rows)) ≡ rows_in (item_rows graph p rows)
   items_less p rows read =
       elim (has_aggregates p) as (λ b. rows_in (cond b (on_one (λ rows. Ok (map with_columns_alone rows)) (aggregated graph p.items (map less rows))) (gathered (map (project graph p.items) (map less rows))))
       ≡ rows_in (cond b (on_one (λ rows. Ok (map with_columns_alone rows)) (aggregated graph p.items rows)) (gathered (map (project graph p.items) rows)))) [
@@ -217,72 +214,118 @@ module _ (graph : Content) (needed : List Bool) where
     abbrev each_row : List (List Cell) → Result (List Projected) EvalFault
     each_row rows = gathered (map (project graph p.items) rows)
 
-    aggregates_same : has_aggregates p ≡ true → (rows : List (List Cell)) → AreRead p.items → item_rows graph p (map less rows) ≡ item_rows graph p rows
+    aggregates_same : has_aggregates p ≡ true → (rows : List (List Cell)) → AreRead needed p.items → item_rows graph p (map less rows) ≡ item_rows graph p rows
     aggregates_same has rows read =
         ap (λ b. cond b (grouped_rows (map less rows)) (each_row (map less rows))) has
         ∙ ap (on_one (λ rows. Ok (map with_columns_alone rows))) (aggregated_less p.items rows read)
         ∙ sym (ap (λ b. cond b (grouped_rows rows) (each_row rows)) has)
 
-    -- where each key repeats an item
-    key_alone : (r : Projected) (e : Expression) (place : Option ℕ) → is_some place ≡ true → key_cell graph r place e ≡ key_cell graph (with_columns_alone r.row) place e
-    key_alone r e (Some column) found = refl
-    key_alone r e None found = absurd (let e : ⊥ = cc found in e)
+    -- else each key sees the columns of the items, and after them what it reads of the row before
+    get_after : (cells before : List Cell) (column : ℕ) → IsSeen needed (length cells) column
+        → slice_index_or (cells ++ less before) column (cell.Value value.Null) ≡ slice_index_or (cells ++ before) column (cell.Value value.Null)
+    get_after [] before column is = sym (column_carried needed 0 before column (ap (is_needed needed) (let e : 0 + column ≡ column - 0 = omega arith in e) ∙ is (omega arith)))
+    get_after (c ∷ cells) before zero is = refl
+    get_after (c ∷ cells) before (suc column) is =
+        get_after cells before column (λ past. ap (is_needed needed) (let e : column - length cells ≡ suc column - suc (length cells) = omega arith in e) ∙ is (omega (arith, past)))
 
-    keys_alone : (keys : List Key) (r : Projected) → all_repeat p.items keys ≡ true
-        → map (λ key. key_cell graph r (item_of_key p.items key) key.expression) keys ≡ map (λ key. key_cell graph (with_columns_alone r.row) (item_of_key p.items key) key.expression) keys
-    keys_alone [] r all = refl
-    keys_alone (key ∷ keys) r all =
-        let parts = and_parts _ _ all in
-        λ j. key_alone r key.expression (item_of_key p.items key) parts.0 j ∷ keys_alone keys r parts.1 j
+    seen_agree : (cells before : List Cell) (columns : List ℕ) → AreSeen needed (length cells) columns → AgreeOn columns (cells ++ less before) (cells ++ before)
+    seen_agree cells before [] are = tt
+    seen_agree cells before (c ∷ columns) are = (get_after cells before c are.0, seen_agree cells before columns are.1)
 
-    all_alone : all_repeat p.items p.order ≡ true → (rs : List Projected) → map (keyed graph p) rs ≡ map (λ row. keyed graph p (with_columns_alone row)) (map row_of rs)
-    all_alone all [] = refl
-    all_alone all (r ∷ rs) = λ j. on_one (λ keys. Ok (record { row = r.row; keys = keys })) (gathered (keys_alone p.order r all j)) ∷ all_alone all rs j
+    abbrev seen_with : List Cell → List Cell → Projected
+    seen_with cells before = record { row = cells; seen = cells ++ before }
 
-    repeats_same : all_repeat p.items p.order ≡ true → (rs qs : List Projected) → AreSame rs qs → end rs ≡ end qs
-    repeats_same all rs qs same =
-        ap (λ os. on_one (λ ks. Ok (cut p ks)) (gathered os)) (all_alone all rs ∙ ap (map (λ row. keyed graph p (with_columns_alone row))) same ∙ sym (all_alone all qs))
+    key_seen : (cells before : List Cell) (place : Option ℕ) (e : Expression) → AreSeen needed (length cells) (columns_read e) → key_cell graph (seen_with cells (less before)) place e ≡ key_cell graph (seen_with cells before) place e
+    key_seen cells before (Some column) e are = refl
+    key_seen cells before None e are = cell-same (lookups graph) (cells ++ less before) (cells ++ before) e (seen_agree cells before (columns_read e) are)
 
-    once_rows : (rs qs : List Projected) → AreSame rs qs → AreSame (once rs) (once qs)
-    once_rows rs qs same =
-        elim p.distinct as (λ b. map row_of (cond b (distinct_rows rs) rs) ≡ map row_of (cond b (distinct_rows qs) qs)) [
-          | true ↦ ap (λ rows. map row_of (map with_columns_alone (each_once row_cmp rows))) same
-          | false ↦ same
-        ]
+    keys_seen : (cells before : List Cell) (keys : List Key) → AreKeysRead needed (length cells) keys
+        → map (λ key. key_cell graph (seen_with cells (less before)) (item_of_key p.items key) key.expression) keys ≡ map (λ key. key_cell graph (seen_with cells before) (item_of_key p.items key) key.expression) keys
+    keys_seen cells before [] are = refl
+    keys_seen cells before (key ∷ keys) are = λ j. key_seen cells before (item_of_key p.items key) key.expression are.0 j ∷ keys_seen cells before keys are.1 j
 
-    projection_less : (rows : List (List Cell)) → sees_columns_alone p ≡ true → AreRead p.items → projection_rows graph p (map less rows) ≡ projection_rows graph p rows
-    projection_less rows alone read =
-        let by_rows : ((rs qs : List Projected) → AreSame rs qs → end (once rs) ≡ end (once qs)) → projection_rows graph p (map less rows) ≡ projection_rows graph p rows =
-        λ ends. ends_same ends (item_rows graph p (map less rows)) (item_rows graph p rows) (items_less p rows read) in
-        (elim p.distinct as (λ d. p.distinct ≡ d → (d || (has_aggregates p || all_repeat p.items p.order)) ≡ true → projection_rows graph p (map less rows) ≡ projection_rows graph p rows) [
-          | true ↦ λ distinct one. by_rows (λ rs qs same. ap end (once_same distinct rs qs same))
-          | false ↦ λ distinct one.
-              (elim (has_aggregates p) as (λ a. has_aggregates p ≡ a → (a || all_repeat p.items p.order) ≡ true → projection_rows graph p (map less rows) ≡ projection_rows graph p rows) [
-                | true ↦ λ has other. ap whole (aggregates_same has rows read)
-                | false ↦ λ has all. by_rows (λ rs qs same. repeats_same all (once rs) (once qs) (once_rows rs qs same))
-              ]) refl one
-        ]) refl alone
+    abbrev with_keys : Result Projected EvalFault → Result (Result Keyed EvalFault) EvalFault
+    with_keys o = on_value (keyed graph p) o
+
+    cells_keyed : (before : List Cell) → AreKeysRead needed (length p.items) p.order → (o : Result (List Cell) EvalFault) → IfOk o (λ cells. length cells ≡ length p.items)
+        → with_keys (on_one (λ cells. Ok (seen_with cells (less before))) o) ≡ with_keys (on_one (λ cells. Ok (seen_with cells before)) o)
+    cells_keyed before are (Ok cells) long =
+        ap (λ os. Ok (on_one (λ keys. Ok (record { row = cells; keys = keys })) (gathered os))) (keys_seen cells before p.order (subst (λ n. AreKeysRead needed n p.order) (sym long) are))
+    cells_keyed before are (Err fault) long = refl
+
+    row_keyed : (row : List Cell) → AreRead needed p.items → AreKeysRead needed (length p.items) p.order → with_keys (project graph p.items (less row)) ≡ with_keys (project graph p.items row)
+    row_keyed row read are =
+        ap (λ o. with_keys (on_one (λ cells. Ok (seen_with cells (less row))) o)) (on_less p.items row read)
+        ∙ cells_keyed row are (cells_on graph p.items row) (cells_length graph p.items row)
+
+    all_keyed : (rows : List (List Cell)) → AreRead needed p.items → AreKeysRead needed (length p.items) p.order
+        → map (λ row. with_keys (project graph p.items row)) (map less rows) ≡ map (λ row. with_keys (project graph p.items row)) rows
+    all_keyed [] read are = refl
+    all_keyed (row ∷ rows) read are = λ j. row_keyed row read are j ∷ all_keyed rows read are j
+
+    keyed_same : (rows : List (List Cell)) → AreRead needed p.items → AreKeysRead needed (length p.items) p.order → on_value (map (keyed graph p)) (each_row (map less rows)) ≡ on_value (map (keyed graph p)) (each_row rows)
+    keyed_same rows read are =
+        sym (gathered_values (keyed graph p) (project graph p.items) (map less rows)) ∙ ap gathered (all_keyed rows read are) ∙ gathered_values (keyed graph p) (project graph p.items) rows
+
+    ends_keyed : (o q : Result (List Projected) EvalFault) → on_value (map (keyed graph p)) o ≡ on_value (map (keyed graph p)) q → on_one end o ≡ on_one end q
+    ends_keyed (Ok rs) (Ok qs) same = let e : map (keyed graph p) rs ≡ map (keyed graph p) qs = cc same in ap (λ os. on_one (λ ks. Ok (cut p ks)) (gathered os)) e
+    ends_keyed (Ok rs) (Err g) same = absurd (let e : ⊥ = cc same in e)
+    ends_keyed (Err f) (Ok qs) same = absurd (let e : ⊥ = cc same in e)
+    ends_keyed (Err f) (Err g) same = let e : f ≡ g = cc same in ap Err e
+
+    plain : p.distinct ≡ false → (o : Result (List Projected) EvalFault) → whole o ≡ on_one end o
+    plain once_each (Ok rs) = ap (λ b. end (cond b (distinct_rows rs) rs)) once_each
+    plain once_each (Err fault) = refl
+
+    plain_same : p.distinct ≡ false → has_aggregates p ≡ false → (rows : List (List Cell)) → AreRead needed p.items → AreKeysRead needed (length p.items) p.order
+        → projection_rows graph p (map less rows) ≡ projection_rows graph p rows
+    plain_same once_each alone rows read are =
+        let as_rows : (table : List (List Cell)) → projection_rows graph p table ≡ on_one end (each_row table) =
+        λ table. plain once_each (item_rows graph p table) ∙ ap (λ b. on_one end (cond b (grouped_rows table) (each_row table))) alone in
+        as_rows (map less rows) ∙ ends_keyed (each_row (map less rows)) (each_row rows) (keyed_same rows read are) ∙ sym (as_rows rows)
+
+    projection_less : (rows : List (List Cell)) → IsProjectionRead needed p → projection_rows graph p (map less rows) ≡ projection_rows graph p rows
+    projection_less rows read =
+        (elim p.distinct as (λ d. p.distinct ≡ d → projection_rows graph p (map less rows) ≡ projection_rows graph p rows) [
+          | true ↦ λ distinct. ends_same (λ rs qs same. ap end (once_same distinct rs qs same)) (item_rows graph p (map less rows)) (item_rows graph p rows) (items_less p rows read.0)
+          | false ↦ λ each.
+              (elim (has_aggregates p) as (λ a. has_aggregates p ≡ a → projection_rows graph p (map less rows) ≡ projection_rows graph p rows) [
+                | true ↦ λ has. ap whole (aggregates_same has rows read.0)
+                | false ↦ λ alone. plain_same each alone rows read.0 read.1
+              ]) refl
+        ]) refl
 
   -- ---- the clauses that are left
 
   same_rows : (clauses : List Clause) → needed ≡ [] → (o : Result (List (List Cell)) EvalFault) → on_one (rows_after_all graph clauses) (carried needed o) ≡ on_one (rows_after_all graph clauses) o
   same_rows clauses none o = ap (on_one (rows_after_all graph clauses)) (ap (λ n. carried n o) none ∙ all_carried o)
 
-  projected_less : (p : Projection) (f : Result (List (List Cell)) EvalFault → Result (List (List Cell)) EvalFault) → IsEnoughFor needed p → (rows : List (List Cell))
-      → f (projection_rows graph p (map less rows)) ≡ f (projection_rows graph p rows)
-  projected_less p f enough rows = ap f (projection_less p rows enough.0 enough.1)
+  -- WITH and RETURN
+  pub projecting_less : (c : Clause) → is_projection c ≡ true → IsClauseRead needed c → (rows : List (List Cell)) → rows_after graph c (map less rows) ≡ rows_after graph c rows
+  projecting_less («with» p test) is read rows = ap (on_one (λ made. joined (map (selected graph test) made))) (projection_less p rows read)
+  projecting_less («return» p) is read rows = projection_less p rows read
+  projecting_less («match» optional paths test) is read rows = absurd (let e : false ≡ true = is in cc)
+  projecting_less (unwind e v) is read rows = absurd (let e : false ≡ true = is in cc)
+  projecting_less (create paths) is read rows = absurd (let e : false ≡ true = is in cc)
+  projecting_less (set items) is read rows = absurd (let e : false ≡ true = is in cc)
+  projecting_less (remove items) is read rows = absurd (let e : false ≡ true = is in cc)
+  projecting_less (delete detach variables) is read rows = absurd (let e : false ≡ true = is in cc)
+
+  pub not_last : (c : Clause) (cs : List Clause) → is_projection c ≡ false → is_update c ≡ false → is_last c cs ≡ false
+  not_last c [] keeps reads = λ j. keeps j || reads j
+  not_last c (d ∷ cs) keeps reads = keeps
 
   -- what is left makes the same of the rows that are carried along
-  pub goes_on_same : (clauses : List Clause) → IsEnough needed clauses → (o : Result (List (List Cell)) EvalFault) → on_one (rows_after_all graph clauses) (carried needed o) ≡ on_one (rows_after_all graph clauses) o
-  goes_on_same clauses enough (Err fault) = refl
-  goes_on_same [] enough (Ok rows) = same_rows [] enough (Ok rows)
-  goes_on_same («match» optional paths test ∷ cs) enough (Ok rows) = same_rows («match» optional paths test ∷ cs) enough (Ok rows)
-  goes_on_same (unwind e v ∷ cs) enough (Ok rows) = same_rows (unwind e v ∷ cs) enough (Ok rows)
-  goes_on_same («with» p test ∷ cs) (inl none) (Ok rows) = same_rows («with» p test ∷ cs) none (Ok rows)
-  goes_on_same («with» p test ∷ cs) (inr enough) (Ok rows) = projected_less p (λ o. on_one (rows_after_all graph cs) (on_one (λ made. joined (map (selected graph test) made)) o)) enough rows
-  goes_on_same («return» p ∷ cs) (inl none) (Ok rows) = same_rows («return» p ∷ cs) none (Ok rows)
-  goes_on_same («return» p ∷ cs) (inr enough) (Ok rows) = projected_less p (on_one (rows_after_all graph cs)) enough rows
-  goes_on_same (create paths ∷ cs) enough (Ok rows) = same_rows (create paths ∷ cs) enough (Ok rows)
-  goes_on_same (set items ∷ cs) enough (Ok rows) = same_rows (set items ∷ cs) enough (Ok rows)
-  goes_on_same (remove items ∷ cs) enough (Ok rows) = same_rows (remove items ∷ cs) enough (Ok rows)
-  goes_on_same (delete detach variables ∷ cs) enough (Ok rows) = same_rows (delete detach variables ∷ cs) enough (Ok rows)
+  pub goes_on_same : (alike : Bool) (clauses : List Clause) → IsEnough alike needed clauses → list_any is_update clauses ≡ false
+      → (o : Result (List (List Cell)) EvalFault) → IfOk o (AreLong needed) → on_one (rows_after_all graph clauses) (carried needed o) ≡ on_one (rows_after_all graph clauses) o
+  goes_on_same alike clauses enough reading (Err fault) long = refl
+  goes_on_same alike [] enough reading (Ok rows) long = same_rows [] enough (Ok rows)
+  goes_on_same alike (c ∷ cs) (inl none) reading (Ok rows) long = same_rows (c ∷ cs) none (Ok rows)
+  goes_on_same alike (c ∷ cs) (inr enough) reading (Ok rows) long =
+      let reads = or_parts (is_update c) (list_any is_update cs) reading in
+      elim (is_projection c) as (λ b. is_projection c ≡ b → on_one (rows_after_all graph cs) (rows_after graph c (map less rows)) ≡ on_one (rows_after_all graph cs) (rows_after graph c rows)) [
+        | true ↦ λ ends. ap (on_one (rows_after_all graph cs)) (projecting_less c ends enough.1 rows)
+        | false ↦ λ keeps.
+            ap (on_one (rows_after_all graph cs)) (reading_less graph needed c reads.0 keeps enough.1 rows long)
+            ∙ goes_on_same alike cs (enough.2 (not_last c cs keeps reads.0)) reads.1 (rows_after graph c rows) (long_grown graph needed c reads.0 keeps rows long)
+      ] refl

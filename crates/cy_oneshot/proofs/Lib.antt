@@ -1,5 +1,6 @@
 mod ClauseAnswers
-mod Carried
-mod CarriedRows
-mod Marked
+pub mod Carried
+pub mod CarriedMatch
+pub mod CarriedRows
+pub mod Marked
 mod NewNames

@@ -7,6 +7,6 @@ mod needed;
 mod table;
 mod unwinding;
 
-pub use clauses::{answer, read_clause, unit};
+pub use clauses::{answer, read_clause, read_clause_before, unit};
 pub use names::{add_names, names_of};
 pub use table::Table;

@@ -1,20 +1,26 @@
-//! Which cells UNWIND carries along: those that the next clause reads.
+//! Which cells UNWIND carries along: those that the clauses after it read.
 
-ghost use Rattle.std.specs.Prelude.{◌≡◌, ◌⊎◌, ℕ, List, [], ◌∷◌, IfOk, is_some, map, true};
-ghost use Rattle.cy_trees.specs.Trees as trees;
-ghost use Rattle.cy_trees.specs.Views.{clause_of, item_of, key_of, projection_of};
-ghost use Rattle.cy_queries.specs.Projection.{item_of_key};
+ghost use Rattle.std.specs.Prelude.{◌≡◌, ◌⊎◌, ◌≤◌, ℕ, [], IfOk, IfSome, OnOk, flat_map, length, map, nat_le, option_map, true};
+ghost use Rattle.std.specs.List.{AllByRecursion};
+ghost use Rattle.cy_trees.specs.Views.{clause_of, entry_of, expression_of, filter_of, item_of, key_of, path_of, projection_of, remove_item_of, set_item_of, step_of};
+ghost use Rattle.cy_scope.specs.Views as scopes;
+ghost use Rattle.cy_columns.specs.Columns.{columns_read};
+ghost use Rattle.cy_patterns.specs.Places.{path_places, places, step_places};
+ghost use Rattle.cy_patterns.specs.internal.Patterns.{place_of};
 ghost use Rattle.cy_oneshot.specs.internal.Carried as spec;
-ghost use Rattle.cy_oneshot.specs.internal.Carried.{AreNeeded, AreRead, IsEnough, IsEnoughFor};
+ghost use Rattle.cy_oneshot.specs.internal.Carried.{AreEntriesRead, AreKeysRead, AreNeeded, ArePlacesRead, AreRead, AreSeen, IsClauseRead, IsEnough, IsPlaceRead, IsProjectionRead, IsRemoveRead, IsSeen, IsSetRead, IsTestRead, IsVariableRead, StillNeeded};
 
 use cy_columns::columns_read;
-use cy_kinds::has_aggregates;
-use cy_scope::place_of_item;
-use cy_trees::{Clause, Item, Key, Projection};
-use std::alloc::{AllocError, Global};
+use cy_patterns::Place;
+use cy_scope::is_update;
+use cy_trees::{
+    Clause, Expr, Item, Key, MapEntry, Match, Path, Projection, RemoveItem, SetItem, Step, Variable,
+};
+use cy_values::Fault;
+use std::alloc::Global;
 
-/// For so few keys each item is looked at.
-const FEW_KEYS: usize = 8;
+/// At most so many clauses after an UNWIND are looked at.
+const CLAUSES_AHEAD: usize = 64;
 
 /// Whether the cell at a place is needed; past the end of what is known each is.
 pub(crate) fn is_needed(needed: &[bool], place: usize) -> bool
@@ -26,39 +32,23 @@ pub(crate) fn is_needed(needed: &[bool], place: usize) -> bool
     }
 }
 
-/// Which of the first columns the clauses that are left need: those that the next one reads, if it is a WITH or RETURN whose keys
-/// see its columns alone. Else all are needed, and the list is empty. Fails only for want of memory.
-pub(crate) fn columns_needed(
+/// Which of so many columns the clauses after a clause need, where so many rows stand before it. After anything but UNWIND the list is
+/// empty, and all are needed. Fails only for want of memory.
+pub(crate) fn needed_after(
     alloc: Global,
-    clauses: &[Clause],
-    width: usize,
-) -> Result<Vec<bool>, AllocError>
-    ensures { IfOk result (λ needed. IsEnough needed.items (map clause_of clauses.now)) }
-{
-    match clauses.first() {
-        Some(clause) => {
-            let needed = needed_next(alloc, clause, width)?;
-            Ok(needed)
-        }
-        None => Ok(Vec::new(alloc)),
-    }
-}
-
-// Which of the first columns the clauses need of which this is the first.
-fn needed_next(alloc: Global, clause: &Clause, width: usize) -> Result<Vec<bool>, AllocError>
-    ensures { IfOk result (λ needed. (others : List trees.Clause) → IsEnough needed.items (clause_of clause.now ∷ others)) }
+    clause: &Clause,
+    others: &[Clause],
+    columns: usize,
+    rows: usize,
+) -> Result<Vec<bool>, Fault>
+    ensures enough { IfOk result (λ needed. IsEnough (nat_le rows 1) needed.items (map clause_of others.now)) }
+    ensures within { IfOk result (λ needed. length needed.items ≤ columns) }
 {
     match clause {
-        Clause::With(with) => {
-            let needed = needed_by(alloc, &with.projection, width)?;
-            Ok(needed)
-        }
-        Clause::Return(projection) => {
-            let needed = needed_by(alloc, projection, width)?;
-            Ok(needed)
-        }
+        Clause::Unwind(_) => needed_ahead(alloc, others, columns, rows <= 1, CLAUSES_AHEAD),
         Clause::Match(_)
-        | Clause::Unwind(_)
+        | Clause::With(_)
+        | Clause::Return(_)
         | Clause::Create(_)
         | Clause::Set(_)
         | Clause::Remove(_)
@@ -66,62 +56,317 @@ fn needed_next(alloc: Global, clause: &Clause, width: usize) -> Result<Vec<bool>
     }
 }
 
-// Which of the first columns a projection needs.
-fn needed_by(alloc: Global, projection: &Projection, width: usize) -> Result<Vec<bool>, AllocError>
-    ensures { IfOk result (λ needed. (needed.items ≡ []) ⊎ IsEnoughFor needed.items (projection_of projection.now)) }
+// Which of the first columns clauses need: what they read, up to a WITH or RETURN or an update at the end. Where neither is among the
+// first of them, all are needed, and the list is empty; so it is where one updates rows that aren't alike in what isn't needed.
+fn needed_ahead(
+    alloc: Global,
+    clauses: &[Clause],
+    width: usize,
+    alike: bool,
+    ahead: usize,
+) -> Result<Vec<bool>, Fault>
+    ensures enough { IfOk result (λ needed. IsEnough alike needed.items (map clause_of clauses.now)) }
+    ensures within { IfOk result (λ needed. length needed.items ≤ width) }
 {
-    if sees_columns_alone(projection) {
-        let items = projection.items.as_slice();
-        let needed = needed_by_items(alloc, items, width)?;
-        return Ok(needed);
+    let Some((clause, others)) = clauses.split_first() else {
+        return Ok(Vec::new(alloc));
+    };
+    if ahead == 0 || !may_forget(clause, alike) {
+        return Ok(Vec::new(alloc));
     }
-    Ok(Vec::new(alloc))
-}
-
-// Whether the keys see the columns alone: with DISTINCT or an aggregate, or where they are few and each of them repeats an item.
-fn sees_columns_alone(projection: &Projection) -> bool
-    ensures { result ≡ true → spec.sees_columns_alone (projection_of projection.now) ≡ true }
-{
-    projection.distinct
-        || has_aggregates(projection)
-        || (projection.order.len() <= FEW_KEYS && all_repeat(&projection.items, &projection.order))
-}
-
-// Whether each key repeats an item.
-fn all_repeat(items: &[Item], keys: &[Key]) -> bool
-    ensures { result ≡ spec.all_repeat (map item_of items.now) (map key_of keys.now) }
-{
-    for key in keys {
-        if !repeats_item(items, key) {
-            return false;
-        }
+    if is_last(clause, others) {
+        let none = vec![in alloc; false; width]?;
+        return with_read(alloc, none, clause);
     }
-    true
+    let needed = needed_ahead(alloc, others, width, alike, ahead - 1)?;
+    with_read(alloc, needed, clause)
 }
 
-// Whether a key repeats an item.
-fn repeats_item(items: &[Item], key: &Key) -> bool
-    ensures { result ≡ is_some (item_of_key (map item_of items.now) (key_of key.now)) }
+// Whether rows may lose what isn't needed before a clause: unless it updates and they aren't alike.
+fn may_forget(clause: &Clause, alike: bool) -> bool
+    ensures { result ≡ true → scopes.is_update (clause_of clause.now) ≡ true → alike ≡ true }
 {
-    place_of_item(items, &key.expression).is_some()
+    alike || !is_update(clause)
 }
 
-// Which of the first columns items read.
-fn needed_by_items(alloc: Global, items: &[Item], width: usize) -> Result<Vec<bool>, AllocError>
-    ensures { IfOk result (λ needed. AreRead needed.items (map item_of items.now)) }
+// Whether nothing after a clause sees the row before it.
+fn is_last(clause: &Clause, others: &[Clause]) -> bool
+    ensures { result ≡ spec.is_last (clause_of clause.now) (map clause_of others.now) }
 {
-    let mut needed = vec![in alloc; false; width]?;
-    for item in items {
-        let columns = columns_read(alloc, &item.expression)?;
-        mark(&mut needed, &columns);
+    is_projection(clause) || (others.is_empty() && is_update(clause))
+}
+
+// Whether it is WITH or RETURN.
+fn is_projection(clause: &Clause) -> bool
+    ensures { result ≡ spec.is_projection (clause_of clause.now) }
+{
+    matches!(clause, Clause::With(_) | Clause::Return(_))
+}
+
+// What is needed, with what a clause reads; all still is where all was.
+fn with_read(alloc: Global, needed: Vec<bool>, clause: &Clause) -> Result<Vec<bool>, Fault>
+    ensures read { IfOk result (λ after. (after.items ≡ []) ⊎ IsClauseRead after.items (clause_of clause.now)) }
+    ensures still { IfOk result (λ after. StillNeeded needed.items after.items) }
+{
+    let mut needed = needed;
+    if !needed.is_empty() {
+        mark_clause(alloc, &mut needed, clause)?;
     }
     Ok(needed)
+}
+
+// Marks the columns that a clause reads.
+fn mark_clause(alloc: Global, needed: &mut Vec<bool>, clause: &Clause) -> Result<(), Fault>
+    ensures read { OnOk result (IsClauseRead needed.new.items (clause_of clause.now)) }
+    ensures still { OnOk result (StillNeeded needed.old.items needed.new.items) }
+{
+    match clause {
+        Clause::Match(clause) => mark_match(alloc, needed, clause),
+        Clause::Unwind(clause) => mark_read(alloc, needed, &clause.list),
+        Clause::With(clause) => mark_projection(alloc, needed, &clause.projection),
+        Clause::Return(projection) => mark_projection(alloc, needed, projection),
+        Clause::Create(paths) => mark_paths(alloc, needed, paths),
+        Clause::Set(items) => mark_set(alloc, needed, items),
+        Clause::Remove(items) => {
+            mark_remove(needed, items);
+            Ok(())
+        }
+        Clause::Delete(clause) => {
+            mark_variables(needed, &clause.variables);
+            Ok(())
+        }
+    }
+}
+
+// Marks the columns that MATCH reads.
+fn mark_match(alloc: Global, needed: &mut Vec<bool>, clause: &Match) -> Result<(), Fault>
+    ensures places { OnOk result (ArePlacesRead needed.new.items (places (map path_of clause.now.paths.items))) }
+    ensures test { OnOk result (IsTestRead needed.new.items (filter_of clause.now.filter)) }
+    ensures still { OnOk result (StillNeeded needed.old.items needed.new.items) }
+{
+    mark_test(alloc, needed, clause.filter.as_ref())?;
+    mark_paths(alloc, needed, &clause.paths)
+}
+
+// Marks the columns that a condition reads, if there is one.
+fn mark_test(alloc: Global, needed: &mut Vec<bool>, test: Option<&Expr>) -> Result<(), Fault>
+    ensures read { OnOk result (IsTestRead needed.new.items (option_map (λ e. expression_of e.now) test.entry)) }
+    ensures still { OnOk result (StillNeeded needed.old.items needed.new.items) }
+{
+    match test {
+        Some(condition) => mark_read(alloc, needed, condition),
+        None => Ok(()),
+    }
+}
+
+// Marks the columns that paths read: those of their variables, and those that their maps read.
+fn mark_paths(alloc: Global, needed: &mut Vec<bool>, paths: &[Path]) -> Result<(), Fault>
+    ensures read { OnOk result (ArePlacesRead needed.new.items (places (map path_of paths.now))) }
+    ensures still { OnOk result (StillNeeded needed.old.items needed.new.items) }
+{
+    for path in paths {
+        mark_path(alloc, needed, path)?;
+    }
+    Ok(())
+}
+
+// Marks the columns that a path reads.
+fn mark_path(alloc: Global, needed: &mut Vec<bool>, path: &Path) -> Result<(), Fault>
+    ensures read { OnOk result (ArePlacesRead needed.new.items (path_places (path_of path.now))) }
+    ensures still { OnOk result (StillNeeded needed.old.items needed.new.items) }
+{
+    mark_place(alloc, needed, Place::Node(&path.start))?;
+    mark_steps(alloc, needed, &path.steps)
+}
+
+// Marks the columns that steps read.
+fn mark_steps(alloc: Global, needed: &mut Vec<bool>, steps: &[Step]) -> Result<(), Fault>
+    ensures read { OnOk result (ArePlacesRead needed.new.items (flat_map step_places (map step_of steps.now))) }
+    ensures still { OnOk result (StillNeeded needed.old.items needed.new.items) }
+{
+    for step in steps {
+        mark_step(alloc, needed, step)?;
+    }
+    Ok(())
+}
+
+// Marks the columns that a step reads.
+fn mark_step(alloc: Global, needed: &mut Vec<bool>, step: &Step) -> Result<(), Fault>
+    ensures read { OnOk result (ArePlacesRead needed.new.items (step_places (step_of step.now))) }
+    ensures still { OnOk result (StillNeeded needed.old.items needed.new.items) }
+{
+    mark_place(alloc, needed, Place::Relationship(&step.relationship))?;
+    mark_place(alloc, needed, Place::Node(&step.node))
+}
+
+// Marks the column of a place and those that its map reads.
+fn mark_place(alloc: Global, needed: &mut Vec<bool>, place: Place<'_>) -> Result<(), Fault>
+    ensures read { OnOk result (IsPlaceRead needed.new.items (place_of place.entry)) }
+    ensures still { OnOk result (StillNeeded needed.old.items needed.new.items) }
+{
+    mark_column(needed, place.column());
+    mark_entries(alloc, needed, place.entries())
+}
+
+// Marks a column, if there is one.
+fn mark_column(needed: &mut Vec<bool>, column: Option<usize>)
+    ensures marked { IfSome column (λ place. spec.is_needed needed.new.items place ≡ true) }
+    ensures still { StillNeeded needed.old.items needed.new.items }
+{
+    if let Some(column) = column {
+        mark_one(needed, column);
+    }
+}
+
+// Marks the columns that the entries of a map read.
+fn mark_entries(alloc: Global, needed: &mut Vec<bool>, entries: &[MapEntry]) -> Result<(), Fault>
+    ensures read { OnOk result (AreEntriesRead needed.new.items (map entry_of entries.now)) }
+    ensures still { OnOk result (StillNeeded needed.old.items needed.new.items) }
+{
+    for entry in entries {
+        mark_read(alloc, needed, &entry.value)?;
+    }
+    Ok(())
+}
+
+// Marks the columns that a projection reads.
+fn mark_projection(
+    alloc: Global,
+    needed: &mut Vec<bool>,
+    projection: &Projection,
+) -> Result<(), Fault>
+    ensures read { OnOk result (IsProjectionRead needed.new.items (projection_of projection.now)) }
+    ensures still { OnOk result (StillNeeded needed.old.items needed.new.items) }
+{
+    mark_items(alloc, needed, &projection.items)?;
+    mark_keys(alloc, needed, projection.items.len(), &projection.order)
+}
+
+// Marks the columns that items read.
+fn mark_items(alloc: Global, needed: &mut Vec<bool>, items: &[Item]) -> Result<(), Fault>
+    ensures read { OnOk result (AreRead needed.new.items (map item_of items.now)) }
+    ensures still { OnOk result (StillNeeded needed.old.items needed.new.items) }
+{
+    for item in items {
+        mark_read(alloc, needed, &item.expression)?;
+    }
+    Ok(())
+}
+
+// Marks the columns that keys read of the row before, which stand after those of so many items.
+fn mark_keys(alloc: Global, needed: &mut Vec<bool>, count: usize, keys: &[Key]) -> Result<(), Fault>
+    ensures read { OnOk result (AreKeysRead needed.new.items count (map key_of keys.now)) }
+    ensures still { OnOk result (StillNeeded needed.old.items needed.new.items) }
+{
+    for key in keys {
+        let columns = columns_read(alloc, &key.expression)?;
+        mark_seen(needed, count, &columns);
+    }
+    Ok(())
+}
+
+// Marks those of the columns that stand after so many, counted from there.
+fn mark_seen(needed: &mut Vec<bool>, count: usize, columns: &[usize])
+    ensures read { AreSeen needed.new.items count columns.now }
+    ensures still { StillNeeded needed.old.items needed.new.items }
+{
+    for column in columns {
+        mark_if_after(needed, count, *column);
+    }
+}
+
+// Marks a column that stands after so many, counted from there.
+fn mark_if_after(needed: &mut Vec<bool>, count: usize, column: usize)
+    ensures read { IsSeen needed.new.items count column }
+    ensures still { StillNeeded needed.old.items needed.new.items }
+{
+    if column < count {
+        return;
+    }
+    mark_one(needed, column - count);
+}
+
+// Marks the columns that the items of SET read.
+fn mark_set(alloc: Global, needed: &mut Vec<bool>, items: &[SetItem]) -> Result<(), Fault>
+    ensures read { OnOk result (AllByRecursion (IsSetRead needed.new.items) (map set_item_of items.now)) }
+    ensures still { OnOk result (StillNeeded needed.old.items needed.new.items) }
+{
+    for item in items {
+        mark_set_item(alloc, needed, item)?;
+    }
+    Ok(())
+}
+
+// Marks the columns that an item of SET reads.
+fn mark_set_item(alloc: Global, needed: &mut Vec<bool>, item: &SetItem) -> Result<(), Fault>
+    ensures read { OnOk result (IsSetRead needed.new.items (set_item_of item.now)) }
+    ensures still { OnOk result (StillNeeded needed.old.items needed.new.items) }
+{
+    match item {
+        SetItem::Property(variable, _, value) => {
+            mark_variable(needed, variable);
+            mark_read(alloc, needed, value)
+        }
+        SetItem::Labels(variable, _) => {
+            mark_variable(needed, variable);
+            Ok(())
+        }
+    }
+}
+
+// Marks the columns that the items of REMOVE read.
+fn mark_remove(needed: &mut Vec<bool>, items: &[RemoveItem])
+    ensures read { AllByRecursion (IsRemoveRead needed.new.items) (map remove_item_of items.now) }
+    ensures still { StillNeeded needed.old.items needed.new.items }
+{
+    for item in items {
+        mark_remove_item(needed, item);
+    }
+}
+
+// Marks the column that an item of REMOVE reads.
+fn mark_remove_item(needed: &mut Vec<bool>, item: &RemoveItem)
+    ensures read { IsRemoveRead needed.new.items (remove_item_of item.now) }
+    ensures still { StillNeeded needed.old.items needed.new.items }
+{
+    match item {
+        RemoveItem::Property(variable, _) => mark_variable(needed, variable),
+        RemoveItem::Labels(variable, _) => mark_variable(needed, variable),
+    }
+}
+
+// Marks the columns of variables.
+fn mark_variables(needed: &mut Vec<bool>, variables: &[Variable])
+    ensures read { AllByRecursion (IsVariableRead needed.new.items) variables.now }
+    ensures still { StillNeeded needed.old.items needed.new.items }
+{
+    for variable in variables {
+        mark_variable(needed, variable);
+    }
+}
+
+// Marks the column of a variable.
+fn mark_variable(needed: &mut Vec<bool>, variable: &Variable)
+    ensures read { IsVariableRead needed.new.items variable.now }
+    ensures still { StillNeeded needed.old.items needed.new.items }
+{
+    mark_column(needed, variable.column);
+}
+
+// Marks the columns that an expression reads.
+fn mark_read(alloc: Global, needed: &mut Vec<bool>, expression: &Expr) -> Result<(), Fault>
+    ensures read { OnOk result (AreNeeded needed.new.items (columns_read (expression_of expression.now))) }
+    ensures still { OnOk result (StillNeeded needed.old.items needed.new.items) }
+{
+    let columns = columns_read(alloc, expression)?;
+    mark(needed, &columns);
+    Ok(())
 }
 
 // Marks columns as needed; the others stay as they are.
 fn mark(needed: &mut Vec<bool>, columns: &[usize])
     ensures marked { AreNeeded needed.new.items columns.now }
-    ensures kept { (column : ℕ) → spec.is_needed needed.old.items column ≡ true → spec.is_needed needed.new.items column ≡ true }
+    ensures still { StillNeeded needed.old.items needed.new.items }
 {
     for column in columns {
         mark_one(needed, *column);
@@ -132,7 +377,7 @@ fn mark(needed: &mut Vec<bool>, columns: &[usize])
 #[tactic(auto, using(crate::proofs::Marked::marked_there, crate::proofs::Marked::marked_past, crate::proofs::Marked::still_marked))]
 fn mark_one(needed: &mut Vec<bool>, column: usize)
     ensures marked { spec.is_needed needed.new.items column ≡ true }
-    ensures kept { (other : ℕ) → spec.is_needed needed.old.items other ≡ true → spec.is_needed needed.new.items other ≡ true }
+    ensures still { StillNeeded needed.old.items needed.new.items }
 {
     if column < needed.len() {
         needed[column] = true;

@@ -1,15 +1,20 @@
--- What UNWIND carries along: a cell that the next clause doesn't read is null.
-use Rattle.std.specs.Prelude.{◌≡◌, ◌⊎◌, ◌||◌, ◌+◌, ℕ, Bool, true, List, [], ◌∷◌, map, is_some, slice_index_or, if◌then◌else◌, Result, Ok}
-use Rattle.std.specs.List.{AllByRecursion, list_all}
+-- What UNWIND carries along: a cell that the next clauses don't read is null.
+use Rattle.std.specs.Prelude.{◌≡◌, ◌⊎◌, ◌||◌, ◌+◌, ◌-◌, ◌≤◌, ℕ, Bool, true, false, List, [], ◌∷◌, length, map, nat_le, slice_index_or, if◌then◌else◌, Option, IfSome, Result, Ok, Err, MatchResult}
+use Rattle.std.specs.List.{AllByRecursion}
 use Rattle.cy_values.specs.declared.scalars.Value.TheVariants as value
 use Rattle.cy_values.specs.declared.rows.Cell.{Cell}
 use Rattle.cy_values.specs.declared.rows.Cell.TheVariants as cell
-use Rattle.cy_trees.specs.Trees.{Item, Key, Projection, Clause, unwind, «with», «return»}
-use Rattle.cy_kinds.specs.Aggregates.{has_aggregates}
+use Rattle.cy_trees.specs.declared.expressions.Variable.{Variable}
+use Rattle.cy_trees.specs.Trees.{Expression, Item, Key, MapEntry, Name, Projection, SetItem, set_property, set_labels, RemoveItem, remove_property, remove_labels, Clause, «match», unwind, «with», «return», create, set, remove, delete}
+use Rattle.cy_scope.specs.Views.{is_update}
+use Rattle.cy_graph.specs.Graph.{Content}
 use Rattle.cy_expr.specs.declared.faults.EvalFault.{EvalFault}
+use Rattle.cy_expr.specs.declared.faults.EvalFault.TheVariants.{NoMemory}
 use Rattle.cy_expr.specs.Faults.{on_one}
-use Rattle.cy_columns.specs.Columns.{columns_read}
-use Rattle.cy_queries.specs.Projection.{item_of_key}
+use Rattle.cy_patterns.specs.Outcomes.{IsSameOutcome}
+use Rattle.cy_patterns.specs.Places.{Place, column_at, entries_at, places}
+use Rattle.cy_columns.specs.Columns.{column_list, columns_read}
+use Rattle.cy_queries.specs.Queries.{rows_after}
 
 -- whether the cell at a place is needed; past the end of what is known each is
 abbrev pub is_needed : List Bool → ℕ → Bool
@@ -18,6 +23,12 @@ is_needed needed place = slice_index_or needed place true
 -- all of these columns are needed
 abbrev pub AreNeeded : List Bool → List ℕ → Type 0
 AreNeeded needed columns = AllByRecursion (λ column. is_needed needed column ≡ true) columns
+
+-- what was needed still is, and no more is known
+abbrev pub StillNeeded : List Bool → List Bool → Type 0
+StillNeeded needed after = ((column : ℕ) → is_needed needed column ≡ true → is_needed after column ≡ true) × (length after ≡ length needed)
+
+-- ---- what is carried along
 
 -- a row from a place on, with null for each cell that isn't needed
 abbrev pub carried_from : List Bool → ℕ → List Cell → List Cell
@@ -33,23 +44,90 @@ abbrev pub carried_by : Clause → List Bool → Result (List (List Cell)) EvalF
 carried_by (unwind e v) needed outcome = carried needed outcome
 carried_by clause needed outcome = outcome
 
+-- ---- what clauses read
+
 -- all columns that items read are needed
 abbrev pub AreRead : List Bool → List Item → Type 0
 AreRead needed items = AllByRecursion (λ i. AreNeeded needed (columns_read i.expression)) items
 
--- the keys see the columns alone: with DISTINCT or an aggregate, or where each of them repeats an item
-abbrev pub all_repeat : List Item → List Key → Bool
-all_repeat items keys = list_all (λ key. is_some (item_of_key items key)) keys
+-- a key sees the columns of the items and, after them, those of the row before, which are needed where it reads them
+abbrev pub IsSeen : List Bool → ℕ → ℕ → Type 0
+IsSeen needed count column = count ≤ column → is_needed needed (column - count) ≡ true
 
-abbrev pub sees_columns_alone : Projection → Bool
-sees_columns_alone p = p.distinct || (has_aggregates p || all_repeat p.items p.order)
+abbrev pub AreSeen : List Bool → ℕ → List ℕ → Type 0
+AreSeen needed count columns = AllByRecursion (IsSeen needed count) columns
 
--- a projection whose keys see the columns alone reads its items' columns alone
-abbrev pub IsEnoughFor : List Bool → Projection → Type 0
-IsEnoughFor needed p = (sees_columns_alone p ≡ true) × AreRead needed p.items
+abbrev pub AreKeysRead : List Bool → ℕ → List Key → Type 0
+AreKeysRead needed count keys = AllByRecursion (λ k. AreSeen needed count (columns_read k.expression)) keys
 
--- what is needed is enough for the next clause, and all is where that may read all, or where there is none
-abbrev pub IsEnough : List Bool → List Clause → Type 0
-IsEnough needed («with» p test ∷ clauses) = (needed ≡ []) ⊎ IsEnoughFor needed p
-IsEnough needed («return» p ∷ clauses) = (needed ≡ []) ⊎ IsEnoughFor needed p
-IsEnough needed clauses = needed ≡ []
+abbrev pub IsProjectionRead : List Bool → Projection → Type 0
+IsProjectionRead needed p = AreRead needed p.items × AreKeysRead needed (length p.items) p.order
+
+-- all columns that the expressions of entries read are needed
+abbrev pub AreEntriesRead : List Bool → List MapEntry → Type 0
+AreEntriesRead needed entries = AllByRecursion (λ e. AreNeeded needed (columns_read e.value)) entries
+
+-- the column of a place's variable is needed, if it has one, and so are those that its map reads
+abbrev pub IsPlaceRead : List Bool → Place → Type 0
+IsPlaceRead needed p = IfSome (column_at p) (λ column. is_needed needed column ≡ true) × AreEntriesRead needed (entries_at p)
+
+abbrev pub ArePlacesRead : List Bool → List Place → Type 0
+ArePlacesRead needed ps = AllByRecursion (IsPlaceRead needed) ps
+
+-- all columns that a condition reads are needed
+abbrev pub IsTestRead : List Bool → Option Expression → Type 0
+IsTestRead needed test = IfSome test (λ e. AreNeeded needed (columns_read e))
+
+-- the column of a variable is needed, if it has one
+abbrev pub IsVariableRead : List Bool → Variable → Type 0
+IsVariableRead needed v = AreNeeded needed (column_list v.column)
+
+abbrev pub IsSetRead : List Bool → SetItem → Type 0
+IsSetRead needed (set_property v key e) = IsVariableRead needed v × AreNeeded needed (columns_read e)
+IsSetRead needed (set_labels v labels) = IsVariableRead needed v
+
+abbrev pub IsRemoveRead : List Bool → RemoveItem → Type 0
+IsRemoveRead needed (remove_property v key) = IsVariableRead needed v
+IsRemoveRead needed (remove_labels v labels) = IsVariableRead needed v
+
+-- all that a clause reads of the row before it is needed
+abbrev pub IsClauseRead : List Bool → Clause → Type 0
+IsClauseRead needed («match» optional paths test) = ArePlacesRead needed (places paths) × IsTestRead needed test
+IsClauseRead needed (unwind e v) = AreNeeded needed (columns_read e)
+IsClauseRead needed («with» p test) = IsProjectionRead needed p
+IsClauseRead needed («return» p) = IsProjectionRead needed p
+IsClauseRead needed (create paths) = ArePlacesRead needed (places paths)
+IsClauseRead needed (set items) = AllByRecursion (IsSetRead needed) items
+IsClauseRead needed (remove items) = AllByRecursion (IsRemoveRead needed) items
+IsClauseRead needed (delete detach variables) = AllByRecursion (IsVariableRead needed) variables
+
+-- WITH or RETURN
+abbrev pub is_projection : Clause → Bool
+is_projection («with» p test) = true
+is_projection («return» p) = true
+is_projection clause = false
+
+-- nothing after it sees the row before it: it is WITH or RETURN, or updates at the end
+abbrev pub is_last : Clause → List Clause → Bool
+is_last clause [] = is_projection clause || is_update clause
+is_last clause (other ∷ others) = is_projection clause
+
+-- What is needed is enough for the next clauses: all is, or what they read up to such a clause is. Before a clause that updates only rows
+-- that are alike in what isn't needed may lose it, since it takes them in their order.
+abbrev pub IsEnough : Bool → List Bool → List Clause → Type 0
+IsEnough alike needed [] = needed ≡ []
+IsEnough alike needed (c ∷ cs) = (needed ≡ []) ⊎ ((is_update c ≡ true → alike ≡ true) × IsClauseRead needed c × (is_last c cs ≡ false → IsEnough alike needed cs))
+
+-- ---- what a clause answers for those after it
+
+-- these columns are needed for the clauses after it, and these are the rows that it makes, with null in the others
+pub record Carries (graph : Content) (clause : Clause) (others : List Clause) (columns : List Name) (rows made : List (List Cell)) : Type 0 where
+  pub needed : List Bool
+  pub enough : IsEnough (nat_le (length rows) 1) needed others
+  pub within : length needed ≤ length columns
+  pub same : IsSameOutcome (Ok made) (carried_by clause needed (rows_after graph clause rows))
+
+-- a call answers such rows, or the clause's fault, or no memory was left
+abbrev pub IsAnswerFor : {A : Type 0} → Result A EvalFault → (A → List (List Cell)) → Content → Clause → List Clause → List Name → List (List Cell) → Type 0
+IsAnswerFor result view graph clause others columns rows =
+    MatchResult result (λ x. Carries graph clause others columns rows (view x)) (λ fault. (rows_after graph clause rows ≡ Err fault) ⊎ (fault ≡ NoMemory))

@@ -1,6 +1,6 @@
 -- A statement goes on by a clause.
 use Rattle.std.proofs.Common.{◌≡◌, ℕ, ◌+◌, ◌≤◌, true, false, cond, List, [], ◌∷◌, length, map, None, IsTrue, refl, sym, ap, subst, ◌∙◌, inl, inr, arith}
-use Rattle.std.specs.Prelude.{◌⊎◌, Result, Ok, Err, IfOk}
+use Rattle.std.specs.Prelude.{◌⊎◌, Bool, Result, Ok, Err, IfOk, nat_le}
 use Rattle.std.specs.List.{AllByRecursion}
 use Rattle.std.specs.Cmp.{IsTotalOrder}
 use Rattle.std.proofs.lemmas.Bool.{false≢true}
@@ -40,7 +40,9 @@ use Rattle.cy_effects.specs.Faults.{◌>>=◌, each_in_turn, evaluated, of_evalu
 use Rattle.cy_effects.specs.Statements.{GraphTable, Progress, after_clause, after_reading, after_updating, updated}
 use Rattle.cy_effects.specs.internal.Answers.{IsAnswer, graph_table}
 use Rattle.cy_effects.specs.internal.Gone.{AreGone}
-use Rattle.cy_updates.specs.internal.Reached.{AreResolved, IsNext, progress}
+use Rattle.cy_oneshot.specs.internal.Carried.{Carries, carried, carried_by, carried_from}
+use Rattle.cy_oneshot.proofs.Marked.{none_enough}
+use Rattle.cy_updates.specs.internal.Reached.{AreResolved, IsNext, LeadsTo, at_end, carried_after, progress}
 use Rattle.cy_effects.proofs.EntryCounts.{few}
 use Rattle.cy_effects.proofs.Graphs.{SameNumbers, node_number, rel_number}
 use Rattle.cy_effects.proofs.Grown.{Grown}
@@ -48,18 +50,45 @@ use Rattle.cy_effects.proofs.InTurn.{or_wants}
 
 -- ---- one clause
 
-module _ (clause : Clause) (updates : is_update clause ≡ true) (graph : State) (rows : List (List Cell)) where
+-- what updates, or returns, is no UNWIND
+carried_update : (c : Clause) (needed : List Bool) (r : Result Progress UpdateFault) → is_update c ≡ true → carried_after c needed r ≡ r
+carried_update (unwind e v) needed r updates = absurd (false≢true updates)
+carried_update («match» optional paths test) needed r updates = refl
+carried_update («with» p test) needed r updates = refl
+carried_update («return» p) needed r updates = refl
+carried_update (create paths) needed r updates = refl
+carried_update (set items) needed r updates = refl
+carried_update (remove items) needed r updates = refl
+carried_update (delete detach variables) needed r updates = refl
+
+pub carried_return : (c : Clause) (needed : List Bool) (r : Result Progress UpdateFault) → is_return c ≡ true → carried_after c needed r ≡ r
+carried_return (unwind e v) needed r is = absurd (false≢true is)
+carried_return («match» optional paths test) needed r is = refl
+carried_return («with» p test) needed r is = refl
+carried_return («return» p) needed r is = refl
+carried_return (create paths) needed r is = refl
+carried_return (set items) needed r is = refl
+carried_return (remove items) needed r is = refl
+carried_return (delete detach variables) needed r is = refl
+
+module _ (clause : Clause) (updates : is_update clause ≡ true) (graph : State) (columns : List Name) (rows : List (List Cell)) (others : List Clause) where
   as_update : (counts : Counts) → after_clause clause (progress graph rows counts) ≡ after_updating clause (progress graph rows counts)
   as_update counts = ap (λ b. cond b (after_updating clause (progress graph rows counts)) (after_reading clause (progress graph rows counts))) updates
 
   -- what the code has of an updating clause
   pub update_next : (result : Result Updated UpdateFault) (after : State) → IsAnswer result (λ (u : Updated). graph_table after u.table.rows.items) (updated graph clause rows)
-      → IsNext result after (λ counts. after_clause clause (progress graph rows counts))
-  update_next (Ok u) after meant = λ some.
-      let more : Counts = plus some (counts_between graph.content after.content) in
-      let is : after_clause clause (progress graph rows some) ≡ Ok (progress after u.table.rows.items more) =
-      as_update some ∙ ap (λ r. r >>= λ (t : GraphTable). Ok (progress t.graph t.rows (plus some (counts_between graph.content t.graph.content)))) meant in
-      (more, subst (λ (m : Result Progress UpdateFault). IsSameResult (Ok (progress after u.table.rows.items more)) m) (sym is) (refl, (λ row. refl), refl))
+      → IsNext result graph columns rows clause others after
+  update_next (Ok u) after meant =
+      record {
+        needed = [];
+        enough = none_enough (nat_le (length rows) 1) others;
+        within = omega arith;
+        step = λ some.
+            (let more : Counts = plus some (counts_between graph.content after.content) in
+            let is : after_clause clause (progress graph rows some) ≡ Ok (progress after u.table.rows.items more) =
+            as_update some ∙ ap (λ r. r >>= λ (t : GraphTable). Ok (progress t.graph t.rows (plus some (counts_between graph.content t.graph.content)))) meant in
+            (more, subst (λ (m : Result Progress UpdateFault). IsSameResult (Ok (progress after u.table.rows.items more)) m) (sym (carried_update clause [] (after_clause clause (progress graph rows some)) updates ∙ is)) (refl, (λ row. refl), refl)));
+      }
   update_next (Err why) after meant =
       or_wants why (λ stops some. as_update some ∙ ap (λ r. r >>= λ (t : GraphTable). Ok (progress t.graph t.rows (plus some (counts_between graph.content t.graph.content)))) stops) meant
 
@@ -74,11 +103,35 @@ module _ (clause : Clause) (reads : is_update clause ≡ false) (graph : State) 
   same_with made counts (Ok others) same = (refl, same, refl)
   same_with made counts (Err fault) same = absurd same
 
+  some_carried : (needed : List Bool) (counts : Counts) (r : Result (List (List Cell)) EvalFault)
+      → with_rows counts (carried needed r) ≡ (with_rows counts r >>= λ (done : Progress). Ok (record done { rows = map (carried_from needed 0) done.rows }))
+  some_carried needed counts (Ok made) = refl
+  some_carried needed counts (Err fault) = refl
+
+  carried_with : (c : Clause) (needed : List Bool) (counts : Counts) (r : Result (List (List Cell)) EvalFault) → with_rows counts (carried_by c needed r) ≡ carried_after c needed (with_rows counts r)
+  carried_with (unwind e v) needed counts r = some_carried needed counts r
+  carried_with («match» optional paths test) needed counts r = refl
+  carried_with («with» p test) needed counts r = refl
+  carried_with («return» p) needed counts r = refl
+  carried_with (create paths) needed counts r = refl
+  carried_with (set items) needed counts r = refl
+  carried_with (remove items) needed counts r = refl
+  carried_with (delete detach variables) needed counts r = refl
+
   -- what the code has of a reading clause
-  pub read_done : (made : List (List Cell)) → IsSameOutcome (Ok made) (rows_after graph.content clause rows)
-      → (some : Counts) → (more : Counts) × IsSameResult (Ok (progress graph made more)) (after_clause clause (progress graph rows some))
-  read_done made same = λ some.
-      (some, subst (λ (m : Result Progress UpdateFault). IsSameResult (Ok (progress graph made some)) m) (sym (as_reading some)) (same_with made some (rows_after graph.content clause rows) same))
+  pub read_done : (columns : List Name) (others : List Clause) (made : List (List Cell)) → Carries graph.content clause others columns rows made → LeadsTo graph columns rows clause others graph made
+  read_done columns others made carries =
+      record {
+        needed = carries.needed;
+        enough = carries.enough;
+        within = carries.within;
+        step = λ some. (
+          some,
+          subst (λ (m : Result Progress UpdateFault). IsSameResult (Ok (progress graph made some)) m)
+              (carried_with clause carries.needed some (rows_after graph.content clause rows) ∙ ap (carried_after clause carries.needed) (sym (as_reading some)))
+              (same_with made some (carried_by clause carries.needed (rows_after graph.content clause rows)) carries.same),
+        );
+      }
 
   pub read_in_order : (made : List (List Cell)) → rows_after graph.content clause rows ≡ Ok made → (some : Counts) → (more : Counts) × (after_clause clause (progress graph rows some) ≡ Ok (progress graph made more))
   read_in_order made is = λ some. (some, as_reading some ∙ ap (with_rows some) is)
@@ -192,22 +245,44 @@ module _ (on_bags : (clauses : List Clause) (one other : Progress) → IsSamePro
 
   -- ---- one clause more
 
-  module _ (c : Clause) (cs : List Clause) (now next : Progress) (same : IsSameResult (Ok next) (after_clause c now)) where
+  end_same : (returns : Bool) (r s : Result Progress UpdateFault) → IsSameResult r s → IsSameResult (at_end returns r) (at_end returns s)
+  end_same true (Ok one) (Ok other) same = same
+  end_same false (Ok one) (Ok other) same = (same.0, (λ row. refl), same.2)
+  end_same returns (Err why) (Err other) same = same
+  end_same returns (Ok one) (Err other) same = absurd same
+  end_same returns (Err why) (Ok other) same = absurd same
+
+  whole_end : (r : Result Progress UpdateFault) → at_end true r ≡ r
+  whole_end (Ok done) = refl
+  whole_end (Err why) = refl
+
+  exact_end : (returns : Bool) → returns ≡ true → (r s : Result Progress UpdateFault) → at_end returns r ≡ at_end returns s → r ≡ s
+  exact_end true is r s same = sym (whole_end r) ∙ same ∙ whole_end s
+  exact_end false is r s same = absurd (false≢true is)
+
+  module _ (returns : Bool) (c : Clause) (cs : List Clause) (now next : Progress) (stands : Result Progress UpdateFault) (same : IsSameResult (Ok next) stands)
+      (on : at_end returns (stands >>= λ p. each_in_turn after_clause cs p) ≡ at_end returns (each_in_turn after_clause (c ∷ cs) now)) where
     same_on : (r : Result Progress UpdateFault) → IsSameResult (Ok next) r → IsSameResult (each_in_turn after_clause cs next) (r >>= λ p. each_in_turn after_clause cs p)
     same_on (Ok p) is = on_bags cs next p is
     same_on (Err why) is = absurd is
 
-    pub more_bag : (all : Result Progress UpdateFault) → IsSameResult (each_in_turn after_clause (c ∷ cs) now) all → IsSameResult (each_in_turn after_clause cs next) all
-    more_bag all before = same_then (each_in_turn after_clause cs next) (each_in_turn after_clause (c ∷ cs) now) all (same_on (after_clause c now) same) before
+    pub more_bag : (all : Result Progress UpdateFault) → IsSameResult (at_end returns (each_in_turn after_clause (c ∷ cs) now)) all → IsSameResult (at_end returns (each_in_turn after_clause cs next)) all
+    more_bag all before =
+        same_then (at_end returns (each_in_turn after_clause cs next)) (at_end returns (each_in_turn after_clause (c ∷ cs) now)) all
+        (subst (λ r. IsSameResult (at_end returns (each_in_turn after_clause cs next)) r) on
+        (end_same returns (each_in_turn after_clause cs next) (stands >>= λ p. each_in_turn after_clause cs p) (same_on stands same))) before
 
     alike_on : ends_with_return cs ≡ true → (r : Result Progress UpdateFault) → IsSameResult (Ok next) r → each_in_turn after_clause cs next ≡ (r >>= λ p. each_in_turn after_clause cs p)
     alike_on ends (Ok p) is = ends_alike cs ends next p is
     alike_on ends (Err why) is = absurd is
 
-  pub more_ordered : (c : Clause) (cs : List Clause) (now next : Progress) → IsSameResult (Ok next) (after_clause c now) → ends_with_return (c ∷ cs) ≡ true
+  pub more_ordered : (returns : Bool) → returns ≡ true → (c : Clause) (cs : List Clause) (now next : Progress) (stands : Result Progress UpdateFault) → IsSameResult (Ok next) stands
+      → at_end returns (stands >>= λ p. each_in_turn after_clause cs p) ≡ at_end returns (each_in_turn after_clause (c ∷ cs) now) → ends_with_return (c ∷ cs) ≡ true
       → (is_return c ≡ true → after_clause c now ≡ Ok next) → (all : Result Progress UpdateFault) → each_in_turn after_clause (c ∷ cs) now ≡ all → each_in_turn after_clause cs next ≡ all
-  more_ordered c [] now next same ends exact all before = sym (ap (λ r. r >>= λ p. Ok p) (exact ends)) ∙ before
-  more_ordered c (d ∷ cs) now next same ends exact all before = alike_on c (d ∷ cs) now next same (sym (last_later c d cs) ∙ ends) (after_clause c now) same ∙ before
+  more_ordered returns is c [] now next stands same on ends exact all before = sym (ap (λ r. r >>= λ p. Ok p) (exact ends)) ∙ before
+  more_ordered returns is c (d ∷ cs) now next stands same on ends exact all before =
+      alike_on returns c (d ∷ cs) now next stands same on (sym (last_later c d cs) ∙ ends) stands same
+      ∙ exact_end returns is (stands >>= λ p. each_in_turn after_clause (d ∷ cs) p) (each_in_turn after_clause (c ∷ d ∷ cs) now) on ∙ before
 
 -- ---- scopes
 

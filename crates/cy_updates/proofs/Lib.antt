@@ -1,3 +1,5 @@
 mod ClauseSteps
 mod ReachedSteps
 mod Changes
+mod CarriedOn
+mod CarriedUpdates

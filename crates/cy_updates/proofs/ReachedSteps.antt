@@ -1,17 +1,20 @@
 -- How far a statement has come, with one clause more.
 use Rattle.std.proofs.Common.{◌≡◌, ℕ, ◌+◌, true, false, cond, List, [], ◌∷◌, length, None, IsTrue, refl, sym, ap, subst, ◌∙◌, arith}
-use Rattle.std.specs.Prelude.{Result, Ok, Err, IfOk}
+use Rattle.std.specs.Prelude.{◌&&◌, Bool, Result, Ok, Err, IfOk}
 use Rattle.std.specs.List.{AllByRecursion}
 use Rattle.std.specs.Cmp.{IsTotalOrder}
+use Rattle.std.proofs.lemmas.Bool.{and_parts, false≢true}
 use Rattle.cy_values.specs.declared.rows.Cell.{Cell}
+use Rattle.cy_values.specs.declared.rows.Cell.TheVariants as cell
+use Rattle.cy_values.specs.declared.scalars.Value.TheVariants as value
 use Rattle.cy_values.specs.Bag.{IsSameBag}
 use Rattle.cy_values.specs.Order.{row_cmp}
-use Rattle.cy_trees.specs.Trees.{Name, Clause, Projection, Statement}
+use Rattle.cy_trees.specs.Trees.{Name, Clause, Projection, Statement, «match», unwind, «with», «return», create, set, remove, delete}
 use Rattle.cy_scope.specs.Checked.{IsChecked}
 use Rattle.cy_scope.specs.ClauseFaults.{clause_fault}
 use Rattle.cy_scope.specs.ClauseScopes.{scope_after}
 use Rattle.cy_scope.specs.Resolved.{resolved_clause}
-use Rattle.cy_kinds.specs.Rows.{row_fits}
+use Rattle.cy_kinds.specs.Rows.{is_cell_of, row_fits}
 use Rattle.cy_kinds.specs.Scopes.{Scope}
 use Rattle.cy_scope.specs.Views.{ends_with_return, is_return, is_update}
 use Rattle.cy_graph.specs.Graph.{Content, State, IsGraph}
@@ -20,6 +23,9 @@ use Rattle.cy_oneshot.specs.declared.table.Table.{Table}
 use Rattle.cy_queries.specs.Projection.{projection_rows}
 use Rattle.cy_queries.specs.Queries.{columns_after, columns_after_all, rows_after}
 use Rattle.cy_queries.specs.Reading.{AreInGraph, IsInGraph}
+use Rattle.cy_oneshot.specs.internal.Carried.{carried_from, is_needed}
+use Rattle.cy_oneshot.proofs.Carried.{row_there}
+use Rattle.cy_queries.proofs.Each.{each_map}
 use Rattle.cy_queries.proofs.InGraphClauses.{clause_there}
 use Rattle.cy_queries.proofs.QueryLemmas.{last_later}
 use Rattle.cy_queries.proofs.ScopeClauses as reading
@@ -31,10 +37,11 @@ use Rattle.cy_effects.specs.Counts.{AgreeWith, Counts, counts_between, no_counts
 use Rattle.cy_effects.specs.Faults.{◌>>=◌, each_in_turn, evaluated}
 use Rattle.cy_effects.specs.Statements.{GraphTable, Outcome, Progress, after_clause, after_reading, after_updating, beginning, outcome_of, statement_outcome, updated}
 use Rattle.cy_effects.specs.internal.Gone.{AreGone}
-use Rattle.cy_updates.specs.internal.Reached.{AreResolved, IsReached, LeadOn, progress}
+use Rattle.cy_updates.specs.internal.Reached.{AreResolved, IsReached, LeadOn, LeadsTo, at_end, carried_after, progress}
 use Rattle.cy_effects.proofs.Bags.{same_itself}
 use Rattle.cy_effects.proofs.UpdatedGraphs.{Come, clause_come}
-use Rattle.cy_updates.proofs.ClauseSteps.{IsWritten, each_of_same, first_written, gone_then, more_bag, more_ordered, none_gone, resolved_updates, same_fault}
+use Rattle.cy_updates.proofs.CarriedOn.{goes_on_by}
+use Rattle.cy_updates.proofs.ClauseSteps.{IsWritten, carried_return, each_of_same, first_written, gone_then, more_bag, more_ordered, none_gone, resolved_updates, rows_wide, same_fault}
 use Rattle.cy_effects.proofs.ScopedRows.{clause_fits}
 use Rattle.cy_effects.proofs.StoredValues.{and_then, if_ok_weaker}
 
@@ -73,6 +80,30 @@ module _ (graph : State) (scope : Scope) (w : Clause) (rows : List (List Cell)) 
             (reading_fits (rows_after graph.content c rows) (reading.clause_fits graph.content scope w rows good h fit))
       ] refl
 
+-- ---- what holds of each row holds of what is carried along of it
+
+each_carried : (P : State → List Cell → Type 0) (c : Clause) (needed : List Bool) → ((graph : State) (row : List Cell) → P graph row → P graph (carried_from needed 0 row)) → (r : Result Progress UpdateFault)
+    → IfOk r (λ (q : Progress). AllByRecursion (P q.graph) q.rows) → IfOk (carried_after c needed r) (λ (q : Progress). AllByRecursion (P q.graph) q.rows)
+each_carried P (unwind e v) needed less (Ok q) each = each_map (P q.graph) (P q.graph) (carried_from needed 0) (less q.graph) q.rows each
+each_carried P (unwind e v) needed less (Err why) each = tt
+each_carried P («match» optional paths test) needed less r each = each
+each_carried P («with» p test) needed less r each = each
+each_carried P («return» p) needed less r each = each
+each_carried P (create paths) needed less r each = each
+each_carried P (set items) needed less r each = each
+each_carried P (remove items) needed less r each = each
+each_carried P (delete detach variables) needed less r each = each
+
+less_fits : (needed : List Bool) (scope : Scope) (place : ℕ) (row : List Cell) → row_fits scope row ≡ true → row_fits scope (carried_from needed place row) ≡ true
+less_fits needed [] place [] fit = refl
+less_fits needed [] place (c ∷ row) fit = absurd (false≢true fit)
+less_fits needed (v ∷ scope) place [] fit = absurd (false≢true fit)
+less_fits needed (v ∷ scope) place (c ∷ row) fit =
+    let parts = and_parts (is_cell_of v.1 c) (row_fits scope row) fit in
+    let here : is_cell_of v.1 (cond (is_needed needed place) c (cell.Value value.Null)) ≡ true =
+    elim (is_needed needed place) as (λ b. is_cell_of v.1 (cond b c (cell.Value value.Null)) ≡ true) [ true ↦ parts.0 | false ↦ refl ] in
+    λ j. here j && less_fits needed scope (place + 1) row parts.1 j
+
 -- ---- rows that name what is in the graph
 
 same_graph : (next : Progress) (r : Result Progress UpdateFault) → IsSameResult (Ok next) r → (P : State → List Cell → Type 0) → IfOk r (λ q. AllByRecursion (P q.graph) q.rows) → IfOk r (λ q. AllByRecursion (P next.graph) q.rows)
@@ -80,16 +111,17 @@ same_graph next (Ok q) same P all = subst (λ (g : State). AllByRecursion (P g) 
 same_graph next (Err why) same P all = absurd same
 
 module _ (total : IsTotalOrder row_cmp) (graph : State) (is : IsGraph graph) (rows : List (List Cell)) (there : AreInGraph graph.content rows) (c : Clause) (next : Progress)
-    (same : IsSameResult (Ok next) (after_clause c (progress graph rows no_counts))) where
+    (needed : List Bool) (same : IsSameResult (Ok next) (carried_after c needed (after_clause c (progress graph rows no_counts)))) where
   come_first : Come graph (progress graph rows no_counts)
   come_first = record { is = is; counted = record { node_numbers = omega arith; rel_numbers = omega arith; nodes = omega arith; rels = omega arith }; rows = there }
 
   pub rows_there : AreInGraph next.graph.content next.rows
   rows_there =
-      each_of_same total (AllByRecursion (IsInGraph next.graph.content)) next (after_clause c (progress graph rows no_counts)) same
-      (same_graph next (after_clause c (progress graph rows no_counts)) same (λ g. AllByRecursion (IsInGraph g.content))
+      each_of_same total (AllByRecursion (IsInGraph next.graph.content)) next (carried_after c needed (after_clause c (progress graph rows no_counts))) same
+      (same_graph next (carried_after c needed (after_clause c (progress graph rows no_counts))) same (λ g. AllByRecursion (IsInGraph g.content))
+      (each_carried (λ g. AllByRecursion (IsInGraph g.content)) c needed (λ g row here. row_there g.content needed 0 row here) (after_clause c (progress graph rows no_counts))
       (if_ok_weaker (Come graph) (λ (q : Progress). AreInGraph q.graph.content q.rows) (λ q come. come.rows) (after_clause c (progress graph rows no_counts))
-      (clause_come (λ content clause others reads here. clause_there content clause others here) graph c (progress graph rows no_counts) come_first)))
+      (clause_come (λ content clause others reads here. clause_there content clause others here) graph c (progress graph rows no_counts) come_first))))
 
 -- ---- one clause more
 
@@ -98,7 +130,7 @@ module _ (total : IsTotalOrder row_cmp)
     (ordered : (graph : Content) (p : Projection) (rows others : List (List Cell)) → IsSameBag rows others → projection_rows graph p rows ≡ projection_rows graph p others)
     (first now next : State) (statement : Statement) (done after : Updated) (c : Clause) (cs clauses : List Clause) (are : clauses ≡ c ∷ cs)
     (reached : IsReached first now statement done clauses) (is : IsGraph now)
-    (step : (some : Counts) → (more : Counts) × IsSameResult (Ok (progress next after.table.rows.items more)) (after_clause c (progress now done.table.rows.items some)))
+    (leads_to : LeadsTo now done.table.columns.items done.table.rows.items c cs next after.table.rows.items)
     (exact : IsTrue (is_return c) → (some : Counts) → (more : Counts) × (after_clause c (progress now done.table.rows.items some) ≡ Ok (progress next after.table.rows.items more)))
     (columns : after.table.columns.items ≡ columns_after done.table.columns.items c)
     (gone : AreGone now next after.gone.nodes after.gone.rels) where
@@ -114,8 +146,18 @@ module _ (total : IsTotalOrder row_cmp)
   leads : LeadOn first now rows (c ∷ cs) statement
   leads = subst (λ (l : List Clause). LeadOn first now rows l statement) are reached.leads
 
-  abbrev one : (more : Counts) × IsSameResult (Ok (progress next left more)) (after_clause c (progress now rows leads.counts))
-  one = step leads.counts
+  abbrev returns : Bool
+  returns = ends_with_return statement.clauses
+
+  abbrev needed : List Bool
+  needed = leads_to.needed
+
+  -- what the clause leaves, with what is carried along
+  abbrev stands : Counts → Result Progress UpdateFault
+  stands some = carried_after c needed (after_clause c (progress now rows some))
+
+  abbrev one : (more : Counts) × IsSameResult (Ok (progress next left more)) (stands leads.counts)
+  one = leads_to.step leads.counts
 
   -- the counts are those of the one outcome
   same_counts : (some more : Counts) (r : Result Progress UpdateFault) → IsSameResult (Ok (progress next left some)) r → r ≡ Ok (progress next left more) → r ≡ Ok (progress next left some)
@@ -123,17 +165,26 @@ module _ (total : IsTotalOrder row_cmp)
   same_counts some more (Err why) same is_it = absurd same
 
   exactly : is_return c ≡ true → after_clause c (progress now rows leads.counts) ≡ Ok (progress next left one.0)
-  exactly returns = let found = exact returns leads.counts in same_counts one.0 found.0 (after_clause c (progress now rows leads.counts)) one.1 found.1
+  exactly is_last =
+      let found = exact is_last leads.counts in
+      same_counts one.0 found.0 (after_clause c (progress now rows leads.counts))
+      (subst (λ (r : Result Progress UpdateFault). IsSameResult (Ok (progress next left one.0)) r) (carried_return c needed (after_clause c (progress now rows leads.counts)) is_last) one.1) found.1
 
   later_returns : ends_with_return (c ∷ cs) ≡ true → (d : Clause) (ds : List Clause) → cs ≡ d ∷ ds → ends_with_return cs ≡ true
   later_returns ends d ds they =
       ap ends_with_return they ∙ sym (last_later c d ds) ∙ ap (λ l. ends_with_return (c ∷ l)) (sym they) ∙ ends
 
+  -- the others make the same of it
+  goes_on : at_end returns (stands leads.counts >>= λ p. each_in_turn after_clause cs p) ≡ at_end returns (each_in_turn after_clause (c ∷ cs) (progress now rows leads.counts))
+  goes_on =
+      goes_on_by total returns (length done.table.columns.items) cs now rows needed leads_to.enough leads_to.within (rows_wide done.table.columns.items rows clauses reached.resolved)
+      (λ ends d ds they. later_returns (leads.returns ends c cs refl) d ds they) c leads.counts
+
   leads_more : LeadOn first next left cs statement
   leads_more = record {
     counts = one.0;
-    bag = more_bag on_bags ordered c cs (progress now rows leads.counts) (progress next left one.0) one.1 all leads.bag;
-    ordered = λ ends. more_ordered on_bags ordered c cs (progress now rows leads.counts) (progress next left one.0) one.1 (leads.returns ends c cs refl) exactly all (leads.ordered ends);
+    bag = more_bag on_bags ordered returns c cs (progress now rows leads.counts) (progress next left one.0) (stands leads.counts) one.1 goes_on (at_end returns all) leads.bag;
+    ordered = λ ends. more_ordered on_bags ordered returns ends c cs (progress now rows leads.counts) (progress next left one.0) (stands leads.counts) one.1 goes_on (leads.returns ends c cs refl) exactly all (leads.ordered ends);
     returns = λ ends d ds they. later_returns (leads.returns ends c cs refl) d ds they;
   }
 
@@ -142,10 +193,11 @@ module _ (total : IsTotalOrder row_cmp)
 
   fits_later : AllByRecursion (Fits (scope_after written.scope written.written)) left
   fits_later =
-      let found = step no_counts in
-      each_of_same total (Fits (scope_after written.scope written.written)) (progress next left found.0) (after_clause c (progress now rows no_counts)) found.1
+      let found = leads_to.step no_counts in
+      each_of_same total (Fits (scope_after written.scope written.written)) (progress next left found.0) (stands no_counts) found.1
+      (each_carried (λ g. Fits (scope_after written.scope written.written)) c needed (λ g row fit. less_fits needed (scope_after written.scope written.written) 0 row fit) (after_clause c (progress now rows no_counts))
       (subst (λ (d : Clause). IfOk (after_clause d (progress now rows no_counts)) (λ (q : Progress). AllByRecursion (Fits (scope_after written.scope written.written)) q.rows)) (sym written.is)
-      (after_fits now written.scope written.written rows no_counts written.good written.fit))
+      (after_fits now written.scope written.written rows no_counts written.good written.fit)))
 
   resolved_more : AreResolved after.table.columns.items left cs
   resolved_more = record {
@@ -161,7 +213,7 @@ module _ (total : IsTotalOrder row_cmp)
   reached_more whole tables nodes rels = record {
     leads = subst (λ (t : Table). LeadOn first next t.rows.items cs statement) (sym tables) leads_more;
     names = ap (λ (t : Table). columns_after_all t.columns.items cs) tables ∙ ap (λ (l : List Name). columns_after_all l cs) columns ∙ ap (columns_after_all done.table.columns.items) (sym are) ∙ reached.names;
-    there = subst (λ (t : Table). AreInGraph next.content t.rows.items) (sym tables) (let found = step no_counts in rows_there total now is rows reached.there c (progress next left found.0) found.1);
+    there = subst (λ (t : Table). AreInGraph next.content t.rows.items) (sym tables) (let found = leads_to.step no_counts in rows_there total now is rows reached.there c (progress next left found.0) needed found.1);
     resolved = subst (λ (t : Table). AreResolved t.columns.items t.rows.items cs) (sym tables) resolved_more;
     gone = subst (λ (n : ℕ). AreGone first next n whole.gone.rels) (sym nodes) (subst (λ (n : ℕ). AreGone first next (done.gone.nodes + after.gone.nodes) n) (sym rels)
         (gone_then first now next done.gone.nodes done.gone.rels after.gone.nodes after.gone.rels reached.gone gone));
@@ -174,7 +226,7 @@ pub reached_first : (first : State) (statement : Statement) → IsChecked statem
 reached_first first statement checked done columns rows nodes rels = record {
   leads = subst (λ (l : List (List Cell)). LeadOn first first l statement.clauses statement) (sym rows) (record {
     counts = no_counts;
-    bag = same_itself (each_in_turn after_clause statement.clauses (beginning first));
+    bag = same_itself (at_end (ends_with_return statement.clauses) (each_in_turn after_clause statement.clauses (beginning first)));
     ordered = λ ends. refl;
     returns = λ ends c cs they. ends;
   });
@@ -191,14 +243,19 @@ reached_first first statement checked done columns rows nodes rels = record {
   gone = subst (λ (n : ℕ). AreGone first first n done.gone.rels) (sym nodes) (subst (λ (n : ℕ). AreGone first first 0 n) (sym rels) (none_gone first));
 }
 
+end_fault : (returns : Bool) (why : UpdateFault) (r : Result Progress UpdateFault) → at_end returns r ≡ Err why → r ≡ Err why
+end_fault returns why (Ok done) is = absurd (let e : ⊥ = cc is in e)
+end_fault returns why (Err other) is = is
+
 -- a fault that a clause stops at is that of the statement
 pub reached_stops : (first now : State) (statement : Statement) (done : Updated) (c : Clause) (cs clauses : List Clause) → clauses ≡ c ∷ cs → IsReached first now statement done clauses → (why : UpdateFault)
     → ((some : Counts) → after_clause c (progress now done.table.rows.items some) ≡ Err why) → each_in_turn after_clause statement.clauses (beginning first) ≡ Err why
 reached_stops first now statement done c cs clauses are reached why stops =
     let leads : LeadOn first now done.table.rows.items (c ∷ cs) statement = subst (λ (l : List Clause). LeadOn first now done.table.rows.items l statement) are reached.leads in
     let here : each_in_turn after_clause (c ∷ cs) (progress now done.table.rows.items leads.counts) ≡ Err why = ap (λ r. r >>= λ p. each_in_turn after_clause cs p) (stops leads.counts) in
-    same_fault why (each_in_turn after_clause statement.clauses (beginning first))
-    (subst (λ (r : Result Progress UpdateFault). IsSameResult r (each_in_turn after_clause statement.clauses (beginning first))) here leads.bag)
+    let all : Result Progress UpdateFault = each_in_turn after_clause statement.clauses (beginning first) in
+    let returns : Bool = ends_with_return statement.clauses in
+    end_fault returns why all (same_fault why (at_end returns all) (subst (λ (r : Result Progress UpdateFault). IsSameResult (at_end returns r) (at_end returns all)) here leads.bag))
 
 -- ---- the end
 
@@ -240,7 +297,7 @@ module _ (first now : State) (statement : Statement) (after : Updated) (reached 
         | false ↦ λ h. refl
       ] refl
 
-  by_result : (r : Result Progress UpdateFault) → IsSameResult (Ok (progress now after.table.rows.items reached.leads.counts)) r
+  by_result : (r : Result Progress UpdateFault) → IsSameResult (at_end (ends_with_return statement.clauses) (Ok (progress now after.table.rows.items reached.leads.counts))) (at_end (ends_with_return statement.clauses) r)
       → (ends_with_return statement.clauses ≡ true → Ok (progress now after.table.rows.items reached.leads.counts) ≡ r)
       → IfOk (r >>= answer) (λ (o : Outcome). IsGraph o.graph × AgreeWith first o.graph o.counts) → (r >>= answer) ≡ Ok seen
   by_result (Ok q) same exact agree = λ i. Ok (record {

@@ -21,7 +21,7 @@ use crate::clauses::{Updated, update, with_none_gone};
 use cy_effects::UpdateFault;
 use cy_effects::laws::counts_agree;
 use cy_index::Store;
-use cy_oneshot::{Table, answer, read_clause, unit};
+use cy_oneshot::{Table, answer, read_clause_before, unit};
 use cy_scope::{Checked, ends_with_return, has_update, is_update};
 use cy_trees::Clause;
 use cy_values::row_order_laws;
@@ -54,7 +54,7 @@ pub fn execute(
     ensures rolled_back { OnErr result (store.new ≡ store.old) }
 {
     store.begin();
-    match carry_out(alloc, store, checked) {
+    match execute_in_change(alloc, store, checked) {
         Ok(outcome) => Ok(outcome),
         Err(why) => {
             store.rollback();
@@ -64,7 +64,7 @@ pub fn execute(
 }
 
 // Executes a statement in an open change.
-fn carry_out(
+fn execute_in_change(
     alloc: Global,
     store: &mut Store,
     checked: &Checked,
@@ -128,9 +128,9 @@ fn each_clause(alloc: Global, store: &mut Store, clauses: &[Clause]) -> Result<U
     row_order_laws();
     let first = unit(alloc)?;
     let mut done = with_none_gone(first);
-    for clause in clauses {
+    for at in 0..clauses.len() {
         let Updated { table, gone } = done;
-        let after = after_clause(alloc, store, table, clause)?;
+        let after = after_clause(alloc, store, table, &clauses[at], &clauses[at + 1..])?;
         store.laws();
         let nodes = gone.nodes + after.gone.nodes;
         let rels = gone.rels + after.gone.rels;
@@ -142,17 +142,18 @@ fn each_clause(alloc: Global, store: &mut Store, clauses: &[Clause]) -> Result<U
     Ok(done)
 }
 
-// What a clause leaves.
+// What a clause leaves for those after it.
 fn after_clause(
     alloc: Global,
     store: &mut Store,
     table: Table,
     clause: &Clause,
+    others: &[Clause],
 ) -> Result<Updated, UpdateFault>
     requires open { IsSome store.old.graph.was }
     requires there { AreInGraph store.old.graph.now.content table.rows.items }
     requires width { AllByRecursion (λ row. length row ≡ length table.columns.items) table.rows.items }
-    ensures meaning { IsNext result store.new.graph.now (λ counts. spec.after_clause (clause_of clause.now) (progress store.old.graph.now table.rows.items counts)) }
+    ensures meaning { IsNext result store.old.graph.now table.columns.items table.rows.items (clause_of clause.now) (map clause_of others.now) store.new.graph.now }
     ensures ordered { IsTrue (scopes.is_return (clause_of clause.now)) → IsNextInOrder result store.new.graph.now (λ counts. spec.after_clause (clause_of clause.now) (progress store.old.graph.now table.rows.items counts)) }
     ensures columns { IfOk result (λ after. after.table.columns.items ≡ columns_after table.columns.items (clause_of clause.now)) }
     ensures gone { IfOk result (λ after. AreGone store.old.graph.now store.new.graph.now after.gone.nodes after.gone.rels) }
@@ -162,7 +163,7 @@ fn after_clause(
     if is_update(clause) {
         return update(alloc, store, table, clause);
     }
-    let after = read_clause(alloc, store, table, clause)?;
+    let after = read_clause_before(alloc, store, table, clause, others)?;
     Ok(with_none_gone(after))
 }
 

@@ -1,8 +1,8 @@
 -- How far the clauses of a statement have been executed.
-use Rattle.std.specs.Prelude.{◌≡◌, ◌⊎◌, ℕ, ◌+◌, ◌≤◌, ◌∷◌, List, length, map, None, IsTrue, Result, Ok, Err, MatchResult}
+use Rattle.std.specs.Prelude.{◌≡◌, ◌⊎◌, ℕ, ◌+◌, ◌≤◌, Bool, [], ◌∷◌, List, length, map, nat_le, None, IsTrue, Result, Ok, Err, MatchResult, if◌then◌else◌}
 use Rattle.std.specs.List.{AllByRecursion}
 use Rattle.cy_values.specs.declared.rows.Cell.{Cell}
-use Rattle.cy_trees.specs.Trees.{Name, Clause, Statement}
+use Rattle.cy_trees.specs.Trees.{Name, Clause, unwind, Statement}
 use Rattle.cy_scope.specs.ClauseFaults.{clauses_fault}
 use Rattle.cy_scope.specs.Resolved.{resolved_clauses}
 use Rattle.cy_kinds.specs.Rows.{row_fits}
@@ -11,18 +11,28 @@ use Rattle.cy_scope.specs.Views.{ends_with_return}
 use Rattle.cy_graph.specs.Graph.{State}
 use Rattle.cy_queries.specs.Queries.{columns_after_all, query_columns}
 use Rattle.cy_queries.specs.Reading.{AreInGraph}
+use Rattle.cy_oneshot.specs.internal.Carried.{IsEnough, carried_from}
 use Rattle.cy_updates.specs.declared.clauses.Updated.{Updated}
 use Rattle.cy_effects.specs.declared.faults.UpdateFault.{UpdateFault}
 use Rattle.cy_effects.specs.declared.faults.UpdateFault.TheVariants.{NoMemory}
 use Rattle.cy_effects.specs.Bags.{IsSameResult}
 use Rattle.cy_effects.specs.Counts.{Counts}
-use Rattle.cy_effects.specs.Faults.{each_in_turn}
+use Rattle.cy_effects.specs.Faults.{◌>>=◌, each_in_turn}
 use Rattle.cy_effects.specs.internal.Gone.{AreGone}
 use Rattle.cy_effects.specs.Statements.{Progress, after_clause, beginning}
 
 -- how far a statement has come: a graph, rows, and counts
 abbrev pub progress : State → List (List Cell) → Counts → Progress
 progress graph rows counts = record { graph = graph; rows = rows; counts = counts }
+
+-- what a statement leaves, of which the rows count where it returns
+abbrev pub at_end : Bool → Result Progress UpdateFault → Result Progress UpdateFault
+at_end returns r = r >>= λ done. Ok (record done { rows = (if returns then done.rows else []) })
+
+-- what UNWIND leaves, with null for each cell that isn't needed
+abbrev pub carried_after : Clause → List Bool → Result Progress UpdateFault → Result Progress UpdateFault
+carried_after (unwind e v) needed r = r >>= λ done. Ok (record done { rows = map (carried_from needed 0) done.rows })
+carried_after clause needed r = r
 
 -- the rows fit a scope that has these columns, and in which the clauses have no fault, and the columns of their variables
 pub record AreResolved (columns : List Name) (rows : List (List Cell)) (clauses : List Clause) : Type 0 where
@@ -36,7 +46,7 @@ pub record AreResolved (columns : List Name) (rows : List (List Cell)) (clauses 
 -- the clauses lead on from a graph and a table as all of them do from the beginning
 pub record LeadOn (first graph : State) (rows : List (List Cell)) (clauses : List Clause) (statement : Statement) : Type 0 where
   pub counts : Counts
-  pub bag : IsSameResult (each_in_turn after_clause clauses (progress graph rows counts)) (each_in_turn after_clause statement.clauses (beginning first))
+  pub bag : IsSameResult (at_end (ends_with_return statement.clauses) (each_in_turn after_clause clauses (progress graph rows counts))) (at_end (ends_with_return statement.clauses) (each_in_turn after_clause statement.clauses (beginning first)))
   pub ordered : IsTrue (ends_with_return statement.clauses) → each_in_turn after_clause clauses (progress graph rows counts) ≡ each_in_turn after_clause statement.clauses (beginning first)
   pub returns : IsTrue (ends_with_return statement.clauses) → (c : Clause) (cs : List Clause) → clauses ≡ c ∷ cs → IsTrue (ends_with_return clauses)
 
@@ -48,11 +58,17 @@ pub record IsReached (first graph : State) (statement : Statement) (after : Upda
   pub resolved : AreResolved after.table.columns.items after.table.rows.items clauses
   pub gone : AreGone first graph after.gone.nodes after.gone.rels
 
--- a clause leads from a graph and rows to this graph and rows that are the bag that is meant, or stops at its fault, or no memory was left
-abbrev pub IsNext : Result Updated UpdateFault → State → (Counts → Result Progress UpdateFault) → Type 0
-IsNext result graph meant =
-    MatchResult result (λ after. (some : Counts) → (more : Counts) × IsSameResult (Ok (progress graph after.table.rows.items more)) (meant some))
-    (λ why. (why ≡ NoMemory) ⊎ ((some : Counts) → meant some ≡ Err why))
+-- from a graph and a table a clause leads to this graph and these rows, as a bag, but for cells that the clauses after it don't need, which are null
+pub record LeadsTo (before : State) (columns : List Name) (rows : List (List Cell)) (clause : Clause) (others : List Clause) (graph : State) (left : List (List Cell)) : Type 0 where
+  pub needed : List Bool
+  pub enough : IsEnough (nat_le (length rows) 1) needed others
+  pub within : length needed ≤ length columns
+  pub step : (some : Counts) → (more : Counts) × IsSameResult (Ok (progress graph left more)) (carried_after clause needed (after_clause clause (progress before rows some)))
+
+-- so does the code, or it stops at the clause's fault, or no memory was left
+abbrev pub IsNext : Result Updated UpdateFault → State → List Name → List (List Cell) → Clause → List Clause → State → Type 0
+IsNext result before columns rows clause others graph =
+    MatchResult result (λ after. LeadsTo before columns rows clause others graph after.table.rows.items) (λ why. (why ≡ NoMemory) ⊎ ((some : Counts) → after_clause clause (progress before rows some) ≡ Err why))
 
 -- the same with the rows in their order
 abbrev pub IsNextInOrder : Result Updated UpdateFault → State → (Counts → Result Progress UpdateFault) → Type 0

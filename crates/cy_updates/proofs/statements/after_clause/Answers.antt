@@ -1,4 +1,4 @@
-use Rattle.std.proofs.Common.{sym, ◌∙◌}
+use Rattle.std.proofs.Common.{map, sym, ◌∙◌}
 use Rattle.std.proofs.lemmas.Bool.{false≢true}
 use Rattle.std.proofs.lemmas.Result.{err_from_is_err_and}
 use Rattle.cy_trees.specs.Views.{clause_of}
@@ -10,14 +10,14 @@ update-requires-clause-updates c = sym c.is_update.ensures ∙ c.if-is_update.tr
 
 pub returns-then-is_update-clause-meaning : goal.returns-then-is_update-clause-meaning
 returns-then-is_update-clause-meaning c =
-    update_next (clause_of c.args.clause.now) (sym c.is_update.ensures ∙ c.if-is_update.true) c.args.store.now.graph.now c.args.table.rows.items c.update.result c.update.new.store.graph.now c.update.ensures.meaning
+    update_next (clause_of c.args.clause.now) (sym c.is_update.ensures ∙ c.if-is_update.true) c.args.store.now.graph.now c.args.table.columns.items c.args.table.rows.items (map clause_of c.args.others.now) c.update.result c.update.new.store.graph.now c.update.ensures.meaning
 
 pub returns-then-is_update-clause-ordered : goal.returns-then-is_update-clause-ordered
 returns-then-is_update-clause-ordered c = λ returns.
     absurd (false≢true (sym (return_reads (clause_of c.args.clause.now) returns) ∙ sym c.is_update.ensures ∙ c.if-is_update.true))
 
-pub read_clause-requires-clause-reading : goal.read_clause-requires-clause-reading
-read_clause-requires-clause-reading c = sym c.is_update.ensures ∙ c.if-is_update.false
+pub read_clause_before-requires-clause-reading : goal.read_clause_before-requires-clause-reading
+read_clause_before-requires-clause-reading c = sym c.is_update.ensures ∙ c.if-is_update.false
 
 pub returns-in_err-after-clause-meaning : goal.returns-in_err-after-clause-meaning
 returns-in_err-after-clause-meaning c =
@@ -27,7 +27,7 @@ returns-in_err-after-clause-meaning c =
 pub returns-clause-meaning : goal.returns-clause-meaning
 returns-clause-meaning c =
     rw c.with_none_gone.ensures
-    (read_done (clause_of c.args.clause.now) (sym c.is_update.ensures ∙ c.if-is_update.false) c.args.store.now.graph.now c.args.table.rows.items c.in_ok-after.after.rows.items c.in_ok-after.ensures.rows)
+    (read_done (clause_of c.args.clause.now) (sym c.is_update.ensures ∙ c.if-is_update.false) c.args.store.now.graph.now c.args.table.rows.items c.args.table.columns.items (map clause_of c.args.others.now) c.in_ok-after.after.rows.items c.in_ok-after.ensures.rows)
 
 pub returns-clause-ordered : goal.returns-clause-ordered
 returns-clause-ordered c = λ returns.

@@ -6,9 +6,9 @@ use Rattle.cy_updates.specs.internal.Reached.{IsReached}
 use Rattle.cy_updates.proofs.statements.each_clause.Given as goal
 
 -- the clauses that are left lead as far as all do from the beginning
-abbrev pub invariant-loop-clause : goal.invariant-loop-clause
-invariant-loop-clause l = record {
-  reached : IsReached l.fn.store.graph.now l.store.graph.now (let statement : Statement = record { clauses = map clause_of l.clauses } in statement) l.done (map clause_of (drop l.clause-index l.clauses));
+abbrev pub invariant-loop-at : goal.invariant-loop-at
+invariant-loop-at l = record {
+  reached : IsReached l.fn.store.graph.now l.store.graph.now (let statement : Statement = record { clauses = map clause_of l.clauses } in statement) l.done (map clause_of (drop l.at l.clauses));
   graph : IsGraph l.store.graph.now;
   was : l.store.graph.was ≡ l.fn.store.graph.was;
   opened : IsSome l.store.graph.was;

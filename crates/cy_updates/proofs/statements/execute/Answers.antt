@@ -7,14 +7,14 @@ use Rattle.cy_updates.proofs.Changes.{as_before, left_open}
 use Rattle.cy_effects.proofs.InTurn.{or_wants}
 use Rattle.cy_updates.proofs.statements.execute.Goals as goal
 
-pub carry_out-requires : goal.carry_out-requires
-carry_out-requires c = subst (λ (s : StoreState). IsSome s.graph.was) (sym c.begin.ensures) refl
+pub execute_in_change-requires : goal.execute_in_change-requires
+execute_in_change-requires c = subst (λ (s : StoreState). IsSome s.graph.was) (sym c.begin.ensures) refl
 
 pub returns-in-Ok-clause-meaning : goal.returns-in-Ok-clause-meaning
 returns-in-Ok-clause-meaning c = ap (λ (s : StoreState). statement_outcome s.graph.now (statement_of c.args.checked.now)) (sym c.begin.ensures) ∙ c.in-Ok.ensures.meaning
 
 pub returns-in-Ok-clause-open : goal.returns-in-Ok-clause-open
-returns-in-Ok-clause-open c = left_open c.args.store.now c.begin.new.self c.carry_out.new.store c.begin.ensures c.in-Ok.ensures.open c.in-Ok.ensures.indexes
+returns-in-Ok-clause-open c = left_open c.args.store.now c.begin.new.self c.execute_in_change.new.store c.begin.ensures c.in-Ok.ensures.open c.in-Ok.ensures.indexes
 
 pub rollback-requires : goal.rollback-requires
 rollback-requires c = subst (λ (o : Option State). IsSome o) (sym (c.in-Err.ensures.open ∙ ap (λ (s : StoreState). s.graph.was) c.begin.ensures)) refl
@@ -24,4 +24,4 @@ returns-in-Err-clause-fault c =
     or_wants c.in-Err.why (λ stops. ap (λ (s : StoreState). statement_outcome s.graph.now (statement_of c.args.checked.now)) (sym c.begin.ensures) ∙ stops) c.in-Err.ensures.meaning
 
 pub returns-in-Err-clause-rolled_back : goal.returns-in-Err-clause-rolled_back
-returns-in-Err-clause-rolled_back c = as_before c.args.store.now c.begin.new.self c.carry_out.new.store c.rollback.new.self c.requires c.begin.ensures c.in-Err.ensures.open c.in-Err.ensures.indexes c.rollback.ensures
+returns-in-Err-clause-rolled_back c = as_before c.args.store.now c.begin.new.self c.execute_in_change.new.store c.rollback.new.self c.requires c.begin.ensures c.in-Err.ensures.open c.in-Err.ensures.indexes c.rollback.ensures

@@ -12,7 +12,7 @@ use Rattle.cy_effects.specs.Statements.{outcome_of}
 use Rattle.cy_updates.specs.internal.Reached.{IsReached}
 use Rattle.cy_effects.proofs.InTurn.{or_wants}
 use Rattle.cy_updates.proofs.ReachedSteps.{answered}
-use Rattle.cy_updates.proofs.statements.carry_out.Goals as goal
+use Rattle.cy_updates.proofs.statements.execute_in_change.Goals as goal
 
 pub read_alone-requires : goal.read_alone-requires
 read_alone-requires c =

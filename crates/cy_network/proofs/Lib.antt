@@ -17,3 +17,9 @@ pub mod Opened
 pub mod Nothing
 pub mod Refusals
 pub mod Through
+pub mod Chains
+pub mod ChainParts
+pub mod Partway
+pub mod Popped
+pub mod Upwards
+pub mod Climbs

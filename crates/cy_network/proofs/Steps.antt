@@ -85,7 +85,7 @@ too_many_second graph p pair found =
     (any_later (Overfull graph) p (parts (first_below p) ++ parts (second_below p)) (any_right (Overfull graph) (parts (first_below p)) (parts (second_below p)) found))
 
 -- the rows of a part count no more after the change, where no shift does
-now_within : (old : Option State) (now : State) (p : Plan) (made : List Shift) → AreWithin (content_of old) p → IsDeltaOf old now p made → AreBounded (counts (rows_at (Some now.content) p))
+pub now_within : (old : Option State) (now : State) (p : Plan) (made : List Shift) → AreWithin (content_of old) p → IsDeltaOf old now p made → AreBounded (counts (rows_at (Some now.content) p))
 now_within old now p made within change =
     after_bounded (counts (rows_at (content_of old) p)) (counts (rows_at (Some now.content) p)) made change.delta change.bounded (own_within (content_of old) p within)
 

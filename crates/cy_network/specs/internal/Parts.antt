@@ -1,5 +1,5 @@
--- The parts that stand right below a part of a plan.
-use Rattle.std.specs.Prelude.{ℕ}
+-- The parts that stand right below a part of a plan, and the chains that parts make.
+use Rattle.std.specs.Prelude.{ℕ, List, [], ◌∷◌, ◌++◌}
 use Rattle.cy_plans.specs.Plans as plan
 use Rattle.cy_plans.specs.Plans.{Plan}
 
@@ -44,3 +44,22 @@ second_below (plan.all_different p columns) = p
 second_below (plan.project p outputs) = p
 second_below (plan.distinct p) = p
 second_below (plan.union left right) = right
+
+-- the parts from a part of a plan down to the first one that has no part below it, or two
+abbrev pub chain : Plan → List Plan
+chain plan.unit = plan.unit ∷ []
+chain plan.nodes = plan.nodes ∷ []
+chain (plan.rels types orientation) = plan.rels types orientation ∷ []
+chain (plan.join left right keys) = plan.join left right keys ∷ []
+chain (plan.outer left right keys test) = plan.outer left right keys test ∷ []
+chain (plan.lookup p column attribute) = plan.lookup p column attribute ∷ chain p
+chain (plan.filter p test) = plan.filter p test ∷ chain p
+chain (plan.all_different p columns) = plan.all_different p columns ∷ chain p
+chain (plan.project p outputs) = plan.project p outputs ∷ chain p
+chain (plan.distinct p) = plan.distinct p ∷ chain p
+chain (plan.union left right) = plan.union left right ∷ []
+
+-- what parts have themselves, those of the last one first
+abbrev pub own_of_all : {X : Type 0} → (Plan → List X) → List Plan → List X
+own_of_all own [] = []
+own_of_all own (p ∷ ps) = own_of_all own ps ++ own p

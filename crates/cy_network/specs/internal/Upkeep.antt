@@ -1,5 +1,5 @@
 -- How a change of a graph goes through the parts of a plan: what is asked of a part and its memories, and what comes of it.
-use Rattle.std.specs.Prelude.{◌≡◌, ℕ, ◌+◌, ◌<◌, ◌≤◌, Bool, List, Option, Some, None, is_none}
+use Rattle.std.specs.Prelude.{◌≡◌, ℕ, ◌+◌, ◌<◌, ◌≤◌, Bool, List, ◌++◌, Option, Some, None, is_none, length}
 use Rattle.std.specs.Option.{option_map}
 use Rattle.std.specs.List.{All}
 use Rattle.cy_values.specs.declared.rows.Cell.{Cell}
@@ -16,8 +16,8 @@ use Rattle.cy_deltas.specs.declared.shifts.Shift.{Shift}
 use Rattle.cy_deltas.specs.Deltas.{IsBounded, IsDelta, counts, rows_at}
 use Rattle.cy_scans.specs.Changes.{IsChange, Touches}
 pub use Rattle.cy_costs.specs.internal.Work.{all_reads, all_steps, in_all, own_reads, own_steps}
-use Rattle.cy_network.specs.Memories.{AreHeld, AreWithin, contents, own_contents, own_keys}
-use Rattle.cy_network.specs.internal.Parts.{first_below, second_below}
+use Rattle.cy_network.specs.Memories.{AreHeld, AreWithin, contents, keys, own_contents, own_keys}
+use Rattle.cy_network.specs.internal.Parts.{chain, first_below, own_of_all, second_below}
 use Rattle.cy_network.specs.Counted.{written}
 
 -- the graph from which a change leads, or one without anything where there is none yet
@@ -76,6 +76,19 @@ pub record IsFedByTwo (old : Option State) (now : State) (touches : Touches) (p 
 pub record IsOwnDone (old : Option State) (now : State) (p : Plan) (staged : List Counts) (shifts : List Shift) : Type 0 where
   pub change : IsDeltaOf old now p shifts
   pub holds : staged ≡ own_contents (rows_at (Some now.content)) p
+
+-- A change that went through a part in the chain of a plan and not yet through the parts above that one: their memories hold what they mean on the
+-- first graph, and those of the part and of the parts below it, so many, are staged for the second.
+pub record IsPartway (old : Option State) (now : State) (touches : Touches) (p : Plan) (above : List Plan) (q : Plan) (place : ℕ) (columns : List (List ℕ)) (was staged : List Counts) (shifts : List Shift) : Type 0 where
+  pub step : IsStep old now touches p
+  pub linked : chain p ≡ above ++ chain q
+  pub placed : place ≡ length (keys q)
+  pub keyed : columns ≡ keys p
+  pub held : was ≡ contents (rows_at (content_of old)) p
+  pub within : AreWithin (content_of old) p
+  pub change : IsDeltaOf old now q shifts
+  pub halfway : staged ≡ contents (rows_at (Some now.content)) q ++ own_of_all (own_contents (rows_at (content_of old))) above
+  pub within_now : AreWithin (Some now.content) q
 
 -- what is staged for a plan, where the graph changes: its memories, the counts of those of its rows that change, and what changes
 pub record IsStaged (before after : Content) (p : Plan) (columns : List (List ℕ)) (staged : List Counts) (next : List (List Cell × ℕ)) (change : Change) : Type 0 where

@@ -1,0 +1,12 @@
+use Rattle.std.proofs.Common.{◌≡◌, ◌++◌, length, map}
+use Rattle.cy_plans.specs.Parts.{parts}
+use Rattle.cy_plans.specs.Views.{plan_of}
+use Rattle.cy_network.specs.internal.Parts.{chain}
+use Rattle.cy_network.proofs.parts.chain_of.Given as goal
+
+-- the parts so far, and those from the next one down, are all
+abbrev pub invariant-down : goal.invariant-down
+invariant-down l = chain (plan_of l.fn.part) ≡ map (λ p. plan_of p.now) l.above.items ++ chain (plan_of l.end)
+
+abbrev pub decreases-down : goal.decreases-down
+decreases-down l = length (parts (plan_of l.end))

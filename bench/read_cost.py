@@ -117,15 +117,25 @@ def row_costs(program, size):
 
 def list_costs(program, count):
     """Names of costs of UNWIND over a list of so many elements that stands in the row, each for an element."""
-    line = answer(f"WITH [{','.join('1' * count)}] AS l UNWIND l AS x RETURN count(*) AS n", ["n"], [count])
-    distinct = answer(f"WITH [{','.join('1' * count)}] AS l UNWIND l AS x RETURN DISTINCT x ORDER BY x", ["x"], [1])
+    unwound = f"WITH [{','.join('1' * count)}] AS l UNWIND l AS x"
+    first = "CREATE ()", '{"changed":[1,0,0,0],"columns":[],"rows":[]}'
+    line = answer(f"{unwound} RETURN count(*) AS n", ["n"], [count])
+    created = f"{unwound} CREATE ({{k: x}})", f'{{"changed":[{count},0,0,0],"columns":[],"rows":[]}}'
     with Session(program) as session:
         # Valgrind can be told nothing before the program has begun.
-        session.give([answer("RETURN 1 AS n", ["n"], [1])])
+        session.give([first])
         yield "UNWIND over a list that stands in the row, an element", session.count([line]) / count, True
-        yield "the same before a key", session.count([distinct]) / count, True
-    least = peak([program], [answer("RETURN 1 AS n", ["n"], [1])])
+        for name, others, value in (
+            ("a key", "RETURN DISTINCT x AS c ORDER BY c", 1),
+            ("a key that sees the row", "RETURN x AS c ORDER BY x LIMIT 1", 1),
+            ("a MATCH", "MATCH (n) RETURN count(*) AS c", count),
+            ("another UNWIND", "UNWIND [1] AS y RETURN count(*) AS c", count),
+        ):
+            yield f"the same before {name}", session.count([answer(f"{unwound} {others}", ["c"], [value])]) / count, True
+        yield "the same before CREATE", session.count([created]) / count, True
+    least = peak([program], [first])
     yield "the same without a key, bytes of memory", (peak([program], [line]) - least) / count, True
+    yield "the same before CREATE, bytes of memory", (peak([program], [created]) - least) / count, True
 
 
 def key_costs(program, count):

@@ -11,5 +11,7 @@ pub mod Determined
 pub mod Through
 pub mod ThroughSteps
 pub mod ThroughCounts
+pub mod NeededLabels
 pub mod Recounting
+pub mod Replaced
 pub mod ThroughScans

@@ -1,6 +1,6 @@
 -- What a scan makes of each of its entities.
 use Rattle.std.proofs.Common.{◌≡◌, ℕ, zero, suc, ◌==◌, Bool, true, false, cond, List, [], ◌∷◌, ◌++◌, Option, None, Some, refl, sym, ap, subst, ◌∙◌, map, filter, arith}
-use Rattle.std.specs.Prelude.{flat_map}
+use Rattle.std.specs.Prelude.{flat_map, Ok}
 use Rattle.std.specs.List.{All, AllByRecursion}
 use Rattle.std.specs.Map.{lookup, keys_of}
 use Rattle.std.specs.List.{IsDistinct}
@@ -13,12 +13,12 @@ use Rattle.std.proofs.lemmas.Map.Keys.{IsDistinct-head, IsDistinct-tail}
 use Rattle.cy_values.specs.declared.scalars.Value.{Value}
 use Rattle.cy_values.specs.declared.rows.Cell.{Cell}
 use Rattle.cy_values.specs.declared.rows.Cell.TheVariants as cell
-use Rattle.cy_trees.specs.Trees.{null, boolean, integer, text, variable, property, has_labels, unary, binary, comparison, list, case, call, call_star}
+use Rattle.cy_trees.specs.Trees.{Expression, null, boolean, integer, text, variable, property, has_labels, unary, binary, comparison, list, case, call, call_star}
 use Rattle.cy_graph.specs.Graph.{Content}
 use Rattle.cy_expr.specs.Evaluation.{column_value}
 use Rattle.cy_expr.specs.Lookups.{IsNumbered}
 use Rattle.cy_plans.specs.declared.operators.Attribute.{Attribute}
-use Rattle.cy_plans.specs.Expressions.{cell_at, holds, output_cell, projected, relationships_at}
+use Rattle.cy_plans.specs.Expressions.{cell_at, cell_of, cell_or_null, holds, output_cell, projected, relationships_at}
 use Rattle.cy_plans.specs.Meaning.{are_different, attribute_of, rows_of, with_attribute}
 use Rattle.cy_plans.specs.Plans as plan
 use Rattle.cy_plans.specs.Plans.{Plan, Output, computed, gathered}
@@ -146,22 +146,26 @@ this_column : (column : ℕ) (found : Option ℕ) (row : List Cell) → is_this 
 this_column column None row is = absurd (false≢true is)
 this_column column (Some other) row is = ap (cell_at row) (same_numbers other column is)
 
+-- the cell of an expression that is a column alone
+pub column_is : (e : Expression) (column : ℕ) (row : List Cell) → is_column column (computed e) ≡ true → cell_of row e ≡ Ok (cell_at row column)
+column_is (variable v) column row is = ap Ok (this_column column v.column row is)
+column_is null column row is = absurd (false≢true is)
+column_is (boolean b) column row is = absurd (false≢true is)
+column_is (integer n) column row is = absurd (false≢true is)
+column_is (text t) column row is = absurd (false≢true is)
+column_is (property e key) column row is = absurd (false≢true is)
+column_is (has_labels e labels) column row is = absurd (false≢true is)
+column_is (unary operator e) column row is = absurd (false≢true is)
+column_is (binary operator a b) column row is = absurd (false≢true is)
+column_is (comparison e links) column row is = absurd (false≢true is)
+column_is (list es) column row is = absurd (false≢true is)
+column_is (case arms e) column row is = absurd (false≢true is)
+column_is (call name distinct es) column row is = absurd (false≢true is)
+column_is (call_star name) column row is = absurd (false≢true is)
+
 column_cell : (o : Output) (column : ℕ) (row : List Cell) → is_column column o ≡ true → output_cell row o ≡ cell_at row column
 column_cell (gathered columns) column row is = absurd (false≢true is)
-column_cell (computed (variable v)) column row is = this_column column v.column row is
-column_cell (computed null) column row is = absurd (false≢true is)
-column_cell (computed (boolean b)) column row is = absurd (false≢true is)
-column_cell (computed (integer n)) column row is = absurd (false≢true is)
-column_cell (computed (text t)) column row is = absurd (false≢true is)
-column_cell (computed (property e key)) column row is = absurd (false≢true is)
-column_cell (computed (has_labels e labels)) column row is = absurd (false≢true is)
-column_cell (computed (unary operator e)) column row is = absurd (false≢true is)
-column_cell (computed (binary operator a b)) column row is = absurd (false≢true is)
-column_cell (computed (comparison e links)) column row is = absurd (false≢true is)
-column_cell (computed (list es)) column row is = absurd (false≢true is)
-column_cell (computed (case arms e)) column row is = absurd (false≢true is)
-column_cell (computed (call name distinct es)) column row is = absurd (false≢true is)
-column_cell (computed (call_star name)) column row is = absurd (false≢true is)
+column_cell (computed e) column row is = ap cell_or_null (column_is e column row is)
 
 -- it moves to where a projection keeps it
 kept_cell : (outputs : List Output) (column at : ℕ) (row : List Cell) → kept_at column outputs ≡ Some at → cell_at (projected outputs row) at ≡ cell_at row column

@@ -1,13 +1,15 @@
 -- A scan with the part that reads the graph.
-use Rattle.std.proofs.Common.{◌≡◌, ℕ, ◌-◌, ◌<◌, ◌≤◌, List, Option, Some, sym, ap, subst, ◌∙◌, map, length, get_or, Bor, arith}
-use Rattle.std.specs.Prelude.{Result, Ok, Err, IfOk, flat_map}
+use Rattle.std.proofs.Common.{◌≡◌, ℕ, ◌-◌, ◌<◌, ◌≤◌, List, Option, Some, sym, ap, subst, ◌∙◌, map, length, get_or, Bor, arith, None, drop, ◌+◌}
+use Rattle.std.specs.Prelude.{Result, Ok, Err, IfOk, OnOk, flat_map, IfSome}
 use Rattle.std.specs.List.{All}
 use Rattle.std.proofs.lemmas.List.{get_or-map, length-map}
 use Rattle.cy_values.specs.declared.rows.Cell.{Cell}
+use Rattle.cy_values.specs.declared.scalars.Value.{Value}
 use Rattle.cy_trees.specs.Trees.{Name}
 use Rattle.cy_graph.specs.declared.nodes.Node.{Node}
 use Rattle.cy_graph.specs.declared.nodes.Rel.{Rel}
 use Rattle.cy_graph.specs.Graph.{State}
+use Rattle.cy_plans.specs.declared.operators.Attribute.{Attribute}
 use Rattle.cy_plans.specs.declared.operators.Operator.{Operator}
 use Rattle.cy_plans.specs.declared.operators.Orientation.{Orientation}
 use Rattle.cy_plans.specs.Meaning.{rows_of}
@@ -18,15 +20,23 @@ use Rattle.cy_deltas.specs.declared.shifts.Shift.{Shift}
 use Rattle.cy_deltas.specs.Deltas.{IsDelta, counts, shifts_of}
 use Rattle.cy_scans.specs.Changes.{Touches}
 use Rattle.cy_scans.specs.Scans.{scan_column, scan_parts, scan_reads}
-use Rattle.cy_scans.specs.internal.Through.{IsNodeFit, IsRelFit, IsScanOver, leaf_of, node_made, recounted, rel_made}
+use Rattle.cy_scans.specs.internal.Through.{IsNodeFit, IsRelFit, IsScanOver, leaf_of, node_made, recounted, rel_made, made_by, through}
 use Rattle.cy_scans.proofs.ScanDeltas.{node_under, rel_under}
 use Rattle.cy_scans.proofs.ThroughCounts.{node_fits, node_scan_delta, rel_fits, rel_scan_delta}
-use Rattle.cy_scans.proofs.ThroughSteps.{last_is, leaf_count, parts_some, some_of}
+use Rattle.cy_scans.proofs.ThroughSteps.{last_is, leaf_count, parts_some, some_of, one_part}
 
 -- what follows for an outcome from what is known of it
 pub if_ok_then : {T E : Type 0} (P Q : T → Type 0) (r : Result T E) → ((x : T) → P x → Q x) → IfOk r P → IfOk r Q
 if_ok_then P Q (Ok x) each is = each x is
 if_ok_then P Q (Err e) each is = tt
+
+pub on_ok_then : {T E : Type 0} (P Q : Type 0) (r : Result T E) → (P → Q) → OnOk r P → OnOk r Q
+on_ok_then P Q (Ok x) each is = each is
+on_ok_then P Q (Err e) each is = tt
+
+pub if_some_then : {T : Type 0} (P Q : T → Type 0) (o : Option T) → ((x : T) → P x → Q x) → IfSome o P → IfSome o Q
+if_some_then P Q (Some x) each is = each x is
+if_some_then P Q None each is = tt
 
 module _ (before now : State) (touches : Touches) (ps : List Plan) (leaf p : Plan) (over : IsScanOver before now touches ps leaf p) where
   column : (c : ℕ) × (scan_column p ≡ Some c)
@@ -81,3 +91,25 @@ module _ (parts : List (Bor Operator)) (p : Plan) (is : map (λ (part : Bor Oper
 
   pub reads_there : (touches : Touches) (x : Bor Operator) → x ≡ get_or parts (length parts - 1) x → scan_reads touches p ≡ scan_reads touches (plan_of x.now)
   reads_there touches x at = leaf_count touches p ∙ ap (scan_reads touches) (leaf_is x at)
+
+-- parts that make the same one by one make the same
+module _ (value_of other_of : Attribute → Value) (parts : List (Bor Operator)) (k : ℕ) (x : Bor Operator) (within : k < length parts) (is : x ≡ get_or parts k x) where
+  abbrev plans : List Plan
+  plans = map (λ (part : Bor Operator). plan_of part.now) parts
+
+  element : plan_of x.now ≡ get_or plans k (plan_of x.now)
+  element = ap (λ (part : Bor Operator). plan_of part.now) is ∙ sym (get_or-map (λ (part : Bor Operator). plan_of part.now) parts k x (plan_of x.now) within)
+
+  inside : k < length plans
+  inside = let many = length-map parts (λ (part : Bor Operator). plan_of part.now) in omega (arith, many, within)
+
+  pub alike_more : ((rows : List (List Cell)) → made_by value_of (plan_of x.now) rows ≡ made_by other_of (plan_of x.now) rows)
+      → ((rows : List (List Cell)) → through value_of (drop (k + 1) plans) rows ≡ through other_of (drop (k + 1) plans) rows)
+      → (rows : List (List Cell)) → through value_of (drop k plans) rows ≡ through other_of (drop k plans) rows
+  alike_more here rest rows =
+      sym (one_part value_of plans k rows (plan_of x.now) inside)
+      ∙ ap (λ p. made_by value_of p (through value_of (drop (k + 1) plans) rows)) (sym element)
+      ∙ here (through value_of (drop (k + 1) plans) rows)
+      ∙ ap (made_by other_of (plan_of x.now)) (rest rows)
+      ∙ ap (λ p. made_by other_of p (through other_of (drop (k + 1) plans) rows)) element
+      ∙ one_part other_of plans k rows (plan_of x.now) inside

@@ -21,25 +21,22 @@ pub(crate) enum EntityValue<'a> {
     Rel(&'a Rel),
 }
 
-/// The rows of a node in a scan with these parts, if it is there. Fails only for want of memory.
-pub(crate) fn rows_at_node(
+/// The row of a node in a scan with these parts, if it is there and has one. Fails only for want of memory.
+pub(crate) fn row_at_node(
     alloc: Global,
     parts: &[&Operator],
     id: NodeId,
     node: Option<&Node>,
-) -> Result<Vec<Row>, Fault>
+) -> Result<Option<Row>, Fault>
     requires { IsNodeFit (map (λ part. plan_of part.now) parts.now) id.0 (option_copied node) }
-    ensures { IfOk result (λ rows. rows.items ≡ spec.node_made (map (λ part. plan_of part.now) parts.now) id.0 (option_copied node.entry)) }
+    ensures { IfOk result (λ row. option_to_list row ≡ spec.node_made (map (λ part. plan_of part.now) parts.now) id.0 (option_copied node.entry)) }
 {
-    let mut rows = Vec::new(alloc);
     let Some(node) = node else {
-        return Ok(rows);
+        return Ok(None);
     };
-    let mut cells = Vec::with_capacity(alloc, 1)?;
+    let mut cells = Vec::with_capacity(alloc, parts.len())?;
     cells.push(Cell::Node(id))?;
-    let row = Sequence::new(cells);
-    add_row(alloc, parts, EntityValue::Node(node), row, &mut rows)?;
-    Ok(rows)
+    row_through(alloc, parts, EntityValue::Node(node), Sequence::new(cells))
 }
 
 /// The rows of a relationship in a scan with these parts, if it is there. Fails only for want of memory.

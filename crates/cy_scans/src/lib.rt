@@ -1,11 +1,13 @@
 //! What changes of the rows of those parts of a plan that read the graph, over what an open change of the store touched.
 #![tactic(auto)]
 
+mod alike;
 mod attributes;
 mod changes;
 mod entities;
 pub mod laws;
 mod lookups;
+mod needs;
 mod recounts;
 mod scan_columns;
 mod scanning;

@@ -1,8 +1,9 @@
 //! What changes where other rows stand in place of some.
 
-ghost use Rattle.std.specs.Prelude.{◌≡◌, ◌≤◌, ◌+◌, ◌++◌, ℕ, List, IfOk, OnOk, length, not};
+ghost use Rattle.std.specs.Prelude.{◌≡◌, ◌≤◌, ◌+◌, ◌++◌, ◌∷◌, [], List, OnOk, length, not};
 ghost use Rattle.std.specs.Prelude as std;
 ghost use Rattle.std.specs.List.{All};
+ghost use Rattle.std.specs.Option.{option_to_list};
 ghost use Rattle.cy_values.specs.declared.rows.Cell.{Cell};
 ghost use Rattle.cy_values.specs.Bag.{count_of};
 ghost use Rattle.cy_memory.specs.Counts.{greatest_count, is_row};
@@ -27,6 +28,42 @@ pub(crate) fn add_recounted(
     let mut new = new;
     add_gone(shifts, old, &mut new)?;
     add_come(shifts, new)
+}
+
+/// Adds the shifts of a row that goes and of one that comes in its place, if there are such. Fails only for want of memory.
+pub(crate) fn add_replaced(
+    shifts: &mut Vec<Shift>,
+    old: Option<Row>,
+    new: Option<Row>,
+) -> Result<(), Fault>
+    ensures recounted { OnOk result ((row : List Cell) → shifts_of row shifts.new.items ≡ shifts_of row shifts.old.items ++ recounted (option_to_list old) (option_to_list new) row) }
+    ensures bounded { OnOk result (All IsBounded shifts.old.items → All IsBounded shifts.new.items) }
+{
+    match (old, new) {
+        (None, None) => Ok(()),
+        (Some(old), None) => add_shift(shifts, old, 1, 0),
+        (None, Some(new)) => add_shift(shifts, new, 0, 1),
+        (Some(old), Some(new)) => add_exchanged(shifts, old, new),
+    }
+}
+
+// Adds the shifts of a row that goes and of one that comes. Where they are the same there are none.
+fn add_exchanged(shifts: &mut Vec<Shift>, old: Row, new: Row) -> Result<(), Fault>
+    ensures recounted { OnOk result ((row : List Cell) → shifts_of row shifts.new.items ≡ shifts_of row shifts.old.items ++ recounted (old ∷ []) (new ∷ []) row) }
+    ensures bounded { OnOk result (All IsBounded shifts.old.items → All IsBounded shifts.new.items) }
+{
+    if is_same(&old, &new) {
+        return Ok(());
+    }
+    add_shift(shifts, old, 1, 0)?;
+    add_shift(shifts, new, 0, 1)
+}
+
+// Whether two rows are the same.
+fn is_same(row: &Row, other: &Row) -> bool
+    ensures { result ≡ is_row row.now other.now }
+{
+    row_order(row, other) == Ordering::Equal
 }
 
 // Adds a shift of each of the old rows that counts otherwise among the new ones, and takes it from these.
@@ -67,6 +104,6 @@ fn take_same(rows: &mut Vec<Row>, row: &Row) -> u64
     ensures left { rows.new.items ≡ std.filter (λ other. not (is_row row.now other)) rows.old.items }
 {
     let all = rows.len();
-    rows.retain(|other| row_order(row, other) != Ordering::Equal);
+    rows.retain(|other| !is_same(row, other));
     (all - rows.len()) as u64
 }

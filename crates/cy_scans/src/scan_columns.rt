@@ -69,8 +69,8 @@ fn is_column(output: &Output, column: usize) -> bool
     }
 }
 
-// Whether an expression is a column alone: this one.
-fn is_variable(expression: &Expr, column: usize) -> bool
+/// Whether an expression is a column alone: this one.
+pub(crate) fn is_variable(expression: &Expr, column: usize) -> bool
     ensures { result ≡ scans.is_column column (computed (expression_of expression.now)) }
 {
     match expression {

@@ -1,7 +1,8 @@
 -- What the parts of a scan make of the rows of one entity.
 use Rattle.std.specs.Prelude.{ℕ, Bool, true, false, ◌≡◌, ◌++◌, ⊤, List, [], ◌∷◌, Option, None, Some, map}
 use Rattle.std.specs.Prelude as std
-use Rattle.std.specs.List.{All}
+use Rattle.std.specs.List.{All, list_any}
+use Rattle.std.specs.Str.{bytes_eq}
 use Rattle.cy_values.specs.declared.scalars.Value.{Value}
 use Rattle.cy_values.specs.declared.rows.Cell.{Cell}
 use Rattle.cy_values.specs.declared.rows.Cell.TheVariants as cell
@@ -87,6 +88,16 @@ IsNodeFit ps number (Some node) = AreFit (λ a. node_attribute a (Some node)) ps
 abbrev pub IsRelFit : List Name → Orientation → List Plan → ℕ → Option Rel → Type 0
 IsRelFit types orientation ps number None = ⊤
 IsRelFit types orientation ps number (Some rel) = AreFit (λ a. rel_attribute a (Some rel)) ps (rel_rows types orientation number (Some rel))
+
+-- a node without this label has no row in a scan with these parts
+abbrev pub IsNeeded : Name → List Plan → Type 0
+IsNeeded label ps = (number : ℕ) (node : Node) → list_any (bytes_eq label) (map (λ l. l.0) node.labels) ≡ false → node_made ps number (Some node) ≡ []
+
+-- two values of a relationship have the same ends and the same type
+pub record HaveSameEnds (old new : Rel) : Type 0 where
+  pub source : old.source ≡ new.source
+  pub target : old.target ≡ new.target
+  pub kind : old.kind ≡ new.kind
 
 -- the shift of a row that counts by the one rows before and by the others after
 abbrev pub recounted : List (List Cell) → List (List Cell) → List Cell → List Shift

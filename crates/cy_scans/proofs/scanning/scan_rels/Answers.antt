@@ -29,16 +29,16 @@ next_fit P left rest x is all =
 one_read : (old new : SightState) → new ≡ record old { reads = min (old.reads + 1) (2 ^ 64 - 1) } → new.reads ≤ old.reads + 1
 one_read old new is = let reads : new.reads ≡ min (old.reads + 1) (2 ^ 64 - 1) = ap (λ (s : SightState). s.reads) is in omega (arith, reads)
 
-pub add_rel-requires-clause-was : goal.add_rel-requires-clause-was
-add_rel-requires-clause-was c =
+pub add_rel-requires-clause-old : goal.add_rel-requires-clause-old
+add_rel-requires-clause-old c =
     let ps = map (λ part. plan_of part.now) c.args.parts.now in
     (next_fit (IsFitAt c.args.types.now c.args.orientation c.args.sight.now.graph ps) c.loop-number.number-iterator c.next.new.self (c.in-Some.number.now, c.in-Some.was.now) c.in-Some.ensures.steps c.loop-number.invariant.fit).0.0
 
-pub add_rel-requires-clause-now : goal.add_rel-requires-clause-now
-add_rel-requires-clause-now c =
+pub add_rel-requires-clause-new : goal.add_rel-requires-clause-new
+add_rel-requires-clause-new c =
     let ps = map (λ part. plan_of part.now) c.args.parts.now in
     subst (IsRelFit c.args.types.now c.args.orientation ps c.in-Some.number.now)
-    (sym (c.rel-now.ensures.rel ∙ ap (λ (g : Versions). rel_at (record { 0 = c.in-Some.number.now }) g.now) c.loop-number.invariant.graph))
+    (sym (c.rel-new.ensures.rel ∙ ap (λ (g : Versions). rel_at (record { 0 = c.in-Some.number.now }) g.now) c.loop-number.invariant.graph))
     (next_fit (IsFitAt c.args.types.now c.args.orientation c.args.sight.now.graph ps) c.loop-number.number-iterator c.next.new.self (c.in-Some.number.now, c.in-Some.was.now) c.in-Some.ensures.steps c.loop-number.invariant.fit).0.1
 
 pub loop-number-preserved : goal.loop-number-preserved
@@ -46,7 +46,7 @@ loop-number-preserved c =
     let ps = map (λ part. plan_of part.now) c.args.parts.now in
     let so_far = c.loop-number.invariant in
     let steps = c.in-Some.ensures.steps in
-    let now = c.rel-now.ensures.rel ∙ ap (λ (g : Versions). rel_at (record { 0 = c.in-Some.number.now }) g.now) so_far.graph in
+    let now = c.rel-new.ensures.rel ∙ ap (λ (g : Versions). rel_at (record { 0 = c.in-Some.number.now }) g.now) so_far.graph in
     record {
       made = λ row.
           walked (λ (e : ℕ × Option Rel). recounted (rel_made c.args.types.now c.args.orientation ps e.0 e.1) (rel_made c.args.types.now c.args.orientation ps e.0 (rel_at (record { 0 = e.0 }) c.args.sight.now.graph.now)) row)
@@ -59,7 +59,7 @@ loop-number-preserved c =
           ∙ so_far.made row);
       fit = (next_fit (IsFitAt c.args.types.now c.args.orientation c.args.sight.now.graph ps) c.loop-number.number-iterator c.next.new.self (c.in-Some.number.now, c.in-Some.was.now) steps so_far.fit).1;
       bounded = c.in_ok-add_rel.ensures.bounded so_far.bounded;
-      graph = ap (λ (s : SightState). s.graph) c.rel-now.ensures.read ∙ so_far.graph;
-      reads = one_less c.loop-number.number-iterator c.next.new.self (c.in-Some.number.now, c.in-Some.was.now) c.args.sight.now.reads c.loop-number.sight.reads c.rel-now.new.self.reads _ steps so_far.reads
-          (one_read c.loop-number.sight c.rel-now.new.self c.rel-now.ensures.read);
+      graph = ap (λ (s : SightState). s.graph) c.rel-new.ensures.read ∙ so_far.graph;
+      reads = one_less c.loop-number.number-iterator c.next.new.self (c.in-Some.number.now, c.in-Some.was.now) c.args.sight.now.reads c.loop-number.sight.reads c.rel-new.new.self.reads _ steps so_far.reads
+          (one_read c.loop-number.sight c.rel-new.new.self c.rel-new.ensures.read);
     }

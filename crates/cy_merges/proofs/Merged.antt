@@ -21,7 +21,7 @@ use Rattle.cy_deltas.specs.Deltas.{IsBounded, IsDelta, shifts_of, shift_between}
 use Rattle.cy_deltas.proofs.Same.{row_itself, same_row}
 use Rattle.cy_deltas.proofs.ShiftLemmas.{shifts_made, shifts_between}
 use Rattle.cy_merges.specs.Merges.{AreBounded, IsWhole}
-use Rattle.cy_merges.specs.internal.Sums.{lost, gained, is_changed, shift_in, shifts_at}
+use Rattle.cy_merges.specs.internal.Sums.{AreShiftsOf, lost, gained, is_changed, shift_in, shifts_at}
 use Rattle.cy_merges.proofs.Totals.{takes, adds, weights_none}
 
 itself : (n : ℕ) → (n == n) ≡ true
@@ -205,18 +205,46 @@ few_inserted test law ks new xs s few is =
     by true = omega arith
     by false = let e : length (ks ++ s.row ∷ []) ≡ length ks + 1 = length_push ks s.row in omega (arith, e)
 
+-- a single change has one row, which stands once
+pub single : (changes : List Shift) (change : Shift) (row : List Cell) → changes ≡ change ∷ [] → count_of row (change.row ∷ []) ≡ cond (is_changed row changes) 1 0
+single changes change row is =
+    count_cons row change.row [] ∙ by (is_row row change.row) ∙ ap (λ (xs : List Shift). cond (is_changed row xs) 1 0) (sym is)
+  where
+    by : (b : Bool) → cond b 1 0 + 0 ≡ cond (b || false) 1 0
+    by true = refl
+    by false = refl
+
+-- and one shift at most
+pub single_shift : (was staged : Counts) (changes rest made : List Shift) (change : Shift) → length changes ≡ 1 → changes ≡ rest ++ change ∷ []
+    → made ≡ rest ++ shift_between change.row (was change.row) (staged change.row) → AreShiftsOf was staged changes made
+single_shift was staged changes rest made change one popped is = record {
+  rows = change.row ∷ [];
+  once = λ row. single changes change row (popped ∙ ap (λ xs. xs ++ change ∷ []) empty);
+  between = is ∙ ap (λ xs. xs ++ here) empty ∙ sym (append-nil here);
+}
+  where
+    here : List Shift
+    here = shift_between change.row (was change.row) (staged change.row)
+
+    none : (xs : List Shift) → length (xs ++ change ∷ []) ≡ 1 → xs ≡ []
+    none [] e = refl
+    none (x ∷ xs) e = let more : length (xs ++ change ∷ []) ≡ length xs + 1 = length_push xs change in absurd (omega (arith, e, more))
+
+    empty : rest ≡ []
+    empty = none rest (ap length (sym popped) ∙ one)
+
 -- ---- the whole
 
 -- the shifts of the rows of some changes, after all of them are staged
-pub merged_delta : (was was_now old losses gains now : Counts) (changes first second : List Shift) (rows keys : List (List Cell))
+pub merged_delta : (was was_now old losses gains now : Counts) (changes first second : List Shift)
     → first ≡ changes → second ≡ changes → old ≡ was → was_now ≡ was → now ≡ gains
     → ((row : List Cell) → losses row + lost row first ≡ old row) → ((row : List Cell) → gains row ≡ losses row + gained row second)
-    → ((row : List Cell) → count_of row keys ≡ cond (is_changed row changes) 1 0) → rows ≡ keys
-    → IsDelta was now (shifts_at was_now gains rows)
-merged_delta was was_now old losses gains now changes first second rows keys is_first is_second is_old is_was is_now falls rises once are =
-    subst (λ (n : Counts). IsDelta was n (shifts_at was_now gains rows)) (sym is_now)
-    (subst (λ (w : Counts). IsDelta was gains (shifts_at w gains rows)) (sym is_was)
-    (delta_at was gains rows (λ row. is_changed row changes) (λ row. ap (count_of row) are ∙ once row) still))
+    → (made : List Shift) → AreShiftsOf was_now gains changes made → IsDelta was now made
+merged_delta was was_now old losses gains now changes first second is_first is_second is_old is_was is_now falls rises made are =
+    subst (λ (n : Counts). IsDelta was n made) (sym is_now)
+    (subst (IsDelta was gains) (sym are.between)
+    (subst (λ (w : Counts). IsDelta was gains (shifts_at w gains are.rows)) (sym is_was)
+    (delta_at was gains are.rows (λ row. is_changed row changes) are.once still)))
   where
     still : (row : List Cell) → is_changed row changes ≡ false → was row ≡ gains row
     still row none =
@@ -227,11 +255,11 @@ merged_delta was was_now old losses gains now changes first second rows keys is_
         let up = rises row in
         omega (arith, taken, added, start, down, up)
 
-pub merged_result : {T : Type 0} (P : List Shift → Type 0) (Q : MemoryFault → Type 0) (made result : Result T MemoryFault) (items : T → List Shift) (shifts : List Shift)
-    → MatchResult made (λ x. result ≡ Ok x) Q → is_ok result ≡ is_ok made → IfOk made (λ x. items x ≡ shifts) → P shifts → IfOk result (λ x. P (items x))
-merged_result P Q (Ok x) result items shifts cases variant are holds = subst (λ r. IfOk r (λ y. P (items y))) (sym cases) (subst P (sym are) holds)
-merged_result P Q (Err e) (Ok x) items shifts cases variant are holds = absurd (false≢true (sym variant))
-merged_result P Q (Err e) (Err f) items shifts cases variant are holds = tt
+pub merged_result : {T : Type 0} (R P : List Shift → Type 0) (Q : MemoryFault → Type 0) (made result : Result T MemoryFault) (items : T → List Shift)
+    → MatchResult made (λ x. result ≡ Ok x) Q → is_ok result ≡ is_ok made → IfOk made (λ x. R (items x)) → ((shifts : List Shift) → R shifts → P shifts) → IfOk result (λ x. P (items x))
+merged_result R P Q (Ok x) result items cases variant are holds = subst (λ r. IfOk r (λ y. P (items y))) (sym cases) (holds (items x) are)
+merged_result R P Q (Err e) (Ok x) items cases variant are holds = absurd (false≢true (sym variant))
+merged_result R P Q (Err e) (Err f) items cases variant are holds = tt
 
 -- shifts between bounded counts are bounded
 pub bounded_at : (was staged : Counts) → AreBounded was → AreBounded staged → (rows : List (List Cell)) → All IsBounded (shifts_at was staged rows)
@@ -242,3 +270,6 @@ bounded_at was staged low high (row ∷ rows) =
     by : (b : Bool) → All IsBounded (cond b [] ((record { row = row; before = was row; after = staged row }) ∷ []))
     by true = All-nil IsBounded
     by false = All-cons IsBounded (record { row = row; before = was row; after = staged row }) [] (low row, high row) (All-nil IsBounded)
+
+pub bounded_of : (was staged : Counts) (changes made : List Shift) → AreBounded was → AreBounded staged → AreShiftsOf was staged changes made → All IsBounded made
+bounded_of was staged changes made low high are = subst (All IsBounded) (sym are.between) (bounded_at was staged low high are.rows)

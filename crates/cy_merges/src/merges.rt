@@ -7,7 +7,7 @@ ghost use Rattle.cy_memory.specs.declared.faults.MemoryFault.TheVariants.{NoMemo
 ghost use Rattle.cy_memory.specs.Counts.{greatest_count};
 ghost use Rattle.cy_deltas.specs.Deltas.{IsBounded, IsDelta, shift_between};
 ghost use Rattle.cy_merges.specs.Merges.{AreBounded, IsWhole};
-ghost use Rattle.cy_merges.specs.internal.Sums.{lost, gained, shift_in, shifts_at};
+ghost use Rattle.cy_merges.specs.internal.Sums.{AreShiftsOf, lost, gained, shift_in, shifts_at};
 
 use crate::distinct_rows::distinct_rows;
 use crate::stages::{stage_gains, stage_losses};
@@ -44,9 +44,49 @@ pub(crate) fn merge<M: Memory>(
     }
     stage_losses(alloc, memory, &changes)?;
     stage_gains(alloc, memory, &changes)?;
-    let rows = distinct_rows(alloc, changes)?;
-    let made = shifts_of(alloc, memory, rows.as_slice());
+    let made = shifts_of_changes(alloc, memory, changes);
     made.map_err(|_| MemoryFault::NoMemory)
+}
+
+// What changes of the rows of some changes.
+fn shifts_of_changes<M: Memory>(
+    alloc: Global,
+    memory: &mut M,
+    changes: Vec<Shift>,
+) -> Result<Vec<Shift>, MemoryFault>
+    requires whole { (row : List Cell) → 0 < M.was memory.old row + M.staged memory.old row → IsWhole (M.key_columns memory.old) row }
+    ensures made { IfOk result (λ made. AreShiftsOf (M.was memory.old) (M.staged memory.old) changes.items made.items) }
+    ensures was { M.was memory.new ≡ M.was memory.old }
+    ensures staged { M.staged memory.new ≡ M.staged memory.old }
+    ensures columns { M.key_columns memory.new ≡ M.key_columns memory.old }
+    ensures steps { M.EXACT ≡ true → M.step_count memory.new ≤ M.step_count memory.old + 2 * length changes.items }
+{
+    if changes.len() == 1 {
+        return shift_of_change(alloc, memory, changes);
+    }
+    let rows = distinct_rows(alloc, changes)?;
+    shifts_of(alloc, memory, rows.as_slice())
+}
+
+// What changes of the row of a single change.
+fn shift_of_change<M: Memory>(
+    alloc: Global,
+    memory: &mut M,
+    mut changes: Vec<Shift>,
+) -> Result<Vec<Shift>, MemoryFault>
+    requires single { length changes.items ≡ 1 }
+    requires whole { (row : List Cell) → 0 < M.was memory.old row + M.staged memory.old row → IsWhole (M.key_columns memory.old) row }
+    ensures made { IfOk result (λ made. AreShiftsOf (M.was memory.old) (M.staged memory.old) changes.items made.items) }
+    ensures was { M.was memory.new ≡ M.was memory.old }
+    ensures staged { M.staged memory.new ≡ M.staged memory.old }
+    ensures columns { M.key_columns memory.new ≡ M.key_columns memory.old }
+    ensures steps { M.EXACT ≡ true → M.step_count memory.new ≤ M.step_count memory.old + 2 }
+{
+    let Some(change) = changes.pop() else {
+        return Ok(changes);
+    };
+    add_change(alloc, memory, &change.row, &mut changes)?;
+    Ok(changes)
 }
 
 // What changes of some rows.

@@ -1,7 +1,8 @@
 -- By how much the count of a row changes in all, where it may stand in several shifts.
-use Rattle.std.specs.Prelude.{ℕ, ◌-◌, Bool, List, [], Option, None, Some, if◌then◌else◌, flat_map}
+use Rattle.std.specs.Prelude.{◌≡◌, ℕ, ◌-◌, Bool, List, [], Option, None, Some, if◌then◌else◌, flat_map}
 use Rattle.std.specs.List.{sum_by, list_any}
 use Rattle.cy_values.specs.declared.rows.Cell.{Cell}
+use Rattle.cy_values.specs.Bag.{count_of}
 use Rattle.cy_memory.specs.Counts.{Counts, is_row}
 use Rattle.cy_memory.specs.declared.memory.Record.{Record}
 use Rattle.cy_deltas.specs.declared.shifts.Shift.{Shift}
@@ -34,6 +35,12 @@ is_changed row shifts = list_any (λ s. is_row row s.row) shifts
 -- the shifts of some rows between two counts
 abbrev pub shifts_at : Counts → Counts → List (List Cell) → List Shift
 shifts_at before after rows = flat_map (λ row. shift_between row (before row) (after row)) rows
+
+-- The shifts between two counts of the rows of some changes, each of these rows once.
+pub record AreShiftsOf (before after : Counts) (changes shifts : List Shift) : Type 0 where
+  pub rows : List (List Cell)
+  pub once : (row : List Cell) → count_of row rows ≡ (if is_changed row changes then 1 else 0)
+  pub between : shifts ≡ shifts_at before after rows
 
 -- the shift of the row of a record, if there is one
 abbrev pub shift_in : Option Record → List Shift

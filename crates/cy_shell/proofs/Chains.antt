@@ -51,10 +51,12 @@ left_answer state line short utf8 = from (tokens_of line) refl
     from : (lexed : Result (List Token) LexFault) → tokens_of line ≡ lexed → HasAnswer state line
     from (Err why) is = refused (λ none. let wrong : (let r : Result (List Token) LexFault = Err why in r) ≡ Ok [] = sym is ∙ none in cc)
     from (Ok (t ∷ ts)) is = refused (λ none. let wrong : (let r : Result (List Token) LexFault = Ok (t ∷ ts) in r) ≡ Ok [] = sym is ∙ none in cc)
-    from (Ok []) is =
-        ([], Executed (Ok reply.Nothing) [] short utf8
-        (inr (subst (λ (r : Result (List Token) LexFault). Lexed line r state.engine (Ok reply.Nothing) [] state.engine) (sym is) (record { answered = refl; no_entries = refl; state = refl }))) refl
-        (no_feed state.feed (Ok reply.Nothing) [] refl))
+    from (Ok []) is = (
+      [],
+      Executed (Ok reply.Nothing) [] short utf8
+          (inr (subst (λ (r : Result (List Token) LexFault). Lexed line r state.engine (Ok reply.Nothing) [] state.engine) (sym is) (record { answered = refl; no_entries = refl; state = refl }))) refl
+          (no_feed state.feed (Ok reply.Nothing) [] refl),
+    )
 
 short_answer : (state : Serving) (line : List ℕ) → length line ≤ line_limit → (b : Bool) → is_utf8 line ≡ b → HasAnswer state line
 short_answer state line short true is = left_answer state line short (IsUtf8-from_is_utf8 line is)

@@ -7,6 +7,8 @@ mod engine;
 #[cfg(test)]
 mod feeds;
 #[cfg(test)]
+mod followers;
+#[cfg(test)]
 mod lines;
 #[cfg(test)]
 mod options;

@@ -60,10 +60,24 @@ fn expect_counts(rt: &impl Abort, engine: &mut Engine) -> Result<(), Fail> {
     Ok(())
 }
 
+// A view that would have such a row isn't made.
+fn expect_no_view(rt: &impl Abort, engine: &mut Engine) {
+    assert!(rt; engine.line(":drop w").is_ok() && engine.line("CREATE ()").is_ok());
+    let refused = engine.line(EIGHT);
+    assert!(rt; matches!(refused, Err(Fault::TooManyRows)) && engine.tick() == 217);
+    assert!(rt; matches!(engine.rows("w"), Err(Fault::NoSuchView)));
+}
+
+fn expect_limit(rt: &impl Abort, engine: &mut Engine) -> Result<(), Fail> {
+    expect_counts(rt, engine)?;
+    expect_no_view(rt, engine);
+    Ok(())
+}
+
 #[test]
 fn counts_to_the_limit(rt: HostRuntime) -> Result<(), Fail> {
     let mut engine = Engine::new(rt.alloc(), 64);
-    expect_counts(&rt, &mut engine)
+    expect_limit(&rt, &mut engine)
 }
 
 // The steps of the one view there is.

@@ -11,7 +11,7 @@ use Rattle.cy_network.specs.internal.Parts.{below_count, chain, first_below, own
 use Rattle.cy_network.proofs.Steps.{too_many_one}
 
 -- a part has one part below it, or it hasn't
-single_or_not : (p : Plan) → (below_count p ≡ 1) ⊎ (below_count p ≢ 1)
+pub single_or_not : (p : Plan) → (below_count p ≡ 1) ⊎ (below_count p ≢ 1)
 single_or_not plan.unit = inr (λ is. absurd (omega (arith, is)))
 single_or_not plan.nodes = inr (λ is. absurd (omega (arith, is)))
 single_or_not (plan.rels types orientation) = inr (λ is. absurd (omega (arith, is)))
@@ -39,7 +39,7 @@ chain_more (plan.distinct p) one = refl
 chain_more (plan.union left right) one = absurd (omega (arith, one))
 
 -- or ends
-chain_ends : (p : Plan) → below_count p ≢ 1 → chain p ≡ p ∷ []
+pub chain_ends : (p : Plan) → below_count p ≢ 1 → chain p ≡ p ∷ []
 chain_ends plan.unit other = refl
 chain_ends plan.nodes other = refl
 chain_ends (plan.rels types orientation) other = refl
@@ -52,7 +52,7 @@ chain_ends (plan.project p outputs) other = absurd (other refl)
 chain_ends (plan.distinct p) other = absurd (other refl)
 chain_ends (plan.union left right) other = refl
 
-chain_first : (p : Plan) → (rest : List Plan) × (chain p ≡ p ∷ rest)
+pub chain_first : (p : Plan) → (rest : List Plan) × (chain p ≡ p ∷ rest)
 chain_first p = elim (single_or_not p) [ inl one ↦ (chain (first_below p), chain_more p one) | inr other ↦ ([], chain_ends p other) ]
 
 heads : (p q : Plan) (ps qs : List Plan) → p ∷ ps ≡ q ∷ qs → p ≡ q
@@ -75,7 +75,7 @@ never_two p x q above same =
 
 module _ (p x : Plan) (above : List Plan) (q : Plan) (linked : chain p ≡ x ∷ (above ++ chain q)) where
   -- the uppermost of more parts has one part below it, and the others are the chain of that one
-  link : (below_count p ≡ 1) × (p ≡ x) × (chain (first_below p) ≡ above ++ chain q)
+  pub link : (below_count p ≡ 1) × (p ≡ x) × (chain (first_below p) ≡ above ++ chain q)
   link = elim (single_or_not p) [
     | inl one ↦
         let same = sym (chain_more p one) ∙ linked in

@@ -23,3 +23,8 @@ pub mod Partway
 pub mod Popped
 pub mod Upwards
 pub mod Climbs
+pub mod ScanFacts
+pub mod RowByRow
+pub mod Scanned
+pub mod Cuts
+pub mod CutChains

@@ -9,6 +9,10 @@ pub if_ok_more : {T E : Type 0} (D P : T → Type 0) (r : Result T E) → IfOk r
 if_ok_more D P (Ok x) d each = each x d
 if_ok_more D P (Err e) d each = tt
 
+pub if_ok_two : {T E : Type 0} (D B P : T → Type 0) (r : Result T E) → IfOk r D → IfOk r B → ((x : T) → D x → B x → P x) → IfOk r P
+if_ok_two D B P (Ok x) d b each = each x d b
+if_ok_two D B P (Err e) d b each = tt
+
 pub if_ok_three : {T E : Type 0} (D B P : T → Type 0) (S : Type 0) (r : Result T E) → IfOk r D → OnOk r S → IfOk r B → ((x : T) → D x → S → B x → P x) → IfOk r P
 if_ok_three D B P S (Ok x) d s b each = each x d s b
 if_ok_three D B P S (Err e) d s b each = tt

@@ -1,5 +1,5 @@
 -- A part of a plan and the parts right below it.
-use Rattle.std.proofs.Common.{◌≡◌, ◌≢◌, ℕ, ◌+◌, ◌<◌, ◌≤◌, List, ◌∷◌, ◌++◌, length, refl, sym, ap, subst, ◌∙◌, arith}
+use Rattle.std.proofs.Common.{◌≡◌, ◌≢◌, ℕ, ◌+◌, ◌<◌, ◌≤◌, Bool, true, false, List, [], ◌∷◌, ◌++◌, length, refl, sym, ap, subst, ◌∙◌, arith}
 use Rattle.std.proofs.lemmas.List.{append-nil, length-append}
 use Rattle.cy_values.specs.declared.rows.Cell.{Cell}
 use Rattle.cy_plans.specs.Plans as plan
@@ -7,7 +7,9 @@ use Rattle.cy_plans.specs.Plans.{Plan}
 use Rattle.cy_plans.specs.Parts.{parts}
 use Rattle.cy_plans.specs.Sure.{IsSure}
 use Rattle.cy_plans.specs.WellFormed.{IsWellFormed}
-use Rattle.cy_network.specs.Memories.{contents, keys, own_contents, own_keys}
+use Rattle.cy_deltas.specs.Deltas.{counts}
+use Rattle.cy_merges.specs.Merges.{all_columns}
+use Rattle.cy_network.specs.Memories.{contents, is_row_by_row, is_scan, keys, own_contents, own_keys, unless}
 use Rattle.cy_network.specs.internal.Parts.{below_count, first_below, second_below}
 use Rattle.cy_network.specs.internal.Upkeep.{in_all}
 
@@ -89,6 +91,11 @@ over_two (plan.union left right) h = record {
   sums = λ own. refl;
 }
 
+-- of two things none is there, or both are
+unless_long : {A B : Type 0} (so : Bool) (x : A) (y : B) → length (unless so (x ∷ [])) ≡ length (unless so (y ∷ []))
+unless_long true x y = refl
+unless_long false x y = refl
+
 -- a part has as many memories as they have key columns
 pub own_long : (rows : Plan → List (List Cell)) (p : Plan) → length (own_contents rows p) ≡ length (own_keys p)
 own_long rows plan.unit = refl
@@ -96,10 +103,10 @@ own_long rows plan.nodes = refl
 own_long rows (plan.rels types orientation) = refl
 own_long rows (plan.join left right ks) = refl
 own_long rows (plan.outer left right ks test) = refl
-own_long rows (plan.lookup p column attribute) = refl
+own_long rows (plan.lookup p column attribute) = unless_long (is_scan (plan.lookup p column attribute)) (counts (rows p)) (column ∷ [])
 own_long rows (plan.filter p test) = refl
 own_long rows (plan.all_different p columns) = refl
-own_long rows (plan.project p outputs) = refl
+own_long rows (plan.project p outputs) = unless_long (is_row_by_row p outputs) (counts (rows (plan.project p outputs))) (all_columns (length outputs))
 own_long rows (plan.distinct p) = refl
 own_long rows (plan.union left right) = refl
 
@@ -117,10 +124,10 @@ all_long rows plan.nodes = refl
 all_long rows (plan.rels types orientation) = refl
 all_long rows (plan.join left right ks) = two (contents rows left) (contents rows right) (own_contents rows (plan.join left right ks)) (keys left) (keys right) (own_keys (plan.join left right ks)) (all_long rows left) (all_long rows right) refl
 all_long rows (plan.outer left right ks test) = two (contents rows left) (contents rows right) (own_contents rows (plan.outer left right ks test)) (keys left) (keys right) (own_keys (plan.outer left right ks test)) (all_long rows left) (all_long rows right) refl
-all_long rows (plan.lookup p column attribute) = one (contents rows p) (own_contents rows (plan.lookup p column attribute)) (keys p) (own_keys (plan.lookup p column attribute)) (all_long rows p) refl
+all_long rows (plan.lookup p column attribute) = one (contents rows p) (own_contents rows (plan.lookup p column attribute)) (keys p) (own_keys (plan.lookup p column attribute)) (all_long rows p) (own_long rows (plan.lookup p column attribute))
 all_long rows (plan.filter p test) = all_long rows p
 all_long rows (plan.all_different p columns) = all_long rows p
-all_long rows (plan.project p outputs) = one (contents rows p) (own_contents rows (plan.project p outputs)) (keys p) (own_keys (plan.project p outputs)) (all_long rows p) refl
+all_long rows (plan.project p outputs) = one (contents rows p) (own_contents rows (plan.project p outputs)) (keys p) (own_keys (plan.project p outputs)) (all_long rows p) (own_long rows (plan.project p outputs))
 all_long rows (plan.distinct p) = all_long rows p
 all_long rows (plan.union left right) = two (contents rows left) (contents rows right) (own_contents rows (plan.union left right)) (keys left) (keys right) (own_keys (plan.union left right)) (all_long rows left) (all_long rows right) refl
 

@@ -1,28 +1,45 @@
 -- The memories of a plan: a part has those of the part at its left below it, then those of the one at its right, and then its own.
-use Rattle.std.specs.Prelude.{◌≡◌, ℕ, List, [], ◌∷◌, ◌++◌, Option, map, length}
-use Rattle.std.specs.List.{All}
+use Rattle.std.specs.Prelude.{◌≡◌, ℕ, ◌||◌, Bool, List, [], ◌∷◌, ◌++◌, Option, if◌then◌else◌, is_some, map, length}
+use Rattle.std.specs.List.{All, list_all}
 use Rattle.cy_values.specs.declared.rows.Cell.{Cell}
 use Rattle.cy_graph.specs.Graph.{Content}
 use Rattle.cy_memory.specs.Counts.{Counts}
 use Rattle.cy_plans.specs.Plans as plan
-use Rattle.cy_plans.specs.Plans.{Plan, width}
+use Rattle.cy_plans.specs.Plans.{Output, Plan, width}
 use Rattle.cy_plans.specs.Parts.{parts}
 use Rattle.cy_deltas.specs.Deltas.{counts, rows_at}
 use Rattle.cy_merges.specs.Merges.{AreBounded, all_columns}
+use Rattle.cy_scans.specs.Scans.{kept_at, scan_column}
 use Rattle.cy_outer.specs.Outer.{numbers_of_partners}
 
+-- a part is a scan: what changes of its rows comes of the touched entities alone
+abbrev pub is_scan : Plan → Bool
+is_scan p = is_some (scan_column p)
+
+-- each of the first columns, so many, stands alone among those that a projection makes
+abbrev pub keeps_all : ℕ → List Output → Bool
+keeps_all number outputs = list_all (λ column. is_some (kept_at column outputs)) (all_columns number)
+
+-- a projection is a scan, or makes different rows of different ones, since it keeps all columns of the rows below it
+abbrev pub is_row_by_row : Plan → List Output → Bool
+is_row_by_row p outputs = is_scan (plan.project p outputs) || keeps_all (width p) outputs
+
+-- some things, but none where this is so
+abbrev pub unless : {X : Type 0} → Bool → List X → List X
+unless so xs = if so then [] else xs
+
 -- the key columns of the memories that a part has itself: a join keeps the rows of both sides by their keys, an outer join these and the number of
--- partners of each row of its left side, a look-up the rows below it by its column, and what adds counts keeps its own rows
+-- partners of each row of its left side, a look-up the rows below it by its column, and what adds counts keeps its own rows. A scan keeps nothing.
 abbrev pub own_keys : Plan → List (List ℕ)
 own_keys plan.unit = []
 own_keys plan.nodes = []
 own_keys (plan.rels types orientation) = []
 own_keys (plan.join left right keys) = map (λ k. k.left) keys ∷ map (λ k. k.right) keys ∷ []
 own_keys (plan.outer left right keys test) = map (λ k. k.left) keys ∷ map (λ k. k.right) keys ∷ all_columns (width left) ∷ []
-own_keys (plan.lookup p column attribute) = (column ∷ []) ∷ []
+own_keys (plan.lookup p column attribute) = unless (is_scan (plan.lookup p column attribute)) ((column ∷ []) ∷ [])
 own_keys (plan.filter p test) = []
 own_keys (plan.all_different p columns) = []
-own_keys (plan.project p outputs) = all_columns (length outputs) ∷ []
+own_keys (plan.project p outputs) = unless (is_row_by_row p outputs) (all_columns (length outputs) ∷ [])
 own_keys (plan.distinct p) = []
 own_keys (plan.union left right) = all_columns (width left) ∷ []
 
@@ -47,10 +64,10 @@ own_contents rows plan.nodes = []
 own_contents rows (plan.rels types orientation) = []
 own_contents rows (plan.join left right ks) = counts (rows left) ∷ counts (rows right) ∷ []
 own_contents rows (plan.outer left right ks test) = counts (rows left) ∷ counts (rows right) ∷ numbers_of_partners ks test (rows left) (rows right) ∷ []
-own_contents rows (plan.lookup p column attribute) = counts (rows p) ∷ []
+own_contents rows (plan.lookup p column attribute) = unless (is_scan (plan.lookup p column attribute)) (counts (rows p) ∷ [])
 own_contents rows (plan.filter p test) = []
 own_contents rows (plan.all_different p columns) = []
-own_contents rows (plan.project p outputs) = counts (rows (plan.project p outputs)) ∷ []
+own_contents rows (plan.project p outputs) = unless (is_row_by_row p outputs) (counts (rows (plan.project p outputs)) ∷ [])
 own_contents rows (plan.distinct p) = []
 own_contents rows (plan.union left right) = counts (rows (plan.union left right)) ∷ []
 

@@ -1,7 +1,10 @@
 -- The parts that stand right below a part of a plan, and the chains that parts make.
-use Rattle.std.specs.Prelude.{ℕ, List, [], ◌∷◌, ◌++◌}
+use Rattle.std.specs.Prelude.{◌≡◌, ◌≢◌, ℕ, ◌<◌, ◌⊎◌, Bool, true, false, List, [], ◌∷◌, ◌++◌, Option, drop, length, take}
+use Rattle.std.specs.List.{All}
 use Rattle.cy_plans.specs.Plans as plan
 use Rattle.cy_plans.specs.Plans.{Plan}
+use Rattle.cy_scans.specs.Scans.{scan_column}
+use Rattle.cy_network.specs.Memories.{is_scan}
 
 -- how many there are
 abbrev pub below_count : Plan → ℕ
@@ -16,6 +19,20 @@ below_count (plan.all_different p columns) = 1
 below_count (plan.project p outputs) = 1
 below_count (plan.distinct p) = 1
 below_count (plan.union left right) = 2
+
+-- whether a part is that of the empty row
+abbrev pub is_unit : Plan → Bool
+is_unit plan.unit = true
+is_unit plan.nodes = false
+is_unit (plan.rels types orientation) = false
+is_unit (plan.join left right keys) = false
+is_unit (plan.outer left right keys test) = false
+is_unit (plan.lookup p column attribute) = false
+is_unit (plan.filter p test) = false
+is_unit (plan.all_different p columns) = false
+is_unit (plan.project p outputs) = false
+is_unit (plan.distinct p) = false
+is_unit (plan.union left right) = false
 
 -- the one, or the left one of two
 abbrev pub first_below : Plan → Plan
@@ -63,3 +80,23 @@ chain (plan.union left right) = plan.union left right ∷ []
 abbrev pub own_of_all : {X : Type 0} → (Plan → List X) → List Plan → List X
 own_of_all own [] = []
 own_of_all own (p ∷ ps) = own_of_all own ps ++ own p
+
+-- a part whose rows come in one step of the graph or of the rows of two parts: a scan, or a part that has no part below it, or two
+abbrev pub IsWhole : Plan → Type 0
+IsWhole p = (is_scan p ≡ true) ⊎ (below_count p ≢ 1)
+
+-- such a part stands at a place of a chain, and its rows name their entity in this column, if it is a scan
+pub record IsWholeAt (ps : List Plan) (place : ℕ) (column : Option ℕ) : Type 0 where
+  pub within : place < length ps
+  pub end : Plan
+  pub rest : drop place ps ≡ chain end
+  pub named : column ≡ scan_column end
+  pub whole : IsWhole end
+
+-- a chain is cut where such a part stands, and no part above that one is a scan
+pub record IsCut (ps : List Plan) (place : ℕ) : Type 0 where
+  pub within : place < length ps
+  pub unscanned : All (λ p. is_scan p ≡ false) (take place ps)
+  pub end : Plan
+  pub rest : drop place ps ≡ chain end
+  pub whole : IsWhole end

@@ -1,5 +1,5 @@
 -- How a change of a graph goes through the parts of a plan: what is asked of a part and its memories, and what comes of it.
-use Rattle.std.specs.Prelude.{◌≡◌, ℕ, ◌+◌, ◌<◌, ◌≤◌, Bool, List, ◌++◌, Option, Some, None, is_none, length}
+use Rattle.std.specs.Prelude.{◌≡◌, ℕ, ◌+◌, ◌<◌, ◌≤◌, Bool, false, List, ◌++◌, Option, Some, None, is_none, length}
 use Rattle.std.specs.Option.{option_map}
 use Rattle.std.specs.List.{All}
 use Rattle.cy_values.specs.declared.rows.Cell.{Cell}
@@ -16,7 +16,7 @@ use Rattle.cy_deltas.specs.declared.shifts.Shift.{Shift}
 use Rattle.cy_deltas.specs.Deltas.{IsBounded, IsDelta, counts, rows_at}
 use Rattle.cy_scans.specs.Changes.{IsChange, Touches}
 pub use Rattle.cy_costs.specs.internal.Work.{all_reads, all_steps, in_all, own_reads, own_steps}
-use Rattle.cy_network.specs.Memories.{AreHeld, AreWithin, contents, keys, own_contents, own_keys}
+use Rattle.cy_network.specs.Memories.{AreHeld, AreWithin, contents, is_scan, keys, own_contents, own_keys}
 use Rattle.cy_network.specs.internal.Parts.{chain, first_below, own_of_all, second_below}
 use Rattle.cy_network.specs.Counted.{written}
 
@@ -82,6 +82,7 @@ pub record IsOwnDone (old : Option State) (now : State) (p : Plan) (staged : Lis
 pub record IsPartway (old : Option State) (now : State) (touches : Touches) (p : Plan) (above : List Plan) (q : Plan) (place : ℕ) (columns : List (List ℕ)) (was staged : List Counts) (shifts : List Shift) : Type 0 where
   pub step : IsStep old now touches p
   pub linked : chain p ≡ above ++ chain q
+  pub unscanned : All (λ r. is_scan r ≡ false) above
   pub placed : place ≡ length (keys q)
   pub keyed : columns ≡ keys p
   pub held : was ≡ contents (rows_at (content_of old)) p

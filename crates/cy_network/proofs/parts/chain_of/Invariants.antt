@@ -6,7 +6,7 @@ use Rattle.cy_network.proofs.parts.chain_of.Given as goal
 
 -- the parts so far, and those from the next one down, are all
 abbrev pub invariant-down : goal.invariant-down
-invariant-down l = chain (plan_of l.fn.part) ≡ map (λ p. plan_of p.now) l.above.items ++ chain (plan_of l.end)
+invariant-down l = map (λ p. plan_of p.now) l.chain.items ++ chain (plan_of l.last) ≡ chain (plan_of l.fn.part)
 
 abbrev pub decreases-down : goal.decreases-down
-decreases-down l = length (parts (plan_of l.end))
+decreases-down l = length (parts (plan_of l.last))

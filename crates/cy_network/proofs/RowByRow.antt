@@ -1,0 +1,85 @@
+-- A projection that keeps all columns of the rows below it makes different rows of different ones.
+use Rattle.std.proofs.Common.{◌≡◌, ℕ, ◌+◌, ◌<◌, ◌||◌, Bool, true, false, Option, Some, None, List, [], ◌∷◌, length, get_or, refl, sym, ap, subst, ◌∙◌, arith, true≢false}
+use Rattle.std.specs.Prelude.{is_some}
+use Rattle.std.specs.List.{list_all, range_with_len}
+use Rattle.std.proofs.lemmas.List.{ext_get_or}
+use Rattle.std.proofs.lemmas.List.Folds.{list_all_at}
+use Rattle.std.proofs.lemmas.List.FromFn.{get_or-range_with_len, length-range_with_len}
+use Rattle.cy_values.specs.declared.rows.Cell.{Cell}
+use Rattle.cy_graph.specs.Graph.{Content}
+use Rattle.cy_merges.specs.Merges.{IsOneToOne, all_columns}
+use Rattle.cy_plans.specs.Expressions.{cell_at, null, projected}
+use Rattle.cy_plans.specs.Plans as plan
+use Rattle.cy_plans.specs.Plans.{Output, Plan, width}
+use Rattle.cy_plans.specs.WellFormed.{IsWellFormed}
+use Rattle.cy_deltas.specs.declared.shifts.Shift.{Shift}
+use Rattle.cy_deltas.specs.Deltas.{AreWide, IsBounded, IsDelta, counts, rows_at}
+use Rattle.std.specs.List.{All}
+use Rattle.std.proofs.Common.{map}
+use Rattle.cy_graph.specs.Graph.{State}
+use Rattle.cy_deltas.proofs.PlanLemmas.{parts_wide, project_at}
+use Rattle.cy_scans.specs.Changes.{Touches}
+use Rattle.cy_scans.specs.Scans.{column_over, kept_at}
+use Rattle.cy_network.proofs.ScanFacts.{kept_cell}
+use Rattle.cy_network.specs.Memories.{is_row_by_row, is_scan, keeps_all, own_contents, own_keys, unless}
+use Rattle.cy_network.specs.internal.Parts.{first_below}
+use Rattle.cy_network.specs.internal.Upkeep.{IsDeltaOf, IsStep, content_of}
+
+-- each column is kept
+each_kept : (number : ℕ) (outputs : List Output) → keeps_all number outputs ≡ true → (k : ℕ) → k < number → is_some (kept_at k outputs) ≡ true
+each_kept number outputs all k less = by (is_some (kept_at k outputs)) refl
+  where
+    at : get_or (all_columns number) k 0 ≡ k
+    at = get_or-range_with_len 0 number k 0 less ∙ (let e : 0 + k ≡ k = omega arith in e)
+
+    by : (b : Bool) → is_some (kept_at k outputs) ≡ b → is_some (kept_at k outputs) ≡ true
+    by true is = is
+    by false is =
+        let lost : keeps_all number outputs ≡ false =
+        list_all_at (λ column. is_some (kept_at column outputs)) (all_columns number) k 0 (let n = length-range_with_len 0 number in omega (arith, n, less)) (ap (λ c. is_some (kept_at c outputs)) at ∙ is) in
+        absurd (true≢false (sym all ∙ lost))
+
+-- what stands in a column that is kept stands among what is made
+same_cell : (outputs : List Output) (row other : List Cell) (k : ℕ) → is_some (kept_at k outputs) ≡ true → projected outputs row ≡ projected outputs other → cell_at row k ≡ cell_at other k
+same_cell outputs row other k kept same = by (kept_at k outputs) refl
+  where
+    by : (found : Option ℕ) → kept_at k outputs ≡ found → cell_at row k ≡ cell_at other k
+    by None none = absurd (true≢false (sym kept ∙ ap is_some none))
+    by (Some place) is = sym (kept_cell outputs k place row is) ∙ ap (λ cells. cell_at cells place) same ∙ kept_cell outputs k place other is
+
+pub one_to_one : (number : ℕ) (outputs : List Output) → keeps_all number outputs ≡ true → IsOneToOne number outputs
+one_to_one number outputs all row other row_wide other_wide same =
+    ext_get_or null row other (row_wide ∙ sym other_wide) (λ k less. same_cell outputs row other k (each_kept number outputs all k (subst (λ n. k < n) row_wide less)) same)
+
+-- how a change goes through it
+pub rearranged : (old : Option State) (now : State) (touches : Touches) (p : Plan) (outputs : List Output) (shifts made : List Shift) → keeps_all (width p) outputs ≡ true
+    → ((number : ℕ) (before after : List (List Cell)) → IsOneToOne number outputs → AreWide number (counts before) (counts after) → IsDelta (counts before) (counts after) shifts
+    → IsDelta (counts (map (projected outputs) before)) (counts (map (projected outputs) after)) made)
+    → (All IsBounded shifts → All IsBounded made) → IsStep old now touches (plan.project p outputs) → IsDeltaOf old now p shifts → IsDeltaOf old now (plan.project p outputs) made
+rearranged old now touches p outputs shifts made all leads bounds step part = record {
+  delta =
+      subst (λ rows. IsDelta (counts rows) (counts (rows_at (Some now.content) (plan.project p outputs))) made) (sym (project_at (content_of old) p outputs))
+      (leads (width p) (rows_at (content_of old) p) (rows_at (Some now.content) p) (one_to_one (width p) outputs all) (parts_wide (content_of old) (Some now.content) p step.well_formed.0) part.delta);
+  bounded = bounds part.bounded;
+}
+
+-- ---- whether it is gone through row by row
+
+-- what the code finds is whether all columns are kept
+module _ (p below : Plan) (outputs : List Output) (is : p ≡ plan.project below outputs) (number : ℕ) (wide : number ≡ width below) (unscanned : is_scan p ≡ false) (found : Bool)
+    (kept : found ≡ list_all (λ column. is_some (column_over p (Some column))) (all_columns number)) where
+  pub found_is : found ≡ keeps_all (width below) outputs
+  found_is =
+      kept ∙ ap (λ q. list_all (λ column. is_some (column_over q (Some column))) (all_columns number)) is
+      ∙ ap (λ n. keeps_all n outputs) wide
+
+  pub row_by_row_is : is_row_by_row below outputs ≡ found
+  row_by_row_is = ap (λ q. is_scan q || keeps_all (width below) outputs) (sym is) ∙ ap (λ so. so || keeps_all (width below) outputs) unscanned ∙ sym found_is
+
+  pub keys_are : own_keys p ≡ unless found (all_columns (length outputs) ∷ [])
+  keys_are = ap own_keys is ∙ ap (λ so. unless so (all_columns (length outputs) ∷ [])) row_by_row_is
+
+  pub contents_are : (rows : Plan → List (List Cell)) → own_contents rows p ≡ unless found (counts (rows p) ∷ [])
+  contents_are rows =
+      ap (own_contents rows) is ∙ ap (λ so. unless so (counts (rows (plan.project below outputs)) ∷ [])) row_by_row_is
+      ∙ ap (λ q. unless found (counts (rows q) ∷ [])) (sym is)

@@ -91,3 +91,9 @@ both_in_place ls others outer inner outputs p (columns, are, is) place =
     (λ well. subst (λ (made : List plan.Output). IsRewritten (plan.project (plan.project p (map output_of inner.items)) (map output_of outer.items)) (plan.project p made)) (sym is)
     (project_twice p (map output_of outer.items) (map output_of inner.items) columns are well)))
     place
+
+-- a layer put below others
+pub placed_below : (ls others : List Layer) (l : Layer) (p : Plan) → IsWellFormed (layered ls (over_layer l p)) → AreInPlace (ls ++ l ∷ []) others p p → IsRewritten (layered ls (over_layer l p)) (layered others p)
+placed_below ls others l p well place =
+    let whole = layers_over ls (l ∷ []) p in
+    subst (λ (q : Plan). IsRewritten q (layered others p)) whole (place (subst IsWellFormed (sym whole) well))

@@ -2,3 +2,9 @@ pub mod Congruent
 pub mod Layering
 pub mod Projections
 pub mod Rules
+pub mod Wider
+pub mod Passing
+pub mod Sides
+pub mod Joining
+pub mod Stacking
+pub mod Splitting

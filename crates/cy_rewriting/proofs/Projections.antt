@@ -105,7 +105,7 @@ all_sure row columns (o ∷ outputs) each sure =
     (all_sure row columns outputs (All-tail (IsOutputOver (length columns)) o outputs each) (All-tail (HasCell (map (cell_at row) columns)) o outputs sure))
 
 -- the columns that a projection takes over lie in the rows
-column_inside : (n c : ℕ) (o : Output) → column_of o ≡ Some c → IsOutputOver n o → c < n
+pub column_inside : (n c : ℕ) (o : Output) → column_of o ≡ Some c → IsOutputOver n o → c < n
 column_inside n c o is over =
     let known = output_known o c is in
     let inside : nat_lt c n ≡ true = ap (λ (d : Option ℕ). option_map_or (λ column. nat_lt column n) d true) (sym known.2) ∙ (subst (IsOutputOver n) known.1 over).1 in

@@ -1,3 +1,5 @@
 -- What private functions and proofs need.
 pub mod Columns
+pub mod Lowered
+pub mod Splits
 pub mod Layers

@@ -1,16 +1,20 @@
 //! The layers of a plan, from the uppermost part down: parts with one part below them. Each call fails only for want of memory.
 
-ghost use Rattle.std.specs.Prelude.{◌≡◌, ◌≤◌, ◌++◌, ◌∷◌, [], IfOk, IsTrue, OnOk};
+ghost use Rattle.std.specs.Prelude.{◌≡◌, ◌<◌, ◌≤◌, ◌++◌, ◌∷◌, [], IfOk, IsTrue, OnOk, map};
+ghost use Rattle.std.specs.List.{AllByRecursion};
 ghost use Rattle.cy_plans.specs.declared.operators.Operator.{size-Operator};
 ghost use Rattle.cy_plans.specs.declared.operators.Operator.TheVariants as operator;
-ghost use Rattle.cy_plans.specs.Plans.{Plan};
+ghost use Rattle.cy_plans.specs.Plans.{Plan, width};
 ghost use Rattle.cy_plans.specs.Views.{plan_of};
 ghost use Rattle.cy_plans.specs.WellFormed.{IsWellFormed};
+ghost use Rattle.cy_row_plans.specs.internal.Lookups.{over};
 ghost use Rattle.cy_rewriting.specs.declared.layers.Layer.TheVariants as layer;
 ghost use Rattle.cy_rewriting.specs.Rewritten.{IsRewritten};
 ghost use Rattle.cy_rewriting.specs.internal.Layers as spec;
 
+use crate::lookups::{are_inside, below_projection, with_columns};
 use crate::outputs::merged;
+use cy_lowering::Wanted;
 use cy_plans::{Attribute, Operator, Output};
 use cy_trees::Expr;
 use cy_values::Fault;
@@ -37,10 +41,11 @@ pub(crate) enum Opened {
     Base(Operator),
 }
 
-/// The layers of a plan, the uppermost first, and what they stand on.
+/// The layers of a plan, the uppermost first, the look-ups below them, the lowest first, and what these stand on.
 #[derive(Drop)]
 pub(crate) struct Layers {
     pub(crate) layers: Vec<Layer>,
+    pub(crate) lookups: Vec<Wanted>,
     pub(crate) base: Operator,
 }
 
@@ -111,7 +116,11 @@ fn add_second(
 }
 
 /// Puts a projection below all.
-fn add_projection(alloc: Global, layers: &mut Vec<Layer>, outputs: Vec<Output>) -> Result<(), Fault>
+pub(crate) fn add_projection(
+    alloc: Global,
+    layers: &mut Vec<Layer>,
+    outputs: Vec<Output>,
+) -> Result<(), Fault>
     ensures { OnOk result ((p : Plan) → spec.AreInPlace (layers.old.items ++ layer.Project outputs ∷ []) layers.new.items p p) }
 {
     match layers.pop() {
@@ -135,37 +144,159 @@ fn add_test(layers: &mut Vec<Layer>, columns: Vec<usize>) -> Result<(), Fault>
     }
 }
 
-/// Puts a layer below all, or what can stand in its place.
-fn add(alloc: Global, layers: &mut Vec<Layer>, layer: Layer) -> Result<(), Fault>
-    ensures { OnOk result ((p : Plan) → spec.AreInPlace (layers.old.items ++ layer ∷ []) layers.new.items p p) }
+/// Look-ups that go no further down are layers.
+pub(crate) fn settle(layers: &mut Vec<Layer>, pending: &mut Vec<Wanted>) -> Result<(), Fault>
+    ensures layers { OnOk result (layers.new.items ≡ layers.old.items ++ map spec.lookup_layer pending.old.items) }
+    ensures pending { OnOk result (pending.new.items ≡ []) }
 {
-    match layer {
-        Layer::Lookup(column, attribute) => push(layers, Layer::Lookup(column, attribute)),
-        Layer::Filter(test) => push(layers, Layer::Filter(test)),
-        Layer::AllDifferent(columns) => add_test(layers, columns),
-        Layer::Project(outputs) => add_projection(alloc, layers, outputs),
-        Layer::Distinct => push(layers, Layer::Distinct),
+    pending.reverse();
+    while let Some(lookup) = pending.pop() {
+        layers.push(Layer::Lookup(lookup.column, lookup.attribute))?;
+    }
+    Ok(())
+}
+
+/// Puts a projection below all, and the look-ups below it, if they can stand there.
+fn put_projection(
+    alloc: Global,
+    layers: &mut Vec<Layer>,
+    pending: &mut Vec<Wanted>,
+    outputs: Vec<Output>,
+    below: &Operator,
+) -> Result<(), Fault>
+    requires { IsWellFormed (plan_of below.now) }
+    ensures { OnOk result (spec.GoesOn layers.old.items pending.old.items (spec.over_layer (layer.Project outputs) (plan_of below.now)) layers.new.items pending.new.items (plan_of below.now)) }
+{
+    let width = below.width();
+    match below_projection(alloc, outputs.as_slice(), pending.as_slice(), width)? {
+        Some(moved) => {
+            let wide = with_columns(alloc, outputs, width, pending.len())?;
+            *pending = moved;
+            add_projection(alloc, layers, wide)
+        }
+        None => {
+            settle(layers, pending)?;
+            add_projection(alloc, layers, outputs)
+        }
     }
 }
 
-/// A plan taken apart into layers and what they stand on.
-pub(crate) fn taken_apart(alloc: Global, part: Operator) -> Result<Layers, Fault>
-    requires { IsWellFormed (plan_of part) }
-    ensures same { IfOk result (λ r. IsRewritten (plan_of part) (spec.layered r.layers.items (plan_of r.base))) }
-    ensures good { IfOk result (λ r. IsWellFormed (plan_of r.base)) }
+/// Puts a layer below all, and the look-ups below it, if they can stand there.
+fn put(
+    alloc: Global,
+    layers: &mut Vec<Layer>,
+    pending: &mut Vec<Wanted>,
+    layer: Layer,
+    below: &Operator,
+) -> Result<(), Fault>
+    requires { IsWellFormed (plan_of below.now) }
+    ensures { OnOk result (spec.GoesOn layers.old.items pending.old.items (spec.over_layer layer (plan_of below.now)) layers.new.items pending.new.items (plan_of below.now)) }
+{
+    match layer {
+        Layer::Lookup(column, attribute) => {
+            pending.push(Wanted { column, attribute })?;
+            Ok(())
+        }
+        Layer::Filter(test) => push(layers, Layer::Filter(test)),
+        Layer::AllDifferent(columns) => add_test(layers, columns),
+        Layer::Project(outputs) => put_projection(alloc, layers, pending, outputs, below),
+        Layer::Distinct => {
+            settle(layers, pending)?;
+            push(layers, Layer::Distinct)
+        }
+    }
+}
+
+/// Keeps the look-ups above all that is below, where there is no join to go below.
+fn settle_unless(
+    joins: bool,
+    layers: &mut Vec<Layer>,
+    pending: &mut Vec<Wanted>,
+) -> Result<(), Fault>
+    ensures { OnOk result ((p : Plan) → spec.stacked layers.new.items pending.new.items p ≡ spec.stacked layers.old.items pending.old.items p) }
+{
+    if joins {
+        Ok(())
+    } else {
+        settle(layers, pending)
+    }
+}
+
+/// Whether a join is what the layers of a plan stand on.
+fn joins_below(part: &Operator) -> bool {
+    let mut part = part;
+    loop {
+        match part {
+            Operator::Join(left, right, keys) => {
+                if !keys.is_empty() || !is_unit(left) {
+                    return true;
+                }
+                part = right;
+            }
+            Operator::Outer(_, _, _, _) => return true,
+            Operator::Lookup(below, _, _)
+            | Operator::Filter(below, _)
+            | Operator::AllDifferent(below, _)
+            | Operator::Project(below, _)
+            | Operator::Distinct(below) => part = below,
+            Operator::Unit | Operator::Nodes | Operator::Rels(_, _) | Operator::Union(_, _) =>
+                return false,
+        }
+    }
+}
+
+/// A plan with look-ups on it, taken apart: its layers, the look-ups on what these stand on, and that.
+fn with_base(layers: Vec<Layer>, pending: Vec<Wanted>, base: Operator) -> Result<Layers, Fault>
+    requires { IsWellFormed (plan_of base) }
+    ensures same { IfOk result (λ r. spec.layered r.layers.items (over (plan_of r.base) r.lookups.items) ≡ spec.stacked layers.items pending.items (plan_of base)) }
+    ensures base { IfOk result (λ r. r.base ≡ base) }
+    ensures inside { IfOk result (λ r. AllByRecursion (λ w. w.column < width (plan_of r.base)) r.lookups.items) }
+{
+    let mut layers = layers;
+    let mut lookups = pending;
+    if are_inside(lookups.as_slice(), base.width()) {
+        lookups.reverse();
+        Ok(Layers {
+            layers,
+            lookups,
+            base,
+        })
+    } else {
+        settle(&mut layers, &mut lookups)?;
+        Ok(Layers {
+            layers,
+            lookups,
+            base,
+        })
+    }
+}
+
+/// A plan with look-ups on it, taken apart into layers, look-ups and what these stand on.
+pub(crate) fn taken_apart(
+    alloc: Global,
+    part: Operator,
+    lookups: Vec<Wanted>,
+) -> Result<Layers, Fault>
+    requires { IsWellFormed (over (plan_of part) lookups.items) }
+    ensures same { IfOk result (λ r. IsRewritten (over (plan_of part) lookups.items) (spec.layered r.layers.items (over (plan_of r.base) r.lookups.items))) }
+    ensures inside { IfOk result (λ r. AllByRecursion (λ w. w.column < width (plan_of r.base)) r.lookups.items) }
     ensures base { IfOk result (λ r. spec.IsBase (plan_of r.base)) }
     ensures no_deeper { IfOk result (λ r. size-Operator r.base ≤ size-Operator part) }
 {
+    let joins = joins_below(&part);
     let mut layers = Vec::new(alloc);
+    let mut pending = lookups;
+    pending.reverse();
     let mut part = part;
     loop {
         match open_part(part) {
             Opened::Over(layer, below) => {
-                add(alloc, &mut layers, layer)?;
+                settle_unless(joins, &mut layers, &mut pending)?;
+                put(alloc, &mut layers, &mut pending, layer, &below)?;
                 part = below;
             }
             Opened::Same(other) => part = other,
-            Opened::Base(base) => return Ok(Layers { layers, base }),
+            Opened::Base(base) => return with_base(layers, pending, base),
         }
     }
 }

@@ -2,8 +2,10 @@
 #![tactic(auto)]
 
 mod layers;
+mod lookups;
 mod outputs;
 mod parts;
 mod rewriting;
+mod splits;
 
 pub use rewriting::rewritten;

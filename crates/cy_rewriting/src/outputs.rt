@@ -3,13 +3,14 @@
 ghost use Rattle.std.specs.Prelude.{◌≡◌, IfOk, IfSome, map};
 ghost use Rattle.cy_trees.specs.Views.{expression_of};
 ghost use Rattle.cy_plans.specs.Views.{output_of};
+ghost use Rattle.cy_row_plans.specs.Columns as shape;
 ghost use Rattle.cy_renumbering.specs.Renumbered.{new_column};
 ghost use Rattle.cy_rewriting.specs.internal.Columns as spec;
 
 use cy_plans::Output;
 use cy_renumbering::renumber;
-use cy_trees::Expr;
-use cy_values::Fault;
+use cy_trees::{Expr, Variable};
+use cy_values::{Fault, Text};
 use std::alloc::Global;
 
 fn variable_column(expression: &Expr) -> Option<usize>
@@ -22,13 +23,23 @@ fn variable_column(expression: &Expr) -> Option<usize>
 }
 
 /// The column that an output takes over.
-fn column_of(output: &Output) -> Option<usize>
+pub(crate) fn column_of(output: &Output) -> Option<usize>
     ensures { result ≡ spec.column_of (output_of output.now) }
 {
     match output {
         Output::Cell(expression) => variable_column(expression),
         Output::Rels(_) => None,
     }
+}
+
+pub(crate) fn column_output(alloc: Global, column: usize) -> Output
+    ensures { output_of result ≡ shape.column_output column }
+{
+    let name = Text::new(String::new(alloc));
+    Output::Cell(Expr::Variable(Variable {
+        name,
+        column: Some(column),
+    }))
 }
 
 fn is_column(column: usize, output: &Output) -> bool

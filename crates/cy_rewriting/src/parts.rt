@@ -4,11 +4,13 @@ ghost use Rattle.std.specs.Prelude.{IfOk, map};
 ghost use Rattle.cy_plans.specs.Plans as plan;
 ghost use Rattle.cy_plans.specs.Views.{output_of, plan_of};
 ghost use Rattle.cy_plans.specs.WellFormed.{IsWellFormed};
+ghost use Rattle.cy_row_plans.specs.internal.Lookups.{over};
 ghost use Rattle.cy_rewriting.specs.Rewritten.{IsRewritten};
 ghost use Rattle.cy_rewriting.specs.internal.Layers as spec;
 
-use crate::layers::Layer;
+use crate::layers::{Layer, add_projection, settle};
 use crate::outputs::are_first_columns;
+use cy_lowering::Wanted;
 use cy_plans::{Output, Plan};
 use cy_values::Fault;
 use std::alloc::Global;
@@ -26,7 +28,7 @@ fn projected(alloc: Global, below: Plan, outputs: Vec<Output>) -> Result<Plan, F
 }
 
 /// A layer over a plan.
-fn over(alloc: Global, below: Plan, layer: Layer) -> Result<Plan, Fault>
+fn with_layer(alloc: Global, below: Plan, layer: Layer) -> Result<Plan, Fault>
     requires { IsWellFormed (spec.over_layer layer (plan_of below)) }
     ensures { IfOk result (λ p. IsRewritten (spec.over_layer layer (plan_of below)) (plan_of p)) }
 {
@@ -47,7 +49,39 @@ pub(crate) fn layered(alloc: Global, base: Plan, layers: Vec<Layer>) -> Result<P
     let mut layers = layers;
     let mut plan = base;
     while let Some(layer) = layers.pop() {
-        plan = over(alloc, plan, layer)?;
+        plan = with_layer(alloc, plan, layer)?;
     }
     Ok(plan)
+}
+
+/// Layers over look-ups on a plan.
+pub(crate) fn over_lookups(
+    alloc: Global,
+    base: Plan,
+    lookups: Vec<Wanted>,
+    layers: Vec<Layer>,
+) -> Result<Plan, Fault>
+    requires { IsWellFormed (spec.layered layers.items (over (plan_of base) lookups.items)) }
+    ensures { IfOk result (λ p. IsRewritten (spec.layered layers.items (over (plan_of base) lookups.items)) (plan_of p)) }
+{
+    let mut layers = layers;
+    let mut lookups = lookups;
+    lookups.reverse();
+    settle(&mut layers, &mut lookups)?;
+    layered(alloc, base, layers)
+}
+
+/// Layers over a projection of a plan.
+pub(crate) fn over_projection(
+    alloc: Global,
+    base: Plan,
+    outputs: Vec<Output>,
+    layers: Vec<Layer>,
+) -> Result<Plan, Fault>
+    requires { IsWellFormed (spec.layered layers.items (plan.project (plan_of base) (map output_of outputs.items))) }
+    ensures { IfOk result (λ p. IsRewritten (spec.layered layers.items (plan.project (plan_of base) (map output_of outputs.items))) (plan_of p)) }
+{
+    let mut layers = layers;
+    add_projection(alloc, &mut layers, outputs)?;
+    layered(alloc, base, layers)
 }

@@ -3,64 +3,43 @@
 ghost use Rattle.std.specs.Prelude.{IfOk};
 ghost use Rattle.cy_plans.specs.Views.{plan_of};
 ghost use Rattle.cy_plans.specs.WellFormed.{IsWellFormed};
+ghost use Rattle.cy_row_plans.specs.internal.Lookups.{over};
 ghost use Rattle.cy_rewriting.specs.Rewritten.{IsRewritten};
-ghost use Rattle.cy_rewriting.specs.internal.Layers.{IsBase};
 
 use crate::layers::{Layers, taken_apart};
 use crate::parts::layered;
+use crate::splits::{Split, put_together, split_base};
+use cy_lowering::Wanted;
 use cy_plans::{Operator, Plan};
 use cy_values::Fault;
 use std::alloc::Global;
 
-/// A part with two parts below it, or none.
-#[cycle(rewriting)]
-fn rewritten_base(alloc: Global, base: Operator) -> Result<Plan, Fault>
-    requires good { IsWellFormed (plan_of base) }
-    requires base { IsBase (plan_of base) }
-    ensures { IfOk result (λ p. IsRewritten (plan_of base) (plan_of p)) }
+/// A part with look-ups on it.
+fn rewritten_part(alloc: Global, part: Operator, lookups: Vec<Wanted>) -> Result<Plan, Fault>
+    requires { IsWellFormed (over (plan_of part) lookups.items) }
+    ensures { IfOk result (λ p. IsRewritten (over (plan_of part) lookups.items) (plan_of p)) }
 {
-    match base {
-        Operator::Unit => Ok(Plan::unit()),
-        Operator::Nodes => Ok(Plan::nodes()),
-        Operator::Rels(types, orientation) => Ok(Plan::rels(types, orientation)),
-        Operator::Join(left, right, keys) => {
-            let left = rewritten_part(alloc, Box::into_inner(left))?;
-            let right = rewritten_part(alloc, Box::into_inner(right))?;
-            Plan::join(alloc, left, right, keys)
+    let Layers {
+        layers,
+        lookups,
+        base,
+    } = taken_apart(alloc, part, lookups)?;
+    match split_base(alloc, base, lookups)? {
+        Split::Leaf(base) => layered(alloc, base, layers),
+        Split::Both(joint, left, right) => {
+            let left = rewritten_part(alloc, left.part, left.lookups)?;
+            let right = rewritten_part(alloc, right.part, right.lookups)?;
+            put_together(alloc, joint, left, right, layers)
         }
-        Operator::Outer(left, right, keys, test) => {
-            let left = rewritten_part(alloc, Box::into_inner(left))?;
-            let right = rewritten_part(alloc, Box::into_inner(right))?;
-            Plan::outer(alloc, left, right, keys, test)
-        }
-        Operator::Union(left, right) => {
-            let left = rewritten_part(alloc, Box::into_inner(left))?;
-            let right = rewritten_part(alloc, Box::into_inner(right))?;
-            Plan::union(alloc, left, right)
-        }
-        Operator::Lookup(_, _, _)
-        | Operator::Filter(_, _)
-        | Operator::AllDifferent(_, _)
-        | Operator::Project(_, _)
-        | Operator::Distinct(_) => unreachable!(),
     }
 }
 
-#[cycle(rewriting)]
-fn rewritten_part(alloc: Global, part: Operator) -> Result<Plan, Fault>
-    requires { IsWellFormed (plan_of part) }
-    ensures { IfOk result (λ p. IsRewritten (plan_of part) (plan_of p)) }
-{
-    let Layers { layers, base } = taken_apart(alloc, part)?;
-    let base = rewritten_base(alloc, base)?;
-    layered(alloc, base, layers)
-}
-
-/// A plan that can stand in place of another one, and costs less to keep up: a join with the empty row, a projection to all columns
-/// in their order and a test that no relationship stands twice in no column go, and of two projections, of which the inner one takes
-/// over columns alone, one is made. Fails only for want of memory.
+/// A plan that can stand in place of another one, and costs less to keep up. A join with the empty row, a projection to all columns
+/// in their order and a test that no relationship stands twice in no column go; of two projections, of which the inner one takes over
+/// columns alone, one is made; and what is looked up of an entity is looked up where the entity comes from, below the joins. Fails only
+/// for want of memory.
 pub fn rewritten(alloc: Global, plan: Plan) -> Result<Plan, Fault>
     ensures { IfOk result (λ p. IsRewritten (plan_of plan) (plan_of p)) }
 {
-    rewritten_part(alloc, plan.into_root())
+    rewritten_part(alloc, plan.into_root(), Vec::new(alloc))
 }

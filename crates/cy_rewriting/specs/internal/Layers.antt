@@ -1,11 +1,13 @@
 -- The layers of a plan: parts with one part below them. (own)
-use Rattle.std.specs.Prelude.{◌≡◌, ◌<◌, ◌≤◌, List, [], ◌∷◌, map, ⊤}
+use Rattle.std.specs.Prelude.{◌≡◌, ◌<◌, ◌≤◌, List, [], ◌∷◌, map, reverse, ⊤}
 use Rattle.cy_trees.specs.Views.{expression_of}
 use Rattle.cy_plans.specs.declared.operators.Operator.{Operator, size-Operator}
 use Rattle.cy_plans.specs.Plans as plan
 use Rattle.cy_plans.specs.Plans.{Plan}
 use Rattle.cy_plans.specs.Views.{output_of, plan_of}
 use Rattle.cy_plans.specs.WellFormed.{IsWellFormed}
+use Rattle.cy_lowering.specs.declared.places.Wanted.{Wanted}
+use Rattle.cy_row_plans.specs.internal.Lookups.{over}
 use Rattle.cy_rewriting.specs.Rewritten.{IsRewritten}
 use Rattle.cy_rewriting.specs.declared.layers.Layer.{Layer}
 use Rattle.cy_rewriting.specs.declared.layers.Layer.TheVariants as layer
@@ -48,3 +50,14 @@ IsOpened part (opened.Base base) = (plan_of part ≡ plan_of base) × IsBase (pl
 -- where layers stand over a plan, these others can stand over another one
 abbrev pub AreInPlace : List Layer → List Layer → Plan → Plan → Type 0
 AreInPlace layers others p q = IsWellFormed (layered layers p) → IsRewritten (layered layers p) (layered others q)
+
+abbrev pub lookup_layer : Wanted → Layer
+lookup_layer w = layer.Lookup w.column w.attribute
+
+-- layers, and look-ups below them, over a plan, the uppermost first
+abbrev pub stacked : List Layer → List Wanted → Plan → Plan
+stacked layers pending p = layered layers (over p (reverse pending))
+
+-- where layers and look-ups stand over a plan, these others can stand over another one
+abbrev pub GoesOn : List Layer → List Wanted → Plan → List Layer → List Wanted → Plan → Type 0
+GoesOn layers pending p others more q = IsWellFormed (stacked layers pending p) → IsRewritten (stacked layers pending p) (stacked others more q)

@@ -5,8 +5,8 @@ use Rattle.cy_rewriting.specs.internal.Layers.{layered}
 use Rattle.cy_rewriting.proofs.Layering.{next_layer, well_layer}
 use Rattle.cy_rewriting.proofs.parts.layered.Goals as goal
 
-pub over-requires : goal.over-requires
-over-requires c =
+pub with_layer-requires : goal.with_layer-requires
+with_layer-requires c =
     let last : c.loop-layer.layers.items ≡ c.pop.new.self.items ++ c.in-Some.layer ∷ [] = first_of (search rules, grind (arith, common_steps)) in
     well_layer (layered c.args.layers.items (plan_of c.args.base)) (plan_of c.loop-layer.plan) c.loop-layer.layers.items c.pop.new.self.items c.in-Some.layer last c.requires c.loop-layer.invariant
 

@@ -4,7 +4,7 @@ use Rattle.cy_plans.specs.Plans.{Plan}
 use Rattle.cy_plans.specs.Views.{plan_of}
 use Rattle.cy_rewriting.specs.internal.Layers.{over_layer}
 use Rattle.cy_rewriting.proofs.Congruent.{equal_plans}
-use Rattle.cy_rewriting.proofs.parts.over.Goals as goal
+use Rattle.cy_rewriting.proofs.parts.with_layer.Goals as goal
 
 pub returns-in-Lookup : goal.returns-in-Lookup
 returns-in-Lookup c =

@@ -1,5 +1,5 @@
 -- Where a chain is cut: at its scan, or else at its last part.
-use Rattle.std.proofs.Common.{◌≡◌, ◌≢◌, ℕ, zero, suc, ◌+◌, ◌-◌, ◌<◌, ◌≤◌, true, false, List, [], ◌∷◌, ◌++◌, inl, inr, Option, None, length, map, take, drop, get_or, refl, sym, ap, subst, ◌∙◌, arith}
+use Rattle.std.proofs.Common.{◌≡◌, ◌≢◌, ℕ, zero, suc, ◌+◌, ◌<◌, ◌≤◌, true, false, List, [], ◌∷◌, ◌++◌, inl, inr, Option, None, length, map, take, drop, get_or, sym, ap, subst, ◌∙◌, arith}
 use Rattle.std.specs.Prelude.{is_some}
 use Rattle.std.specs.List.{All}
 use Rattle.std.proofs.lemmas.List.{drop_more, get_or-map, length-drop, length-map, take-append-drop, take_more}
@@ -110,13 +110,3 @@ module _ {A : Type 0} (f : A → Plan) (xs : List A) (p : Plan) (is : map f xs �
           rest = whole.rest;
           whole = whole.whole;
         }
-
-  -- all parts are of the scan
-  pub all_seen : (place : ℕ) (column : Option ℕ) → place ≡ 0 → IsWholeAt (map f xs) place column → IsCut (map f xs) place
-  all_seen place column none whole = record {
-    within = whole.within;
-    unscanned = subst (λ n. All Unscanned (take n (map f xs))) (sym none) (All-nil Unscanned);
-    end = whole.end;
-    rest = whole.rest;
-    whole = whole.whole;
-  }

@@ -1,5 +1,5 @@
 -- A part of a plan and the parts right below it.
-use Rattle.std.proofs.Common.{◌≡◌, ◌≢◌, ℕ, ◌+◌, ◌<◌, ◌≤◌, Bool, true, false, List, [], ◌∷◌, ◌++◌, length, refl, sym, ap, subst, ◌∙◌, arith}
+use Rattle.std.proofs.Common.{◌≡◌, ℕ, ◌+◌, ◌<◌, ◌≤◌, Bool, true, false, List, [], ◌∷◌, ◌++◌, length, refl, sym, ap, subst, ◌∙◌, arith}
 use Rattle.std.proofs.lemmas.List.{append-nil, length-append}
 use Rattle.cy_values.specs.declared.rows.Cell.{Cell}
 use Rattle.cy_plans.specs.Plans as plan
@@ -205,10 +205,6 @@ two_below (plan.all_different p columns) h = absurd (omega (arith, h))
 two_below (plan.project p outputs) h = absurd (omega (arith, h))
 two_below (plan.distinct p) h = absurd (omega (arith, h))
 two_below (plan.union left right) h = refl
-
--- so has one with neither none nor one
-pub two_left : (p : Plan) (count : ℕ) → count ≡ below_count p → count ≢ 0 → below_count p ≢ 1 → below_count p ≡ 2
-two_left p count is some other = let few = few_below p in omega (arith, few, is, some, other)
 
 -- the second part below is well formed, and has fewer parts
 pub second_good : (p q : Plan) (n : ℕ) → n ≡ below_count p → 1 < n → q ≡ second_below p → IsWellFormed p → IsWellFormed q

@@ -1,17 +1,15 @@
 -- A projection that keeps all columns of the rows below it makes different rows of different ones.
 use Rattle.std.proofs.Common.{◌≡◌, ℕ, ◌+◌, ◌<◌, ◌||◌, Bool, true, false, Option, Some, None, List, [], ◌∷◌, length, get_or, refl, sym, ap, subst, ◌∙◌, arith, true≢false}
 use Rattle.std.specs.Prelude.{is_some}
-use Rattle.std.specs.List.{list_all, range_with_len}
+use Rattle.std.specs.List.{list_all}
 use Rattle.std.proofs.lemmas.List.{ext_get_or}
 use Rattle.std.proofs.lemmas.List.Folds.{list_all_at}
 use Rattle.std.proofs.lemmas.List.FromFn.{get_or-range_with_len, length-range_with_len}
 use Rattle.cy_values.specs.declared.rows.Cell.{Cell}
-use Rattle.cy_graph.specs.Graph.{Content}
 use Rattle.cy_merges.specs.Merges.{IsOneToOne, all_columns}
 use Rattle.cy_plans.specs.Expressions.{cell_at, null, projected}
 use Rattle.cy_plans.specs.Plans as plan
 use Rattle.cy_plans.specs.Plans.{Output, Plan, width}
-use Rattle.cy_plans.specs.WellFormed.{IsWellFormed}
 use Rattle.cy_deltas.specs.declared.shifts.Shift.{Shift}
 use Rattle.cy_deltas.specs.Deltas.{AreWide, IsBounded, IsDelta, counts, rows_at}
 use Rattle.std.specs.List.{All}
@@ -22,7 +20,6 @@ use Rattle.cy_scans.specs.Changes.{Touches}
 use Rattle.cy_scans.specs.Scans.{column_over, kept_at}
 use Rattle.cy_network.proofs.ScanFacts.{kept_cell}
 use Rattle.cy_network.specs.Memories.{is_row_by_row, is_scan, keeps_all, own_contents, own_keys, unless}
-use Rattle.cy_network.specs.internal.Parts.{first_below}
 use Rattle.cy_network.specs.internal.Upkeep.{IsDeltaOf, IsStep, content_of}
 
 -- each column is kept

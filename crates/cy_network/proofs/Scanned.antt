@@ -1,5 +1,5 @@
 -- Scans: they keep no memories, their rows are few, and what changes of them comes of the touched entities alone.
-use Rattle.std.proofs.Common.{◌≡◌, ◌≢◌, ℕ, ◌+◌, ◌<◌, ◌≤◌, ◌||◌, Bool, true, false, List, [], ◌∷◌, ◌++◌, Option, Some, None, IsSome, ◌⊎◌, inl, inr, filter, length, map, refl, sym, ap, subst, ◌∙◌, arith, true≢false}
+use Rattle.std.proofs.Common.{◌≡◌, ◌≢◌, ℕ, ◌<◌, ◌≤◌, ◌||◌, Bool, true, false, List, [], ◌∷◌, ◌++◌, Option, Some, None, IsSome, ◌⊎◌, inl, inr, filter, length, map, refl, sym, ap, subst, ◌∙◌, arith, true≢false}
 use Rattle.std.specs.Prelude.{is_some}
 use Rattle.std.specs.List.{All}
 use Rattle.std.proofs.lemmas.List.Elements.{All-cons, All-nil}
@@ -18,7 +18,7 @@ use Rattle.cy_deltas.proofs.PlanLemmas.{different_at, filter_at, lookup_at, node
 use Rattle.cy_scans.specs.Changes.{Touches}
 use Rattle.cy_scans.specs.Scans.{IsScan, column_over, if_this, kept, scan_column, scan_parts, scan_reads}
 use Rattle.cy_network.proofs.ScanFacts.{scan_few}
-use Rattle.cy_network.specs.Memories.{AreWithin, contents, is_row_by_row, is_scan, keeps_all, keys, own_contents, own_keys, unless}
+use Rattle.cy_network.specs.Memories.{AreWithin, contents, is_scan, keeps_all, keys, own_contents, own_keys, unless}
 use Rattle.cy_network.specs.internal.Parts.{below_count, chain, first_below}
 use Rattle.cy_network.specs.internal.Upkeep.{IsBegun, IsDeltaOf, IsDone, IsStep, all_reads, content_of, state_of}
 use Rattle.cy_network.proofs.Steps.{done_leaf, old_content}

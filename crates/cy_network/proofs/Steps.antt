@@ -111,7 +111,7 @@ done_leaf from_nothing old now touches p columns was staged made leaf begun chan
     by (plan.distinct p) leaf settled within change = absurd (omega (arith, leaf))
     by (plan.union left right) leaf settled within change = absurd (omega (arith, leaf))
 
--- ---- a part with one part below it
+-- ---- a part with two parts below it
 
 module _ {M : Type 0} (key_columns : M → List ℕ) (was staged : M → Counts) (from_nothing : Bool) (old : Option State) (now : State) (touches : Touches) (p : Plan) where
   abbrev pub IsBegunBy : Plan → List M → Type 0
@@ -119,42 +119,6 @@ module _ {M : Type 0} (key_columns : M → List ℕ) (was staged : M → Counts)
 
   abbrev pub IsOwnBegunBy : List M → Type 0
   IsOwnBegunBy own = IsOwnBegun old p (map key_columns own) (map was own) (map staged own)
-
-  pub begun_one : (memories below own : List M) → memories ≡ below ++ own → below_count p ≡ 1 → length own ≡ length (own_keys p) → IsBegunBy p memories
-      → IsBegunBy (first_below p) below × IsOwnBegunBy own
-  begun_one memories below own is single long begun =
-      let facts = over_one p single in
-      let rows = rows_at (content_of old) in
-      let ks = same_mapped key_columns below own (keys (first_below p)) (own_keys p) (ap (map key_columns) (sym is) ∙ begun.held.keyed ∙ facts.of_keys) long in
-      let ws = same_mapped was below own (contents rows (first_below p)) (own_contents rows p) (ap (map was) (sym is) ∙ begun.held.held ∙ facts.of_contents rows) (long ∙ sym (own_long rows p)) in
-      let ss = same_mapped staged below own (contents rows (first_below p)) (own_contents rows p) (ap (map staged) (sym is) ∙ begun.held.settled ∙ facts.of_contents rows) (long ∙ sym (own_long rows p)) in (
-        record {
-          first = begun.first;
-          step = record { change = begun.step.change; well_formed = facts.well_formed begun.step.well_formed; sure = facts.sure begun.step.sure };
-          held = record { keyed = ks.0; held = ws.0; settled = ss.0; within = All-tail (Within (content_of old)) p (parts (first_below p)) (subst (All (Within (content_of old))) facts.of_parts begun.held.within) };
-        },
-        record { keyed = ks.1; held = ws.1; settled = ss.1; within = begun.held.within },
-      )
-
-  pub done_one : (memories below own : List M) (shifts made : List Shift) → memories ≡ below ++ own → below_count p ≡ 1 → AreWithin (content_of old) p
-      → IsDone old now (first_below p) (map staged below) shifts → IsOwnDone old now p (map staged own) made → IsDone old now p (map staged memories) made
-  done_one memories below own shifts made is single within below_done own_done =
-      let facts = over_one p single in
-      let rows = rows_at (Some now.content) in
-      record {
-        change = own_done.change;
-        holds =
-            ap (map staged) is
-            ∙ map-append staged below own
-            ∙ ap (λ xs. xs ++ map staged own) below_done.holds
-            ∙ ap (λ xs. contents rows (first_below p) ++ xs) own_done.holds
-            ∙ sym (facts.of_contents rows);
-        within =
-            subst (All (Within (Some now.content))) (sym facts.of_parts)
-            (All-cons (Within (Some now.content)) p (parts (first_below p)) (now_within old now p made within own_done.change) below_done.within);
-      }
-
-  -- ---- a part with two parts below it
 
   pub begun_two : (memories lefts rights own : List M) → memories ≡ (lefts ++ rights) ++ own → below_count p ≡ 2 → length own ≡ length (own_keys p)
       → length rights ≡ length (keys (second_below p)) → IsBegunBy p memories → IsBegunBy (first_below p) lefts × IsBegunBy (second_below p) rights × IsOwnBegunBy own
@@ -204,15 +168,6 @@ module _ {M : Type 0} (key_columns : M → List ℕ) (was staged : M → Counts)
 -- ---- what is counted
 
 module _ {M : Type 0} (step_count : M → ℕ) (number : Plan → ℕ) (p : Plan) where
-  pub steps_one : (memories below own memories_new below_new own_new : List M) → memories ≡ below ++ own → memories_new ≡ below_new ++ own_new → below_count p ≡ 1
-      → sum_by step_count below_new ≤ sum_by step_count below + in_all number (first_below p) → sum_by step_count own_new ≤ sum_by step_count own + number p
-      → sum_by step_count memories_new ≤ sum_by step_count memories + in_all number p
-  steps_one memories below own memories_new below_new own_new is is_new single first second =
-      let a = ap (sum_by step_count) is ∙ sum_by-append step_count below own in
-      let b = ap (sum_by step_count) is_new ∙ sum_by-append step_count below_new own_new in
-      let sums = (over_one p single).sums number in
-      omega (arith, a, b, sums, first, second)
-
   pub steps_two : (memories lefts rights own memories_new lefts_new rights_new own_new : List M) → memories ≡ (lefts ++ rights) ++ own → memories_new ≡ (lefts_new ++ rights_new) ++ own_new
       → below_count p ≡ 2 → sum_by step_count lefts_new ≤ sum_by step_count lefts + in_all number (first_below p)
       → sum_by step_count rights_new ≤ sum_by step_count rights + in_all number (second_below p) → sum_by step_count own_new ≤ sum_by step_count own + number p
@@ -224,9 +179,6 @@ module _ {M : Type 0} (step_count : M → ℕ) (number : Plan → ℕ) (p : Plan
       let d = sum_by-append step_count lefts_new rights_new in
       let sums = (over_two p pair).sums number in
       omega (arith, a, b, c, d, sums, first, second, third)
-
-pub reads_one : (number : Plan → ℕ) (p : Plan) (old middle new : ℕ) → below_count p ≡ 1 → middle ≤ old + in_all number (first_below p) → new ≤ middle + number p → new ≤ old + in_all number p
-reads_one number p old middle new single first second = let sums = (over_one p single).sums number in omega (arith, sums, first, second)
 
 pub reads_two : (number : Plan → ℕ) (p : Plan) (old middle new : ℕ) → below_count p ≡ 2 → number p ≡ 0 → middle ≤ old + in_all number (first_below p) → new ≤ middle + in_all number (second_below p)
     → new ≤ old + in_all number p

@@ -15,6 +15,17 @@ use cy_values::{Duplicate, Fault, Row, Sequence};
 use indexmap::IndexMap;
 use std::alloc::Global;
 
+// No row goes, and none comes.
+fn nothing(alloc: Global) -> Change
+    ensures removed { result.removed ≡ [] }
+    ensures added { result.added ≡ [] }
+{
+    Change {
+        removed: Sequence::new(Vec::new(alloc)),
+        added: Sequence::new(Vec::new(alloc)),
+    }
+}
+
 /// What rows change, as a change. Fails only for want of memory.
 pub(crate) fn pending_change(alloc: Global, shifts: &[Shift]) -> Result<Change, Fault>
     requires { (before : List (List Cell)) × ((after : List (List Cell)) × IsDelta (counts before) (counts after) shifts.now) }
@@ -88,6 +99,9 @@ pub(crate) fn prepared(
     ensures room { IfOk result (λ made. length made.0.items ≤ spare rows.new) }
     ensures entries { rows.new.entries ≡ rows.old.entries }
 {
+    if shifts.is_empty() {
+        return Ok((Vec::new(alloc), nothing(alloc)));
+    }
     let change = pending_change(alloc, &shifts)?;
     let next = counts_after(alloc, shifts)?;
     rows.reserve(next.len())?;

@@ -1,12 +1,40 @@
-use Rattle.std.proofs.Common.{ap, sym, subst, ◌∙◌}
+use Rattle.std.proofs.Common.{◌≡◌, ℕ, ◌==◌, true, List, [], ◌∷◌, length, refl, ap, sym, subst, ◌∙◌, arith}
+use Rattle.std.proofs.lemmas.Bool.Decides.{nat_tests}
+use Rattle.cy_values.specs.Bag.{IsCanonical, weight_of}
+use Rattle.cy_deltas.specs.declared.shifts.Shift.{Shift}
 use Rattle.cy_deltas.specs.Deltas.{IsDelta, counts}
 use Rattle.cy_network.specs.Counted.{written}
+use Rattle.cy_network.proofs.Excess.{gains_weight, losses_weight}
 use Rattle.cy_network.proofs.Held.{written_delta}
 use Rattle.cy_network.proofs.pending.prepared.Goals as goal
+
+no_shifts : (shifts : List Shift) (long : ℕ) → long ≡ length shifts → true ≡ (long == 0) → shifts ≡ []
+no_shifts [] long is none = refl
+no_shifts (s ∷ shifts) long is none = absurd (let zero_is : long ≡ 0 = grind (arith, nat_tests, none) in omega (arith, zero_is, is))
 
 pub pending_change-requires : goal.pending_change-requires
 pending_change-requires c =
     (c.requires.0, (c.requires.1.0, subst (IsDelta (counts c.requires.0) (counts c.requires.1.0)) (sym c.deref.ensures.value) c.requires.1.1))
+
+pub returns-then-is_empty-clause-leaves : goal.returns-then-is_empty-clause-leaves
+returns-then-is_empty-clause-leaves c = λ before after delta.
+    let none = no_shifts c.args.shifts.items _ c.args.shifts.ok.0 c.if-is_empty.ensures in
+    ap (λ xs. written xs (counts before)) c.new.ensures.items ∙ written_delta [] (counts before) (counts after) (subst (IsDelta (counts before) (counts after)) none delta)
+
+pub returns-then-is_empty-clause-difference : goal.returns-then-is_empty-clause-difference
+returns-then-is_empty-clause-difference c = λ before after delta.
+    let none = no_shifts c.args.shifts.items _ c.args.shifts.ok.0 c.if-is_empty.ensures in
+    let same = subst (IsDelta (counts before) (counts after)) none delta in
+    record {
+      removed = record {
+        counts = λ row. ap (weight_of row) c.nothing.ensures.removed ∙ losses_weight (counts before) (counts after) [] same row;
+        canonical = subst IsCanonical (sym c.nothing.ensures.removed) tt;
+      };
+      added = record {
+        counts = λ row. ap (weight_of row) c.nothing.ensures.added ∙ gains_weight (counts before) (counts after) [] same row;
+        canonical = subst IsCanonical (sym c.nothing.ensures.added) tt;
+      };
+    }
 
 pub returns-clause-leaves : goal.returns-clause-leaves
 returns-clause-leaves c = λ before after delta. ap (λ xs. written xs (counts before)) c.in_ok-next.ensures ∙ written_delta c.args.shifts.items (counts before) (counts after) delta

@@ -1,4 +1,4 @@
-use Rattle.std.proofs.Common.{◌≡◌, map, sym, subst}
+use Rattle.std.proofs.Common.{map, sym, subst}
 use Rattle.cy_plans.specs.Plans.{Plan}
 use Rattle.cy_plans.specs.Views.{output_of, plan_of}
 use Rattle.cy_network.specs.internal.Parts.{first_below}

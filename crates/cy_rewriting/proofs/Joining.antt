@@ -23,7 +23,7 @@ use Rattle.cy_plans.specs.Parts.{parts}
 use Rattle.cy_plans.specs.Sure.{HasCells, HasTruth, IsSureOn}
 use Rattle.cy_plans.specs.WellFormed.{IsKeyBetween, IsOutputOver, IsOver, IsWellFormed, greatest_width}
 use Rattle.cy_plans.specs.Within.{IsWithin}
-use Rattle.cy_plans.proofs.Counts.{count_cons, identity, same}
+use Rattle.cy_plans.proofs.Counts.{count_cons, count_passing, identity, same}
 use Rattle.cy_expr.specs.Faults.{on_one}
 use Rattle.cy_expr.specs.Reading.{reads_below}
 use Rattle.cy_expr.specs.Logic.{truth_of}
@@ -33,7 +33,7 @@ use Rattle.cy_renumbering.specs.Renumbered.{renumbered}
 use Rattle.cy_renumbering.proofs.RenumberedLemmas.{reads_inside, same_cell, same_reading}
 use Rattle.cy_row_plans.specs.Columns.{column_output}
 use Rattle.cy_row_plans.specs.internal.Lookups.{over, value_on, with_values}
-use Rattle.cy_row_plans.proofs.OverRows.{IsInside, IsLong, any_rows, columns_have_cells, columns_over, long_rows, own_part, parts_over, rows_over, smaller_within, well_over, width_bounded, width_over}
+use Rattle.cy_row_plans.proofs.OverRows.{IsInside, IsLong, any_rows, columns_have_cells, columns_over, cond_less, long_rows, own_part, parts_over, rows_over, smaller_within, well_over, width_bounded, width_over}
 use Rattle.cy_rewriting.specs.internal.Lowered.{both_columns, joined_columns, lefts, rights}
 use Rattle.cy_rewriting.specs.Rewritten.{IsRewritten}
 use Rattle.cy_rewriting.proofs.Congruent.{all_split, same_within}
@@ -48,15 +48,15 @@ rows_split P (x ∷ xs) ys each =
 
 -- ---- what holds of a plan with look-ups on it holds of the plan
 
-sure_below : (graph : Content) (ws : List Wanted) (p : Plan) → IsSureOn graph (over p ws) → IsSureOn graph p
+pub sure_below : (graph : Content) (ws : List Wanted) (p : Plan) → IsSureOn graph (over p ws) → IsSureOn graph p
 sure_below graph [] p sure = sure
 sure_below graph (w ∷ ws) p sure = sure_below graph ws (plan.lookup p w.column w.attribute) sure
 
-sure_above : (graph : Content) (ws : List Wanted) (p : Plan) → IsSureOn graph p → IsSureOn graph (over p ws)
+pub sure_above : (graph : Content) (ws : List Wanted) (p : Plan) → IsSureOn graph p → IsSureOn graph (over p ws)
 sure_above graph [] p sure = sure
 sure_above graph (w ∷ ws) p sure = sure_above graph ws (plan.lookup p w.column w.attribute) sure
 
-parts_below : (P : Plan → Type 0) (ws : List Wanted) (p : Plan) → All P (parts (over p ws)) → All P (parts p)
+pub parts_below : (P : Plan → Type 0) (ws : List Wanted) (p : Plan) → All P (parts (over p ws)) → All P (parts p)
 parts_below P [] p each = each
 parts_below P (w ∷ ws) p each = All-tail P (plan.lookup p w.column w.attribute) (parts p) (parts_below P ws (plan.lookup p w.column w.attribute) each)
 
@@ -374,3 +374,11 @@ module _ (total : IsTotalOrder row_cmp) (left right : Plan) (ws : List Wanted) (
               );
           bounded = λ graph tables each. sides_within good.0 good.1 room graph tables (plan.outer left right keys test) (plan.outer wide_left wide_right keys on_both) refl refl (outer_rows graph well) each;
         }
+
+-- what sifts the rows of a plan counts no row more often
+pub sifted_within : (graph : Content) (tables : List (List (List Cell))) (q : List Cell → Bool) (below p : Plan) → rows_of graph p ≡ filter q (rows_of graph below) → IsWithin graph tables below → IsWithin graph tables p
+sifted_within graph tables q below p is within row =
+    smaller_within tables (count_of row (rows_of graph p)) (count_of row (rows_of graph below))
+    (subst (λ rows. count_of row rows ≤ count_of row (rows_of graph below)) (sym is)
+    (subst (λ n. n ≤ count_of row (rows_of graph below)) (sym (count_passing q row (rows_of graph below))) (cond_less (q row) (count_of row (rows_of graph below)))))
+    (within row)

@@ -6,5 +6,7 @@ pub mod Wider
 pub mod Passing
 pub mod Sides
 pub mod Joining
+pub mod Rising
 pub mod Stacking
+pub mod Redirecting
 pub mod Splitting

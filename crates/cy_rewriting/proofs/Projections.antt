@@ -78,7 +78,7 @@ cell_moved row [] i d less = absurd (omega (arith, less))
 cell_moved row (c ∷ columns) zero d less = refl
 cell_moved row (c ∷ columns) (suc i) d less = cell_moved row columns i d (omega (arith, less))
 
-relationships_moved : (row : List Cell) (columns members : List ℕ) → All (IsColumn (length columns)) members → relationships_at (map (new_column columns) members) row ≡ relationships_at members (map (cell_at row) columns)
+pub relationships_moved : (row : List Cell) (columns members : List ℕ) → All (IsColumn (length columns)) members → relationships_at (map (new_column columns) members) row ≡ relationships_at members (map (cell_at row) columns)
 relationships_moved row columns [] each = refl
 relationships_moved row columns (m ∷ members) each =
     λ i. relationships_in (cell_moved row columns m m (All-head (IsColumn (length columns)) m members each) i) ++ relationships_moved row columns members (All-tail (IsColumn (length columns)) m members each) i
@@ -124,7 +124,7 @@ member_inside n [] i d each less = absurd (omega (arith, less))
 member_inside n (c ∷ columns) zero d each less = each.0
 member_inside n (c ∷ columns) (suc i) d each less = member_inside n columns i d each.1 (omega (arith, less))
 
-members_inside : (n : ℕ) (columns members : List ℕ) → AllByRecursion (λ c. c < n) columns → All (IsColumn (length columns)) members → All (IsColumn n) (map (new_column columns) members)
+pub members_inside : (n : ℕ) (columns members : List ℕ) → AllByRecursion (λ c. c < n) columns → All (IsColumn (length columns)) members → All (IsColumn n) (map (new_column columns) members)
 members_inside n columns [] inside each = All-nil (IsColumn n)
 members_inside n columns (m ∷ members) inside each =
     All-cons (IsColumn n) (new_column columns m) (map (new_column columns) members)

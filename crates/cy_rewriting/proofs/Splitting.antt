@@ -130,3 +130,11 @@ pub over_sides : (orig base p q : Plan) (ls : List Layer) (ws : List Wanted) (j 
     → IsRewritten orig (layered ls (together j p q))
 over_sides orig base p q ls ws j l r before sides first second =
     rewritten_again orig (layered ls (over base ws)) (layered ls (together j p q)) before (over_all ls (over base ws) (together j p q) (sides.whole p q first second))
+
+-- with the look-ups in other columns
+pub sides_from : (base : Plan) (ws ms : List Wanted) (j : Joint) (l r : Side) → IsRewritten (over base ws) (over base ms) → AreSides base ms j l r → AreSides base ws j l r
+sides_from base ws ms j l r is sides = record {
+  left = sides.left;
+  right = sides.right;
+  whole = λ p q first second. rewritten_again (over base ws) (over base ms) (together j p q) is (sides.whole p q first second);
+}

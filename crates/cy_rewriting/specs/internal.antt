@@ -1,5 +1,6 @@
 -- What private functions and proofs need.
 pub mod Columns
 pub mod Lowered
+pub mod Redirected
 pub mod Splits
 pub mod Layers

@@ -5,20 +5,25 @@ ghost use Rattle.std.specs.List.{AllByRecursion};
 ghost use Rattle.cy_plans.specs.declared.operators.Operator.{size-Operator};
 ghost use Rattle.cy_plans.specs.declared.operators.Operator.TheVariants as operator;
 ghost use Rattle.cy_plans.specs.Plans.{Plan, width};
-ghost use Rattle.cy_plans.specs.Views.{plan_of};
+ghost use Rattle.cy_plans.specs.Views.{output_of, plan_of};
 ghost use Rattle.cy_plans.specs.WellFormed.{IsWellFormed};
 ghost use Rattle.cy_row_plans.specs.internal.Lookups.{over};
 ghost use Rattle.cy_rewriting.specs.declared.layers.Layer.TheVariants as layer;
 ghost use Rattle.cy_rewriting.specs.Rewritten.{IsRewritten};
+ghost use Rattle.cy_rewriting.specs.internal.Columns.{AreColumns};
 ghost use Rattle.cy_rewriting.specs.internal.Layers as spec;
 
 use crate::lookups::{are_inside, below_projection, with_columns};
-use crate::outputs::merged;
+use crate::outputs::{columns_of, merged, renumber_members};
 use cy_lowering::Wanted;
 use cy_plans::{Attribute, Operator, Output};
+use cy_renumbering::renumber;
 use cy_trees::Expr;
 use cy_values::Fault;
 use std::alloc::Global;
+
+/// Over so many conditions and tests a projection goes up at most.
+const MOST_PASSED: usize = 64;
 
 /// A part that has one part below it, without that one.
 #[derive(Drop)]
@@ -115,7 +120,47 @@ fn add_second(
     }
 }
 
-/// Puts a projection below all.
+/// Puts a projection that takes over columns below all: it goes up over conditions and tests, but over so many at most.
+fn add_columns(
+    alloc: Global,
+    layers: &mut Vec<Layer>,
+    outputs: Vec<Output>,
+    columns: &[usize],
+    most: usize,
+) -> Result<(), Fault>
+    requires { AreColumns (map output_of outputs.items) columns.now }
+    ensures { OnOk result ((p : Plan) → spec.AreInPlace (layers.old.items ++ layer.Project outputs ∷ []) layers.new.items p p) }
+{
+    if most == 0 {
+        return push(layers, Layer::Project(outputs));
+    }
+    match layers.pop() {
+        Some(Layer::Project(outer)) => add_second(alloc, layers, outer, outputs),
+        Some(Layer::Filter(test)) => {
+            let lower = renumber(alloc, &test, columns)?;
+            add_columns(alloc, layers, outputs, columns, most - 1)?;
+            layers.push(Layer::Filter(lower))?;
+            Ok(())
+        }
+        Some(Layer::AllDifferent(members)) => {
+            let lower = renumber_members(alloc, members.as_slice(), columns)?;
+            add_columns(alloc, layers, outputs, columns, most - 1)?;
+            layers.push(Layer::AllDifferent(lower))?;
+            Ok(())
+        }
+        Some(Layer::Lookup(column, attribute)) => {
+            layers.push(Layer::Lookup(column, attribute))?;
+            push(layers, Layer::Project(outputs))
+        }
+        Some(Layer::Distinct) => {
+            layers.push(Layer::Distinct)?;
+            push(layers, Layer::Project(outputs))
+        }
+        None => push(layers, Layer::Project(outputs)),
+    }
+}
+
+/// Puts a projection below all, or what can stand in its place.
 pub(crate) fn add_projection(
     alloc: Global,
     layers: &mut Vec<Layer>,
@@ -123,12 +168,8 @@ pub(crate) fn add_projection(
 ) -> Result<(), Fault>
     ensures { OnOk result ((p : Plan) → spec.AreInPlace (layers.old.items ++ layer.Project outputs ∷ []) layers.new.items p p) }
 {
-    match layers.pop() {
-        Some(Layer::Project(outer)) => add_second(alloc, layers, outer, outputs),
-        Some(last) => {
-            layers.push(last)?;
-            push(layers, Layer::Project(outputs))
-        }
+    match columns_of(alloc, outputs.as_slice())? {
+        Some(columns) => add_columns(alloc, layers, outputs, columns.as_slice(), MOST_PASSED),
         None => push(layers, Layer::Project(outputs)),
     }
 }

@@ -5,6 +5,7 @@ mod layers;
 mod lookups;
 mod outputs;
 mod parts;
+mod redirects;
 mod rewriting;
 mod splits;
 

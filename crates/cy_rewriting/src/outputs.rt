@@ -64,7 +64,7 @@ pub(crate) fn are_first_columns(outputs: &[Output]) -> bool
 }
 
 /// The columns that a projection takes over, if it makes no other one.
-fn columns_of(alloc: Global, outputs: &[Output]) -> Result<Option<Vec<usize>>, Fault>
+pub(crate) fn columns_of(alloc: Global, outputs: &[Output]) -> Result<Option<Vec<usize>>, Fault>
     ensures { IfOk result (λ made. IfSome made (λ columns. spec.AreColumns (map output_of outputs.now) columns.items)) }
 {
     let mut columns = Vec::with_capacity(alloc, outputs.len())?;
@@ -87,7 +87,7 @@ fn column_for(columns: &[usize], column: usize) -> usize
     }
 }
 
-fn renumber_members(
+pub(crate) fn renumber_members(
     alloc: Global,
     members: &[usize],
     columns: &[usize],

@@ -35,9 +35,9 @@ fn rewritten_part(alloc: Global, part: Operator, lookups: Vec<Wanted>) -> Result
 }
 
 /// A plan that can stand in place of another one, and costs less to keep up. A join with the empty row, a projection to all columns
-/// in their order and a test that no relationship stands twice in no column go; of two projections, of which the inner one takes over
-/// columns alone, one is made; and what is looked up of an entity is looked up where the entity comes from, below the joins. Fails only
-/// for want of memory.
+/// in their order and a test that no relationship stands twice in no column go. A projection that takes over columns alone goes up
+/// over conditions and tests, and is one with a projection over it. What is looked up of an entity is looked up where the entity comes
+/// from, below the joins. Fails only for want of memory.
 pub fn rewritten(alloc: Global, plan: Plan) -> Result<Plan, Fault>
     ensures { IfOk result (λ p. IsRewritten (plan_of plan) (plan_of p)) }
 {

@@ -1,12 +1,12 @@
 -- How far an input is read and served.
-use Rattle.std.proofs.Common.{◌≡◌, ℕ, ◌+◌, ◌≤◌, ◌<◌, List, [], ◌∷◌, ◌++◌, length, take, drop, Bool, true, Option, Some, None, IfSome, Result, Ok, Err, IfOk, refl, sym, ◌∙◌, ap, subst, append_assoc, ◌⊎◌, inl, inr, arith, length-drop}
+use Rattle.std.proofs.Common.{◌≡◌, ℕ, ◌+◌, ◌-◌, ◌≤◌, ◌<◌, List, [], ◌∷◌, ◌++◌, length, take, drop, Bool, true, Option, Some, None, IfSome, Result, Ok, Err, IfOk, refl, sym, ◌∙◌, ap, subst, append_assoc, ◌⊎◌, inl, inr, arith, length-drop}
 use Rattle.std.proofs.lemmas.List.{append-nil, take-append-drop, take_all, take-append-le, drop-append-le, drop-drop, length-take-le}
 use Rattle.std.proofs.Math.Seq.{take-add}
-use Rattle.cy_shell.specs.Lines.{ended_lines, begun_line, whole_lines, last_line, unless_empty, lines_of, lines_read}
+use Rattle.cy_shell.specs.Lines.{ended_lines, begun_line, whole_lines, last_line, unless_empty, lines_of, lines_after}
 use Rattle.cy_shell.specs.internal.Lines.{buffered}
 use Rattle.cy_shell.specs.Runs.{Serving, WritesRun, WritesBeginning, WritesAll, input_limit, StopsReading, StopsWriting}
-use Rattle.cy_shell.specs.Streams.{TakesFront}
-use Rattle.cy_shell.proofs.Chains.{no_lines, more_lines, breaks_later, breaks_before}
+use Rattle.cy_shell.specs.Streams.{Extends, TakesFront}
+use Rattle.cy_shell.proofs.Chains.{no_lines, more_lines}
 use Rattle.cy_shell.proofs.Cuts.{ended-append, begun-append}
 
 -- so many bytes of the input are read, and the lines that have ended in them are answered
@@ -52,6 +52,16 @@ pub takes_into_front : {E : Type 0} (r : Result ℕ E) (left after : Option (Lis
     → IfOk r (λ count. TakesFront left after old_piece (piece ++ drop most old_piece) count)
 takes_into_front (Ok count) left after old_piece piece most some fits within taken = front_taken left after old_piece piece most count some fits within taken
 takes_into_front (Err e) left after old_piece piece most some fits within taken = tt
+
+known_same : (taken : Option (List ℕ)) (a b : List ℕ) → a ≡ b → IfSome taken (λ bytes. bytes ≡ a) → IfSome taken (λ bytes. bytes ≡ b)
+known_same taken a b same is = subst (λ bytes. IfSome taken (λ t. t ≡ bytes)) same is
+
+-- so is what it took
+pub took_into_front : {E : Type 0} (r : Result ℕ E) (taken : Option (List ℕ)) (old_piece piece : List ℕ) (most : ℕ) → most ≤ length old_piece → length piece ≡ length (take most old_piece)
+    → IfOk r (λ count. count ≤ length (take most old_piece)) → IfOk r (λ count. IfSome taken (λ bytes. bytes ≡ take count piece)) → IfOk r (λ count. IfSome taken (λ bytes. bytes ≡ take count (piece ++ drop most old_piece)))
+took_into_front (Ok count) taken old_piece piece most fits long within took =
+    known_same taken (take count piece) (take count (piece ++ drop most old_piece)) (sym (take-append-le count piece (drop most old_piece) (omega (arith, within, long)))) took
+took_into_front (Err e) taken old_piece piece most fits long within took = tt
 
 -- what one read takes of the input
 pub record Takes (input : List ℕ) (total count : ℕ) (left : Option (List ℕ)) (piece : List ℕ) : Type 0 where
@@ -114,28 +124,37 @@ stops_reading input total start engine left left' line has_failed before after r
   written = reads.written;
 }
 
--- what breaks the answers off, whether the input is at its end or not
-breaks_off : (front rest : List ℕ) (start : Serving) (before after : Option (List ℕ)) → WritesBeginning start (whole_lines front) before after → WritesBeginning start (lines_read front rest) before after
-breaks_off front [] start before after broken = breaks_before start (whole_lines front) (unless_empty (last_line front)) before after broken
-breaks_off front (c ∷ rest) start before after broken = broken
+-- the lines that end in some bytes after a front
+after_some : (front chunk : List ℕ) → 0 < length chunk → ended_lines (last_line front) chunk ≡ lines_after front chunk
+after_some front [] some = absurd (omega arith)
+after_some front (c ∷ chunk) some = refl
 
 -- a piece that was broken off
-pub stops_in_piece : (input : List ℕ) (total count : ℕ) (start mid : Serving) (left left' line : Option (List ℕ)) (old_piece piece chunk : List ℕ) (before between after : Option (List ℕ))
-    → Reads input total start left line mid before between → TakesFront left left' old_piece piece count → total + count ≤ input_limit → chunk ≡ take count piece
+pub stops_in_piece : (input : List ℕ) (total count : ℕ) (start mid : Serving) (left left' line : Option (List ℕ)) (old_piece piece chunk : List ℕ) (before between after taken handed_before handed_between handed : Option (List ℕ))
+    → Reads input total start left line mid before between → TakesFront left left' old_piece piece count → total + count ≤ input_limit → chunk ≡ take count piece → 0 < count
+    → IfSome taken (λ bytes. bytes ≡ take count piece) → (handed_before ≡ before → handed_between ≡ between) → Extends handed_between handed
     → ((begun : List ℕ) → line ≡ buffered begun → WritesBeginning mid (ended_lines begun chunk) between after)
-    → StopsWriting start input left' before after
-stops_in_piece input total count start mid left left' line old_piece piece chunk before between after reads taken limited is answers =
-    let next = takes input total count left left' old_piece piece reads.within reads.unread taken in
+    → StopsWriting start input left' taken before after handed_before handed
+stops_in_piece input total count start mid left left' line old_piece piece chunk before between after taken handed_before handed_between handed reads takes_front limited is some took hands keeps answers =
+    let next = takes input total count left left' old_piece piece reads.within reads.unread takes_front in
     let front : take (total + count) input ≡ take total input ++ chunk = next.front ∙ ap (λ bytes. take total input ++ bytes) (sym is) in
+    let size : length chunk ≡ count =
+    ap length (is ∙ next.piece_is) ∙ length-take-le count (drop total input) (let room : length (drop total input) ≡ length input - total = length-drop total input in let inside : total + count ≤ length input = next.within in omega (arith, room, inside)) in
+    let long : 0 < length chunk = omega (arith, size, some) in
     record {
-      front = take (total + count) input;
+      front = take total input;
+      last = chunk;
       rest = drop (total + count) input;
-      read = sym (take-append-drop (total + count) input);
+      read = sym (take-append-drop (total + count) input) ∙ ap (λ bytes. bytes ++ drop (total + count) input) front;
       unread = next.unread;
-      within = subst (λ n. n ≤ input_limit) (sym (length-take-le (total + count) input next.within)) limited;
-      written = breaks_off (take (total + count) input) (drop (total + count) input) start before after
-          (subst (λ ls. WritesBeginning start ls before after) (sym (ap whole_lines front ∙ whole_more (take total input) chunk))
-          (breaks_later start mid _ _ before between after reads.written (answers (last_line (take total input)) reads.keeps)));
+      taken_last = known_same taken (take count piece) chunk (sym is) took;
+      at_end = λ none. absurd (let zero_long : length chunk ≡ 0 = ap length none in omega (arith, zero_long, long));
+      within = subst (λ bytes. length bytes ≤ input_limit) front (subst (λ n. n ≤ input_limit) (sym (length-take-le (total + count) input next.within)) limited);
+      middle = mid;
+      between = between;
+      answered = reads.written;
+      handed = λ same. subst (λ h. Extends h handed) (hands same) keeps;
+      written = subst (λ ls. WritesBeginning mid ls between after) (after_some (take total input) chunk long) (answers (last_line (take total input)) reads.keeps);
     }
 
 -- the end of the input
@@ -165,17 +184,24 @@ ends_well input total start mid new left left' line old_piece piece before betwe
       ),
     )
 
-pub stops_at_end : (input : List ℕ) (total : ℕ) (start mid : Serving) (left left' line : Option (List ℕ)) (old_piece piece : List ℕ) (before between after : Option (List ℕ))
+pub stops_at_end : (input : List ℕ) (total : ℕ) (start mid : Serving) (left left' line : Option (List ℕ)) (old_piece piece : List ℕ) (before between after taken handed_before handed_between handed : Option (List ℕ))
     → Reads input total start left line mid before between → TakesFront left left' old_piece piece 0 → 0 < length old_piece → total ≤ input_limit
+    → IfSome taken (λ bytes. bytes ≡ []) → (handed_before ≡ before → handed_between ≡ between) → Extends handed_between handed
     → ((begun : List ℕ) → line ≡ buffered begun → WritesBeginning mid (unless_empty begun) between after)
-    → StopsWriting start input left' before after
-stops_at_end input total start mid left left' line old_piece piece before between after reads taken room limited answers =
-    let all = all_read input total left left' old_piece piece reads.within reads.unread taken room in record {
+    → StopsWriting start input left' taken before after handed_before handed
+stops_at_end input total start mid left left' line old_piece piece before between after taken handed_before handed_between handed reads takes_front room limited took hands keeps answers =
+    let all = all_read input total left left' old_piece piece reads.within reads.unread takes_front room in record {
       front = input;
+      last = [];
       rest = [];
-      read = sym (append-nil input);
+      read = sym (append-nil input) ∙ sym (append-nil (input ++ []));
       unread = all.1;
-      within = subst (λ n. n ≤ input_limit) (sym (size_read input total reads.within all.0)) limited;
-      written = subst (λ bytes. WritesBeginning start (lines_of bytes) before after) all.0
-          (breaks_later start mid _ _ before between after reads.written (answers (last_line (take total input)) reads.keeps));
+      taken_last = took;
+      at_end = λ none. refl;
+      within = subst (λ bytes. length bytes ≤ input_limit) (sym (append-nil input)) (subst (λ n. n ≤ input_limit) (sym (size_read input total reads.within all.0)) limited);
+      middle = mid;
+      between = between;
+      answered = subst (λ bytes. WritesRun start (whole_lines bytes) mid before between) all.0 reads.written;
+      handed = λ same. subst (λ h. Extends h handed) (hands same) keeps;
+      written = subst (λ bytes. WritesBeginning mid (unless_empty (last_line bytes)) between after) all.0 (answers (last_line (take total input)) reads.keeps);
     }

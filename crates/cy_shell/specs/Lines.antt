@@ -37,8 +37,8 @@ unless_empty (c ∷ cs) = (c ∷ cs) ∷ []
 abbrev pub lines_of : List ℕ → List (List ℕ)
 lines_of bytes = whole_lines bytes ++ unless_empty (last_line bytes)
 
--- the lines that are served once a front of the input was read: those whose end was read, and at the end of the input its
--- last line too
-abbrev pub lines_read : List ℕ → List ℕ → List (List ℕ)
-lines_read front [] = lines_of front
-lines_read front (c ∷ rest) = whole_lines front
+-- the lines that are served once a front of the input was read, and then a piece of it: those that end in the piece; where nothing
+-- is read the input is at its end, and its last line is served
+abbrev pub lines_after : List ℕ → List ℕ → List (List ℕ)
+lines_after front [] = unless_empty (last_line front)
+lines_after front (c ∷ piece) = ended_lines (last_line front) (c ∷ piece)

@@ -1,5 +1,5 @@
 -- What may be written for an input (own).
-use Rattle.std.specs.Prelude.{◌≡◌, ℕ, ◌^◌, ◌<◌, ◌≤◌, ◌⊎◌, Bool, true, List, [], ◌∷◌, ◌++◌, length, Option, Some, Result}
+use Rattle.std.specs.Prelude.{◌≡◌, ℕ, ◌^◌, ◌<◌, ◌≤◌, ◌⊎◌, Bool, true, List, [], ◌∷◌, ◌++◌, length, Option, Some, IfSome, Result}
 use Rattle.std.specs.Str.{IsUtf8}
 use Rattle.std.specs.Str.Lossy.{utf8_valid_len}
 use Rattle.cy_lexer.specs.Faults.{at_of, code_of}
@@ -10,9 +10,9 @@ use Rattle.cy_engine.specs.Step.{Step}
 use Rattle.cy_bags.specs.declared.changes.Entry.{Entry}
 use Rattle.cy_engine.specs.declared.faults.Fault.{Fault}
 use Rattle.cy_engine.specs.declared.replies.Reply.{Reply}
-use Rattle.cy_shell.specs.Lines.{line_limit, whole_lines, lines_of, lines_read}
+use Rattle.cy_shell.specs.Lines.{line_limit, whole_lines, lines_of, lines_after}
 use Rattle.cy_shell.specs.Printed.{IsFaultText, IsLineText}
-use Rattle.cy_shell.specs.Streams.{appended}
+use Rattle.cy_shell.specs.Streams.{Extends, appended}
 
 -- the text of a fault of the lexer, or that of want of memory
 abbrev pub IsLexFaultText : LexFault → List ℕ → Type 0
@@ -78,12 +78,19 @@ pub record StopsReading (start : Serving) (input : List ℕ) (left : Option (Lis
   pub cause : (has_failed ≡ true) ⊎ (length front ≡ input_limit)
   pub written : WritesRun start (whole_lines front) end before after
 
--- A front of the input was read, and a beginning of a printed run of the lines in it that have ended was written: at the
--- end of the input, of all its lines.
-pub record StopsWriting (start : Serving) (input : List ℕ) (left : Option (List ℕ)) (before after : Option (List ℕ)) : Type 0 where
+-- A front of the input was read, and then a last piece of it, or its end. A printed run of the lines that had ended before that read was
+-- written, and handed on if all before it was, and a beginning of a printed run of the others was written.
+pub record StopsWriting (start : Serving) (input : List ℕ) (left taken before after handed_before handed_after : Option (List ℕ)) : Type 0 where
   pub front : List ℕ
+  pub last : List ℕ
   pub rest : List ℕ
-  pub read : input ≡ front ++ rest
+  pub read : input ≡ front ++ last ++ rest
   pub unread : left ≡ Some rest
-  pub within : length front ≤ input_limit
-  pub written : WritesBeginning start (lines_read front rest) before after
+  pub taken_last : IfSome taken (λ bytes. bytes ≡ last)
+  pub at_end : last ≡ [] → rest ≡ []
+  pub within : length (front ++ last) ≤ input_limit
+  pub middle : Serving
+  pub between : Option (List ℕ)
+  pub answered : WritesRun start (whole_lines front) middle before between
+  pub handed : handed_before ≡ before → Extends between handed_after
+  pub written : WritesBeginning middle (lines_after front last) between after

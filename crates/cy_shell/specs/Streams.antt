@@ -5,6 +5,11 @@ use Rattle.std.specs.Prelude.{◌≡◌, ℕ, ◌≤◌, ◌<◌, List, [], ◌+
 abbrev pub appended : Option (List ℕ) → List ℕ → Option (List ℕ)
 appended known text = option_map (λ bytes. bytes ++ text) known
 
+-- what was known still is, with more after it, if anything
+pub record Extends (before after : Option (List ℕ)) : Type 0 where
+  pub more : List ℕ
+  pub is : after ≡ appended before more
+
 -- A read takes the front of the bytes that are left into the front of the piece, and leaves the rest of the piece.
 -- It takes nothing into a piece that isn't empty only where nothing is left. Of bytes that aren't known nothing is said.
 pub record MovesFront (left old_piece new_piece : List ℕ) (count : ℕ) : Type 0 where

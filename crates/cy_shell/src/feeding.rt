@@ -1,6 +1,7 @@
 //! The entries of a line, printed after its answer.
 
 ghost use Rattle.std.specs.Prelude.{◌≡◌, true, false, OnOk, OnErr};
+ghost use Rattle.cy_shell.specs.Streams.{Extends};
 ghost use Rattle.cy_shell.specs.internal.Feeding.{WritesFeed, BeginsFeed};
 
 use crate::printing::print_entry;
@@ -20,6 +21,8 @@ pub(crate) fn write_feed<W: Sink>(
 ) -> Result<(), Failed>
     requires { W.has_failed sink.old ≡ false }
     ensures written { OnOk result (WritesFeed entries.now (W.written sink.old) (W.written sink.new)) }
+    ensures handed { OnOk result (W.handed_on sink.old ≡ W.written sink.old → W.handed_on sink.new ≡ W.written sink.new) }
+    ensures keeps { Extends (W.handed_on sink.old) (W.handed_on sink.new) }
     ensures works { OnOk result (W.has_failed sink.new ≡ false) }
     ensures begun { OnErr result (BeginsFeed entries.now (W.written sink.old) (W.written sink.new)) }
     ensures fails { OnErr result (W.has_failed sink.new ≡ true) }

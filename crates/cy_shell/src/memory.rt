@@ -1,7 +1,7 @@
 //! Sources and sinks over memory, which tell their bytes.
 
 ghost use Rattle.std.specs.Prelude.{◌≡◌, ◌-◌, ◌≤◌, ◌<◌, [], IfOk, OnErr, OnOk, IsOk, Some, true, false, length, min, take};
-ghost use Rattle.cy_shell.specs.Streams.{TakesFront, appended};
+ghost use Rattle.cy_shell.specs.Streams.{Extends, TakesFront, appended};
 
 use crate::streams::{Failed, Sink, Source};
 use std::alloc::{AllocError, Global};
@@ -11,39 +11,47 @@ use std::marker::Model;
 #[derive(Drop)]
 pub struct MemorySource<'a> {
     left: &'a [u8],
+    taken: &'a [u8],
 }
 
 impl<'a> Model for MemorySource<'a> {
-    ghost use Rattle.std.specs.Prelude.{List, ℕ};
+    ghost use Rattle.cy_shell.specs.Memory.{BytesLeft};
 
-    ghost Value = { List ℕ };
+    ghost Value = { BytesLeft };
 
-    ghost view = { λ s. s.left.now };
+    ghost view = { λ s. record { left = s.left.now; taken = s.taken.now } };
 }
 
 impl<'a> MemorySource<'a> {
     /// A source of which all the bytes are left.
     pub fn new(bytes: &'a [u8]) -> Self
-        ensures { result ≡ bytes.now }
+        ensures { result ≡ record { left = bytes.now; taken = [] } }
     {
-        MemorySource { left: bytes }
+        MemorySource {
+            left: bytes,
+            taken: &[],
+        }
     }
 }
 
 impl<'a> Source for MemorySource<'a> {
     ghost use Rattle.std.specs.Prelude.{Some, false};
+    ghost use Rattle.cy_shell.specs.Memory.{BytesLeft};
 
-    ghost remaining = { λ left. Some left };
+    ghost remaining = { λ (source : BytesLeft). Some source.left };
+
+    ghost taken = { λ (source : BytesLeft). Some source.taken };
 
     ghost has_failed = { λ _. false };
 
     /// Reads as many bytes as the piece has room for, or all that are left. Never fails.
     fn read(&mut self, piece: &mut [u8]) -> Result<usize, Failed>
-        ensures count { IfOk result (λ count. count ≡ min (length self.old) (length piece.old)) }
+        ensures count { IfOk result (λ count. count ≡ min (length self.old.left) (length piece.old)) }
         ensures within { IfOk result (λ count. count ≤ length piece.old) }
-        ensures front { IfOk result (λ count. TakesFront (Some self.old) (Some self.new) piece.old piece.new count) }
+        ensures front { IfOk result (λ count. TakesFront (Some self.old.left) (Some self.new.left) piece.old piece.new count) }
+        ensures took { IfOk result (λ count. self.new.taken ≡ take count piece.new) }
         ensures works { OnOk result (false ≡ false) }
-        ensures moves_nothing { OnErr result (Some self.new ≡ Some self.old) }
+        ensures moves_nothing { OnErr result (Some self.new.left ≡ Some self.old.left) }
         ensures fails { OnErr result (false ≡ true) }
         ensures succeeds { IsOk result }
     {
@@ -51,6 +59,7 @@ impl<'a> Source for MemorySource<'a> {
         let (front, rest) = self.left.split_at(count);
         piece[..count].copy_from_slice(front);
         self.left = rest;
+        self.taken = front;
         Ok(count)
     }
 }
@@ -100,6 +109,8 @@ impl Sink for MemorySink {
 
     ghost written = { λ (sink : MemoryBytes). Some sink.written };
 
+    ghost handed_on = { λ (sink : MemoryBytes). Some sink.written };
+
     ghost has_failed = { λ (sink : MemoryBytes). sink.has_failed };
 
     /// Writes as many bytes as there is room for. Fails only where there is room for none of a piece that is not empty.
@@ -109,6 +120,7 @@ impl Sink for MemorySink {
         ensures within { IfOk result (λ count. count ≤ length piece.now) }
         ensures some { IfOk result (λ count. 0 < length piece.now → 0 < count) }
         ensures front { IfOk result (λ count. Some self.new.written ≡ appended (Some self.old.written) (take count piece.now)) }
+        ensures keeps { Extends (Some self.old.written) (Some self.new.written) }
         ensures works { OnOk result (self.new.has_failed ≡ false) }
         ensures moves_nothing { OnErr result (Some self.new.written ≡ Some self.old.written) }
         ensures fails { OnErr result (self.new.has_failed ≡ true) }
@@ -129,6 +141,8 @@ impl Sink for MemorySink {
         requires { self.old.has_failed ≡ false }
         ensures stays { self.new ≡ self.old }
         ensures moves_nothing { Some self.new.written ≡ Some self.old.written }
+        ensures hands_on { OnOk result (Some self.new.written ≡ Some self.new.written) }
+        ensures keeps { Extends (Some self.old.written) (Some self.new.written) }
         ensures works { OnOk result (self.new.has_failed ≡ false) }
         ensures fails { OnErr result (self.new.has_failed ≡ true) }
         ensures succeeds { IsOk result }

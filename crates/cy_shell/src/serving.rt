@@ -1,6 +1,6 @@
 //! The whole of a run: an input is read to its end, and its lines are answered.
 
-ghost use Rattle.std.specs.Prelude.{◌≡◌, ◌≢◌, ◌+◌, ◌≤◌, ◌<◌, [], length, ℕ, List, Option, Some, true, false, Err, OnOk, OnErr, IfOk, IfSome};
+ghost use Rattle.std.specs.Prelude.{◌≡◌, ◌≢◌, ◌+◌, ◌≤◌, ◌<◌, [], length, take, ℕ, List, Option, Some, true, false, Err, OnOk, OnErr, IfOk, IfSome};
 ghost use Rattle.cy_shell.specs.internal.Lines.{buffered};
 ghost use Rattle.cy_shell.specs.Runs.{input_limit, WritesAll, StopsReading, StopsWriting, beginning};
 ghost use Rattle.cy_shell.specs.internal.Serving.{serving};
@@ -100,11 +100,15 @@ pub fn run<R: Source, W: Sink>(
         StopsReading (beginning settings.history settings.feed) input (R.remaining source.new) (R.has_failed source.new) (W.written sink.old) (W.written sink.new)) }
     ensures read_works { result ≡ Err RunFault.Read → W.has_failed sink.new ≡ false }
 
-    // The sink failed at the answers to what was read.
+    // The sink failed at the answers to what the last read took. It may fail at any call: so before each read all lines that had ended
+    // were answered, and their answers were handed on.
     ensures write { result ≡ Err RunFault.Write → IfSome (R.remaining source.old) (λ input.
-        StopsWriting (beginning settings.history settings.feed) input (R.remaining source.new) (W.written sink.old) (W.written sink.new)) }
+        StopsWriting (beginning settings.history settings.feed) input (R.remaining source.new) (R.taken source.new) (W.written sink.old) (W.written sink.new) (W.handed_on sink.old) (W.handed_on sink.new)) }
     ensures write_fails { result ≡ Err RunFault.Write → W.has_failed sink.new ≡ true }
     ensures write_works { result ≡ Err RunFault.Write → R.has_failed source.new ≡ false }
+
+    // Else all that was written was handed on, if all before it was.
+    ensures handed { result ≢ Err RunFault.Write → W.handed_on sink.old ≡ W.written sink.old → W.handed_on sink.new ≡ W.written sink.new }
 
     // Nothing was read or written.
     ensures memory { result ≡ Err RunFault.Memory → (source.new ≡ source.old) × (sink.new ≡ sink.old) }
@@ -139,9 +143,10 @@ fn serve<R: Source, W: Sink>(
         StopsReading (serving session.old.engine session.old.feed) input (R.remaining source.new) (R.has_failed source.new) (W.written sink.old) (W.written sink.new)) }
     ensures read_works { result ≡ Err RunFault.Read → W.has_failed sink.new ≡ false }
     ensures write { result ≡ Err RunFault.Write → IfSome (R.remaining source.old) (λ input.
-        StopsWriting (serving session.old.engine session.old.feed) input (R.remaining source.new) (W.written sink.old) (W.written sink.new)) }
+        StopsWriting (serving session.old.engine session.old.feed) input (R.remaining source.new) (R.taken source.new) (W.written sink.old) (W.written sink.new) (W.handed_on sink.old) (W.handed_on sink.new)) }
     ensures write_fails { result ≡ Err RunFault.Write → W.has_failed sink.new ≡ true }
     ensures write_works { result ≡ Err RunFault.Write → R.has_failed source.new ≡ false }
+    ensures handed { result ≢ Err RunFault.Write → W.handed_on sink.old ≡ W.written sink.old → W.handed_on sink.new ≡ W.written sink.new }
     ensures no_memory { result ≢ Err RunFault.Memory }
 {
     let mut total = 0;
@@ -150,7 +155,10 @@ fn serve<R: Source, W: Sink>(
             return Err(RunFault::Read);
         };
         if count == 0 {
-            return session.finish(sink).map_err(|_| RunFault::Write);
+            let Ok(()) = session.finish(sink) else {
+                return Err(RunFault::Write);
+            };
+            return Ok(());
         }
         let Ok(()) = session.serve_piece(sink, &piece[..count]) else {
             return Err(RunFault::Write);
@@ -169,6 +177,7 @@ fn read_piece<R: Source>(source: &mut R, piece: &mut [u8], total: u64) -> Result
     ensures within { IfOk result (λ count. count ≤ length piece.old) }
     ensures limited { IfOk result (λ count. total + count ≤ input_limit) }
     ensures front { IfOk result (λ count. TakesFront (R.remaining source.old) (R.remaining source.new) piece.old piece.new count) }
+    ensures took { IfOk result (λ count. IfSome (R.taken source.new) (λ bytes. bytes ≡ take count piece.new)) }
     ensures works { OnOk result (R.has_failed source.new ≡ false) }
     ensures moves_nothing { OnErr result (R.remaining source.new ≡ R.remaining source.old) }
     ensures fails { OnErr result (R.has_failed source.new ≡ true) }

@@ -40,6 +40,8 @@ impl<R: Read> Source for InputSource<R> {
 
     ghost remaining = { λ _. None };
 
+    ghost taken = { λ _. None };
+
     ghost has_failed = { λ (source : StreamState R). source.has_failed };
 
     /// Gives the bytes that the reader gives. A read that the reader refuses has failed.
@@ -95,6 +97,8 @@ impl<W: Write> Sink for OutputSink<W> {
     ghost use Rattle.cy_shell.specs.Standard.{StreamState};
 
     ghost written = { λ _. None };
+
+    ghost handed_on = { λ _. None };
 
     ghost has_failed = { λ (sink : StreamState W). sink.has_failed };
 

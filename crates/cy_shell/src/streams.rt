@@ -1,7 +1,7 @@
 //! What bytes come from and go to.
 
-ghost use Rattle.std.specs.Prelude.{◌≡◌, ◌≤◌, ◌<◌, ℕ, List, Bool, true, false, length, take, Option, IfOk, OnOk, OnErr};
-ghost use Rattle.cy_shell.specs.Streams.{TakesFront, appended};
+ghost use Rattle.std.specs.Prelude.{◌≡◌, ◌≤◌, ◌<◌, ℕ, List, Bool, true, false, length, take, Option, IfOk, IfSome, OnOk, OnErr};
+ghost use Rattle.cy_shell.specs.Streams.{Extends, TakesFront, appended};
 
 use thiserror::Error;
 
@@ -15,6 +15,9 @@ pub trait Source {
     /// The bytes that are left to read, where they are known.
     ghost remaining: { Self → Option (List ℕ) };
 
+    /// The bytes that the last read took, where they are known.
+    ghost taken: { Self → Option (List ℕ) };
+
     /// Whether a read has failed.
     ghost has_failed: { Self → Bool };
 
@@ -24,6 +27,7 @@ pub trait Source {
         requires { has_failed self.old ≡ false }
         ensures within { IfOk result (λ count. count ≤ length piece.old) }
         ensures front { IfOk result (λ count. TakesFront (remaining self.old) (remaining self.new) piece.old piece.new count) }
+        ensures took { IfOk result (λ count. IfSome (taken self.new) (λ bytes. bytes ≡ take count piece.new)) }
         ensures works { OnOk result (has_failed self.new ≡ false) }
         ensures moves_nothing { OnErr result (remaining self.new ≡ remaining self.old) }
         ensures fails { OnErr result (has_failed self.new ≡ true) };
@@ -34,6 +38,9 @@ pub trait Sink {
     /// The bytes that were written, where they are known.
     ghost written: { Self → Option (List ℕ) };
 
+    /// Those of them that were surely handed on, where they are known.
+    ghost handed_on: { Self → Option (List ℕ) };
+
     /// Whether a write or a flush has failed.
     ghost has_failed: { Self → Bool };
 
@@ -43,6 +50,7 @@ pub trait Sink {
         ensures within { IfOk result (λ count. count ≤ length piece.now) }
         ensures some { IfOk result (λ count. 0 < length piece.now → 0 < count) }
         ensures front { IfOk result (λ count. written self.new ≡ appended (written self.old) (take count piece.now)) }
+        ensures keeps { Extends (handed_on self.old) (handed_on self.new) }
         ensures works { OnOk result (has_failed self.new ≡ false) }
         ensures moves_nothing { OnErr result (written self.new ≡ written self.old) }
         ensures fails { OnErr result (has_failed self.new ≡ true) };
@@ -51,6 +59,8 @@ pub trait Sink {
     fn flush(&mut self) -> Result<(), Failed>
         requires { has_failed self.old ≡ false }
         ensures moves_nothing { written self.new ≡ written self.old }
+        ensures hands_on { OnOk result (handed_on self.new ≡ written self.new) }
+        ensures keeps { Extends (handed_on self.old) (handed_on self.new) }
         ensures works { OnOk result (has_failed self.new ≡ false) }
         ensures fails { OnErr result (has_failed self.new ≡ true) };
 }

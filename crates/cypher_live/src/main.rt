@@ -1,13 +1,18 @@
 //! The program: lines of standard input in, a JSON object for each on standard output.
 #![tactic(auto)]
 
-ghost use Rattle.std.specs.Prelude.{◌≡◌, ◌≤◌, Ok};
+ghost use Rattle.std.specs.Prelude.{◌≡◌, ◌⊎◌, ◌≤◌, IfSome, Ok, false};
+ghost use Rattle.std.specs.Process.{exit_status};
+ghost use Rattle.cy_shell.specs.Runs.{StopsReading, StopsWriting, WritesAll, beginning};
 ghost use Rattle.cypher_live.specs.internal.Requests.{HasHistory};
 
 #[cfg(test)]
 mod tests;
 
-use cy_shell::{ArgFault, InputSource, Invocation, OutputSink, Settings, run, settings};
+use cy_shell::{
+    ArgFault, InputSource, Invocation, OutputSink, Settings, Sink, Source, run, settings,
+};
+use std::alloc::Global;
 use std::env::Env;
 use std::process::ExitCode;
 use std::{env, io};
@@ -17,7 +22,11 @@ const NOT_WRITTEN: u8 = 3;
 
 fn main(rt: HostRuntime) -> ExitCode {
     match request(&rt) {
-        Ok(Invocation::Run(settings)) => serve(&rt, settings),
+        Ok(Invocation::Run(settings)) => {
+            let mut source = InputSource::new(rt.reader());
+            let mut sink = OutputSink::new(io::writer(&rt));
+            serve(rt.alloc(), &mut source, &mut sink, settings)
+        }
         Ok(Invocation::Help(text)) => match print!(rt; "{text}") {
             Ok(()) => ExitCode::SUCCESS,
             Err(_) => ExitCode::from(NOT_WRITTEN),
@@ -43,14 +52,27 @@ fn request<R: Env + AllocGlobal>(rt: &R) -> Result<Invocation, ArgFault>
     settings(rt.alloc(), words.as_slice())
 }
 
-// Answers the lines of standard input.
-fn serve(rt: &HostRuntime, settings: Settings) -> ExitCode
+// Answers the lines of a source on a sink, and says how the program ends: with 0 where all were answered, with 3 where a stream failed or
+// 2^62 bytes were read, and with 4 where there was no memory at the start.
+fn serve<R: Source, W: Sink>(
+    alloc: Global,
+    source: &mut R,
+    sink: &mut W,
+    settings: Settings,
+) -> ExitCode
+    requires readable { R.has_failed source.old ≡ false }
+    requires writable { W.has_failed sink.old ≡ false }
     requires from { 1 ≤ settings.history }
     requires to { settings.history ≤ 4096 }
+    ensures ended { exit_status result ≡ 0 → IfSome (R.remaining source.old) (λ input.
+        WritesAll (beginning settings.history settings.feed) input (W.written sink.old) (W.written sink.new)) }
+    ensures stopped { exit_status result ≡ 3 → IfSome (R.remaining source.old) (λ input.
+        StopsReading (beginning settings.history settings.feed) input (R.remaining source.new) (R.has_failed source.new) (W.written sink.old) (W.written sink.new)
+        ⊎ StopsWriting (beginning settings.history settings.feed) input (R.remaining source.new) (R.taken source.new) (W.written sink.old) (W.written sink.new) (W.handed_on sink.old) (W.handed_on sink.new)) }
+    ensures memory { exit_status result ≡ 4 → (source.new ≡ source.old) × (sink.new ≡ sink.old) }
+    ensures known { (exit_status result ≡ 0) ⊎ (exit_status result ≡ 3) ⊎ (exit_status result ≡ 4) }
 {
-    let mut source = InputSource::new(rt.reader());
-    let mut sink = OutputSink::new(io::writer(rt));
-    match run(rt.alloc(), &mut source, &mut sink, settings) {
+    match run(alloc, source, sink, settings) {
         Ok(()) => ExitCode::SUCCESS,
         Err(fault) => ExitCode::from(fault.code() as u8),
     }

@@ -5,6 +5,7 @@ use Rattle.cy_shell.specs.internal.Writing.{AppendsFront}
 use Rattle.cy_shell.specs.internal.Printing.{printed_text}
 use Rattle.cy_shell.proofs.Outcomes.{on_err}
 use Rattle.cy_shell.proofs.Feeds.{line_served, line_begun, line_feeding}
+use Rattle.cy_shell.proofs.Appends.{extends_then}
 use Rattle.cy_shell.proofs.session.Session.serve_line.Goals as goal
 
 -- the answer broke off
@@ -26,3 +27,9 @@ returns-clause-broken_off g c =
     (λ begun line keeps. line_feeding _ line _ _ _ c.args.self.now.feed _ _ _ (c.print_answer-answered.ensures line keeps)
     (c.in_ok-write_text.ensures.written ∙ ap (appended _) (c.bytes.ensures ∙ ap (printed_text c.print_answer-answered.result.printed) c.as_slice.ensures.value)) c.fed_entries-entries.result.now c.fed_entries-entries.ensures begun)
     c.write_feed.ensures.begun
+
+pub returns-clause-handed : goal.returns-clause-handed
+returns-clause-handed g c = on_ok_weaker c.write_feed.result (λ handed same. handed (c.in_ok-write_text.ensures.handed same)) c.write_feed.ensures.handed
+
+pub returns-clause-keeps : goal.returns-clause-keeps
+returns-clause-keeps g c = extends_then _ _ _ c.in_ok-write_text.ensures.keeps c.write_feed.ensures.keeps

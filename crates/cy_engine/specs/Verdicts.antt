@@ -74,7 +74,7 @@ same_relationship m n = (m.0.0 == n.0.0) && same_link m.1 n.1
 abbrev pub same_content : Content → Content → Bool
 same_content c d = pointwise same_node c.nodes d.nodes && pointwise same_relationship c.rels d.rels
 
--- the tick rises, passes it is the last one
+-- the tick rises, unless it is the last one
 abbrev pub next_tick : ℕ → Result ℕ Fault
 next_tick tick = if tick == last_tick then Err fault.Full else Ok (tick + 1)
 
@@ -140,7 +140,7 @@ since_verdict name tick state =
     needs (nat_le tick state.tick) fault.FutureTick >>= λ _.
     Ok view
 
--- the label and the key that get an index, passes there is one for them
+-- the label and the key that get an index, unless there is one for them
 abbrev pub index_verdict : List ℕ → List ℕ → EngineState → Result Pair Fault
 index_verdict label key state =
     needs (not (has_pair label key state.indexes)) fault.IndexThere >>= λ _.

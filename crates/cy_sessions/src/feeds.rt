@@ -67,7 +67,7 @@ fn feed(alloc: Global, history: usize) -> Result<Feed, Fault>
     Ok(feed)
 }
 
-// Each tick from the base on is told what came since, and each one below it lags.
+// Each tick from the base on is answered with what came since, and each one below it lags.
 fn expect_since(rt: &impl Abort, feed: &Feed, base: u64) -> Result<(), Fail> {
     for tick in 0..7 {
         match feed.since(tick)? {

@@ -168,7 +168,7 @@ column_cell (gathered columns) column row is = absurd (false≢true is)
 column_cell (computed e) column row is = ap cell_or_null (column_is e column row is)
 
 -- it moves to where a projection keeps it
-kept_cell : (outputs : List Output) (column at : ℕ) (row : List Cell) → kept_at column outputs ≡ Some at → cell_at (projected outputs row) at ≡ cell_at row column
+pub kept_cell : (outputs : List Output) (column at : ℕ) (row : List Cell) → kept_at column outputs ≡ Some at → cell_at (projected outputs row) at ≡ cell_at row column
 kept_cell [] column at row is = none_some at is
 kept_cell (o ∷ os) column at row is = by (λ j. kept_cell os column j row) (is_column column o) refl is
   where

@@ -172,7 +172,7 @@ module _ (p : Plan) (c : ℕ) (over : leaf_of p ≡ plan.nodes) (column : scan_c
         (All-from_recursion (λ r. node_number (cell_at r c) ≡ Some n) (node_made (scan_parts p) n o) (node_owned n o));
   }
 
-  node_scan_count : (state : State) → IsGraph state → (row : List Cell)
+  pub node_scan_count : (state : State) → IsGraph state → (row : List Cell)
       → count_of row (rows_of state.content p) ≡ count_at (node_made (scan_parts p)) (node_under state) row (node_number (cell_at row c))
   node_scan_count state is row =
       ap (count_of row) (rows_by_entity own_node node_values node_leaf (λ e. refl) node_first state.content state.content.nodes plan.nodes (node_known state is) (node_rows_of state.content.nodes) p c over column)
@@ -257,7 +257,7 @@ module _ (types : List Name) (orientation : Orientation) where
           (All-from_recursion (λ r. rel_number (cell_at r c) ≡ Some n) (rel_made types orientation (scan_parts p) n o) (rel_owned n o));
     }
 
-    rel_scan_count : (state : State) → IsGraph state → (row : List Cell)
+    pub rel_scan_count : (state : State) → IsGraph state → (row : List Cell)
         → count_of row (rows_of state.content p) ≡ count_at (rel_made types orientation (scan_parts p)) (rel_under state) row (rel_number (cell_at row c))
     rel_scan_count state is row =
         ap (count_of row) (rows_by_entity own_rel rel_values rel_leaf (λ e. refl) rel_first state.content state.content.rels (plan.rels types orientation) (rel_known state is) refl p c over column)

@@ -1,20 +1,25 @@
 -- What the functions that aggregate answer, from what their parts answer.
-use Rattle.std.proofs.Common.{◌≡◌, ◌⊎◌, inl, inr, Bool, List, [], ◌∷◌, ◌++◌, length, get_or, map, refl, sym, ap, ◌∙◌, arith}
-use Rattle.std.specs.Prelude.{Option, Result, Ok, Err}
+use Rattle.std.proofs.Common.{◌≡◌, ◌⊎◌, inl, inr, Bool, false, List, [], ◌∷◌, ◌++◌, length, get_or, map, refl, sym, ap, ◌∙◌, arith}
+use Rattle.std.specs.Prelude.{pos, Option, Some, Result, Ok, Err}
 use Rattle.cy_values.specs.declared.scalars.Value.{Value}
+use Rattle.cy_values.specs.declared.scalars.Value.TheVariants as value
+use Rattle.cy_values.specs.Order.{cell_order}
 use Rattle.cy_values.specs.declared.rows.Cell.{Cell}
 use Rattle.cy_trees.specs.declared.expressions.Expr.{Expr}
 use Rattle.cy_trees.specs.Trees.{Name, call}
 use Rattle.cy_trees.specs.Views.{expression_of, expressions_from}
 use Rattle.cy_graph.specs.Graph.{Content}
 use Rattle.cy_kinds.specs.declared.functions.Function.{Function}
+use Rattle.cy_kinds.specs.declared.functions.Function.TheVariants.{Count}
 use Rattle.cy_kinds.specs.Functions.{function_named}
 use Rattle.cy_expr.specs.declared.faults.EvalFault.{EvalFault}
 use Rattle.cy_expr.specs.declared.faults.EvalFault.TheVariants.{NoMemory, WrongType}
 use Rattle.cy_expr.specs.Evaluation.{cell_of}
 use Rattle.cy_expr.specs.Faults.{on_one}
 use Rattle.cy_expr.specs.Graphs.{lookups}
-use Rattle.cy_queries.specs.Groups.{aggregate_if, last_or_null, over_rows, taken}
+use Rattle.cy_queries.specs.Groups.{aggregate, aggregate_if, last_or_null, over_rows, taken, without_nulls}
+use Rattle.cy_queries.proofs.Once.{same_length}
+use Rattle.cy_queries.proofs.OnceCounts.{permuted_in_order}
 use Rattle.cy_patterns.specs.Outcomes.{gathered}
 
 one_argument : (arguments : List Expr) (argument : Expr) → length arguments ≡ 1 → argument ≡ get_or arguments 0 argument → arguments ≡ argument ∷ []
@@ -30,6 +35,14 @@ last_of (w ∷ u ∷ vs) v = last_of (u ∷ vs) v
 
 abbrev pub failed : EvalFault → Result Value EvalFault
 failed fault = Err fault
+
+-- how many there are doesn't depend on their order
+pub counts_alike : (cells : List Cell) (counted : Value) (function : Option Function) (distinct : Bool) → function ≡ Some Count → distinct ≡ false → Ok counted ≡ aggregate Count (without_nulls cells)
+    → Ok counted ≡ aggregate_if function (taken distinct cells)
+counts_alike cells counted function distinct is plain counts =
+    counts
+    ∙ ap (λ n. Ok (value.Int (pos n))) (sym (same_length (permuted_in_order cell_order (without_nulls cells))))
+    ∙ sym (λ i. aggregate_if (is i) (taken (plain i) cells))
 
 module _ (graph : Content) (name : Name) (distinct : Bool) (rows : List (List Cell)) where
   -- a call of an aggregate

@@ -85,11 +85,10 @@ module _ (graph : Content) (items : List Item) where
   keys_by [] some gs = absurd (some refl)
   keys_by (i ∷ is) some gs = refl
 
-  pub many_alike : IsTotalOrder row_cmp → (grouping items ≡ [] → ⊥) → (gs : List Grouped) (groups : List Gathering) → AreGroups gs groups → Alike (gathered (map row_of groups)) (group_rows graph items gs)
-  many_alike total some gs groups are =
-      let hs : List Grouped = are.0 in
-      let made : gathered (map row_of groups) ≡ group_rows graph items hs =
-      ap (λ (l : List Gathering). gathered (map row_of l)) are.2
-      ∙ ap gathered (map-map row_of (λ key. record { key = key; rows = rows_of_group key hs }) (each_once row_cmp (map (λ (g : Grouped). g.key) hs)))
-      ∙ ap (λ (keys : List (List Cell)). gathered (map (λ key. gathered (group_cells graph items key (rows_of_group key hs))) keys)) (sym (keys_by (grouping items) some hs)) in
-      subst (λ (o : Result (List (List Cell)) EvalFault). Alike o (group_rows graph items gs)) (sym made) (alike_groups total graph items (turned are.1))
+  pub many_alike : (grouping items ≡ [] → ⊥) → (gs : List Grouped) (groups : List Gathering) → AreGroups gs groups → Alike (gathered (map row_of groups)) (group_rows graph items gs)
+  many_alike some gs groups are =
+      let made : gathered (map row_of groups) ≡ group_rows graph items gs =
+      ap (λ (l : List Gathering). gathered (map row_of l)) are
+      ∙ ap gathered (map-map row_of (λ key. record { key = key; rows = rows_of_group key gs }) (each_once row_cmp (map (λ (g : Grouped). g.key) gs)))
+      ∙ ap (λ (keys : List (List Cell)). gathered (map (λ key. gathered (group_cells graph items key (rows_of_group key gs))) keys)) (sym (keys_by (grouping items) some gs)) in
+      subst (λ (o : Result (List (List Cell)) EvalFault). Alike o (group_rows graph items gs)) (sym made) (alike_itself (group_rows graph items gs))

@@ -19,7 +19,7 @@ use Rattle.cy_expr.specs.Evaluation.{as_cell}
 use Rattle.cy_queries.specs.Groups.{Grouped, group_cells, group_rows, grouping, over_rows}
 use Rattle.cy_patterns.specs.Outcomes.{gathered, together}
 use Rattle.cy_queries.specs.internal.Answers.{IsAnswer, sifted, with_fault}
-use Rattle.cy_projections.specs.internal.Grouping.{AreGroupsOf, Gathering, grouped_by, groups_from, item_cell, kept_of}
+use Rattle.cy_projections.specs.internal.Grouping.{AreGroupsOf, Gathering, grouped_by, item_cell, kept_of}
 use Rattle.cy_queries.specs.internal.Permuted.{Alike, IsAlikeAnswer}
 use Rattle.cy_projections.proofs.Aggregated.{many_alike, one_alike, row_of}
 use Rattle.cy_queries.proofs.SeenRows.{expressions}
@@ -88,21 +88,7 @@ module _ (total : IsTotalOrder row_cmp) (graph : Content) (items : List Item) wh
       → (groups : List Gathering) → AreGroupsOf without_keys gs groups → Alike (gathered (map (row_of graph items) groups)) (group_rows graph items gs)
   groups_alike true none some rows gs fault are groups is =
       subst (λ (l : List Gathering). Alike (gathered (map (row_of graph items) l)) (group_rows graph items gs)) (sym is) (one_alike graph items (none refl) rows gs fault are)
-  groups_alike false none some rows gs fault are groups is = many_alike graph items total (some refl) gs groups is
-
--- one more row for the group at hand, or for another one
-abbrev with_next : Gathering → Grouped → List Grouped → Bool → List Gathering
-with_next group g rest same =
-    cond same (groups_from (record { key = group.key; rows = group.rows ++ g.row ∷ [] }) rest) (group ∷ groups_from (record { key = g.key; rows = g.row ∷ [] }) rest)
-
-pub row_added : (groups : List Gathering) (group : Gathering) (g : Grouped) (rest : List Grouped) → eq_by_cmp row_cmp group.key g.key ≡ true
-    → groups ++ groups_from (record { key = group.key; rows = group.rows ++ g.row ∷ [] }) rest ≡ groups ++ groups_from group (g ∷ rest)
-row_added groups group g rest same = ap (λ (l : List Gathering). groups ++ l) (sym (ap (with_next group g rest) same))
-
-pub group_ended : (groups : List Gathering) (group : Gathering) (g : Grouped) (rest : List Grouped) → eq_by_cmp row_cmp group.key g.key ≡ false
-    → (groups ++ group ∷ []) ++ groups_from (record { key = g.key; rows = g.row ∷ [] }) rest ≡ groups ++ groups_from group (g ∷ rest)
-group_ended groups group g rest other =
-    append_assoc groups (group ∷ []) (groups_from (record { key = g.key; rows = g.row ∷ [] }) rest) ∙ ap (λ (l : List Gathering). groups ++ l) (sym (ap (with_next group g rest) other))
+  groups_alike false none some rows gs fault are groups is = many_alike graph items (some refl) gs groups is
 
 -- ---- the cells of a group
 

@@ -1,5 +1,5 @@
 mod SortedAlike
-mod GroupsInOrder
+mod GroupsByKeys
 mod Sifted
 mod Totals
 mod Aggregated

@@ -82,10 +82,8 @@ module _ (graph : Content) where
   groups_there true gs groups are there =
       subst (λ (l : List Gathering). AllByRecursion GroupThere l) (sym are) (each_map GroupedThere RowThere (λ (g : Grouped). g.row) (λ g here. here) gs there, tt)
   groups_there false gs groups are there =
-      let hs : List Grouped = are.0 in
-      subst (λ (l : List Gathering). AllByRecursion GroupThere l) (sym are.2)
-      (each_made GroupThere (λ key. record { key = key; rows = rows_of_group key hs }) (λ key. rows_of_there key hs (each_permuted GroupedThere (turned are.1) there))
-      (each_once row_cmp (map (λ (g : Grouped). g.key) hs)))
+      subst (λ (l : List Gathering). AllByRecursion GroupThere l) (sym are)
+      (each_made GroupThere (λ key. record { key = key; rows = rows_of_group key gs }) (λ key. rows_of_there key gs there) (each_once row_cmp (map (λ (g : Grouped). g.key) gs)))
 
   -- what groups make, in whatever order
   from_alike : (made : List (List Cell)) (o : Result (List (List Cell)) EvalFault) → Alike (Ok made) o → IfOk o (AreInGraph graph) → AreInGraph graph made

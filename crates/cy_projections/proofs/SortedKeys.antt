@@ -11,14 +11,10 @@ use Rattle.std.proofs.lemmas.Simd.{map-map}
 use Rattle.cy_values.specs.declared.rows.Cell.{Cell}
 use Rattle.cy_values.specs.Order.{row_cmp}
 use Rattle.cy_projections.specs.declared.order.Keyed as coded_keyed
-use Rattle.cy_projections.specs.declared.groups.Grouped as coded_grouped
-use Rattle.cy_queries.specs.Groups.{Grouped}
 use Rattle.cy_queries.specs.Order.{Keyed, in_order, keyed_order}
-use Rattle.cy_projections.specs.internal.Grouping.{AreGroups, Gathering, groups_of}
-use Rattle.cy_projections.specs.internal.Keys.{grouped_of, keyed_of}
+use Rattle.cy_projections.specs.internal.Keys.{keyed_of}
 use Rattle.cy_queries.proofs.BagLemmas.{identity}
 use Rattle.cy_queries.proofs.Each.{each_map}
-use Rattle.cy_projections.proofs.GroupsInOrder.{by_keys, groups_of_ordered}
 use Rattle.cy_queries.proofs.InOrder.{same_in_order}
 use Rattle.cy_queries.proofs.KeyOrders.{keyed_total, tied_rows}
 use Rattle.cy_queries.proofs.Permuted.{Permuted}
@@ -54,23 +50,3 @@ module _ (total : IsTotalOrder row_cmp) where
       sym (map-map (λ (k : Keyed). k.row) keyed_of ys)
       ∙ ap (map (λ (k : Keyed). k.row)) (sym (stays order (keyed_total total flags) (map keyed_of ys) up))
       ∙ sym (same_in_order order (keyed_total total flags) (λ (k : Keyed). k.row) (tied_rows flags) permuted)
-
-  abbrev same_grouped : Grouped → Grouped → Bool
-  same_grouped x y = eq_by_cmp row_cmp x.key y.key && eq_by_cmp row_cmp x.row y.row
-
-  grouped_identity : (x y : Grouped) → same_grouped x y ≡ true → x ≡ y
-  grouped_identity x y h =
-      let parts = and_parts (eq_by_cmp row_cmp x.key y.key) (eq_by_cmp row_cmp x.row y.row) h in
-      λ i. record { key = identity x.key y.key parts.0 i; row = identity x.row y.row parts.1 i }
-
-  -- rows by the keys of their groups
-  pub groups_sorted : (xs ys : List coded_grouped.Grouped) (groups : List Gathering) → IsPermutation xs ys → IsSortedBy (λ x y. is_lt (row_cmp x.key y.key)) ys
-      → groups ≡ groups_of (map grouped_of ys) → AreGroups (map grouped_of xs) groups
-  groups_sorted xs ys groups moved sorted are =
-      let up : Ordered by_keys (map grouped_of ys) =
-      ordered_map by_keys grouped_of ys (ordered_from_sorted (λ x y. row_cmp x.key y.key) (on_total (λ (g : coded_grouped.Grouped). g.key) total) ys sorted) in (
-        map grouped_of ys,
-        permuted_from_sort same_grouped (λ x. and_from (eq_by_cmp row_cmp x.key x.key) (eq_by_cmp row_cmp x.row x.row) (itself x.key) (itself x.row)) grouped_identity
-            (map grouped_of xs) (map grouped_of ys) (IsPermutation-map grouped_of xs ys moved),
-        are ∙ groups_of_ordered total (map grouped_of ys) up,
-      )

@@ -1,6 +1,6 @@
 //! Aggregates over the rows of a group (openCypher 9, Aggregating functions; faults and canonical order: own).
 
-ghost use Rattle.std.specs.Prelude.{◌≡◌, ◌⊎◌, Result, Err, map};
+ghost use Rattle.std.specs.Prelude.{◌≡◌, ◌⊎◌, IsTrue, Result, Some, Ok, Err, map};
 ghost use Rattle.cy_trees.specs.Trees.{call};
 ghost use Rattle.cy_trees.specs.Views.{expression_of, expressions_from};
 ghost use Rattle.cy_expr.specs.declared.faults.EvalFault.TheVariants.{NoMemory};
@@ -72,7 +72,7 @@ fn over_call(
         [argument] => {
             let cells = on_each(alloc, store, argument, rows)?;
             let function = Function::named(name.as_str());
-            aggregate(alloc, function, taken(distinct, cells))
+            aggregate_of(alloc, function, distinct, cells)
         }
         _ => Err(EvalFault::WrongType),
     }
@@ -94,6 +94,28 @@ fn on_each(
         cells.add(outcome)?;
     }
     cells.finish()
+}
+
+// What an aggregate gives for the cells of its argument. How many there are doesn't depend on their order.
+fn aggregate_of(
+    alloc: Global,
+    function: Option<Function>,
+    distinct: bool,
+    cells: Vec<Cell>,
+) -> Result<Value, EvalFault>
+    ensures { (result ≡ spec.aggregate_if function (spec.taken distinct cells.items)) ⊎ (result ≡ Err NoMemory) }
+{
+    if !distinct && is_count(function) {
+        let counted = without_nulls(cells);
+        return Ok(count(&counted));
+    }
+    aggregate(alloc, function, taken(distinct, cells))
+}
+
+fn is_count(function: Option<Function>) -> bool
+    ensures { IsTrue result → function ≡ Some Function.Count }
+{
+    matches!(function, Some(Function::Count))
 }
 
 // What an aggregate takes of its arguments: no null, with DISTINCT each value once, in canonical order.
@@ -131,13 +153,20 @@ fn aggregate(
     ensures { (result ≡ spec.aggregate_if function cells.items) ⊎ (result ≡ Err NoMemory) }
 {
     match function {
-        Some(Function::Count) => Ok(Value::Int(cells.len() as i64)),
+        Some(Function::Count) => Ok(count(&cells)),
         Some(Function::Sum) => sum(&cells),
         Some(Function::Min) => Ok(first(values_in(alloc, cells)?)),
         Some(Function::Max) => Ok(last(values_in(alloc, cells)?)),
         Some(Function::Collect) => list_of(alloc, values_in(alloc, cells)?),
         _ => Err(EvalFault::WrongType),
     }
+}
+
+// How many cells there are.
+fn count(cells: &[Cell]) -> Value
+    ensures { Ok result ≡ spec.aggregate Function.Count cells.now }
+{
+    Value::Int(cells.len() as i64)
 }
 
 // The values in cells.

@@ -1,4 +1,4 @@
--- Rows that stand by rising keys, and their groups.
+-- Rows with keys, and their groups.
 use Rattle.std.specs.Prelude.{◌≡◌, Bool, true, false, List, [], ◌∷◌, ◌++◌, map, Option, None, Some, Result, Ok, if◌then◌else◌}
 use Rattle.std.specs.Ordering.{eq_by_cmp}
 use Rattle.cy_values.specs.declared.rows.Cell.{Cell}
@@ -12,24 +12,21 @@ use Rattle.cy_expr.specs.Graphs.{lookups}
 use Rattle.cy_queries.specs.Groups.{Grouped, over_rows, rows_of_group}
 use Rattle.cy_queries.specs.Order.{each_once}
 use Rattle.cy_patterns.specs.Outcomes.{gathered}
-use Rattle.cy_queries.specs.internal.Permuted.{Permuted}
 
 -- a key with the rows that have it
 pub record Gathering : Type 0 where
   pub key : List Cell
   pub rows : List (List Cell)
 
--- a group to which those of the next rows come that have its key, and the groups after it
-abbrev pub groups_from : Gathering → List Grouped → List Gathering
-groups_from group [] = group ∷ []
-groups_from group (g ∷ gs) =
-    if eq_by_cmp row_cmp group.key g.key then groups_from (record { key = group.key; rows = group.rows ++ g.row ∷ [] }) gs
-    else group ∷ groups_from (record { key = g.key; rows = g.row ∷ [] }) gs
+-- a row among groups: with those of its key, where there are some, else in a group of its own after the others
+abbrev pub with_row : List Gathering → Grouped → List Gathering
+with_row [] g = (record { key = g.key; rows = g.row ∷ [] }) ∷ []
+with_row (h ∷ hs) g = if eq_by_cmp row_cmp g.key h.key then (record { key = h.key; rows = h.rows ++ g.row ∷ [] }) ∷ hs else h ∷ with_row hs g
 
--- the groups of rows whose equal keys stand together
-abbrev pub groups_of : List Grouped → List Gathering
-groups_of [] = []
-groups_of (g ∷ gs) = groups_from (record { key = g.key; rows = g.row ∷ [] }) gs
+-- rows among groups, one after another
+abbrev pub with_rows : List Gathering → List Grouped → List Gathering
+with_rows hs [] = hs
+with_rows hs (g ∷ gs) = with_rows (with_row hs g) gs
 
 -- a row with its key, if it has one
 abbrev pub with_key : List Cell → Result (List Cell) EvalFault → Result Grouped EvalFault
@@ -39,9 +36,9 @@ with_key row key = on_one (λ cells. Ok (record { key = cells; row = row })) key
 abbrev pub grouped_by : Content → List Expression → List Cell → Result Grouped EvalFault
 grouped_by graph expressions row = with_key row (gathered (map (λ e. cell_of (lookups graph) row e) expressions))
 
--- the groups of rows, by some order of the rows
+-- the groups of rows
 abbrev pub AreGroups : List Grouped → List Gathering → Type 0
-AreGroups gs groups = (hs : List Grouped) × Permuted gs hs × (groups ≡ map (λ key. record { key = key; rows = rows_of_group key hs }) (each_once row_cmp (map (λ g. g.key) hs)))
+AreGroups gs groups = groups ≡ map (λ key. record { key = key; rows = rows_of_group key gs }) (each_once row_cmp (map (λ g. g.key) gs))
 
 -- and without keys the one group of all
 abbrev pub AreGroupsOf : Bool → List Grouped → List Gathering → Type 0

@@ -1,5 +1,8 @@
 -- Keys, rows with their keys, and groups, as the code has them.
-use Rattle.std.specs.Prelude.{ℕ, Option}
+use Rattle.std.specs.Prelude.{ℕ, List, Option}
+use Rattle.std.specs.declared.alloc.Global.{Global}
+use Rattle.std.specs.declared.vec.Vec.{Vec}
+use Rattle.cy_values.specs.declared.rows.Cell.{Cell}
 use Rattle.cy_trees.specs.Trees.{Key}
 use Rattle.cy_trees.specs.Views.{key_of}
 use Rattle.cy_queries.specs.Groups.{Grouped}
@@ -22,3 +25,7 @@ grouped_of g = record { key = g.key; row = g.row }
 
 abbrev pub group_of : coded_group.Group → Gathering
 group_of g = record { key = g.key; rows = g.rows.items }
+
+-- a key with the rows under it in a map
+abbrev pub gathering_of : List Cell × Vec (List Cell) Global → Gathering
+gathering_of e = record { key = e.0; rows = e.1.items }

@@ -1,4 +1,4 @@
-use Rattle.std.proofs.Common.{inl, sym, ap, ◌∙◌, arith}
+use Rattle.std.proofs.Common.{inl, refl, sym, ap, ◌∙◌, arith}
 use Rattle.std.proofs.lemmas.Bool.Decides.{nat_tests}
 use Rattle.std.proofs.lemmas.Result.{err_from_is_err_and}
 use Rattle.cy_kinds.specs.Functions.{function_named}
@@ -14,7 +14,7 @@ returns-in_err-cells-in-len1 c =
 pub returns-in_ok-cells-in-len1 : goal.returns-in_ok-cells-in-len1
 returns-in_ok-cells-in-len1 c =
     answers_one c.args.store.now.graph.now.content c.args.name.now c.args.distinct c.args.rows.now c.args.arguments.now c.argument-item.result (omega arith) c.argument-item.is
-    c.in_ok-cells-in-len1.cells.items c.taken.result.items c.named-function.result c.aggregate.result c.in_ok-cells-in-len1.ensures (c.named-function.ensures ∙ ap function_named c.as_str.ensures) c.taken.ensures c.aggregate.ensures
+    c.in_ok-cells-in-len1.cells.items _ c.named-function.result c.aggregate_of.result c.in_ok-cells-in-len1.ensures (c.named-function.ensures ∙ ap function_named c.as_str.ensures) refl c.aggregate_of.ensures
 
 pub returns-in_default : goal.returns-in_default
 returns-in_default c = inl (sym (of_others c.args.store.now.graph.now.content c.args.name.now c.args.distinct c.args.rows.now c.args.arguments.now (λ one. grind (arith, nat_tests))))

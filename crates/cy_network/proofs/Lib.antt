@@ -24,6 +24,7 @@ pub mod Popped
 pub mod Upwards
 pub mod Climbs
 pub mod ScanFacts
+pub mod Kept
 pub mod RowByRow
 pub mod Scanned
 pub mod Cuts

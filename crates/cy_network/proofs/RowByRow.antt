@@ -2,7 +2,7 @@
 use Rattle.std.proofs.Common.{◌≡◌, ℕ, ◌+◌, ◌<◌, ◌||◌, Bool, true, false, Option, Some, None, List, [], ◌∷◌, length, get_or, refl, sym, ap, subst, ◌∙◌, arith, true≢false}
 use Rattle.std.specs.Prelude.{is_some}
 use Rattle.std.specs.List.{list_all}
-use Rattle.std.proofs.lemmas.List.{ext_get_or}
+use Rattle.std.proofs.lemmas.List.{ext_get_or, length-map}
 use Rattle.std.proofs.lemmas.List.Folds.{list_all_at}
 use Rattle.std.proofs.lemmas.List.FromFn.{get_or-range_with_len, length-range_with_len}
 use Rattle.cy_values.specs.declared.rows.Cell.{Cell}
@@ -17,9 +17,10 @@ use Rattle.std.proofs.Common.{map}
 use Rattle.cy_graph.specs.Graph.{State}
 use Rattle.cy_deltas.proofs.PlanLemmas.{parts_wide, project_at}
 use Rattle.cy_scans.specs.Changes.{Touches}
-use Rattle.cy_scans.specs.Scans.{column_over, kept_at}
+use Rattle.cy_scans.specs.Scans.{kept_at}
 use Rattle.cy_network.proofs.ScanFacts.{kept_cell}
 use Rattle.cy_network.specs.Memories.{is_row_by_row, is_scan, keeps_all, own_contents, own_keys, unless}
+use Rattle.cy_network.specs.internal.Parts.{first_below}
 use Rattle.cy_network.specs.internal.Upkeep.{IsDeltaOf, IsStep, content_of}
 
 -- each column is kept
@@ -64,14 +65,11 @@ rearranged old now touches p outputs shifts made all leads bounds step part = re
 
 -- what the code finds is whether all columns are kept
 module _ (p below : Plan) (outputs : List Output) (is : p ≡ plan.project below outputs) (number : ℕ) (wide : number ≡ width below) (unscanned : is_scan p ≡ false) (found : Bool)
-    (kept : found ≡ list_all (λ column. is_some (column_over p (Some column))) (all_columns number)) where
-  pub found_is : found ≡ keeps_all (width below) outputs
-  found_is =
-      kept ∙ ap (λ q. list_all (λ column. is_some (column_over q (Some column))) (all_columns number)) is
-      ∙ ap (λ n. keeps_all n outputs) wide
-
+    (kept : found ≡ keeps_all number outputs) where
   pub row_by_row_is : is_row_by_row below outputs ≡ found
-  row_by_row_is = ap (λ q. is_scan q || keeps_all (width below) outputs) (sym is) ∙ ap (λ so. so || keeps_all (width below) outputs) unscanned ∙ sym found_is
+  row_by_row_is =
+      ap (λ q. is_scan q || keeps_all (width below) outputs) (sym is) ∙ ap (λ so. so || keeps_all (width below) outputs) unscanned
+      ∙ sym (kept ∙ ap (λ n. keeps_all n outputs) wide)
 
   pub keys_are : own_keys p ≡ unless found (all_columns (length outputs) ∷ [])
   keys_are = ap own_keys is ∙ ap (λ so. unless so (all_columns (length outputs) ∷ [])) row_by_row_is
@@ -80,3 +78,30 @@ module _ (p below : Plan) (outputs : List Output) (is : p ≡ plan.project below
   contents_are rows =
       ap (own_contents rows) is ∙ ap (λ so. unless so (counts (rows (plan.project below outputs)) ∷ [])) row_by_row_is
       ∙ ap (λ q. unless found (counts (rows q) ∷ [])) (sym is)
+
+none_unless : {A : Type 0} (so : Bool) (x : A) → length (unless so (x ∷ [])) ≡ 0 → so ≡ true
+none_unless true x none = refl
+none_unless false x none = absurd (omega (arith, none))
+
+some_unless : {A : Type 0} (so : Bool) (x : A) → 0 < length (unless so (x ∷ [])) → so ≡ false
+some_unless true x some = absurd (omega (arith, some))
+some_unless false x some = refl
+
+-- a projection without memory that is no scan keeps all columns, and one with a memory isn't gone through row by row
+module _ {M : Type 0} (key_columns : M → List ℕ) (own : List M) (p : Plan) (outputs : List Output) (is : p ≡ plan.project (first_below p) outputs) (keyed : map key_columns own ≡ own_keys p) where
+  long : length own ≡ length (unless (is_row_by_row (first_below p) outputs) (all_columns (length outputs) ∷ []))
+  long = sym (length-map own key_columns) ∙ ap length keyed ∙ ap (λ q. length (own_keys q)) is
+
+  pub with_memory : 0 < length own → is_row_by_row (first_below p) outputs ≡ false
+  with_memory some = some_unless (is_row_by_row (first_below p) outputs) (all_columns (length outputs)) (subst (λ n. 0 < n) long some)
+
+  module _ (unscanned : is_scan p ≡ false) (none : length own ≡ 0) where
+    pub without_memory : keeps_all (width (first_below p)) outputs ≡ true
+    without_memory =
+        sym (row_by_row_is p (first_below p) outputs is (width (first_below p)) refl unscanned (keeps_all (width (first_below p)) outputs) refl)
+        ∙ none_unless (is_row_by_row (first_below p) outputs) (all_columns (length outputs)) (sym long ∙ none)
+
+    pub without_contents : (rows : Plan → List (List Cell)) → own_contents rows p ≡ []
+    without_contents rows =
+        contents_are p (first_below p) outputs is (width (first_below p)) refl unscanned (keeps_all (width (first_below p)) outputs) refl rows
+        ∙ ap (λ so. unless so (counts (rows p) ∷ [])) without_memory

@@ -2,6 +2,7 @@
 #![tactic(auto)]
 
 mod changes;
+mod kept_columns;
 mod leaves;
 mod memories;
 mod networks;

@@ -1,18 +1,36 @@
-use Rattle.std.proofs.Common.{◌≡◌, List, [], ◌∷◌, Some, map, sym, ap, ◌∙◌}
+use Rattle.std.proofs.Common.{◌≡◌, ℕ, ◌<◌, ◌==◌, true, false, List, [], Some, length, map, sym, ◌∙◌, arith}
+use Rattle.std.proofs.lemmas.Bool.Decides.{nat_tests}
 use Rattle.cy_values.specs.declared.rows.Cell.{Cell}
 use Rattle.cy_plans.specs.Plans.{Plan}
 use Rattle.cy_plans.specs.Views.{output_of, plan_of}
-use Rattle.cy_deltas.specs.Deltas.{counts, rows_at}
-use Rattle.cy_network.specs.Memories.{own_contents, unless}
+use Rattle.cy_deltas.specs.Deltas.{rows_at}
+use Rattle.cy_network.specs.Memories.{own_contents}
 use Rattle.cy_network.specs.internal.Upkeep.{content_of}
-use Rattle.cy_network.proofs.RowByRow.{contents_are}
+use Rattle.cy_network.proofs.RowByRow.{with_memory, without_contents, without_memory}
 use Rattle.cy_network.proofs.singles.projection_shifts.Goals as goal
 
-pub returns-then-keeps_all-clause-done : goal.returns-then-keeps_all-clause-done
-returns-then-keeps_all-clause-done g c old fed =
+no_length : (long : ℕ) → (long == 0) ≡ true → long ≡ 0
+no_length long none = grind (arith, nat_tests)
+
+some_length : (long : ℕ) → (long == 0) ≡ false → 0 < long
+some_length long some = grind (arith, nat_tests)
+
+pub rearranged_shifts-requires-clause-all : goal.rearranged_shifts-requires-clause-all
+rearranged_shifts-requires-clause-all g c =
+    without_memory g.M.Memory.key_columns c.args.own.now (plan_of c.args.part.now) (map output_of c.args.outputs.now) c.requires.is c.requires.begun.1.own.keyed c.requires.unscanned
+    (no_length (length c.args.own.now) (sym c.is_empty.ensures ∙ c.if-is_empty.true))
+
+pub project_shifts-requires-clause-kept : goal.project_shifts-requires-clause-kept
+project_shifts-requires-clause-kept g c =
+    with_memory g.M.Memory.key_columns c.args.own.now (plan_of c.args.part.now) (map output_of c.args.outputs.now) c.requires.is c.requires.begun.1.own.keyed
+    (some_length (length c.args.own.now) (sym c.is_empty.ensures ∙ c.if-is_empty.false))
+
+pub returns-then-is_empty-clause-done : goal.returns-then-is_empty-clause-done
+returns-then-is_empty-clause-done g c old fed =
     let p = plan_of c.args.part.now in
-    let none : (rows : Plan → List (List Cell)) → own_contents rows p ≡ [] = λ rows. contents_are p (plan_of c.args.below.now) (map output_of c.args.outputs.now) c.requires.is c.width.result c.width.ensures c.requires.unscanned c.keeps_all.result c.keeps_all.ensures rows
-    ∙ ap (λ so. unless so (counts (rows p) ∷ [])) c.if-keeps_all.true in
+    let none : (rows : Plan → List (List Cell)) → own_contents rows p ≡ [] =
+    without_contents g.M.Memory.key_columns c.args.own.now p (map output_of c.args.outputs.now) c.requires.is c.requires.begun.1.own.keyed c.requires.unscanned
+    (no_length (length c.args.own.now) (sym c.is_empty.ensures ∙ c.if-is_empty.true)) in
     record {
       change = c.in_ok-rearranged_shifts.ensures old c.args.sight.now.graph.now c.args.change.now fed.step fed.below;
       holds = fed.own.settled ∙ none (rows_at (content_of old)) ∙ sym (none (rows_at (Some c.args.sight.now.graph.now.content)));

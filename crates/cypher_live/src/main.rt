@@ -1,7 +1,7 @@
 //! The program: lines of standard input in, a JSON object for each on standard output.
 #![tactic(auto)]
 
-ghost use Rattle.std.specs.Prelude.{◌≡◌, ◌⊎◌, ◌≤◌, IfSome, Ok, false};
+ghost use Rattle.std.specs.Prelude.{◌≡◌, ◌⊎◌, ◌≤◌, IfSome, Ok, false, true};
 ghost use Rattle.std.specs.Process.{exit_status};
 ghost use Rattle.cy_shell.specs.Runs.{StopsReading, StopsWriting, WritesAll, beginning};
 ghost use Rattle.cypher_live.specs.internal.Requests.{HasHistory};
@@ -66,9 +66,12 @@ fn serve<R: Source, W: Sink>(
     requires to { settings.history ≤ 4096 }
     ensures ended { exit_status result ≡ 0 → IfSome (R.remaining source.old) (λ input.
         WritesAll (beginning settings.history settings.feed) input (W.written sink.old) (W.written sink.new)) }
+    ensures works { exit_status result ≡ 0 → (R.has_failed source.new ≡ false) × (W.has_failed sink.new ≡ false) }
+    ensures handed { exit_status result ≡ 0 → W.handed_on sink.old ≡ W.written sink.old → W.handed_on sink.new ≡ W.written sink.new }
     ensures stopped { exit_status result ≡ 3 → IfSome (R.remaining source.old) (λ input.
         StopsReading (beginning settings.history settings.feed) input (R.remaining source.new) (R.has_failed source.new) (W.written sink.old) (W.written sink.new)
-        ⊎ StopsWriting (beginning settings.history settings.feed) input (R.remaining source.new) (R.taken source.new) (W.written sink.old) (W.written sink.new) (W.handed_on sink.old) (W.handed_on sink.new)) }
+        ⊎ ((W.has_failed sink.new ≡ true)
+        × StopsWriting (beginning settings.history settings.feed) input (R.remaining source.new) (R.taken source.new) (W.written sink.old) (W.written sink.new) (W.handed_on sink.old) (W.handed_on sink.new))) }
     ensures memory { exit_status result ≡ 4 → (source.new ≡ source.old) × (sink.new ≡ sink.old) }
     ensures known { (exit_status result ≡ 0) ⊎ (exit_status result ≡ 3) ⊎ (exit_status result ≡ 4) }
 {

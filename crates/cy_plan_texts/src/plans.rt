@@ -9,6 +9,7 @@ use std::fmt::{Display, Formatter, Write};
 
 /// A plan as an indented tree: a line for each part, and those of the parts below it further to the right. The columns of a part are
 /// numbered from `#0` on, as its rows have them; a join's keys name a column of its left part and one of its right part (own).
+#[derive(Drop)]
 pub struct PlanText<'a>(pub &'a Plan);
 
 impl Display for PlanText<'_> {

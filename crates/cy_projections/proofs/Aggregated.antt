@@ -2,7 +2,6 @@
 use Rattle.std.proofs.Common.{◌≡◌, cond, List, [], ◌∷◌, filter, map, refl, sym, ap, subst, ◌∙◌}
 use Rattle.std.specs.Prelude.{Option, Some, None, Result, Ok, Err, IfOk}
 use Rattle.std.specs.List.{AllByRecursion}
-use Rattle.std.specs.Cmp.{IsTotalOrder}
 use Rattle.std.specs.Ordering.{eq_by_cmp}
 use Rattle.std.proofs.lemmas.Simd.{map-map}
 use Rattle.cy_values.specs.declared.rows.Cell.{Cell}
@@ -18,9 +17,7 @@ use Rattle.cy_projections.specs.internal.Grouping.{AreGroups, Gathering, grouped
 use Rattle.cy_queries.specs.internal.Permuted.{Alike}
 use Rattle.cy_queries.proofs.Each.{each_made}
 use Rattle.cy_queries.proofs.EachValue.{each_value}
-use Rattle.cy_queries.proofs.GroupLemmas.{alike_groups}
 use Rattle.cy_queries.proofs.Joined.{alike_itself}
-use Rattle.cy_queries.proofs.Permuted.{turned}
 use Rattle.cy_queries.proofs.SeenRows.{cells_are, expressions}
 use Rattle.cy_projections.proofs.Sifted.{and_also_is, sifted_gathered, sifted_values}
 

@@ -22,7 +22,6 @@ use Rattle.cy_queries.proofs.Each.{each_append, each_filter, each_gathered, each
 use Rattle.cy_queries.proofs.EachValue.{each_value}
 use Rattle.cy_queries.proofs.InGraphLemmas.{cell_there}
 use Rattle.cy_queries.proofs.InGraphClauses.{aggregated_there}
-use Rattle.cy_queries.proofs.Permuted.{turned}
 use Rattle.cy_queries.proofs.SeenRows.{each_permuted}
 use Rattle.cy_projections.proofs.Sifted.{sifted_values}
 

@@ -12,9 +12,10 @@ use Rattle.std.proofs.lemmas.List.Sums.{AllPass-from_list_all, sum_by-cons}
 use Rattle.cy_trees.specs.Trees.{null, boolean, integer, text, variable, property, has_labels, unary, binary, comparison, list, case, call, call_star}
 use Rattle.cy_merges.specs.Merges.{all_columns}
 use Rattle.cy_plans.specs.Plans.{Output, computed, gathered}
+use Rattle.cy_apart.specs.Lists.{column_alone}
 use Rattle.cy_scans.specs.Scans.{is_column, is_this, kept_at}
 use Rattle.cy_network.specs.Memories.{keeps_all}
-use Rattle.cy_network.specs.internal.Kept.{column_alone, kept_flags}
+use Rattle.cy_network.specs.internal.Kept.{kept_flags}
 
 -- one that a projection makes is a column alone where this one stands alone in it
 pub alone_is : (k : ℕ) (o : Output) → is_column k o ≡ is_this k (column_alone o)

@@ -1,7 +1,8 @@
 -- The memories of a part, one by one.
-use Rattle.std.proofs.Common.{◌≡◌, ℕ, ◌+◌, ◌≤◌, List, [], ◌∷◌, ◌++◌, Option, length, map, take, drop, sym, ap, subst, ◌∙◌, arith}
+use Rattle.std.proofs.Common.{◌≡◌, ℕ, ◌+◌, ◌<◌, ◌≤◌, ◌==◌, true, false, List, [], ◌∷◌, ◌++◌, Option, length, map, take, drop, sym, ap, subst, ◌∙◌, arith}
 use Rattle.std.specs.Prelude.{sum_by}
 use Rattle.std.proofs.Math.Seq.{take-append_seam}
+use Rattle.std.proofs.lemmas.Bool.Decides.{nat_tests}
 use Rattle.std.proofs.lemmas.List.{length-map}
 use Rattle.std.proofs.lemmas.List.Sums.{sum_by-cons}
 use Rattle.cy_graph.specs.Graph.{State}
@@ -17,6 +18,12 @@ lent_back xs ys n whole same = ap (λ k. take k (ys ++ drop (length ys) xs)) (wh
 -- as many as they have keys
 pub own_length : {M : Type 0} (key_columns : M → List ℕ) (own : List M) (keyed : List (List ℕ)) → map key_columns own ≡ keyed → length own ≡ length keyed
 own_length key_columns own keyed same = sym (length-map own key_columns) ∙ ap length same
+
+pub no_length : (long : ℕ) → (long == 0) ≡ true → long ≡ 0
+no_length long none = grind (arith, nat_tests)
+
+pub some_length : (long : ℕ) → (long == 0) ≡ false → 0 < long
+some_length long some = grind (arith, nat_tests)
 
 module _ {M : Type 0} (key_columns : M → List ℕ) (was staged : M → Counts) (old : Option State) where
   -- one part, and the same part told by its form

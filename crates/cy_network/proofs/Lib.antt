@@ -26,6 +26,7 @@ pub mod Climbs
 pub mod ScanFacts
 pub mod Kept
 pub mod RowByRow
+pub mod Apart
 pub mod Scanned
 pub mod Cuts
 pub mod CutChains

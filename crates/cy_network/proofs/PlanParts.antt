@@ -1,12 +1,13 @@
 -- A part of a plan and the parts right below it.
-use Rattle.std.proofs.Common.{◌≡◌, ℕ, ◌+◌, ◌<◌, ◌≤◌, Bool, true, false, List, [], ◌∷◌, ◌++◌, length, refl, sym, ap, subst, ◌∙◌, arith}
+use Rattle.std.proofs.Common.{◌≡◌, ℕ, ◌+◌, ◌<◌, ◌≤◌, Bool, true, false, not, List, [], ◌∷◌, ◌++◌, length, refl, sym, ap, subst, ◌∙◌, arith}
 use Rattle.std.proofs.lemmas.List.{append-nil, length-append}
 use Rattle.cy_values.specs.declared.rows.Cell.{Cell}
 use Rattle.cy_plans.specs.Plans as plan
-use Rattle.cy_plans.specs.Plans.{Plan}
+use Rattle.cy_plans.specs.Plans.{Plan, width}
 use Rattle.cy_plans.specs.Parts.{parts}
 use Rattle.cy_plans.specs.Sure.{IsSure}
 use Rattle.cy_plans.specs.WellFormed.{IsWellFormed}
+use Rattle.cy_apart.specs.Lists.{are_apart}
 use Rattle.cy_deltas.specs.Deltas.{counts}
 use Rattle.cy_merges.specs.Merges.{all_columns}
 use Rattle.cy_network.specs.Memories.{contents, is_row_by_row, is_scan, keys, own_contents, own_keys, unless}
@@ -96,6 +97,11 @@ unless_long : {A B : Type 0} (so : Bool) (x : A) (y : B) → length (unless so (
 unless_long true x y = refl
 unless_long false x y = refl
 
+-- one thing, unless this is so
+pub one_unless : {A : Type 0} (so : Bool) (x : A) → mir.Val.bool_byte (not so) ≡ length (unless so (x ∷ []))
+one_unless true x = refl
+one_unless false x = refl
+
 -- a part has as many memories as they have key columns
 pub own_long : (rows : Plan → List (List Cell)) (p : Plan) → length (own_contents rows p) ≡ length (own_keys p)
 own_long rows plan.unit = refl
@@ -108,7 +114,7 @@ own_long rows (plan.filter p test) = refl
 own_long rows (plan.all_different p columns) = refl
 own_long rows (plan.project p outputs) = unless_long (is_row_by_row p outputs) (counts (rows (plan.project p outputs))) (all_columns (length outputs))
 own_long rows (plan.distinct p) = refl
-own_long rows (plan.union left right) = refl
+own_long rows (plan.union left right) = unless_long (are_apart left right) (counts (rows (plan.union left right))) (all_columns (width left))
 
 one : {A B : Type 0} (xs ys : List A) (us vs : List B) → length xs ≡ length us → length ys ≡ length vs → length (xs ++ ys) ≡ length (us ++ vs)
 one xs ys us vs first second = length-append xs ys ∙ ap (λ n. n + length ys) first ∙ ap (λ n. length us + n) second ∙ sym (length-append us vs)
@@ -129,7 +135,7 @@ all_long rows (plan.filter p test) = all_long rows p
 all_long rows (plan.all_different p columns) = all_long rows p
 all_long rows (plan.project p outputs) = one (contents rows p) (own_contents rows (plan.project p outputs)) (keys p) (own_keys (plan.project p outputs)) (all_long rows p) (own_long rows (plan.project p outputs))
 all_long rows (plan.distinct p) = all_long rows p
-all_long rows (plan.union left right) = two (contents rows left) (contents rows right) (own_contents rows (plan.union left right)) (keys left) (keys right) (own_keys (plan.union left right)) (all_long rows left) (all_long rows right) refl
+all_long rows (plan.union left right) = two (contents rows left) (contents rows right) (own_contents rows (plan.union left right)) (keys left) (keys right) (own_keys (plan.union left right)) (all_long rows left) (all_long rows right) (own_long rows (plan.union left right))
 
 -- a part has two parts below it at most
 pub few_below : (p : Plan) → below_count p ≤ 2

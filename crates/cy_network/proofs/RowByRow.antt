@@ -79,11 +79,11 @@ module _ (p below : Plan) (outputs : List Output) (is : p ≡ plan.project below
       ap (own_contents rows) is ∙ ap (λ so. unless so (counts (rows (plan.project below outputs)) ∷ [])) row_by_row_is
       ∙ ap (λ q. unless found (counts (rows q) ∷ [])) (sym is)
 
-none_unless : {A : Type 0} (so : Bool) (x : A) → length (unless so (x ∷ [])) ≡ 0 → so ≡ true
+pub none_unless : {A : Type 0} (so : Bool) (x : A) → length (unless so (x ∷ [])) ≡ 0 → so ≡ true
 none_unless true x none = refl
 none_unless false x none = absurd (omega (arith, none))
 
-some_unless : {A : Type 0} (so : Bool) (x : A) → 0 < length (unless so (x ∷ [])) → so ≡ false
+pub some_unless : {A : Type 0} (so : Bool) (x : A) → 0 < length (unless so (x ∷ [])) → so ≡ false
 some_unless true x some = absurd (omega (arith, some))
 some_unless false x some = refl
 

@@ -7,6 +7,7 @@ use Rattle.cy_memory.specs.Counts.{Counts}
 use Rattle.cy_plans.specs.Plans as plan
 use Rattle.cy_plans.specs.Plans.{Output, Plan, width}
 use Rattle.cy_plans.specs.Parts.{parts}
+use Rattle.cy_apart.specs.Lists.{are_apart}
 use Rattle.cy_deltas.specs.Deltas.{counts, rows_at}
 use Rattle.cy_merges.specs.Merges.{AreBounded, all_columns}
 use Rattle.cy_scans.specs.Scans.{kept_at, scan_column}
@@ -29,7 +30,8 @@ abbrev pub unless : {X : Type 0} → Bool → List X → List X
 unless so xs = if so then [] else xs
 
 -- the key columns of the memories that a part has itself: a join keeps the rows of both sides by their keys, an outer join these and the number of
--- partners of each row of its left side, a look-up the rows below it by its column, and what adds counts keeps its own rows. A scan keeps nothing.
+-- partners of each row of its left side, a look-up the rows below it by its column, and what adds counts keeps its own rows. A scan
+-- keeps nothing, nor does a projection that is gone through row by row, or a union of parts that are apart.
 abbrev pub own_keys : Plan → List (List ℕ)
 own_keys plan.unit = []
 own_keys plan.nodes = []
@@ -41,7 +43,7 @@ own_keys (plan.filter p test) = []
 own_keys (plan.all_different p columns) = []
 own_keys (plan.project p outputs) = unless (is_row_by_row p outputs) (all_columns (length outputs) ∷ [])
 own_keys (plan.distinct p) = []
-own_keys (plan.union left right) = all_columns (width left) ∷ []
+own_keys (plan.union left right) = unless (are_apart left right) (all_columns (width left) ∷ [])
 
 -- the key columns of all memories of a plan
 abbrev pub keys : Plan → List (List ℕ)
@@ -69,7 +71,7 @@ own_contents rows (plan.filter p test) = []
 own_contents rows (plan.all_different p columns) = []
 own_contents rows (plan.project p outputs) = unless (is_row_by_row p outputs) (counts (rows (plan.project p outputs)) ∷ [])
 own_contents rows (plan.distinct p) = []
-own_contents rows (plan.union left right) = counts (rows (plan.union left right)) ∷ []
+own_contents rows (plan.union left right) = unless (are_apart left right) (counts (rows (plan.union left right)) ∷ [])
 
 -- what all memories of a plan count
 abbrev pub contents : (Plan → List (List Cell)) → Plan → List Counts

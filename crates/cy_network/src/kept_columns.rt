@@ -2,16 +2,13 @@
 
 ghost use Rattle.std.specs.Prelude.{◌≡◌, ◌<◌, ◌==◌, ◌||◌, ℕ, false, IfOk, length, map, slice_index_or};
 ghost use Rattle.std.specs.List.{list_all};
-ghost use Rattle.cy_trees.specs.Views.{expression_of};
-ghost use Rattle.cy_plans.specs.Plans.{computed};
 ghost use Rattle.cy_plans.specs.Views.{output_of};
 ghost use Rattle.cy_scans.specs.Scans.{is_this};
 ghost use Rattle.cy_network.specs.Memories as spec;
-ghost use Rattle.cy_network.specs.internal.Kept as kept;
 ghost use Rattle.cy_network.specs.internal.Kept.{kept_flags};
 
+use cy_apart::column_alone;
 use cy_plans::Output;
-use cy_trees::Expr;
 use cy_values::Fault;
 use std::alloc::Global;
 
@@ -61,25 +58,5 @@ fn mark_one(flags: &mut Vec<bool>, column: usize)
 {
     if column < flags.len() {
         flags[column] = true;
-    }
-}
-
-// The column that stands alone in one that a projection makes.
-fn column_alone(output: &Output) -> Option<usize>
-    ensures { result ≡ kept.column_alone (output_of output.now) }
-{
-    match output {
-        Output::Cell(expression) => variable_column(expression),
-        Output::Rels(_) => None,
-    }
-}
-
-// The column of an expression that is a column alone.
-fn variable_column(expression: &Expr) -> Option<usize>
-    ensures { result ≡ kept.column_alone (computed (expression_of expression.now)) }
-{
-    match expression {
-        Expr::Variable(variable) => variable.column,
-        _ => None,
     }
 }

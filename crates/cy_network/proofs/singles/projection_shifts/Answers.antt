@@ -1,19 +1,13 @@
-use Rattle.std.proofs.Common.{◌≡◌, ℕ, ◌<◌, ◌==◌, true, false, List, [], Some, length, map, sym, ◌∙◌, arith}
-use Rattle.std.proofs.lemmas.Bool.Decides.{nat_tests}
+use Rattle.std.proofs.Common.{◌≡◌, List, [], Some, length, map, sym, ◌∙◌}
 use Rattle.cy_values.specs.declared.rows.Cell.{Cell}
 use Rattle.cy_plans.specs.Plans.{Plan}
 use Rattle.cy_plans.specs.Views.{output_of, plan_of}
 use Rattle.cy_deltas.specs.Deltas.{rows_at}
 use Rattle.cy_network.specs.Memories.{own_contents}
 use Rattle.cy_network.specs.internal.Upkeep.{content_of}
+use Rattle.cy_network.proofs.Lent.{no_length, some_length}
 use Rattle.cy_network.proofs.RowByRow.{with_memory, without_contents, without_memory}
 use Rattle.cy_network.proofs.singles.projection_shifts.Goals as goal
-
-no_length : (long : ℕ) → (long == 0) ≡ true → long ≡ 0
-no_length long none = grind (arith, nat_tests)
-
-some_length : (long : ℕ) → (long == 0) ≡ false → 0 < long
-some_length long some = grind (arith, nat_tests)
 
 pub rearranged_shifts-requires-clause-all : goal.rearranged_shifts-requires-clause-all
 rearranged_shifts-requires-clause-all g c =

@@ -147,7 +147,7 @@ def ours(program, name, size):
     """The mean instructions of a change, and the rows of the view in the end."""
     _, make, labels, _, _ = VIEWS[name]
     with Session(program) as session:
-        session.give([(f":{line}" if line.startswith("index") else line, "{") for line, _ in graph(make, labels, size)])
+        session.give(list(graph(make, labels, size)))
         session.give([(f":view v {EXAMPLES[name].query}", '{"columns":[')])
         count = session.count([line for line, _ in changes(name, size)], 10)
         session.run.stdin.write(":rows v\n")

@@ -1,7 +1,7 @@
 -- A projection gives the same of rows in which the cells that it doesn't read are null.
 use Rattle.std.proofs.Common.{◌≡◌, inl, inr, ℕ, zero, suc, ◌+◌, ◌-◌, Bool, true, false, cond, List, [], ◌∷◌, ◌++◌, filter, map, refl, sym, ap, subst, ◌∙◌, arith}
 use Rattle.std.specs.Prelude.{Result, Ok, Err, IfOk, Option, Some, None, ◌||◌, length, not, pos, slice_index_or}
-use Rattle.std.specs.List.{AllByRecursion, list_any}
+use Rattle.std.specs.List.{list_any}
 use Rattle.std.specs.Ordering.{eq_by_cmp}
 use Rattle.std.proofs.lemmas.Bool.{or_parts}
 use Rattle.std.proofs.lemmas.List.{length-map}
@@ -10,7 +10,7 @@ use Rattle.cy_values.specs.declared.scalars.Value.TheVariants as value
 use Rattle.cy_values.specs.declared.rows.Cell.{Cell}
 use Rattle.cy_values.specs.declared.rows.Cell.TheVariants as cell
 use Rattle.cy_values.specs.Order.{row_cmp}
-use Rattle.cy_trees.specs.Trees.{Name, Expression, null, boolean, integer, text, variable, property, has_labels, unary, binary, comparison, list, case, call, call_star, no_more, more, Item, Key, Projection, Clause, «match», unwind, «with», «return», create, set, remove, delete}
+use Rattle.cy_trees.specs.Trees.{Expression, null, boolean, integer, text, variable, property, has_labels, unary, binary, comparison, list, case, call, call_star, no_more, more, Item, Key, Projection, Clause, «match», unwind, «with», «return», create, set, remove, delete}
 use Rattle.cy_graph.specs.Graph.{Content}
 use Rattle.cy_kinds.specs.Aggregates.{has_aggregates, is_aggregate_call}
 use Rattle.cy_kinds.specs.Functions.{function_named}
@@ -20,7 +20,7 @@ use Rattle.cy_expr.specs.Faults.{on_one}
 use Rattle.cy_expr.specs.Graphs.{lookups}
 use Rattle.cy_queries.specs.Order.{Keyed, each_once}
 use Rattle.cy_patterns.specs.Matching.{selected}
-use Rattle.cy_patterns.specs.Outcomes.{gathered, joined, together}
+use Rattle.cy_patterns.specs.Outcomes.{gathered, joined}
 use Rattle.cy_columns.specs.Columns.{AgreeOn, columns_read}
 use Rattle.cy_columns.proofs.Agreeing.{cell-same}
 use Rattle.cy_queries.specs.Groups.{Grouped, aggregate_if, aggregated, and_also, cells_on, group_cells, group_keys, group_rows, grouped, grouping, over_rows, rows_of_group, taken, values_among}

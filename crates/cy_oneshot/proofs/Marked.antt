@@ -1,8 +1,10 @@
 -- Columns that are marked as needed.
-use Rattle.std.proofs.Common.{◌≡◌, ◌⊎◌, inl, inr, ℕ, zero, suc, ◌+◌, ◌-◌, ◌<◌, ◌≤◌, Bool, true, false, List, [], ◌∷◌, ◌++◌, drop, length, map, get_or, set, take, refl, sym, ap, subst, ◌∙◌, arith}
-use Rattle.std.specs.Prelude.{Option, None, Some, flat_map, IfOk, OnOk, IfSome, Result, Ok, Err}
+use Rattle.std.proofs.Common.{◌≡◌, ◌⊎◌, inl, inr, ℕ, zero, suc, ◌+◌, ◌-◌, ◌<◌, ◌≤◌, Bool, true, false, cond, List, [], ◌∷◌, ◌++◌, drop, length, map, get_or, set, take, refl, sym, ap, subst, ◌∙◌, arith}
+use Rattle.std.specs.Prelude.{◌||◌, Option, None, Some, flat_map, IfOk, OnOk, IfSome, Result, Ok, Err}
 use Rattle.std.specs.List.{AllByRecursion}
+use Rattle.std.proofs.lemmas.Bool.{false≢true, or_parts}
 use Rattle.std.proofs.lemmas.List.{length-drop, map-append, take_all, take_more}
+use Rattle.cy_values.specs.declared.rows.Cell.{Cell}
 use Rattle.cy_trees.specs.declared.expressions.Variable.{Variable}
 use Rattle.cy_trees.specs.declared.clauses.Length.{Length}
 use Rattle.cy_trees.specs.Trees.{Clause, Expression, Item, Key, MapEntry, Path, Projection, Step, SetItem, set_property, set_labels, RemoveItem, remove_property, remove_labels, «match», unwind, «with», «return», create, remove, delete}
@@ -11,7 +13,7 @@ use Rattle.cy_scope.specs.Views.{is_update}
 use Rattle.cy_patterns.specs.Places.{Place, column_at, entries_at, link_place, node, path_places, places, relationship, step_places}
 use Rattle.cy_columns.specs.Columns.{column_list, columns_read}
 use Rattle.cy_queries.proofs.Each.{each_append, each_flat_map, each_then}
-use Rattle.cy_oneshot.specs.internal.Carried.{AreEntriesRead, AreKeysRead, AreNeeded, ArePlacesRead, AreRead, AreSeen, IsClauseRead, IsEnough, IsPlaceRead, IsProjectionRead, IsRemoveRead, IsSeen, IsSetRead, IsTestRead, IsVariableRead, StillNeeded, is_last, is_needed, is_projection}
+use Rattle.cy_oneshot.specs.internal.Carried.{AreAlike, AreEntriesRead, AreKeysRead, AreNeeded, ArePlacesRead, AreRead, AreSeen, IsAlike, IsClauseRead, IsEnough, IsPlaceRead, IsProjectionRead, IsRemoveRead, IsSeen, IsSetRead, IsTestRead, IsVariableRead, StillNeeded, first_row, is_last, is_needed, is_projection, updates_ahead}
 
 pub marked_there : (needed : List Bool) (column : ℕ) → is_needed (set needed column true) column ≡ true
 marked_there [] column = refl
@@ -157,6 +159,69 @@ pub enough_then : {A E : Type 0} (flags : A → List Bool) (alike : Bool) (neede
     → IfOk r (λ x. (flags x ≡ []) ⊎ IsClauseRead (flags x) c) → IfOk r (λ x. StillNeeded needed (flags x)) → IfOk r (λ x. IsEnough alike (flags x) (c ∷ cs))
 enough_then flags alike needed c cs may enough (Ok x) read still = more_enough alike needed (flags x) c cs may still read enough
 enough_then flags alike needed c cs may enough (Err fault) read still = tt
+
+-- a clause that updates is no projection
+update_projects : (c : Clause) → is_update c ≡ true → is_projection c ≡ false
+update_projects («match» optional paths test) updates = absurd (false≢true updates)
+update_projects (unwind e v) updates = absurd (false≢true updates)
+update_projects («with» p test) updates = absurd (false≢true updates)
+update_projects («return» p) updates = absurd (false≢true updates)
+update_projects (create paths) updates = refl
+update_projects (trees.set items) updates = refl
+update_projects (remove items) updates = refl
+update_projects (delete detach variables) updates = refl
+
+-- a clause before which nothing is over is no projection
+before_last : (c : Clause) (cs : List Clause) → is_last c cs ≡ false → is_projection c ≡ false
+before_last c [] more = (or_parts (is_projection c) (is_update c) more).0
+before_last c (d ∷ cs) more = more
+
+ahead_here : (projects updates later : Bool) → projects ≡ false → updates ≡ true → cond projects false (updates || later) ≡ true
+ahead_here projects updates later p u = λ i. cond (p i) false (u i || later)
+
+ahead_later : (projects updates later : Bool) → projects ≡ false → later ≡ true → cond projects false (updates || later) ≡ true
+ahead_later false true later p l = refl
+ahead_later false false later p l = l
+ahead_later true updates later p l = absurd (false≢true (sym p))
+
+-- rows have to be alike only where a clause updates them
+pub only_ahead : (alike : Bool) (needed : List Bool) (clauses : List Clause) → (updates_ahead clauses ≡ true → alike ≡ true) → IsEnough true needed clauses → IsEnough alike needed clauses
+only_ahead alike needed [] may enough = enough
+only_ahead alike needed (c ∷ cs) may (inl none) = inl none
+only_ahead alike needed (c ∷ cs) may (inr enough) =
+    inr (
+      (λ updates. may (ahead_here (is_projection c) (is_update c) (updates_ahead cs) (update_projects c updates) updates)),
+      enough.1,
+      λ more. only_ahead alike needed cs (λ later. may (ahead_later (is_projection c) (is_update c) (updates_ahead cs) (before_last c cs more) later)) (enough.2 more),
+    )
+
+-- ---- rows that are alike in what isn't needed
+
+-- where all is needed all rows are
+pub all_alike : (rows : List (List Cell)) → AreAlike [] rows
+all_alike rows = each rows
+  where
+    each : (others : List (List Cell)) → AllByRecursion (IsAlike [] (first_row rows)) others
+    each [] = tt
+    each (row ∷ others) = ((λ column not. absurd (false≢true (sym not))), each others)
+
+-- what isn't needed wasn't before
+pub still_alike_at : (needed after : List Bool) → StillNeeded needed after → (column : ℕ) → is_needed after column ≡ false → is_needed needed column ≡ false
+still_alike_at needed after still column not = unmarked (is_needed needed column) (is_needed after column) (still.0 column) not
+  where
+    unmarked : (b c : Bool) → (b ≡ true → c ≡ true) → c ≡ false → b ≡ false
+    unmarked true c kept none = absurd (false≢true (sym none ∙ kept refl))
+    unmarked false c kept none = refl
+
+-- where more is needed rows that were alike still are
+pub still_alike : (needed after : List Bool) → StillNeeded needed after → (base row : List Cell) → IsAlike needed base row → IsAlike after base row
+still_alike needed after still base row alike = λ column not. alike column (still_alike_at needed after still column not)
+
+-- a column that isn't needed is one of those that are known
+pub known_column : (needed : List Bool) (column : ℕ) → is_needed needed column ≡ false → column < length needed
+known_column [] column not = absurd (false≢true (sym not))
+known_column (b ∷ needed) zero not = omega arith
+known_column (b ∷ needed) (suc column) not = let less : column < length needed = known_column needed column not in omega (arith, less)
 
 -- ---- what is marked of a list so far, and of the next one
 

@@ -1,23 +1,24 @@
 //! Which cells UNWIND carries along: those that the clauses after it read.
 
-ghost use Rattle.std.specs.Prelude.{◌≡◌, ◌⊎◌, ◌≤◌, ℕ, [], IfOk, IfSome, OnOk, flat_map, length, map, nat_le, option_map, true};
+ghost use Rattle.std.specs.Prelude.{◌≡◌, ◌⊎◌, ◌≤◌, ℕ, [], IfOk, IfSome, OnOk, flat_map, length, map, option_map, slice_get, true, false};
 ghost use Rattle.std.specs.List.{AllByRecursion};
 ghost use Rattle.cy_trees.specs.Views.{clause_of, entry_of, expression_of, filter_of, item_of, key_of, path_of, projection_of, remove_item_of, set_item_of, step_of};
-ghost use Rattle.cy_scope.specs.Views as scopes;
 ghost use Rattle.cy_columns.specs.Columns.{columns_read};
 ghost use Rattle.cy_patterns.specs.Places.{path_places, places, step_places};
 ghost use Rattle.cy_patterns.specs.internal.Patterns.{place_of};
 ghost use Rattle.cy_oneshot.specs.internal.Carried as spec;
-ghost use Rattle.cy_oneshot.specs.internal.Carried.{AreEntriesRead, AreKeysRead, AreNeeded, ArePlacesRead, AreRead, AreSeen, IsClauseRead, IsEnough, IsPlaceRead, IsProjectionRead, IsRemoveRead, IsSeen, IsSetRead, IsTestRead, IsVariableRead, StillNeeded};
+ghost use Rattle.cy_oneshot.specs.internal.Carried.{AreEntriesRead, AreKeysRead, AreNeeded, ArePlacesRead, AreRead, AreSeen, IsClauseRead, IsEnough, IsPlaceRead, IsProjectionRead, IsRemoveRead, IsSeen, IsSetRead, IsTestRead, IsVariableRead, StillNeeded, AreAlike, IsAlike, updates_ahead};
 
 use cy_columns::columns_read;
+use cy_outcomes::cell_order;
 use cy_patterns::Place;
 use cy_scope::is_update;
 use cy_trees::{
     Clause, Expr, Item, Key, MapEntry, Match, Path, Projection, RemoveItem, SetItem, Step, Variable,
 };
-use cy_values::Fault;
+use cy_values::{Cell, Fault, Row};
 use std::alloc::Global;
+use std::cmp::Ordering;
 
 /// At most so many clauses after an UNWIND are looked at.
 const CLAUSES_AHEAD: usize = 64;
@@ -32,20 +33,21 @@ pub(crate) fn is_needed(needed: &[bool], place: usize) -> bool
     }
 }
 
-/// Which of so many columns the clauses after a clause need, where so many rows stand before it. After anything but UNWIND the list is
+/// Which of so many columns the clauses after a clause need, where these rows stand before it. After anything but UNWIND the list is
 /// empty, and all are needed. Fails only for want of memory.
 pub(crate) fn needed_after(
     alloc: Global,
     clause: &Clause,
     others: &[Clause],
     columns: usize,
-    rows: usize,
+    rows: &[Row],
 ) -> Result<Vec<bool>, Fault>
-    ensures enough { IfOk result (λ needed. IsEnough (nat_le rows 1) needed.items (map clause_of others.now)) }
+    ensures alike { IfOk result (λ needed. updates_ahead (map clause_of others.now) ≡ true → AreAlike needed.items rows.now) }
+    ensures enough { IfOk result (λ needed. IsEnough (updates_ahead (map clause_of others.now)) needed.items (map clause_of others.now)) }
     ensures within { IfOk result (λ needed. length needed.items ≤ columns) }
 {
     match clause {
-        Clause::Unwind(_) => needed_ahead(alloc, others, columns, rows <= 1, CLAUSES_AHEAD),
+        Clause::Unwind(_) => needed_by(alloc, others, columns, rows),
         Clause::Match(_)
         | Clause::With(_)
         | Clause::Return(_)
@@ -56,37 +58,116 @@ pub(crate) fn needed_after(
     }
 }
 
+// Which of so many columns clauses need, where these rows stand before UNWIND. A clause that updates takes rows in their order, so
+// before one that does what tells rows apart is needed too.
+fn needed_by(
+    alloc: Global,
+    clauses: &[Clause],
+    columns: usize,
+    rows: &[Row],
+) -> Result<Vec<bool>, Fault>
+    ensures alike { IfOk result (λ needed. updates_ahead (map clause_of clauses.now) ≡ true → AreAlike needed.items rows.now) }
+    ensures enough { IfOk result (λ needed. IsEnough (updates_ahead (map clause_of clauses.now)) needed.items (map clause_of clauses.now)) }
+    ensures within { IfOk result (λ needed. length needed.items ≤ columns) }
+{
+    let mut needed = needed_ahead(alloc, clauses, columns, CLAUSES_AHEAD)?;
+    if !updates_ahead(clauses) {
+        return Ok(needed);
+    }
+    mark_differences(&mut needed, rows);
+    Ok(needed)
+}
+
+// Whether a clause updates before a WITH or RETURN comes.
+fn updates_ahead(clauses: &[Clause]) -> bool
+    ensures { result ≡ updates_ahead (map clause_of clauses.now) }
+{
+    for clause in clauses {
+        if is_projection(clause) {
+            return false;
+        }
+        if is_update(clause) {
+            return true;
+        }
+    }
+    false
+}
+
+// Marks the columns in which rows differ.
+fn mark_differences(needed: &mut Vec<bool>, rows: &[Row])
+    ensures alike { AreAlike needed.new.items rows.now }
+    ensures still { StillNeeded needed.old.items needed.new.items }
+{
+    let Some((first, others)) = rows.split_first() else {
+        return;
+    };
+    mark_others(needed, first.as_slice(), others);
+}
+
+// Marks the columns in which rows differ from one.
+fn mark_others(needed: &mut Vec<bool>, first: &[Cell], rows: &[Row])
+    ensures alike { AllByRecursion (IsAlike needed.new.items first.now) rows.now }
+    ensures still { StillNeeded needed.old.items needed.new.items }
+{
+    for row in rows {
+        mark_other(needed, first, row.as_slice());
+    }
+}
+
+// Marks the columns in which a row differs from another one.
+fn mark_other(needed: &mut Vec<bool>, first: &[Cell], row: &[Cell])
+    ensures alike { IsAlike needed.new.items first.now row.now }
+    ensures still { StillNeeded needed.old.items needed.new.items }
+{
+    for column in 0..needed.len() {
+        mark_if_other(needed, first, row, column);
+    }
+}
+
+// Marks a column, if a row differs there from another one.
+fn mark_if_other(needed: &mut Vec<bool>, first: &[Cell], row: &[Cell], column: usize)
+    ensures alike { spec.is_needed needed.new.items column ≡ false → slice_get row.now column ≡ slice_get first.now column }
+    ensures still { StillNeeded needed.old.items needed.new.items }
+{
+    if is_needed(needed, column) || has_same(first, row, column) {
+        return;
+    }
+    mark_one(needed, column);
+}
+
+// Whether two rows have the same cell at a place.
+fn has_same(first: &[Cell], row: &[Cell], place: usize) -> bool
+    ensures { result ≡ true → slice_get row.now place ≡ slice_get first.now place }
+{
+    match (first.get(place), row.get(place)) {
+        (Some(cell), Some(other)) => cell_order(cell, other) == Ordering::Equal,
+        _ => false,
+    }
+}
+
 // Which of the first columns clauses need: what they read, up to a WITH or RETURN or an update at the end. Where neither is among the
-// first of them, all are needed, and the list is empty; so it is where one updates rows that aren't alike in what isn't needed.
+// first of them, all are needed, and the list is empty. Rows that a clause updates have to be alike in what isn't needed.
 fn needed_ahead(
     alloc: Global,
     clauses: &[Clause],
     width: usize,
-    alike: bool,
     ahead: usize,
 ) -> Result<Vec<bool>, Fault>
-    ensures enough { IfOk result (λ needed. IsEnough alike needed.items (map clause_of clauses.now)) }
+    ensures enough { IfOk result (λ needed. IsEnough true needed.items (map clause_of clauses.now)) }
     ensures within { IfOk result (λ needed. length needed.items ≤ width) }
 {
     let Some((clause, others)) = clauses.split_first() else {
         return Ok(Vec::new(alloc));
     };
-    if ahead == 0 || !may_forget(clause, alike) {
+    if ahead == 0 {
         return Ok(Vec::new(alloc));
     }
     if is_last(clause, others) {
         let none = vec![in alloc; false; width]?;
         return with_read(alloc, none, clause);
     }
-    let needed = needed_ahead(alloc, others, width, alike, ahead - 1)?;
+    let needed = needed_ahead(alloc, others, width, ahead - 1)?;
     with_read(alloc, needed, clause)
-}
-
-// Whether rows may lose what isn't needed before a clause: unless it updates and they aren't alike.
-fn may_forget(clause: &Clause, alike: bool) -> bool
-    ensures { result ≡ true → scopes.is_update (clause_of clause.now) ≡ true → alike ≡ true }
-{
-    alike || !is_update(clause)
 }
 
 // Whether nothing after a clause sees the row before it.

@@ -1,10 +1,9 @@
 -- Clauses go on the same from rows in which the cells that they don't read are null.
-use Rattle.std.proofs.Common.{◌≡◌, inl, inr, ℕ, ◌+◌, ◌≤◌, Bool, true, false, cond, List, [], ◌∷◌, ◌++◌, length, map, refl, sym, ap, subst, ◌∙◌, arith}
-use Rattle.std.specs.Prelude.{◌||◌, IfOk, Result, Ok, Err, nat_le}
+use Rattle.std.proofs.Common.{◌≡◌, inl, inr, ℕ, ◌≤◌, Bool, true, false, cond, List, [], ◌∷◌, length, map, refl, sym, ap, subst, ◌∙◌, arith}
+use Rattle.std.specs.Prelude.{IfOk, Result, Ok, Err}
 use Rattle.std.specs.List.{AllByRecursion}
 use Rattle.std.specs.Cmp.{IsTotalOrder}
 use Rattle.std.proofs.lemmas.Bool.{false≢true}
-use Rattle.std.proofs.lemmas.Bool.Decides.{nat_tests}
 use Rattle.cy_values.specs.declared.rows.Cell.{Cell}
 use Rattle.cy_values.specs.Order.{row_cmp}
 use Rattle.cy_trees.specs.Trees.{Clause, «match», unwind, «with», «return», create, set, remove, delete}
@@ -13,7 +12,7 @@ use Rattle.cy_graph.specs.Graph.{State}
 use Rattle.cy_expr.specs.declared.faults.EvalFault.{EvalFault}
 use Rattle.cy_queries.specs.Queries.{rows_after}
 use Rattle.cy_queries.proofs.QueryLemmas.{last_later}
-use Rattle.cy_oneshot.specs.internal.Carried.{IsClauseRead, IsEnough, carried, carried_from, is_needed, is_projection}
+use Rattle.cy_oneshot.specs.internal.Carried.{AreAlike, IsAlike, IsClauseRead, IsEnough, carried, carried_from, first_row, is_projection, updates_ahead}
 use Rattle.cy_oneshot.proofs.Carried.{AreLong, rows_whole}
 use Rattle.cy_oneshot.proofs.CarriedMatch.{reading_grown, reading_less}
 use Rattle.cy_oneshot.proofs.CarriedRows.{projecting_less}
@@ -139,34 +138,29 @@ module _ (total : IsTotalOrder row_cmp) (needed : List Bool) (alike : Bool) (bas
 
 -- ---- what follows UNWIND, which carries along what is needed
 
--- the row from which those that UNWIND makes have their cells
-abbrev base_of : List (List Cell) → List Cell
-base_of [] = []
-base_of (row ∷ rows) = row
-
-over_base : (needed : List Bool) (width : ℕ) (rows : List (List Cell)) → length needed ≤ width → AllByRecursion (λ row. length row ≡ width) rows
-    → AllByRecursion (IsOver needed (nat_le (length rows) 1) (base_of rows)) rows
-over_base needed width [] within wide = tt
-over_base needed width (row ∷ []) within wide = ((let long : length row ≡ width = wide.0 in omega (arith, long, within), λ are column not. refl), tt)
-over_base needed width (row ∷ other ∷ rows) within wide = subst (λ b. AllByRecursion (IsOver needed b row) (row ∷ other ∷ rows)) (sym several) (each (row ∷ other ∷ rows) wide)
-  where
-    several : nat_le (length (row ∷ other ∷ rows)) 1 ≡ false
-    several = grind (arith, nat_tests)
-
-    each : (rs : List (List Cell)) → AllByRecursion (λ r. length r ≡ width) rs → AllByRecursion (IsOver needed false row) rs
-    each [] all = tt
-    each (r ∷ rs) all = ((let long : length r ≡ width = all.0 in omega (arith, long, within), λ are column not. absurd (false≢true are)), each rs all.1)
+-- rows that are alike, where a clause updates them, have the cells of the first one
+over_first : (needed : List Bool) (alike : Bool) (width : ℕ) (base : List Cell) (rows : List (List Cell)) → length needed ≤ width → AllByRecursion (λ row. length row ≡ width) rows
+    → (alike ≡ true → AllByRecursion (IsAlike needed base) rows) → AllByRecursion (IsOver needed alike base) rows
+over_first needed alike width base [] within wide same = tt
+over_first needed alike width base (row ∷ rows) within wide same = (
+  ((let long : length row ≡ width = wide.0 in omega (arith, long, within)), λ are. (same are).0),
+  over_first needed alike width base rows within wide.1 (λ are. (same are).1),
+)
 
 module _ (total : IsTotalOrder row_cmp) (returns : Bool) (width : ℕ) (clauses : List Clause) (graph : State) (rows : List (List Cell)) (needed : List Bool)
-    (enough : IsEnough (nat_le (length rows) 1) needed clauses) (within : length needed ≤ width) (wide : AllByRecursion (λ row. length row ≡ width) rows)
+    (same : updates_ahead clauses ≡ true → AreAlike needed rows) (enough : IsEnough (updates_ahead clauses) needed clauses) (within : length needed ≤ width)
+    (wide : AllByRecursion (λ row. length row ≡ width) rows)
     (ends : returns ≡ true → (c : Clause) (others : List Clause) → clauses ≡ c ∷ others → ends_with_return clauses ≡ true) where
-  from_unwound : (r : Result Progress UpdateFault) → IfOk r (λ (p : Progress). AllByRecursion (IsOver needed (nat_le (length rows) 1) (base_of rows)) p.rows)
+  abbrev OverFirst : List Cell → Type 0
+  OverFirst = IsOver needed (updates_ahead clauses) (first_row rows)
+
+  from_unwound : (r : Result Progress UpdateFault) → IfOk r (λ (p : Progress). AllByRecursion OverFirst p.rows)
       → at_end returns ((r >>= λ (p : Progress). Ok (record p { rows = map (carried_from needed 0) p.rows })) >>= λ q. each_in_turn after_clause clauses q) ≡ at_end returns (r >>= λ q. each_in_turn after_clause clauses q)
-  from_unwound (Ok p) over = goes_on total needed (nat_le (length rows) 1) (base_of rows) returns clauses enough ends p over
+  from_unwound (Ok p) over = goes_on total needed (updates_ahead clauses) (first_row rows) returns clauses enough ends p over
   from_unwound (Err why) over = refl
 
-  read_over : (counts : Counts) (o : Result (List (List Cell)) EvalFault) → IfOk o (AllByRecursion (IsOver needed (nat_le (length rows) 1) (base_of rows)))
-      → IfOk (evaluated o >>= λ made. Ok (progress graph made counts)) (λ (p : Progress). AllByRecursion (IsOver needed (nat_le (length rows) 1) (base_of rows)) p.rows)
+  read_over : (counts : Counts) (o : Result (List (List Cell)) EvalFault) → IfOk o (AllByRecursion OverFirst)
+      → IfOk (evaluated o >>= λ made. Ok (progress graph made counts)) (λ (p : Progress). AllByRecursion OverFirst p.rows)
   read_over counts (Ok made) over = over
   read_over counts (Err fault) over = tt
 
@@ -177,7 +171,8 @@ module _ (total : IsTotalOrder row_cmp) (returns : Bool) (width : ℕ) (clauses 
   goes_on_by (unwind e v) counts =
       from_unwound (after_clause (unwind e v) (progress graph rows counts))
       (read_over counts (rows_after graph.content (unwind e v) rows)
-      (reading_grown graph.content (IsOver needed (nat_le (length rows) 1) (base_of rows)) (over_more needed (nat_le (length rows) 1) (base_of rows)) (unwind e v) refl refl rows (over_base needed width rows within wide)))
+      (reading_grown graph.content OverFirst (over_more needed (updates_ahead clauses) (first_row rows)) (unwind e v) refl refl rows
+      (over_first needed (updates_ahead clauses) width (first_row rows) rows within wide same)))
   goes_on_by («match» optional paths test) counts = refl
   goes_on_by («with» p test) counts = refl
   goes_on_by («return» p) counts = refl

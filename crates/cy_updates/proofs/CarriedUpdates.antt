@@ -1,13 +1,11 @@
 -- Clauses that update do the same on rows in which the cells that they don't read are null.
 use Rattle.std.proofs.Common.{◌≡◌, ℕ, zero, suc, ◌+◌, ◌<◌, ◌≤◌, Bool, true, false, cond, List, [], ◌∷◌, ◌++◌, length, map, Option, None, Some, refl, sym, ap, subst, ◌∙◌, arith}
-use Rattle.std.specs.Prelude.{IfOk, IfSome, Result, Ok, Err, filter, flat_map, fold, option_to_list, slice_get}
+use Rattle.std.specs.Prelude.{IfSome, Result, Ok, Err, filter, flat_map, fold, option_to_list, slice_get}
 use Rattle.std.specs.List.{AllByRecursion}
 use Rattle.std.specs.Cmp.{IsTotalOrder}
 use Rattle.std.specs.Cmp.Lexicographic.{slice_cmp}
 use Rattle.std.specs.Option.{option_and_then, option_map_or}
 use Rattle.std.specs.Ordering.{is_gt, ordering_then}
-use Rattle.std.specs.declared.cmp.Ordering.{Ordering}
-use Rattle.std.specs.declared.cmp.Ordering.TheVariants.{Equal}
 use Rattle.std.proofs.lemmas.Bool.{false≢true}
 use Rattle.std.proofs.lemmas.Cmp.{tied_itself}
 use Rattle.std.proofs.lemmas.List.{length-append, map-append}
@@ -18,10 +16,9 @@ use Rattle.cy_values.specs.declared.rows.Cell.TheVariants as cell
 use Rattle.cy_values.specs.Order.{cell_order, row_cmp}
 use Rattle.cy_trees.specs.declared.clauses.Length.{Length}
 use Rattle.cy_trees.specs.declared.expressions.Variable.{Variable}
-use Rattle.cy_trees.specs.Trees.{Name, Expression, MapEntry, NodePattern, RelationshipPattern, Step, Path, Clause, «match», unwind, «with», «return», create, set, remove, delete, SetItem, set_property, set_labels, RemoveItem, remove_property, remove_labels}
+use Rattle.cy_trees.specs.Trees.{Expression, MapEntry, NodePattern, RelationshipPattern, Step, Path, Clause, «match», unwind, «with», «return», create, set, remove, delete, SetItem, set_property, set_labels, RemoveItem, remove_property, remove_labels}
 use Rattle.cy_scope.specs.Views.{is_update}
 use Rattle.cy_graph.specs.Graph.{State, with_label, with_node, with_rel, without_label}
-use Rattle.cy_graph.specs.declared.nodes.Rel.{Rel}
 use Rattle.cy_columns.specs.Columns.{column_list, columns_read}
 use Rattle.cy_expr.specs.Evaluation.{column_value}
 use Rattle.cy_expr.specs.Faults.{on_one}

@@ -1,6 +1,6 @@
 -- A statement goes on by a clause.
 use Rattle.std.proofs.Common.{◌≡◌, ℕ, ◌+◌, ◌≤◌, true, false, cond, List, [], ◌∷◌, length, map, None, IsTrue, refl, sym, ap, subst, ◌∙◌, inl, inr, arith}
-use Rattle.std.specs.Prelude.{◌⊎◌, Bool, Result, Ok, Err, IfOk, nat_le}
+use Rattle.std.specs.Prelude.{◌⊎◌, Bool, Result, Ok, Err, IfOk}
 use Rattle.std.specs.List.{AllByRecursion}
 use Rattle.std.specs.Cmp.{IsTotalOrder}
 use Rattle.std.proofs.lemmas.Bool.{false≢true}
@@ -40,8 +40,8 @@ use Rattle.cy_effects.specs.Faults.{◌>>=◌, each_in_turn, evaluated, of_evalu
 use Rattle.cy_effects.specs.Statements.{GraphTable, Progress, after_clause, after_reading, after_updating, updated}
 use Rattle.cy_effects.specs.internal.Answers.{IsAnswer, graph_table}
 use Rattle.cy_effects.specs.internal.Gone.{AreGone}
-use Rattle.cy_oneshot.specs.internal.Carried.{Carries, carried, carried_by, carried_from}
-use Rattle.cy_oneshot.proofs.Marked.{none_enough}
+use Rattle.cy_oneshot.specs.internal.Carried.{Carries, carried, carried_by, carried_from, updates_ahead}
+use Rattle.cy_oneshot.proofs.Marked.{all_alike, none_enough}
 use Rattle.cy_updates.specs.internal.Reached.{AreResolved, IsNext, LeadsTo, at_end, carried_after, progress}
 use Rattle.cy_effects.proofs.EntryCounts.{few}
 use Rattle.cy_effects.proofs.Graphs.{SameNumbers, node_number, rel_number}
@@ -81,7 +81,8 @@ module _ (clause : Clause) (updates : is_update clause ≡ true) (graph : State)
   update_next (Ok u) after meant =
       record {
         needed = [];
-        enough = none_enough (nat_le (length rows) 1) others;
+        alike = λ ahead. all_alike rows;
+        enough = none_enough (updates_ahead others) others;
         within = omega arith;
         step = λ some.
             (let more : Counts = plus some (counts_between graph.content after.content) in
@@ -123,6 +124,7 @@ module _ (clause : Clause) (reads : is_update clause ≡ false) (graph : State) 
   read_done columns others made carries =
       record {
         needed = carries.needed;
+        alike = carries.alike;
         enough = carries.enough;
         within = carries.within;
         step = λ some. (

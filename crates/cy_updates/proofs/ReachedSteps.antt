@@ -177,7 +177,7 @@ module _ (total : IsTotalOrder row_cmp)
   -- the others make the same of it
   goes_on : at_end returns (stands leads.counts >>= λ p. each_in_turn after_clause cs p) ≡ at_end returns (each_in_turn after_clause (c ∷ cs) (progress now rows leads.counts))
   goes_on =
-      goes_on_by total returns (length done.table.columns.items) cs now rows needed leads_to.enough leads_to.within (rows_wide done.table.columns.items rows clauses reached.resolved)
+      goes_on_by total returns (length done.table.columns.items) cs now rows needed leads_to.alike leads_to.enough leads_to.within (rows_wide done.table.columns.items rows clauses reached.resolved)
       (λ ends d ds they. later_returns (leads.returns ends c cs refl) d ds they) c leads.counts
 
   leads_more : LeadOn first next left cs statement

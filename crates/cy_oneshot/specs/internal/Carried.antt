@@ -1,5 +1,5 @@
 -- What UNWIND carries along: a cell that the next clauses don't read is null.
-use Rattle.std.specs.Prelude.{◌≡◌, ◌⊎◌, ◌||◌, ◌+◌, ◌-◌, ◌≤◌, ℕ, Bool, true, false, List, [], ◌∷◌, length, map, nat_le, slice_index_or, if◌then◌else◌, Option, IfSome, Result, Ok, Err, MatchResult}
+use Rattle.std.specs.Prelude.{◌≡◌, ◌⊎◌, ◌||◌, ◌+◌, ◌-◌, ◌≤◌, ℕ, Bool, true, false, List, [], ◌∷◌, length, map, slice_get, slice_index_or, if◌then◌else◌, Option, IfSome, Result, Ok, Err, MatchResult}
 use Rattle.std.specs.List.{AllByRecursion}
 use Rattle.cy_values.specs.declared.scalars.Value.TheVariants as value
 use Rattle.cy_values.specs.declared.rows.Cell.{Cell}
@@ -112,6 +112,24 @@ abbrev pub is_last : Clause → List Clause → Bool
 is_last clause [] = is_projection clause || is_update clause
 is_last clause (other ∷ others) = is_projection clause
 
+-- a clause updates before a WITH or RETURN comes
+abbrev pub updates_ahead : List Clause → Bool
+updates_ahead [] = false
+updates_ahead (c ∷ cs) = if is_projection c then false else (is_update c || updates_ahead cs)
+
+-- the first row
+abbrev pub first_row : List (List Cell) → List Cell
+first_row [] = []
+first_row (row ∷ rows) = row
+
+-- in what isn't needed a row has the cells of another one
+abbrev pub IsAlike : List Bool → List Cell → List Cell → Type 0
+IsAlike needed base row = (column : ℕ) → is_needed needed column ≡ false → slice_get row column ≡ slice_get base column
+
+-- in what isn't needed all rows have the same cells
+abbrev pub AreAlike : List Bool → List (List Cell) → Type 0
+AreAlike needed rows = AllByRecursion (IsAlike needed (first_row rows)) rows
+
 -- What is needed is enough for the next clauses: all is, or what they read up to such a clause is. Before a clause that updates only rows
 -- that are alike in what isn't needed may lose it, since it takes them in their order.
 abbrev pub IsEnough : Bool → List Bool → List Clause → Type 0
@@ -123,7 +141,8 @@ IsEnough alike needed (c ∷ cs) = (needed ≡ []) ⊎ ((is_update c ≡ true �
 -- these columns are needed for the clauses after it, and these are the rows that it makes, with null in the others
 pub record Carries (graph : Content) (clause : Clause) (others : List Clause) (columns : List Name) (rows made : List (List Cell)) : Type 0 where
   pub needed : List Bool
-  pub enough : IsEnough (nat_le (length rows) 1) needed others
+  pub alike : updates_ahead others ≡ true → AreAlike needed rows
+  pub enough : IsEnough (updates_ahead others) needed others
   pub within : length needed ≤ length columns
   pub same : IsSameOutcome (Ok made) (carried_by clause needed (rows_after graph clause rows))
 

@@ -1,5 +1,5 @@
 -- How far the clauses of a statement have been executed.
-use Rattle.std.specs.Prelude.{◌≡◌, ◌⊎◌, ℕ, ◌+◌, ◌≤◌, Bool, [], ◌∷◌, List, length, map, nat_le, None, IsTrue, Result, Ok, Err, MatchResult, if◌then◌else◌}
+use Rattle.std.specs.Prelude.{◌≡◌, ◌⊎◌, ◌≤◌, Bool, true, [], ◌∷◌, List, length, map, None, IsTrue, Result, Ok, Err, MatchResult, if◌then◌else◌}
 use Rattle.std.specs.List.{AllByRecursion}
 use Rattle.cy_values.specs.declared.rows.Cell.{Cell}
 use Rattle.cy_trees.specs.Trees.{Name, Clause, unwind, Statement}
@@ -11,7 +11,7 @@ use Rattle.cy_scope.specs.Views.{ends_with_return}
 use Rattle.cy_graph.specs.Graph.{State}
 use Rattle.cy_queries.specs.Queries.{columns_after_all, query_columns}
 use Rattle.cy_queries.specs.Reading.{AreInGraph}
-use Rattle.cy_oneshot.specs.internal.Carried.{IsEnough, carried_from}
+use Rattle.cy_oneshot.specs.internal.Carried.{AreAlike, IsEnough, carried_from, updates_ahead}
 use Rattle.cy_updates.specs.declared.clauses.Updated.{Updated}
 use Rattle.cy_effects.specs.declared.faults.UpdateFault.{UpdateFault}
 use Rattle.cy_effects.specs.declared.faults.UpdateFault.TheVariants.{NoMemory}
@@ -61,7 +61,8 @@ pub record IsReached (first graph : State) (statement : Statement) (after : Upda
 -- from a graph and a table a clause leads to this graph and these rows, as a bag, but for cells that the clauses after it don't need, which are null
 pub record LeadsTo (before : State) (columns : List Name) (rows : List (List Cell)) (clause : Clause) (others : List Clause) (graph : State) (left : List (List Cell)) : Type 0 where
   pub needed : List Bool
-  pub enough : IsEnough (nat_le (length rows) 1) needed others
+  pub alike : updates_ahead others ≡ true → AreAlike needed rows
+  pub enough : IsEnough (updates_ahead others) needed others
   pub within : length needed ≤ length columns
   pub step : (some : Counts) → (more : Counts) × IsSameResult (Ok (progress graph left more)) (carried_after clause needed (after_clause clause (progress before rows some)))
 

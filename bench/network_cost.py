@@ -29,10 +29,8 @@ IDLE_LIMIT = 500
 BLOCK = 50
 # Memories whose bytes are measured have so many rows.
 ROWS = (1_000, 101_000)
-# Bytes of a row's cells: one of a node and one of an integer, and the vector that they stand in.
-ROW_BYTES = 2 * 32 + 24
-# What each of a keyed memory's rows may take: its cells three times, and so much more.
-KEYED_LIMIT = 3 * ROW_BYTES + 64
+# Bytes that a row of a keyed memory may take: its cells three times, one of a node and one of an integer, and so much more.
+KEYED_LIMIT = 3 * 2 * 32 + 64
 # Reads the kind of memory and a number, and puts so many rows of a node and an integer into a memory whose key is the node. Prints the
 # number, and waits for the end of its input.
 PROGRAM = """#![tactic(auto)]

@@ -112,7 +112,7 @@ sifted_both p q r same (row ∷ rows) =
         ∙ rest
         ∙ sym (ap (λ k. cond (k && q row) (row ∷ filter r rows) (filter r rows)) here)
 
-each_sifted : (P : List Cell → Type 0) (p : List Cell → Bool) (rows : List (List Cell)) → AllByRecursion P rows → AllByRecursion P (filter p rows)
+pub each_sifted : (P : List Cell → Type 0) (p : List Cell → Bool) (rows : List (List Cell)) → AllByRecursion P rows → AllByRecursion P (filter p rows)
 each_sifted P p [] each = tt
 each_sifted P p (row ∷ rows) each =
     elim (p row) as (λ b. AllByRecursion P (cond b (row ∷ filter p rows) (filter p rows))) [

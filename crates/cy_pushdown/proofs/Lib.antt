@@ -1,7 +1,10 @@
-pub mod Columns
+pub mod ColumnKinds
 pub mod Commuting
+pub mod ConditionsOnCells
 pub mod Conjunctions
-pub mod EntityTests
+pub mod Moves
 pub mod PushedPlans
+pub mod Readings
 pub mod RenumberedKinds
-pub mod Tables
+pub mod SiftedRows
+pub mod Spread

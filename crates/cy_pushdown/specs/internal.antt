@@ -1,3 +1,4 @@
 -- What private functions and proofs need.
-pub mod EntityTests
+pub mod Conditions
 pub mod Pushed
+pub mod Ways

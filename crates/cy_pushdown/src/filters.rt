@@ -1,13 +1,14 @@
 //! Conditions on the rows of a plan.
 
-ghost use Rattle.std.specs.Prelude.{IfOk, IfSome};
+ghost use Rattle.std.specs.Prelude.{◌+◌, IfOk, IfSome, map};
 ghost use Rattle.cy_trees.specs.Views.{expression_of};
 ghost use Rattle.cy_plans.specs.Views.{plan_of};
 ghost use Rattle.cy_row_plans.specs.Rows as spec;
-ghost use Rattle.cy_pushdown.specs.internal.Pushed.{IsPushable};
+ghost use Rattle.cy_pushdown.specs.internal.Conditions.{IsOnCells};
+ghost use Rattle.cy_pushdown.specs.internal.Pushed as pushed;
 
-use crate::pushing::{entity_at, push};
-use crate::tests_of_entities::{cell_test, first_variable};
+use crate::conditions::{cells_test, find_reading};
+use crate::pushing::push;
 use cy_plans::{Operator, Plan};
 use cy_row_plans::filter_where;
 use cy_trees::{BinaryOperator, Expr};
@@ -37,32 +38,36 @@ fn is_small(plan: &Plan) -> bool {
     left_after(plan.root(), MOST_PARTS).is_some()
 }
 
-/// A condition on what stands in a column.
+/// A condition on what stands in some columns.
 #[derive(Drop)]
-struct ColumnTest {
-    column: usize,
+struct CellsTest {
+    columns: Vec<usize>,
     test: Expr,
 }
 
-/// The condition on the column on whose table it can be put: it asks of what stands there alone, and has a truth for whatever may
+/// The condition on the columns that a condition on rows reads, which has other columns before these: it has a truth for whatever may
 /// stand there.
-fn column_test(alloc: Global, below: &Plan, test: &Expr) -> Result<Option<ColumnTest>, Fault>
-    ensures { IfOk result (λ made. IfSome made (λ c. IsPushable (plan_of below.now) (expression_of test.now) c.column (expression_of c.test))) }
+#[tactic(auto, using(crate::proofs::Readings::as_many_written))]
+fn find_test(
+    alloc: Global,
+    below: &Plan,
+    before: usize,
+    test: &Expr,
+) -> Result<Option<CellsTest>, Fault>
+    ensures can { IfOk result (λ made. IfSome made (λ c. pushed.CanBePushed (plan_of below.now) c.columns.items (expression_of c.test))) }
+    ensures same { IfOk result (λ made. IfSome made (λ c. IsOnCells (expression_of test.now) (map (λ n. before + n) c.columns.items) (expression_of c.test))) }
 {
     if !is_small(below) {
         return Ok(None);
     }
-    let Some(variable) = first_variable(test) else {
+    let Some(found) = find_reading(alloc, below.root(), before, test)? else {
         return Ok(None);
     };
-    let Some(column) = variable.column else {
-        return Ok(None);
-    };
-    let Some(kind) = entity_at(below.root(), column) else {
-        return Ok(None);
-    };
-    match cell_test(alloc, kind, variable.name.as_str(), column, test)? {
-        Some(test) => Ok(Some(ColumnTest { column, test })),
+    match cells_test(alloc, &found, test)? {
+        Some(test) => Ok(Some(CellsTest {
+            columns: found.columns,
+            test,
+        })),
         None => Ok(None),
     }
 }
@@ -72,14 +77,14 @@ fn filter_one(alloc: Global, below: Plan, test: &Expr) -> Result<Plan, Fault>
     requires { spec.IsReadOver (plan_of below) (expression_of test.now) }
     ensures { IfOk result (λ p. spec.IsFiltered (plan_of below) (expression_of test.now) (plan_of p)) }
 {
-    match column_test(alloc, &below, test)? {
-        Some(found) => push(alloc, below.into_root(), found.column, &found.test),
+    match find_test(alloc, &below, 0, test)? {
+        Some(found) => push(alloc, below.into_root(), &found.columns, &found.test),
         None => filter_where(alloc, below, test),
     }
 }
 
 /// The rows of a plan for which a condition is true (openCypher 9, WHERE), as `filter_where` gives them: each of the conditions that AND
-/// joins is put as far down as what it asks of stands. Fails only for want of memory.
+/// joins is put as far down as all that it reads stands together. Fails only for want of memory.
 pub fn filter_low(alloc: Global, below: Plan, test: &Expr) -> Result<Plan, Fault>
     requires { spec.IsReadOver (plan_of below) (expression_of test.now) }
     ensures { IfOk result (λ p. spec.IsFiltered (plan_of below) (expression_of test.now) (plan_of p)) }

@@ -1,10 +1,13 @@
-//! Conditions on the rows of a plan, each as far down as what it asks of stands: a condition on one node or one relationship is a
-//! condition on the table where that comes from.
+//! Conditions on the rows of a plan, each as far down as all that it reads stands together: a condition on one node or one relationship
+//! is a condition on the table where that comes from.
 #![tactic(auto)]
 
+mod columns;
+mod conditions;
 mod filters;
 mod moving;
 mod pushing;
-mod tests_of_entities;
+mod sides;
+mod sifting;
 
 pub use filters::filter_low;

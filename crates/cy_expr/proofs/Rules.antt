@@ -247,6 +247,16 @@ chain-more graph row a s t c d links i l inside is value truth step =
     let seen : link_of l ≡ (l.comparator, expression_of l.operand) = link_is l.comparator l.operand in
     rw (add-one, drop-cons links i l, ← is, seen, value, truth, step) (sym (and_then-one a s (chain graph row d (links_from (map link_of (drop (suc i) links))))))
 
+-- one comparison of two cells
+pub one_compared : (graph : Lookups) (row : List Cell) (first : Expression) (links : List Link) (l : Link) (c d : Cell) (t : Truth)
+    → length links ≡ 1 → l ≡ get_or links 0 l → cell_of graph row first ≡ Ok c → cell_of graph row (expression_of l.operand) ≡ Ok d → compared l.comparator c d ≡ Ok t
+    → on_one (λ x. chain graph row x (links_from (map link_of links))) (cell_of graph row first) ≡ Ok t
+one_compared graph row first [] l c d t one is left right truth = search rules
+one_compared graph row first (k ∷ []) l c d t one is left right truth =
+    let seen : link_of l ≡ (l.comparator, expression_of l.operand) = link_is l.comparator l.operand in
+    rw left (rw (← is, seen, right, truth) (ap (λ (x : Truth). Ok x) (both-yes t)))
+one_compared graph row first (k ∷ m ∷ links) l c d t one is left right truth = search rules
+
 -- values, and then those of others
 abbrev pub behind_values : List Value → Result (List Value) EvalFault → Result (List Value) EvalFault
 behind_values vs others = on_one (λ ws. Ok (vs ++ ws)) others

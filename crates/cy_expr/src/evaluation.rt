@@ -11,7 +11,7 @@ ghost use Rattle.cy_expr.specs.Faults.{on_one, on_two};
 ghost use Rattle.cy_expr.specs.Lists.{list_of, membership};
 ghost use Rattle.cy_expr.specs.Logic.{value_of};
 ghost use Rattle.cy_expr.specs.internal.Arms.{chosen};
-ghost use Rattle.cy_expr.specs.internal.Lent.{lent_cell, held_cell, GivesOrWants};
+ghost use Rattle.cy_expr.specs.internal.Lent.{held_cell, GivesOrWants};
 ghost use Rattle.cy_expr.specs.Lookups.{IsNumbered};
 ghost use Rattle.cy_expr.specs.Operators.{binary_value, value_in_cell};
 ghost use Rattle.cy_expr.specs.Evaluation as spec;
@@ -22,7 +22,7 @@ use crate::held::Held;
 use crate::lists::{equals_also, list_of};
 use crate::logic::value_of;
 use crate::lookups::Lookups;
-use crate::views::{CellView, view_of};
+use crate::simple::{column, simple_cell};
 use cy_kinds::Function;
 use cy_trees::{Arm, BinaryOperator, Expr, Link};
 use cy_values::{Cell, Truth, ValueRef};
@@ -31,8 +31,25 @@ use std::alloc::Global;
 /// The cell of an expression, on a row whose numbers are at most 2^40. Fails with the fault that the expression has, or
 /// with `NoMemory`. (openCypher 9, Expressions; the faults: own)
 #[cycle(evaluation)]
-#[tactic(auto, using(crate::proofs::Rules::case_steps))]
 pub(crate) fn evaluate<'a, G: Lookups>(
+    alloc: Global,
+    expression: &'a Expr,
+    row: &'a [Cell],
+    graph: &'a G,
+) -> Result<Held<'a>, EvalFault>
+    requires { All IsNumbered row.now }
+    ensures { GivesOrWants result (spec.cell_of (G.lookups graph.now) row.now (expression_of expression.now)) }
+{
+    match simple_cell(expression, row, graph) {
+        Some(cell) => Ok(cell),
+        None => evaluate_whole(alloc, expression, row, graph),
+    }
+}
+
+/// The same by the expression's parts.
+#[cycle(evaluation)]
+#[tactic(auto, using(crate::proofs::Rules::case_steps))]
+fn evaluate_whole<'a, G: Lookups>(
     alloc: Global,
     expression: &'a Expr,
     row: &'a [Cell],
@@ -76,16 +93,6 @@ pub(crate) fn evaluate<'a, G: Lookups>(
             evaluate_call(alloc, Function::named(name.as_str()), arguments, row, graph)
         }
         Expr::CallStar(_) => Err(EvalFault::WrongType),
-    }
-}
-
-// A column of the row; null for a variable that has none.
-fn column<'a>(column: Option<usize>, row: &'a [Cell]) -> CellView<'a>
-    ensures { lent_cell result ≡ spec.column_value column row.now }
-{
-    match column {
-        Some(column) if column < row.len() => view_of(&row[column]),
-        _ => CellView::Value(ValueRef::Null),
     }
 }
 

@@ -17,6 +17,7 @@ mod lookups;
 mod operands;
 mod operators;
 mod predicates;
+mod simple;
 mod stores;
 mod views;
 

@@ -3,6 +3,7 @@
 ghost use Rattle.std.specs.Prelude.{◌≡◌, ◌⊎◌, Result, Err, MatchResult, Ok, IsTrue};
 ghost use Rattle.cy_values.specs.Compare.{lent};
 ghost use Rattle.cy_values.specs.declared.rows.Cell.TheVariants as cell;
+ghost use Rattle.cy_values.specs.declared.scalars.Value.TheVariants as value;
 ghost use Rattle.cy_expr.specs.internal.Lent.{lent_cell};
 ghost use Rattle.cy_expr.specs.declared.faults.EvalFault.TheVariants.{NoMemory};
 ghost use Rattle.cy_expr.specs.Operators as spec;
@@ -65,10 +66,29 @@ pub(crate) fn compare(
 ) -> Result<Truth, EvalFault>
     ensures { result ≡ spec.compared comparator (lent_cell left.entry) (lent_cell right.entry) }
 {
+    if let (CellView::Value(ValueRef::Int(left)), CellView::Value(ValueRef::Int(right))) = (
+        left, right,
+    ) {
+        return Ok(compare_integers(comparator, left, right));
+    }
     match comparator {
         Comparator::Equal => Ok(equal(left, right)),
         Comparator::NotEqual => Ok(unequal(left, right)),
         _ => Ok(compare_values(comparator, value_in(left)?, value_in(right)?)),
+    }
+}
+
+// The same of two integers, which are compared without looking at their kinds again.
+fn compare_integers(comparator: Comparator, left: i64, right: i64) -> Truth
+    ensures { spec.compared comparator (cell.Value (value.Int left)) (cell.Value (value.Int right)) ≡ Ok result }
+{
+    match comparator {
+        Comparator::Equal => Truth::known(left == right),
+        Comparator::NotEqual => Truth::known(left == right).not(),
+        Comparator::Less => Truth::known(left < right),
+        Comparator::LessOrEqual => Truth::known(left < right).or(Truth::known(left == right)),
+        Comparator::Greater => Truth::known(right < left),
+        Comparator::GreaterOrEqual => Truth::known(right < left).or(Truth::known(right == left)),
     }
 }
 

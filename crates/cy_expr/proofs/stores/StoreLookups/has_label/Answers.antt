@@ -1,6 +1,5 @@
 use Rattle.std.proofs.Common.{◌≡◌, sym}
 use Rattle.std.specs.Prelude.{Some}
-use Rattle.cy_expr.specs.Graphs as graphs
 use Rattle.cy_graph.specs.Graph.{node_in}
 use Rattle.cy_expr.proofs.LabelNames.{name_found}
 use Rattle.cy_expr.proofs.stores.StoreLookups.has_label.Goals as goal

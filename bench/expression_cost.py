@@ -143,7 +143,7 @@ fn main(rt: HostRuntime) -> io::Result<()> {
 # instructions, and how often it takes memory: once for a text in the answer.
 TYPICAL = [
     ("n.k = 'abc'", "true", 700, 0),
-    ("n.m < 40", "true", 700, 0),
+    ("n.m < 40", "true", 300, 0),
     ("1 <= n.m < 5", "false", 1050, 0),
     ("n.m IN [1, 2, 3]", "false", 1100, 0),
     ("n.k IN ['x', 'y', 'abc']", "true", 1150, 0),

@@ -21,7 +21,7 @@ from session import Session, peak
 
 LIMIT = 1.3
 SIZES = (1_000, 100_000)
-# How many statements are counted for a view.
+# How many statements change a graph.
 TIMES = 20
 # Instructions of a statement that concerns no part of a view.
 IDLE_LIMIT = 500
@@ -163,24 +163,27 @@ def graph(make, labels, size):
 
 
 def blocks(size):
-    """The first numbers of the blocks that the counted statements change, each with that of another one."""
+    """The first numbers of the blocks that the statements change, each with that of another one."""
     step = max(size // BLOCK // TIMES, 1)
     return [(time * step * BLOCK, (time * step + 1) * BLOCK % size) for time in range(TIMES)]
 
 
 def statements(name, size):
-    """The counted statements of a view, each with the number of rows that it removes and adds."""
+    """The statements that change a view, each with the number of rows that it removes and adds."""
     update = VIEWS[name][3]
     return [update(first, other) for first, other in blocks(size)]
 
 
 def counted(program, query, lines, texts):
-    """The mean instructions of statements on a graph, with the view of a query or without one."""
+    """The mean instructions of statements on a graph, with the view of a query or without one. The first one isn't counted: it finds
+    the tables of a view as large as its rows, and doubles them."""
+    first, *others = [(text, '{"changed":[') for text in texts]
     with Session(program) as session:
         session.give(list(lines))
         if query is not None:
             session.give([(f":view v {query}", "{")])
-        return session.count([(text, '{"changed":[') for text in texts])
+        session.give([first])
+        return session.count(others)
 
 
 def upkeep(program, name, size):
@@ -198,14 +201,14 @@ def answers(program, lines):
 
 
 def most_steps(program, name, size):
-    """The most steps that one of the counted statements took. Each has to change as many rows as it should."""
+    """The most steps that one of the statements took. Each has to change as many rows as it should, by their counts."""
     query, make, labels, _, _ = VIEWS[name]
     made = [line for line, _ in graph(make, labels, size)]
     texts = statements(name, size)
     asked = [line for text, _, _ in texts for line in (text, ":steps")]
     ticks = len(made) - len(labels)
     found = answers(program, [*made, f":view v {query}", *asked, f":since v {ticks + 1}"])
-    entries = [(len(entry["removed"]), len(entry["added"])) for entry in found[-1]["entries"]]
+    entries = [tuple(sum(count for _, count in entry[side]) for side in ("removed", "added")) for entry in found[-1]["entries"]]
     if entries != [(removed, added) for _, removed, added in texts]:
         sys.exit(f"{name}: {entries}")
     return max(answer["steps"][0][1] for answer in found if "steps" in answer)

@@ -4,8 +4,9 @@
 Run it at the top of the repository, with Debian's package sqlite3. It builds the program by `rt run` in crates/cypher_live, or
 takes the one that is named after it. For each of the four examples of `network_cost.py` both load a graph of 1,000 and of 100,000
 nodes, and then make a view of it: the program by `:view`, SQLite by a table that triggers written by hand keep, for the kind of
-change that follows. Then both make the same changes, a line each. For each the script prints how many instructions a change takes
-in both, and their ratio, and compares the rows of the views in the end. It has no limit: it says how things stand. It ends with
+change that follows. Then both make the same changes, a line each. The first one isn't counted: after it the tables of a view have
+room for more rows. For each the script prints how many instructions a change takes in both, and their ratio, and compares the rows
+of the views in the end. It has no limit: it says how things stand. It ends with
 status 1 where the rows differ.
 """
 import json
@@ -149,7 +150,9 @@ def ours(program, name, size):
     with Session(program) as session:
         session.give(list(graph(make, labels, size)))
         session.give([(f":view v {EXAMPLES[name].query}", '{"columns":[')])
-        count = session.count([line for line, _ in changes(name, size)], 10)
+        first, *others = [line for line, _ in changes(name, size)]
+        session.give([first])
+        count = session.count(others, 10)
         session.run.stdin.write(":rows v\n")
         session.run.stdin.flush()
         rows = json.loads(session.run.stdout.readline())["rows"]
@@ -163,13 +166,13 @@ def theirs(name, size):
         begin = ".shell vgdb --pid=$PPID instrumentation on >/dev/null 2>&1; vgdb --pid=$PPID zero >/dev/null 2>&1"
         end = f".shell vgdb --pid=$PPID status internal >> {told.name} 2>/dev/null"
         load = [line for first in range(0, size, BLOCK) for line in example.rows(first)]
-        made = [line for _, line in changes(name, size)]
-        lines = [example.tables, "BEGIN;", *load, "COMMIT;", example.view, begin, *made, end, f"{example.shown};"]
+        first, *others = [line for _, line in changes(name, size)]
+        lines = [example.tables, "BEGIN;", *load, "COMMIT;", example.view, first, begin, *others, end, f"{example.shown};"]
         words = ["valgrind", "--tool=callgrind", "--callgrind-out-file=/dev/null", "--instr-atstart=no", "sqlite3", "-batch", ":memory:"]
         run = subprocess.run(words, input="\n".join(lines) + "\n", capture_output=True, check=True, text=True)
         told.seek(0)
         (count,) = re.findall(r"events-1: (\d+)", told.read())
-    return int(count) / len(made), sorted(run.stdout.splitlines())
+    return int(count) / len(others), sorted(run.stdout.splitlines())
 
 
 def main():

@@ -26,7 +26,7 @@ use Rattle.cy_kinds.specs.Kinded.{IsKinded}
 
 -- ---- AND
 
-truth_back : (t : Truth) → truth_of (value_of t) ≡ Ok t
+pub truth_back : (t : Truth) → truth_of (value_of t) ≡ Ok t
 truth_back Yes = refl
 truth_back No = refl
 truth_back Unknown = refl
@@ -47,7 +47,7 @@ and_false true = refl
 and_false false = refl
 
 -- the truth of AND, by the outcomes of its operands
-abbrev joined_truth : Result Truth EvalFault → Result Truth EvalFault → Result Truth EvalFault
+abbrev pub joined_truth : Result Truth EvalFault → Result Truth EvalFault → Result Truth EvalFault
 joined_truth o p = on_one truth_of (on_two (λ a b. Ok (value_of (both a b))) o p)
 
 joined_true : (o p : Result Truth EvalFault) → is_true (joined_truth o p) ≡ (is_true o && is_true p)
@@ -60,19 +60,19 @@ joined_ok (Ok t) (Ok u) is = (refl, refl)
 joined_ok (Ok t) (Err fault) is = cc
 joined_ok (Err fault) p is = cc
 
-abbrev whole : Result Value EvalFault → Result Value EvalFault → Result Truth EvalFault
+abbrev pub whole : Result Value EvalFault → Result Value EvalFault → Result Truth EvalFault
 whole v w = on_one truth_of (on_one value_in_cell (as_cell (on_two conjunction v w)))
 
-in_cell : (o : Result Value EvalFault) → on_one value_in_cell (as_cell o) ≡ o
+pub in_cell : (o : Result Value EvalFault) → on_one value_in_cell (as_cell o) ≡ o
 in_cell (Ok v) = refl
 in_cell (Err fault) = refl
 
-whole_true : (v w : Result Value EvalFault) → is_true (whole v w) ≡ (is_true (on_one truth_of v) && is_true (on_one truth_of w))
+pub whole_true : (v w : Result Value EvalFault) → is_true (whole v w) ≡ (is_true (on_one truth_of v) && is_true (on_one truth_of w))
 whole_true (Ok v) (Ok w) = ap (λ (o : Result Value EvalFault). is_true (on_one truth_of o)) (in_cell (conjunction v w)) ∙ joined_true (truth_of v) (truth_of w)
 whole_true (Ok v) (Err fault) = and_false (is_true (truth_of v))
 whole_true (Err fault) w = refl
 
-whole_ok : (v w : Result Value EvalFault) → IsOk (whole v w) → IsOk (on_one truth_of v) × IsOk (on_one truth_of w)
+pub whole_ok : (v w : Result Value EvalFault) → IsOk (whole v w) → IsOk (on_one truth_of v) × IsOk (on_one truth_of w)
 whole_ok (Ok v) (Ok w) is = joined_ok (truth_of v) (truth_of w) (subst (λ (o : Result Value EvalFault). IsOk (on_one truth_of o)) (in_cell (conjunction v w)) is)
 whole_ok (Ok v) (Err fault) is = cc
 whole_ok (Err fault) w is = cc
@@ -91,7 +91,7 @@ module _ (graph : Content) (a b : Expression) where
 
 -- ---- lists
 
-sifted_both : (p q r : List Cell → Bool) → ((row : List Cell) → r row ≡ (p row && q row)) → (rows : List (List Cell)) → filter q (filter p rows) ≡ filter r rows
+pub sifted_both : (p q r : List Cell → Bool) → ((row : List Cell) → r row ≡ (p row && q row)) → (rows : List (List Cell)) → filter q (filter p rows) ≡ filter r rows
 sifted_both p q r same [] = refl
 sifted_both p q r same (row ∷ rows) =
     step (sifted_both p q r same rows) (p row) (q row) refl refl ∙ ap (λ b. cond b (row ∷ filter r rows) (filter r rows)) (sym (same row))

@@ -1,7 +1,8 @@
 -- A condition on columns of a plan, put on the plan itself; and what it is to the rows.
-use Rattle.std.proofs.Common.{◌≡◌, ℕ, ◌+◌, ◌≤◌, true, List, [], ◌∷◌, length, map, filter, take, refl, sym, ap, subst, ◌∙◌, arith}
+use Rattle.std.proofs.Common.{◌≡◌, ℕ, ◌+◌, ◌≤◌, true, List, [], ◌∷◌, ◌++◌, length, map, filter, take, refl, sym, ap, subst, ◌∙◌, arith}
 use Rattle.std.specs.Prelude.{IsOk, Result}
 use Rattle.std.specs.List.{All, AllByRecursion}
+use Rattle.std.proofs.lemmas.List.{get_or-append-add}
 use Rattle.std.proofs.lemmas.List.Elements.{All-cons}
 use Rattle.std.proofs.Math.Seq.{take-append_seam}
 use Rattle.cy_values.specs.declared.rows.Cell.{Cell}
@@ -19,7 +20,7 @@ use Rattle.cy_expr.specs.Operators.{value_in_cell}
 use Rattle.cy_expr.specs.Reading.{reads_below}
 use Rattle.cy_plans.specs.Plans as plan
 use Rattle.cy_plans.specs.Plans.{Plan, width}
-use Rattle.cy_plans.specs.Expressions.{holds, is_true, truth_on}
+use Rattle.cy_plans.specs.Expressions.{holds, is_true, null, truth_on}
 use Rattle.cy_plans.specs.Meaning.{rows_of}
 use Rattle.cy_plans.specs.Parts.{parts}
 use Rattle.cy_plans.specs.Sure.{HasTruth, IsSureOn}
@@ -33,11 +34,12 @@ use Rattle.cy_renumbering.specs.Renumbered.{renumbered}
 use Rattle.cy_renumbering.proofs.RenumberedLemmas.{same_cell}
 use Rattle.cy_row_plans.specs.internal.Asked.{asked}
 use Rattle.cy_row_plans.specs.internal.Lookups.{narrowed, over, with_values}
-use Rattle.cy_row_plans.specs.Rows.{IsFiltered, condition_on}
+use Rattle.cy_row_plans.specs.Rows.{IsFiltered, condition_on, keeps}
 use Rattle.cy_row_plans.proofs.Filtered.{same_value, wanted_inside, wanted_of}
 use Rattle.cy_row_plans.proofs.Lists.{all_of_each, each_both_of, each_mapped, sifted_same}
 use Rattle.cy_row_plans.proofs.OverRows.{cond_less, filter_within, long_rows, own_part, parts_narrowed, parts_over, rows_narrowed, rows_over, smaller_within, sure_narrowed, sure_over, width_narrowed, width_over, within_over}
 use Rattle.cy_row_plans.proofs.Placed.{asked_among}
+use Rattle.cy_pushdown.specs.After.{IsKept}
 use Rattle.cy_pushdown.specs.internal.Conditions.{IsOnCells, cells_at, keeps_cells}
 use Rattle.cy_pushdown.specs.internal.Pushed.{CanBePushed, IsPushed}
 use Rattle.cy_pushdown.proofs.Spread.{all_fit, as_many, read_over, row_spread, spread, spread_kinded, spread_wide}
@@ -136,4 +138,25 @@ pushed_filters below test columns cells_test same p pushed = record {
   rows = λ graph scope good kinded fits. pushed.rows graph good ∙ (λ i. filter (λ row. sym (same graph.content row) i) (rows_of graph.content below));
   sure = λ graph scope good kinded fits sure each. pushed.sure graph good sure;
   bounded = λ graph scope tables good kinded fits each. pushed.bounded graph tables good each;
+}
+
+-- ---- the condition on longer rows
+
+-- columns after others
+cells_after : (left row : List Cell) (columns : List ℕ) → cells_at (map (λ n. length left + n) columns) (left ++ row) ≡ cells_at columns row
+cells_after left row [] = refl
+cells_after left row (c ∷ columns) = λ i. get_or-append-add left row c null i ∷ cells_after left row columns i
+
+pub pushed_keeps : (before : ℕ) (below : Plan) (test : Expression) (columns : List ℕ) (cells_test : Expression) → IsOnCells test (map (λ n. before + n) columns) cells_test
+    → (p : Plan) → IsPushed below columns cells_test p → IsKept before below test p
+pushed_keeps before below test columns cells_test same p pushed = record {
+  as_wide = pushed.as_wide;
+  holds = λ graph. keeps_cells graph cells_test columns;
+  same = λ graph left row long.
+      same graph (left ++ row)
+      ∙ ap (λ n. keeps graph cells_test (cells_at (map (λ k. n + k) columns) (left ++ row))) (sym long)
+      ∙ ap (keeps graph cells_test) (cells_after left row columns);
+  rows = pushed.rows;
+  sure = pushed.sure;
+  bounded = pushed.bounded;
 }

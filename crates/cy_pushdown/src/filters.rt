@@ -4,6 +4,7 @@ ghost use Rattle.std.specs.Prelude.{◌+◌, IfOk, IfSome, map};
 ghost use Rattle.cy_trees.specs.Views.{expression_of};
 ghost use Rattle.cy_plans.specs.Views.{plan_of};
 ghost use Rattle.cy_row_plans.specs.Rows as spec;
+ghost use Rattle.cy_pushdown.specs.After.{IsKeptIf};
 ghost use Rattle.cy_pushdown.specs.internal.Conditions.{IsOnCells};
 ghost use Rattle.cy_pushdown.specs.internal.Pushed as pushed;
 
@@ -95,5 +96,32 @@ pub fn filter_low(alloc: Global, below: Plan, test: &Expr) -> Result<Plan, Fault
             filter_low(alloc, below, right)
         }
         _ => filter_one(alloc, below, test),
+    }
+}
+
+/// A plan, and whether a condition was put on it.
+#[derive(Drop)]
+pub struct Kept {
+    pub plan: Plan,
+    pub is_kept: bool,
+}
+
+/// The rows of a plan for which a condition is true that has them after other columns, so many, if it reads these rows alone and has a
+/// truth whatever stands there, as far as the plan shows; else the plan as it is. Fails only for want of memory.
+pub fn keep_after(alloc: Global, before: usize, below: Plan, test: &Expr) -> Result<Kept, Fault>
+    ensures { IfOk result (λ k. IsKeptIf before (plan_of below) (expression_of test.now) k.is_kept (plan_of k.plan)) }
+{
+    match find_test(alloc, &below, before, test)? {
+        Some(found) => {
+            let plan = push(alloc, below.into_root(), &found.columns, &found.test)?;
+            Ok(Kept {
+                plan,
+                is_kept: true,
+            })
+        }
+        None => Ok(Kept {
+            plan: below,
+            is_kept: false,
+        }),
     }
 }

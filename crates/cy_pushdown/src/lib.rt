@@ -10,4 +10,4 @@ mod pushing;
 mod sides;
 mod sifting;
 
-pub use filters::filter_low;
+pub use filters::{Kept, filter_low, keep_after};

@@ -15,3 +15,4 @@ pub mod NeededLabels
 pub mod Recounting
 pub mod Replaced
 pub mod ThroughScans
+pub mod SameEnds

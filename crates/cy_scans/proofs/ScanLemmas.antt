@@ -1,23 +1,17 @@
 -- The rows that are made of single entities, and how they change where the entities do.
 use Rattle.std.proofs.Common.{◌≡◌, ℕ, ◌+◌, ◌==◌, Bool, true, false, cond, List, [], ◌∷◌, Option, None, Some, refl, sym, ap, ◌∙◌, filter, nat_eq, arith}
 use Rattle.std.specs.Prelude.{sum_by, flat_map}
-use Rattle.std.specs.List.{IsDistinct}
-use Rattle.std.specs.Map.{lookup, keys_of}
 use Rattle.std.specs.Option.{option_map_or}
 use Rattle.std.specs.declared.cmp.Ordering.{Ordering}
 use Rattle.std.specs.Ordering.{eq_by_cmp, nat_cmp}
 use Rattle.std.specs.FinMap.Entries as entries
-use Rattle.std.proofs.lemmas.List.{append-nil}
 use Rattle.std.proofs.lemmas.List.Sums.{sum_by-cons}
 use Rattle.std.proofs.lemmas.Bool.Decides.{nat_tests}
 use Rattle.cy_values.specs.declared.rows.Cell.{Cell}
 use Rattle.cy_values.specs.Bag.{count_of}
 use Rattle.cy_memory.specs.Counts.{is_row}
 use Rattle.cy_plans.proofs.Counts.{count_flat_map}
-use Rattle.cy_deltas.specs.declared.shifts.Shift.{Shift}
-use Rattle.cy_deltas.specs.Deltas.{shifts_of, shift_between}
-use Rattle.cy_deltas.proofs.ShiftLemmas.{shifts_made}
-use Rattle.cy_scans.specs.Changes.{IsImage}
+use Rattle.cy_deltas.specs.Deltas.{shift_between}
 use Rattle.cy_scans.proofs.Keys.{found_alike, own_entries, rising_once, same_by_order, same_number, sum_kept}
 
 -- whether a row is of the entity with the number, where it is known which one it is of
@@ -88,36 +82,3 @@ module _ {V : Type 0} (scan : Scan V) where
               where
                 added : (n : ℕ) → n + 0 ≡ n
                 added n = omega arith
-
-  -- how a row's count changes, where the entities change by which are touched
-  pub scan_shifts : (before now : ℕ → Option V) (touched : List (ℕ × Option V)) (changes : ℕ → Option V → Option V → List Shift)
-      → ((row : List Cell) (n : ℕ) (old new : Option V) → shifts_of row (changes n old new) ≡ shift_between row (count_of row (scan.rows n old)) (count_of row (scan.rows n new)))
-      → IsDistinct nat_eq (keys_of touched) → ((n : ℕ) → IsImage (before n) (now n) (lookup (nat_eq n) touched)) → (row : List Cell)
-      → shifts_of row (flat_map (λ e. changes e.0 e.1 (now e.0)) touched) ≡ shift_between row (count_at scan.rows before row (scan.owner row)) (count_at scan.rows now row (scan.owner row))
-  scan_shifts before now touched changes says once images row =
-      shifts_made row (λ e. owns (scan.owner row) e.0) made none touched ∙ by (scan.owner row) refl
-    where
-      made : ℕ × Option V → List Shift
-      made e = changes e.0 e.1 (now e.0)
-
-      none : (e : ℕ × Option V) → owns (scan.owner row) e.0 ≡ false → shifts_of row (made e) ≡ []
-      none e h = says row e.0 e.1 (now e.0) ∙ none_between row _ _ (scan.apart row e.0 e.1 h ∙ sym (scan.apart row e.0 (now e.0) h))
-
-      by : (o : Option ℕ) → scan.owner row ≡ o → flat_map (λ e. shifts_of row (made e)) (filter (λ e. owns o e.0) touched)
-          ≡ shift_between row (count_at scan.rows before row o) (count_at scan.rows now row o)
-      by None is = ap (flat_map (λ e. shifts_of row (made e))) (none_kept touched)
-        where
-          none_kept : (xs : List (ℕ × Option V)) → filter (λ e. false) xs ≡ []
-          none_kept [] = refl
-          none_kept (x ∷ xs) = none_kept xs
-      by (Some q) is =
-          ap (flat_map (λ e. shifts_of row (made e))) (own_entries nat_eq same_number q touched once)
-          ∙ one (lookup (nat_eq q) touched) (images q)
-        where
-          one : (o : Option (Option V)) → IsImage (before q) (now q) o → flat_map (λ e. shifts_of row (made e)) (option_map_or (λ v. (q, v) ∷ []) o [])
-              ≡ shift_between row (count_of row (scan.rows q (before q))) (count_of row (scan.rows q (now q)))
-          one None same = sym (none_between row _ _ (ap (λ (v : Option V). count_of row (scan.rows q v)) same))
-          one (Some was) image =
-              append-nil (shifts_of row (made (q, was)))
-              ∙ says row q was (now q)
-              ∙ ap (λ (v : Option V). shift_between row (count_of row (scan.rows q v)) (count_of row (scan.rows q (now q)))) image.0

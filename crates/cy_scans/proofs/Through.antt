@@ -181,7 +181,7 @@ kept_cell (o ∷ os) column at row is = by (λ j. kept_cell os column j row) (is
     by below true this found = ap (cell_at (output_cell row o ∷ projected os row)) (sym (some_same 0 at found)) ∙ column_cell o column row this
     by below false this found = later below (kept_at column os) refl found
 
-if_this_is : (column : ℕ) (found : Option ℕ) (c : ℕ) → if_this column found ≡ Some c → (found ≡ Some c) × (column ≡ c)
+pub if_this_is : (column : ℕ) (found : Option ℕ) (c : ℕ) → if_this column found ≡ Some c → (found ≡ Some c) × (column ≡ c)
 if_this_is column None c is = none_some c is
 if_this_is column (Some other) c is = by (other == column) refl is
   where
@@ -189,7 +189,7 @@ if_this_is column (Some other) c is = by (other == column) refl is
     by true same at = (at, sym (same_numbers other column same) ∙ some_same other c at)
     by false same at = none_some c at
 
-kept_is : (below : Option ℕ) (outputs : List Output) (c : ℕ) → kept below outputs ≡ Some c → (k : ℕ) × ((below ≡ Some k) × (kept_at k outputs ≡ Some c))
+pub kept_is : (below : Option ℕ) (outputs : List Output) (c : ℕ) → kept below outputs ≡ Some c → (k : ℕ) × ((below ≡ Some k) × (kept_at k outputs ≡ Some c))
 kept_is None outputs c is = none_some c is
 kept_is (Some k) outputs c is = (k, (refl, is))
 

@@ -172,10 +172,15 @@ module _ (p : Plan) (c : ℕ) (over : leaf_of p ≡ plan.nodes) (column : scan_c
         (All-from_recursion (λ r. node_number (cell_at r c) ≡ Some n) (node_made (scan_parts p) n o) (node_owned n o));
   }
 
+  -- the rows of a scan are those of its nodes
+  pub node_scan_rows : (state : State) → IsGraph state → rows_of state.content p ≡ flat_map (λ (e : NodeId × Node). node_made (scan_parts p) e.0.0 (Some e.1)) state.content.nodes
+  node_scan_rows state is =
+      rows_by_entity own_node node_values node_leaf (λ e. refl) node_first state.content state.content.nodes plan.nodes (node_known state is) (node_rows_of state.content.nodes) p c over column
+
   pub node_scan_count : (state : State) → IsGraph state → (row : List Cell)
       → count_of row (rows_of state.content p) ≡ count_at (node_made (scan_parts p)) (node_under state) row (node_number (cell_at row c))
   node_scan_count state is row =
-      ap (count_of row) (rows_by_entity own_node node_values node_leaf (λ e. refl) node_first state.content state.content.nodes plan.nodes (node_known state is) (node_rows_of state.content.nodes) p c over column)
+      ap (count_of row) (node_scan_rows state is)
       ∙ count_scan node_rows_in (λ (k : NodeId). k.0) (λ n. record { 0 = n }) (λ k. refl) (λ n. refl) row state.content.nodes is.rising
 
   pub node_fit : (state : State) → IsGraph state → IsSure p → (n : ℕ) → IsNodeFit (scan_parts p) n (node_under state n)
@@ -257,10 +262,15 @@ module _ (types : List Name) (orientation : Orientation) where
           (All-from_recursion (λ r. rel_number (cell_at r c) ≡ Some n) (rel_made types orientation (scan_parts p) n o) (rel_owned n o));
     }
 
+    -- or of its relationships
+    pub rel_scan_rows : (state : State) → IsGraph state → rows_of state.content p ≡ flat_map (λ (e : RelId × Rel). rel_made types orientation (scan_parts p) e.0.0 (Some e.1)) state.content.rels
+    rel_scan_rows state is =
+        rows_by_entity own_rel rel_values rel_leaf (λ e. refl) rel_first state.content state.content.rels (plan.rels types orientation) (rel_known state is) refl p c over column
+
     pub rel_scan_count : (state : State) → IsGraph state → (row : List Cell)
         → count_of row (rows_of state.content p) ≡ count_at (rel_made types orientation (scan_parts p)) (rel_under state) row (rel_number (cell_at row c))
     rel_scan_count state is row =
-        ap (count_of row) (rows_by_entity own_rel rel_values rel_leaf (λ e. refl) rel_first state.content state.content.rels (plan.rels types orientation) (rel_known state is) refl p c over column)
+        ap (count_of row) (rel_scan_rows state is)
         ∙ count_scan rel_rows_in (λ (k : RelId). k.0) (λ n. record { 0 = n }) (λ k. refl) (λ n. refl) row state.content.rels is.rels_rising
 
     pub rel_fit : (state : State) → IsGraph state → IsSure p → (n : ℕ) → IsRelFit types orientation (scan_parts p) n (rel_under state n)

@@ -42,8 +42,8 @@ pub(crate) fn are_alike_rels(parts: &[&Operator], old: Option<&Rel>, new: Option
     }
 }
 
-// Whether a relationship has the same ends and the same type.
-fn have_same_ends(old: &Rel, new: &Rel) -> bool
+/// Whether a relationship has the same ends and the same type. Where it says no, it may do so too.
+pub fn have_same_ends(old: &Rel, new: &Rel) -> bool
     ensures { result ≡ true → HaveSameEnds old.now new.now }
 {
     old.source == new.source && old.target == new.target && old.kind == new.kind
@@ -93,7 +93,8 @@ fn has_same(attribute: &Attribute, old: EntityValue<'_>, new: EntityValue<'_>) -
     }
 }
 
-fn node_has_same(attribute: &Attribute, old: &Node, new: &Node) -> bool
+/// Whether an attribute of a node is the same. Where it says no, it may be so too.
+pub fn node_has_same(attribute: &Attribute, old: &Node, new: &Node) -> bool
     ensures { result ≡ true → node_attribute attribute.now (Some old.now) ≡ node_attribute attribute.now (Some new.now) }
 {
     match attribute {
@@ -103,7 +104,8 @@ fn node_has_same(attribute: &Attribute, old: &Node, new: &Node) -> bool
     }
 }
 
-fn rel_has_same(attribute: &Attribute, old: &Rel, new: &Rel) -> bool
+/// Whether an attribute of a relationship is the same. Where it says no, it may be so too.
+pub fn rel_has_same(attribute: &Attribute, old: &Rel, new: &Rel) -> bool
     ensures { result ≡ true → rel_attribute attribute.now (Some old.now) ≡ rel_attribute attribute.now (Some new.now) }
 {
     match attribute {

@@ -113,15 +113,15 @@ impl<'a> GraphChange<'a> {
         self.rels.get(&id.0).copied()
     }
 
-    // The touched nodes.
-    pub(crate) fn nodes(&self) -> map::Iter<'_, u64, Option<&'a Node>>
+    /// The touched nodes, each under its number with the value that it had, if it was there.
+    pub fn nodes(&self) -> map::Iter<'_, u64, Option<&'a Node>>
         ensures { map (λ e. (e.0, option_copied e.1)) result ≡ self.now.nodes }
     {
         self.nodes.iter()
     }
 
-    // The touched relationships.
-    pub(crate) fn rels(&self) -> map::Iter<'_, u64, Option<&'a Rel>>
+    /// The touched relationships, each under its number with the value that it had, if it was there.
+    pub fn rels(&self) -> map::Iter<'_, u64, Option<&'a Rel>>
         ensures { map (λ e. (e.0, option_copied e.1)) result ≡ self.now.rels }
     {
         self.rels.iter()

@@ -8,7 +8,7 @@ ghost use Rattle.cy_scans.specs.internal.Through as spec;
 ghost use Rattle.cy_scans.specs.internal.Through.{AreFit, IsFit, IsNodeFit, IsRelFit, attribute_in};
 
 use crate::attributes::{node_value, rel_value};
-use crate::scans::rows_of_rel;
+use crate::rels::rows_of_rel;
 use cy_graph::{Node, Rel};
 use cy_plans::{Attribute, Operator, Orientation, rows};
 use cy_values::{Cell, Fault, NodeId, RelId, Row, Sequence, Text, Value};

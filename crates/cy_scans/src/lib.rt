@@ -9,12 +9,14 @@ pub mod laws;
 mod lookups;
 mod needs;
 mod recounts;
+mod rels;
 mod scan_columns;
 mod scanning;
-mod scans;
 
+pub use alike::{have_same_ends, node_has_same, rel_has_same};
 pub use changes::GraphChange;
 pub use lookups::lookup;
+pub use needs::{has_label, label_in};
+pub use rels::has_type;
 pub use scan_columns::column_over;
 pub use scanning::scan;
-pub use scans::{nodes, rels};

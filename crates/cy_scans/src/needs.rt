@@ -68,8 +68,8 @@ fn are_nodes(part: &Operator) -> bool
     matches!(part, Operator::Nodes)
 }
 
-// The label of which an expression tests whether it is in the list in the second column.
-fn label_in(test: &Expr) -> Option<&Text>
+/// The label of which an expression tests whether it is in the list in the second column.
+pub fn label_in(test: &Expr) -> Option<&Text>
     ensures { IfSome result (λ label. (labels : Expression) × ((expression_of test.now ≡ binary In (text label.now) labels) × (is_column 1 (computed labels) ≡ true))) }
 {
     match test {
@@ -99,8 +99,8 @@ pub(crate) fn with_label<'n>(label: Option<&Text>, node: Option<&'n Node>) -> Op
     }
 }
 
-// Whether a node has a label.
-fn has_label(node: &Node, label: &Text) -> bool
+/// Whether a node has a label.
+pub fn has_label(node: &Node, label: &Text) -> bool
     ensures { result ≡ list_any (bytes_eq label.now) (map (λ l. l.0) node.now.labels) }
 {
     node.labels.get(label.as_str()).is_some()

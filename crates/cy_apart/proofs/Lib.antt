@@ -1,2 +1,5 @@
 pub mod Bounds
 pub mod Apart
+pub mod Links
+pub mod Told
+pub mod AnyOutput

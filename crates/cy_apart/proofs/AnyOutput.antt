@@ -1,0 +1,26 @@
+-- Whether one of some things passes, and whether each of the first numbers does.
+use Rattle.std.proofs.Common.{◌≡◌, ℕ, zero, suc, ◌+◌, ◌<◌, ◌≤◌, Bool, true, false, List, [], ◌∷◌, get_or, map, refl, ap, ◌∙◌, arith}
+use Rattle.std.specs.Prelude.{◌||◌}
+use Rattle.std.specs.List.{list_all, list_any, range_with_len}
+use Rattle.std.proofs.lemmas.Bool.{and_from}
+use Rattle.std.proofs.lemmas.List.Folds.{list_all_at}
+use Rattle.std.proofs.lemmas.List.FromFn.{get_or-range_with_len, length-range_with_len}
+
+pub any_mapped : {A B : Type 0} (p : B → Bool) (h : A → B) (xs : List A) → list_any p (map h xs) ≡ list_any (λ x. p (h x)) xs
+any_mapped p h [] = refl
+any_mapped p h (x ∷ xs) = ap (λ b. p (h x) || b) (any_mapped p h xs)
+
+from_each : (p : ℕ → Bool) (start count : ℕ) → ((k : ℕ) → start ≤ k → k < start + count → p k ≡ true) → list_all p (range_with_len start count) ≡ true
+from_each p start zero each = refl
+from_each p start (suc n) each =
+    and_from (p start) (list_all p (range_with_len (start + 1) n)) (each start (omega arith) (omega arith)) (from_each p (start + 1) n (λ k low high. each k (omega (arith, low)) (omega (arith, high))))
+
+pub all_from_each : (p : ℕ → Bool) (count : ℕ) → ((k : ℕ) → k < count → p k ≡ true) → list_all p (range_with_len 0 count) ≡ true
+all_from_each p count each = from_each p 0 count (λ k low high. each k (omega (arith, high)))
+
+pub at_place : (count k : ℕ) → k < count → get_or (range_with_len 0 count) k 0 ≡ k
+at_place count k less = get_or-range_with_len 0 count k 0 less ∙ (let e : 0 + k ≡ k = omega arith in e)
+
+pub one_fails : (p : ℕ → Bool) (count k : ℕ) → k < count → p k ≡ false → list_all p (range_with_len 0 count) ≡ false
+one_fails p count k less fails =
+    list_all_at p (range_with_len 0 count) k 0 (let n = length-range_with_len 0 count in omega (arith, n, less)) (ap p (at_place count k less) ∙ fails)

@@ -52,6 +52,13 @@ A B - | 1T2 3U2 2T1 | MATCH (a)-->(b) WHERE 1 / (a.k - 1) = 0 RETURN id(a) AS a 
 A B - | 1T2 3U2 2T1 | MATCH (a)-->(b) WHERE b.k = 2 AND 1 / (a.k - 2) = 0 RETURN id(a) AS a => !43
 A B - | 1T2 3U2 2T1 | MATCH (a)-[r]->(b) WHERE b.k = 2 AND id(r) = 2 RETURN id(a) AS a => a [3]
 A B - | 1T2 3U2 2T1 | MATCH (a)-->(b)-->(c) WHERE a.k = c.k RETURN id(a) AS a, id(b) AS b => a b [1,2] [2,1]
+A - - - B | 1T2 1T3 1T4 1T5 2U5 | MATCH (h:A), (n:B) MATCH (h)-[r*]->(n) RETURN r => r [[rel1,rel5]] [[rel4]]
+A - - - B | 1T2 1T3 1T4 1T5 2U5 | MATCH (h:A), (n:B) MATCH (n)<-[r*]-(h) RETURN r => r [[rel4]] [[rel5,rel1]]
+A - - - B | 1T2 1T3 1T4 1T5 2U5 | MATCH (h:A), (n:B) MATCH (h)-[r*..2]-(n) RETURN r => r [[rel1,rel5]] [[rel4]]
+A - - - B | 1T2 1T3 1T4 1T5 2U5 | MATCH (h:A), (n:B) MATCH (n)-[r*..2]-(h) RETURN r => r [[rel4]] [[rel5,rel1]]
+A - - - B | 1T2 1T3 1T4 1T5 2U5 | MATCH (h:A), (n:B) MATCH (n)-[r*]->(h) RETURN r => r
+A - - - B | 1T2 1T3 1T4 1T5 2U5 | MATCH (h:A), (n:B) MATCH (h)-[r:T*]-(n) RETURN r => r [[rel4]]
+A - - - B | 1T2 1T3 1T4 1T5 2U5 | MATCH (h:A), (n) MATCH (h)-[r*0..1]-(n) RETURN id(n) AS n, r => n r [1,[]] [2,[rel1]] [3,[rel2]] [4,[rel3]] [5,[rel4]]
 - - - - | 1T2 2T3 3T1 3T4 | MATCH (a)-->(b)-->(c)-->(a) RETURN id(a) AS a, id(b) AS b, id(c) AS c => a b c [1,2,3] [2,3,1] [3,1,2]
 - - - - | 1T2 2T3 3T1 3T4 | MATCH (a)-->(b)-->(c)-->(a)-->(d) RETURN id(a) AS a, id(d) AS d => a d [3,4]
 - - - - | 1T2 2T3 3T1 3T4 | MATCH (d {k: 4})<-[r*3]-(a) RETURN id(a) AS a => a [1]

@@ -99,11 +99,16 @@ def costs(program, size):
 
 
 def hub_costs(program, size):
-    """Names of costs of a relationship between a node and a hub with one to each node, where both are found before it."""
+    """Names of costs of what leads from a hub with a relationship to each node to one of these, where both are found before it."""
     some = [size // TIMES * time + size // 50 for time in range(TIMES)]
     with Session(program) as session:
         session.give(list(hub(size)))
-        for name, step in (("from a hub to a node", "-[:T]->"), ("the same in either direction", "-[:T]-")):
+        for name, step in (
+            ("from a hub to a node", "-[:T]->"),
+            ("the same in either direction", "-[:T]-"),
+            ("a list of one or two from a hub to a node", "-[:T*1..2]->"),
+            ("a list of one in either direction", "-[:T*1]-"),
+        ):
             text = f"MATCH (h:Hub), (n:L {{k: @}}) MATCH (h){step}(n) RETURN count(*) AS n"
             yield name, session.count([answer(text.replace("@", str(k)), ["n"], [1]) for k in some]), True
 

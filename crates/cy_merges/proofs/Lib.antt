@@ -5,3 +5,5 @@ pub mod Merged
 pub mod WholeRows
 pub mod Changes
 pub mod OneToOne
+pub mod GreatestCounts
+pub mod Gathered

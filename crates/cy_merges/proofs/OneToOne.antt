@@ -25,7 +25,7 @@ if_ok_more D P (Ok x) d each = each x d
 if_ok_more D P (Err e) d each = tt
 
 -- the shifts of a row among images are the images of those whose rows become it
-shifts_of_images : (f : List Cell → List Cell) (row : List Cell) (shifts : List Shift) → shifts_of row (map (image f) shifts) ≡ map (image f) (filter (λ s. is_row row (f s.row)) shifts)
+pub shifts_of_images : (f : List Cell → List Cell) (row : List Cell) (shifts : List Shift) → shifts_of row (map (image f) shifts) ≡ map (image f) (filter (λ s. is_row row (f s.row)) shifts)
 shifts_of_images f row [] = refl
 shifts_of_images f row (s ∷ shifts) = step (is_row row (f s.row)) (shifts_of_images f row shifts)
   where
@@ -36,12 +36,12 @@ shifts_of_images f row (s ∷ shifts) = step (is_row row (f s.row)) (shifts_of_i
     step false rest = rest
 
 -- two tests that agree
-filter_alike : {X : Type 0} (P : X → Type 0) (p q : X → Bool) → ((x : X) → P x → p x ≡ q x) → (xs : List X) → All P xs → filter p xs ≡ filter q xs
+pub filter_alike : {X : Type 0} (P : X → Type 0) (p q : X → Bool) → ((x : X) → P x → p x ≡ q x) → (xs : List X) → All P xs → filter p xs ≡ filter q xs
 filter_alike P p q alike [] each = refl
 filter_alike P p q alike (x ∷ xs) each =
     ap (λ b. cond b (x ∷ filter p xs) (filter p xs)) (alike x (All-head P x xs each)) ∙ ap (λ ys. cond (q x) (x ∷ ys) ys) (filter_alike P p q alike xs (All-tail P x xs each))
 
-count_alike : {X : Type 0} (P : X → Type 0) (p q : X → Bool) → ((x : X) → P x → p x ≡ q x) → (xs : List X) → All P xs → count_by p xs ≡ count_by q xs
+pub count_alike : {X : Type 0} (P : X → Type 0) (p q : X → Bool) → ((x : X) → P x → p x ≡ q x) → (xs : List X) → All P xs → count_by p xs ≡ count_by q xs
 count_alike P p q alike [] each = refl
 count_alike P p q alike (x ∷ xs) each =
     sum_by-cons (λ y. cond (p y) 1 0) x xs
@@ -50,19 +50,19 @@ count_alike P p q alike (x ∷ xs) each =
     ∙ sym (sum_by-cons (λ y. cond (q y) 1 0) x xs)
 
 -- what holds of each row that counts holds of all
-all_counted : (P : List Cell → Type 0) (xs : List (List Cell)) → ((row : List Cell) → 0 < count_of row xs → P row) → All P xs
+pub all_counted : (P : List Cell → Type 0) (xs : List (List Cell)) → ((row : List Cell) → 0 < count_of row xs → P row) → All P xs
 all_counted P [] each = All-nil P
 all_counted P (x ∷ xs) each =
     let own : count_of x (x ∷ xs) ≡ 1 + count_of x xs = count_cons x x xs ∙ ap (λ b. cond b 1 0 + count_of x xs) (row_itself x) in
     All-cons P x xs (each x (omega (arith, own))) (all_counted P xs (λ row some. each row (let more = count_cons row x xs in omega (arith, more, some))))
 
-both_same : (b c : Bool) → (b ≡ true → c ≡ true) → (c ≡ true → b ≡ true) → b ≡ c
+pub both_same : (b c : Bool) → (b ≡ true → c ≡ true) → (c ≡ true → b ≡ true) → b ≡ c
 both_same true c there back = sym (there refl)
 both_same false true there back = back refl
 both_same false false there back = refl
 
 -- the image of the shift of a row
-image_between : (f : List Cell → List Cell) (row : List Cell) (before after : ℕ) → map (image f) (shift_between row before after) ≡ shift_between (f row) before after
+pub image_between : (f : List Cell → List Cell) (row : List Cell) (before after : ℕ) → map (image f) (shift_between row before after) ≡ shift_between (f row) before after
 image_between f row before after = step (before == after)
   where
     step : (b : Bool) → map (image f) (cond b [] (record { row = row; before = before; after = after } ∷ [])) ≡ cond b [] (record { row = f row; before = before; after = after } ∷ [])
@@ -70,14 +70,14 @@ image_between f row before after = step (before == after)
     step false = refl
 
 -- a row whose counts are the same has no shift
-none_between : (row : List Cell) (before after : ℕ) → after ≡ before → [] ≡ shift_between row before after
+pub none_between : (row : List Cell) (before after : ℕ) → after ≡ before → [] ≡ shift_between row before after
 none_between row before after same = ap (λ b. cond b [] (record { row = row; before = before; after = after } ∷ [])) (itself before after same)
   where
     itself : (m n : ℕ) → n ≡ m → true ≡ (m == n)
     itself m n is = grind (arith, nat_tests)
 
 -- where a row has no shift, its weights come to nothing
-no_weight : (weight : Shift → ℕ) (row : List Cell) (xs : List Shift) → shifts_of row xs ≡ [] → weights weight (is_row row) xs ≡ 0
+pub no_weight : (weight : Shift → ℕ) (row : List Cell) (xs : List Shift) → shifts_of row xs ≡ [] → weights weight (is_row row) xs ≡ 0
 no_weight weight row [] none = refl
 no_weight weight row (s ∷ xs) none = sum_by-cons (λ (t : Shift). cond (is_row row t.row) (weight t) 0) s xs ∙ by (is_row row s.row) (no_weight weight row xs) none
   where

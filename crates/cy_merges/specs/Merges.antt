@@ -1,7 +1,8 @@
 -- What changes below a projection or a union, and what its memory holds before. (own)
-use Rattle.std.specs.Prelude.{◌≡◌, ℕ, ◌≤◌, List, ◌++◌, length, map}
+use Rattle.std.specs.Prelude.{◌≡◌, ℕ, ◌<◌, ◌≤◌, List, ◌++◌, length, map}
 use Rattle.std.specs.List.{All, range_with_len}
 use Rattle.cy_values.specs.declared.rows.Cell.{Cell}
+use Rattle.cy_values.specs.Bag.{count_of}
 use Rattle.cy_memory.specs.Counts.{Counts, greatest_count, key_of}
 use Rattle.cy_plans.specs.Plans.{Output}
 use Rattle.cy_plans.specs.Expressions.{projected}
@@ -28,6 +29,10 @@ pub record IsProjectChange (outputs : List Output) (was : Counts) (shifts : List
 -- of two rows that are so wide and differ a projection makes rows that differ
 abbrev pub IsOneToOne : ℕ → List Output → Type 0
 IsOneToOne width outputs = (row other : List Cell) → length row ≡ width → length other ≡ width → projected outputs row ≡ projected outputs other → row ≡ other
+
+-- of two of some rows that differ a projection makes rows that differ
+abbrev pub IsOneToOneOn : List (List Cell) → List Output → Type 0
+IsOneToOneOn rows outputs = (row other : List Cell) → 0 < count_of row rows → 0 < count_of other rows → projected outputs row ≡ projected outputs other → row ≡ other
 
 -- the rows of the two parts of a union
 pub record Sides : Type 0 where

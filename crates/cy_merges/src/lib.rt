@@ -3,10 +3,11 @@
 #![tactic(auto)]
 
 mod distinct_rows;
+mod greatest;
 mod merges;
 mod projections;
 mod stages;
 mod unions;
 
-pub use projections::{project, rearrange};
+pub use projections::{gather, project, rearrange};
 pub use unions::union;

@@ -1,7 +1,7 @@
 //! How a change goes through `Project`.
 
-ghost use Rattle.std.specs.Prelude.{◌≡◌, ◌+◌, ◌*◌, ◌<◌, ◌≤◌, true, ℕ, List, IfOk, IfErr, OnOk, length, map};
-ghost use Rattle.std.specs.List.{All};
+ghost use Rattle.std.specs.Prelude.{◌≡◌, ◌+◌, ◌*◌, ◌<◌, ◌≤◌, true, ℕ, List, IfOk, IfErr, OnOk, length, map, nat_lt};
+ghost use Rattle.std.specs.List.{All, list_all};
 ghost use Rattle.cy_values.specs.declared.rows.Cell.{Cell};
 ghost use Rattle.cy_expr.specs.Lookups.{IsNumbered};
 ghost use Rattle.cy_memory.specs.declared.faults.MemoryFault.TheVariants.{TooManyRows};
@@ -9,10 +9,12 @@ ghost use Rattle.cy_memory.specs.Counts.{greatest_count};
 ghost use Rattle.cy_plans.specs.Expressions as expressions;
 ghost use Rattle.cy_plans.specs.Sure.{HasCells};
 ghost use Rattle.cy_plans.specs.Views.{output_of};
+ghost use Rattle.cy_deltas.specs.declared.shifts.Shift.{Shift};
 ghost use Rattle.cy_deltas.specs.Deltas.{AreWide, IsBounded, IsDelta, counts};
-ghost use Rattle.cy_merges.specs.Merges.{AreBounded, IsOneToOne, IsProjectChange, all_columns};
+ghost use Rattle.cy_merges.specs.Merges.{AreBounded, IsOneToOne, IsOneToOneOn, IsProjectChange, all_columns};
 ghost use Rattle.cy_merges.specs.internal.Sums.{image};
 
+use crate::greatest::together;
 use crate::merges::merge;
 use cy_deltas::Shift;
 use cy_memory::{Memory, MemoryFault};
@@ -66,6 +68,39 @@ pub fn rearrange(alloc: Global, outputs: &[Output], shifts: Vec<Shift>) -> Resul
     ensures nothing { IfErr result (λ _. 0 < length shifts.items) }
 {
     images_of(alloc, outputs, shifts)
+}
+
+/// What changes of the rows of a projection that makes different rows of different ones of those before, and of those after: a row that comes may give
+/// what one gave that goes, so the two are taken together, and no memory is needed that outlasts the change. Fails only for want of memory, and never
+/// where nothing changes.
+pub fn gather(alloc: Global, outputs: &[Output], shifts: Vec<Shift>) -> Result<Vec<Shift>, Fault>
+    requires sure { All (λ s. HasCells (map output_of outputs.now) s.row) shifts.items }
+    requires numbered { All (λ s. All IsNumbered s.row) shifts.items }
+    ensures delta { IfOk result (λ made. (before after : List (List Cell)) → IsOneToOneOn before (map output_of outputs.now) → IsOneToOneOn after (map output_of outputs.now)
+        → IsDelta (counts before) (counts after) shifts.items
+        → IsDelta (counts (map (expressions.projected (map output_of outputs.now)) before)) (counts (map (expressions.projected (map output_of outputs.now)) after)) made.items) }
+    ensures bounded { IfOk result (λ made. All IsBounded shifts.items → All IsBounded made.items) }
+    ensures nothing { IfErr result (λ _. 0 < length shifts.items) }
+{
+    let images = images_of(alloc, outputs, shifts)?;
+    if none_come(&images) || none_go(&images) {
+        return Ok(images);
+    }
+    together(alloc, images)
+}
+
+// Whether each row counts before.
+fn none_come(shifts: &[Shift]) -> bool
+    ensures { result ≡ list_all (λ (s : Shift). nat_lt 0 s.before) shifts.now }
+{
+    shifts.iter().all(|shift| 0 < shift.before)
+}
+
+// Whether each row counts after.
+fn none_go(shifts: &[Shift]) -> bool
+    ensures { result ≡ list_all (λ (s : Shift). nat_lt 0 s.after) shifts.now }
+{
+    shifts.iter().all(|shift| 0 < shift.after)
 }
 
 // The shifts with the rows that the projection makes of theirs. Fails only for want of memory, and never where there are none.

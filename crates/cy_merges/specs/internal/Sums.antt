@@ -1,12 +1,13 @@
 -- By how much the count of a row changes in all, where it may stand in several shifts.
-use Rattle.std.specs.Prelude.{◌≡◌, ℕ, ◌-◌, Bool, List, [], Option, None, Some, if◌then◌else◌, flat_map}
+use Rattle.std.specs.Prelude.{◌≡◌, ℕ, ◌-◌, Bool, List, [], ◌∷◌, Option, None, Some, if◌then◌else◌, flat_map, max, unwrap_or}
 use Rattle.std.specs.List.{sum_by, list_any}
+use Rattle.std.specs.Map.{lookup}
 use Rattle.cy_values.specs.declared.rows.Cell.{Cell}
 use Rattle.cy_values.specs.Bag.{count_of}
 use Rattle.cy_memory.specs.Counts.{Counts, is_row}
 use Rattle.cy_memory.specs.declared.memory.Record.{Record}
 use Rattle.cy_deltas.specs.declared.shifts.Shift.{Shift}
-use Rattle.cy_deltas.specs.Deltas.{shift_between}
+use Rattle.cy_deltas.specs.Deltas.{shift_between, shifts_of}
 
 -- what a shift by which the row counts less takes from it
 abbrev pub loss : List Cell → Shift → ℕ
@@ -46,3 +47,19 @@ pub record AreShiftsOf (before after : Counts) (changes shifts : List Shift) : T
 abbrev pub shift_in : Option Record → List Shift
 shift_in None = []
 shift_in (Some r) = shift_between r.row r.before r.after
+
+-- the greatest of what some shifts weigh
+abbrev pub greatest : (Shift → ℕ) → List Shift → ℕ
+greatest weight [] = 0
+greatest weight (s ∷ shifts) = max (weight s) (greatest weight shifts)
+
+-- the greatest count of a row before some shifts, and the greatest one after them
+abbrev pub most_before : List Shift → Counts
+most_before shifts row = greatest (λ s. s.before) (shifts_of row shifts)
+
+abbrev pub most_after : List Shift → Counts
+most_after shifts row = greatest (λ s. s.after) (shifts_of row shifts)
+
+-- the two counts that stand under a row, 0 where none do
+abbrev pub counts_at : List Cell → List (List Cell × (ℕ × ℕ)) → ℕ × ℕ
+counts_at row pairs = unwrap_or (lookup (is_row row) pairs) (0, 0)

@@ -27,7 +27,7 @@ const MOST_PASSED: usize = 64;
 
 /// A part that has one part below it, without that one.
 #[derive(Drop)]
-pub(crate) enum Layer {
+pub enum Layer {
     Lookup(usize, Attribute),
     Filter(Expr),
     AllDifferent(Vec<usize>),
@@ -37,7 +37,7 @@ pub(crate) enum Layer {
 
 /// What a part is.
 #[derive(Drop)]
-pub(crate) enum Opened {
+pub enum Opened {
     /// A layer over another part.
     Over(Layer, Operator),
     /// Another part can stand in its place.
@@ -61,7 +61,7 @@ fn is_unit(part: &Operator) -> bool
 }
 
 /// A part opened. The pairs of the empty row and the rows of another part, by no key, are the rows of that part.
-fn open_part(part: Operator) -> Opened
+pub fn open_part(part: Operator) -> Opened
     ensures { spec.IsOpened part result }
 {
     match part {

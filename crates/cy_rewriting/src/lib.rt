@@ -9,4 +9,6 @@ mod redirects;
 mod rewriting;
 mod splits;
 
+pub use layers::{Layer, Opened, open_part};
+pub use parts::layered;
 pub use rewriting::rewritten;

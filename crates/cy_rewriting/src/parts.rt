@@ -41,8 +41,8 @@ fn with_layer(alloc: Global, below: Plan, layer: Layer) -> Result<Plan, Fault>
     }
 }
 
-/// Layers over a plan.
-pub(crate) fn layered(alloc: Global, base: Plan, layers: Vec<Layer>) -> Result<Plan, Fault>
+/// Layers over a plan, the uppermost first. Fails only for want of memory.
+pub fn layered(alloc: Global, base: Plan, layers: Vec<Layer>) -> Result<Plan, Fault>
     requires { IsWellFormed (spec.layered layers.items (plan_of base)) }
     ensures { IfOk result (λ p. IsRewritten (spec.layered layers.items (plan_of base)) (plan_of p)) }
 {

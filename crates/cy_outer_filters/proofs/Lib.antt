@@ -1,0 +1,4 @@
+pub mod Congruent
+pub mod OuterLaw
+pub mod Predicates
+pub mod Together

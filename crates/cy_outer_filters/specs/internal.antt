@@ -1,0 +1,3 @@
+-- What private functions and proofs need.
+pub mod Bases
+pub mod Splits

@@ -5,14 +5,14 @@ use Rattle.cy_trees.specs.Trees.{Statement}
 use Rattle.cy_patterns.specs.Outcomes.{IsSameOutcome}
 use Rattle.cy_queries.specs.Queries.{query_rows}
 use Rattle.cy_plans.specs.Plans.{Plan}
-use Rattle.cy_rewriting.specs.Rewritten.{IsRewritten}
+use Rattle.cy_outer_filters.specs.Standing.{StandsFor}
 use Rattle.cy_planner.specs.Serves.{Serves}
 use Rattle.cy_planner.specs.WideTables.{wide_tables}
 
-pub serves_rewritten : (p q : Plan) (query : Statement) → Serves p query → IsRewritten p q → Serves q query
-serves_rewritten p q query serves is = record {
+pub serves_standing : (p q : Plan) (query : Statement) → Serves p query → StandsFor p q → Serves q query
+serves_standing p q query serves is = record {
   well_formed = is.well_formed serves.well_formed;
-  sure = λ graph good. is.sure graph.content (serves.sure graph good);
-  rows = λ graph good. subst (λ rows. IsSameOutcome (Ok rows) (query_rows graph.content query)) (sym (is.rows graph.content)) (serves.rows graph good);
-  bounded = λ graph good. is.bounded graph.content (wide_tables graph.content query) (serves.bounded graph good);
+  sure = λ graph good. is.sure graph good (serves.sure graph good);
+  rows = λ graph good. subst (λ rows. IsSameOutcome (Ok rows) (query_rows graph.content query)) (sym (is.rows graph good)) (serves.rows graph good);
+  bounded = λ graph good. is.bounded graph (wide_tables graph.content query) good (serves.bounded graph good);
 }

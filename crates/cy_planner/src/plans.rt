@@ -11,6 +11,7 @@ ghost use Rattle.cy_planner.specs.Weight.{greatest_weight, weight};
 use crate::clauses::clause_rows;
 use crate::faults::PlanFault;
 use crate::weight::is_too_large;
+use cy_outer_filters::with_low_predicates;
 use cy_plans::Plan;
 use cy_queries::laws::{clauses_on_bags, view_queries};
 use cy_rewriting::rewritten;
@@ -55,5 +56,5 @@ pub fn plan(alloc: Global, query: &ViewQuery) -> Result<Plan, PlanFault>
     }
     let statement = query.checked().statement();
     let rows = query_rows(alloc, statement.clauses.as_slice())?;
-    Ok(rewritten(alloc, rows)?)
+    Ok(with_low_predicates(alloc, rewritten(alloc, rows)?)?)
 }

@@ -4,8 +4,9 @@ use Rattle.cy_trees.specs.Trees.{Statement}
 use Rattle.cy_trees.specs.Views.{statement_of}
 use Rattle.cy_plans.specs.Plans.{Plan}
 use Rattle.cy_plans.specs.Views.{plan_of}
+use Rattle.cy_outer_filters.proofs.Congruent.{on_graphs, stands_again}
 use Rattle.cy_planner.specs.Serves.{Serves}
-use Rattle.cy_planner.proofs.Rewriting.{serves_rewritten}
+use Rattle.cy_planner.proofs.Rewriting.{serves_standing}
 use Rattle.cy_planner.proofs.plans.plan.Goals as goal
 
 pub returns-clause-serves : goal.returns-clause-serves
@@ -13,4 +14,6 @@ returns-clause-serves c =
     let query : Statement = statement_of c.args.query.now in
     let p : Plan = plan_of c.in_ok-rows.rows in
     let serves : Serves p query = first_of (search rules, grind (arith, common_steps)) in
-    serves_rewritten p (plan_of c.in_ok-rewritten.field-0) query serves c.in_ok-rewritten.ensures
+    let other : Plan = plan_of c.in_ok-rewritten.field-0 in
+    let low : Plan = plan_of c.in_ok-with_low_predicates.field-0 in
+    serves_standing p low query serves (stands_again p other low (on_graphs p other c.in_ok-rewritten.ensures) c.in_ok-with_low_predicates.ensures)

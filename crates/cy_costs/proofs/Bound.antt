@@ -1,5 +1,5 @@
 -- What the operators may do at the parts of a plan is within its cost.
-use Rattle.std.proofs.Common.{◌≡◌, ℕ, ◌+◌, ◌*◌, ◌≤◌, List, [], ◌∷◌, ◌++◌, length, arith}
+use Rattle.std.proofs.Common.{◌≡◌, ℕ, ◌+◌, ◌*◌, ◌≤◌, Bool, true, false, cond, ◌||◌, List, [], ◌∷◌, ◌++◌, refl, length, arith}
 use Rattle.std.specs.Prelude.{sum_by}
 use Rattle.std.proofs.lemmas.List.Sums.{sum_by-cons, sum_by-append}
 use Rattle.cy_graph.specs.Graph.{Content}
@@ -11,8 +11,8 @@ use Rattle.cy_plans.specs.Meaning.{rows_of}
 use Rattle.cy_deltas.specs.Costs.{changed_pairs}
 use Rattle.cy_scans.specs.Changes.{Touches}
 use Rattle.cy_scans.specs.Costs.{naming_rows}
-use Rattle.cy_costs.specs.Costs.{changed, cost, part_cost}
-use Rattle.cy_costs.specs.internal.Work.{all_reads, all_steps, in_all, own_reads, own_steps}
+use Rattle.cy_costs.specs.Costs.{changed, cost, part_cost, touched_entities}
+use Rattle.cy_costs.specs.internal.Work.{all_reads, all_steps, asked_reads, in_all, looks_at_graph, own_reads, own_steps}
 
 -- ---- what a number of each part comes to in a plan is its sum over the parts
 
@@ -76,8 +76,31 @@ sums_within f g h within (x ∷ xs) =
     let hs = sum_by-cons h x xs in
     omega (arith, rest, own, fs, gs, hs)
 
-root : (steps reads costs changed all_of_steps all_of_reads : ℕ) → all_of_steps ≡ steps → all_of_reads ≡ reads → steps + reads ≤ 5 * costs → all_of_steps + all_of_reads ≤ 16 * (costs + changed)
-root steps reads costs changed all_of_steps all_of_reads one two within = omega (arith, one, two, within)
+root : (steps reads asked costs changed all_of_steps all_of_reads : ℕ) → all_of_steps ≡ steps → all_of_reads ≡ reads → asked ≤ costs → steps + reads ≤ 5 * costs → all_of_steps + (asked + all_of_reads) ≤ 16 * (costs + changed)
+root steps reads asked costs changed all_of_steps all_of_reads one two few within = omega (arith, one, two, few, within)
+
+-- ---- what is read once where a part looks at the graph
+
+module _ (few : ℕ) (f : Plan → ℕ) where
+  abbrev Asked : Bool → List Plan → Type 0
+  Asked looks ps = cond looks few 0 ≤ sum_by f ps
+
+  -- one part more, and the parts of two
+  asked_more : (looks : Bool) (p : Plan) (ps : List Plan) → Asked looks ps → Asked looks (p ∷ ps)
+  asked_more looks p ps within = let whole = sum_by-cons f p ps in omega (arith, whole, within)
+
+  asked_both : (one other : Bool) (p : Plan) (ps qs : List Plan) → Asked one ps → Asked other qs → Asked (one || other) (p ∷ ps ++ qs)
+  asked_both true other p ps qs within more = let whole = sum_by-cons f p (ps ++ qs) in let both = sum_by-append f ps qs in omega (arith, whole, both, within)
+  asked_both false other p ps qs within more = let whole = sum_by-cons f p (ps ++ qs) in let both = sum_by-append f ps qs in omega (arith, whole, both, more)
+
+  asked_here : (p : Plan) (ps : List Plan) → few ≤ f p → Asked true (p ∷ ps)
+  asked_here p ps within = let whole = sum_by-cons f p ps in omega (arith, whole, within)
+
+all_here : (n : ℕ) → n ≤ n
+all_here n = omega arith
+
+lookup_reads : (n c k : ℕ) → n ≤ n + c + k
+lookup_reads n c k = omega arith
 
 module _ (touches : Touches) (before after : Content) where
   abbrev few : Plan → ℕ
@@ -99,14 +122,35 @@ module _ (touches : Touches) (before after : Content) where
   part_within (plan.distinct p) = nothing (few p)
   part_within (plan.union left right) = unions (few left) (few right)
 
-  work_within : (p : Plan) → all_steps (rows_of before) (rows_of after) touches p + all_reads (rows_of before) (rows_of after) touches p ≤ 16 * cost touches before after p
+  abbrev costs : Plan → ℕ
+  costs = part_cost touches before after
+
+  asked_within : (p : Plan) → asked_reads touches p ≤ sum_by costs (parts p)
+  asked_within plan.unit = omega arith
+  asked_within plan.nodes = asked_here (touched_entities touches) costs plan.nodes [] (all_here (touched_entities touches))
+  asked_within (plan.rels types orientation) = asked_here (touched_entities touches) costs (plan.rels types orientation) [] (all_here (touched_entities touches))
+  asked_within (plan.join left right keys) =
+      asked_both (touched_entities touches) costs (looks_at_graph left) (looks_at_graph right) (plan.join left right keys) (parts left) (parts right) (asked_within left) (asked_within right)
+  asked_within (plan.outer left right keys test) =
+      asked_both (touched_entities touches) costs (looks_at_graph left) (looks_at_graph right) (plan.outer left right keys test) (parts left) (parts right) (asked_within left) (asked_within right)
+  asked_within (plan.lookup p column attribute) =
+      asked_here (touched_entities touches) costs (plan.lookup p column attribute) (parts p)
+      (lookup_reads (touched_entities touches) (few p) (naming_rows touches column (rows_of before p) (rows_of after p)))
+  asked_within (plan.filter p test) = asked_more (touched_entities touches) costs (looks_at_graph p) (plan.filter p test) (parts p) (asked_within p)
+  asked_within (plan.all_different p columns) = asked_more (touched_entities touches) costs (looks_at_graph p) (plan.all_different p columns) (parts p) (asked_within p)
+  asked_within (plan.project p outputs) = asked_more (touched_entities touches) costs (looks_at_graph p) (plan.project p outputs) (parts p) (asked_within p)
+  asked_within (plan.distinct p) = asked_more (touched_entities touches) costs (looks_at_graph p) (plan.distinct p) (parts p) (asked_within p)
+  asked_within (plan.union left right) =
+      asked_both (touched_entities touches) costs (looks_at_graph left) (looks_at_graph right) (plan.union left right) (parts left) (parts right) (asked_within left) (asked_within right)
+
+  work_within : (p : Plan) → all_steps (rows_of before) (rows_of after) touches p + (asked_reads touches p + all_reads (rows_of before) (rows_of after) touches p) ≤ 16 * cost touches before after p
   work_within p =
       root (sum_by (own_steps (rows_of before) (rows_of after) touches) (parts p)) (sum_by (own_reads (rows_of before) (rows_of after) touches) (parts p))
-      (sum_by (part_cost touches before after) (parts p)) (few p)
+      (asked_reads touches p) (sum_by (part_cost touches before after) (parts p)) (few p)
       (all_steps (rows_of before) (rows_of after) touches p) (all_reads (rows_of before) (rows_of after) touches p)
-      (over_parts (own_steps (rows_of before) (rows_of after) touches) p) (over_parts (own_reads (rows_of before) (rows_of after) touches) p)
+      (over_parts (own_steps (rows_of before) (rows_of after) touches) p) (over_parts (own_reads (rows_of before) (rows_of after) touches) p) (asked_within p)
       (sums_within (own_steps (rows_of before) (rows_of after) touches) (own_reads (rows_of before) (rows_of after) touches) (part_cost touches before after) part_within (parts p))
 
 pub all_within : (touches : Touches) (before after : Content) (p : Plan)
-    → all_steps (rows_of before) (rows_of after) touches p + all_reads (rows_of before) (rows_of after) touches p ≤ 16 * cost touches before after p
+    → all_steps (rows_of before) (rows_of after) touches p + (asked_reads touches p + all_reads (rows_of before) (rows_of after) touches p) ≤ 16 * cost touches before after p
 all_within touches before after p = work_within touches before after p

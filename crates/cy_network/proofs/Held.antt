@@ -15,7 +15,7 @@ use Rattle.cy_scans.specs.Changes.{IsChange, Touches}
 use Rattle.cy_costs.specs.Costs.{cost}
 use Rattle.cy_network.specs.Counted.{written}
 use Rattle.cy_network.specs.Memories.{AreHeld, contents, keys}
-use Rattle.cy_network.specs.internal.Upkeep.{IsDone, IsUpkeep, all_reads, all_steps}
+use Rattle.cy_network.specs.internal.Upkeep.{IsDone, IsUpkeep, all_reads, all_steps, asked_reads}
 use Rattle.cy_network.proofs.Excess.{written_shifts}
 
 -- what was staged for a graph is held there
@@ -57,18 +57,18 @@ told_as greatest from taken from_now taken_now start read start_now read_now sam
 
 -- the steps of the memories and the reads of the graph are at most sixteen times the cost
 pub within_cost : (before now : State) (p : Plan) (taken taken_now read read_now greatest : ℕ)
-    → ((touches : Touches) (a b : Content) (q : Plan) → all_steps (rows_of a) (rows_of b) touches q + all_reads (rows_of a) (rows_of b) touches q ≤ 16 * cost touches a b q)
+    → ((touches : Touches) (a b : Content) (q : Plan) → all_steps (rows_of a) (rows_of b) touches q + (asked_reads touches q + all_reads (rows_of a) (rows_of b) touches q) ≤ 16 * cost touches a b q)
     → (upkeep : IsUpkeep before now p taken taken_now read read_now)
     → min ((taken_now - taken) + (read_now - read)) greatest ≤ 16 * cost upkeep.touches before.content now.content p
 within_cost before now p taken taken_now read read_now greatest bounds upkeep =
     let steps = all_steps (rows_of before.content) (rows_of now.content) upkeep.touches p in
-    let reads = all_reads (rows_of before.content) (rows_of now.content) upkeep.touches p in
+    let reads = asked_reads upkeep.touches p + all_reads (rows_of before.content) (rows_of now.content) upkeep.touches p in
     at_most (taken_now - taken) (read_now - read) (steps + reads) (16 * cost upkeep.touches before.content now.content p) greatest
     (rose_by taken taken_now read read_now steps reads upkeep.steps upkeep.reads) (bounds upkeep.touches before.content now.content p)
 
 -- and so is the number of steps that is told
 pub told_within_cost : (before now : State) (p : Plan) (taken taken_now read read_now greatest told from from_now start start_now : ℕ)
-    → ((touches : Touches) (a b : Content) (q : Plan) → all_steps (rows_of a) (rows_of b) touches q + all_reads (rows_of a) (rows_of b) touches q ≤ 16 * cost touches a b q)
+    → ((touches : Touches) (a b : Content) (q : Plan) → all_steps (rows_of a) (rows_of b) touches q + (asked_reads touches q + all_reads (rows_of a) (rows_of b) touches q) ≤ 16 * cost touches a b q)
     → told ≡ min ((from_now - from) + (start_now - start)) greatest → from ≡ taken → from_now ≡ taken_now → start ≡ read → start_now ≡ read_now
     → IsUpkeep before now p taken taken_now read read_now
     → (touches : Touches) × (IsChange before now touches × told ≤ 16 * cost touches before.content now.content p)

@@ -30,3 +30,4 @@ pub mod Apart
 pub mod Scanned
 pub mod Cuts
 pub mod CutChains
+pub mod Irrelevant

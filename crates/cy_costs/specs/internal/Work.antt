@@ -1,5 +1,5 @@
 -- What the steps of the memories and the reads of the graph may be at the parts of a plan, as the operators promise it.
-use Rattle.std.specs.Prelude.{ℕ, ◌+◌, ◌*◌, List, length}
+use Rattle.std.specs.Prelude.{ℕ, ◌+◌, ◌*◌, ◌||◌, Bool, true, false, List, if◌then◌else◌, length}
 use Rattle.cy_values.specs.declared.rows.Cell.{Cell}
 use Rattle.cy_plans.specs.Plans as plan
 use Rattle.cy_plans.specs.Plans.{Plan}
@@ -56,3 +56,21 @@ all_steps rows rows_now touches = in_all (own_steps rows rows_now touches)
 
 abbrev pub all_reads : (Plan → List (List Cell)) → (Plan → List (List Cell)) → Touches → Plan → ℕ
 all_reads rows rows_now touches = in_all (own_reads rows rows_now touches)
+
+-- some part of a plan looks at the graph
+abbrev pub looks_at_graph : Plan → Bool
+looks_at_graph plan.unit = false
+looks_at_graph plan.nodes = true
+looks_at_graph (plan.rels types orientation) = true
+looks_at_graph (plan.join left right keys) = looks_at_graph left || looks_at_graph right
+looks_at_graph (plan.outer left right keys test) = looks_at_graph left || looks_at_graph right
+looks_at_graph (plan.lookup p column attribute) = true
+looks_at_graph (plan.filter p test) = looks_at_graph p
+looks_at_graph (plan.all_different p columns) = looks_at_graph p
+looks_at_graph (plan.project p outputs) = looks_at_graph p
+looks_at_graph (plan.distinct p) = looks_at_graph p
+looks_at_graph (plan.union left right) = looks_at_graph left || looks_at_graph right
+
+-- how many entities are read at most to tell whether a change concerns a plan
+abbrev pub asked_reads : Touches → Plan → ℕ
+asked_reads touches p = if looks_at_graph p then length touches.nodes + length touches.rels else 0

@@ -15,7 +15,7 @@ use Rattle.cy_plans.specs.WellFormed.{IsWellFormed}
 use Rattle.cy_deltas.specs.declared.shifts.Shift.{Shift}
 use Rattle.cy_deltas.specs.Deltas.{IsBounded, IsDelta, counts, rows_at}
 use Rattle.cy_scans.specs.Changes.{IsChange, Touches}
-pub use Rattle.cy_costs.specs.internal.Work.{all_reads, all_steps, in_all, own_reads, own_steps}
+pub use Rattle.cy_costs.specs.internal.Work.{all_reads, all_steps, asked_reads, in_all, own_reads, own_steps}
 use Rattle.cy_network.specs.Memories.{AreHeld, AreWithin, contents, is_scan, keys, own_contents, own_keys}
 use Rattle.cy_network.specs.internal.Parts.{chain, first_below, own_of_all, second_below}
 use Rattle.cy_network.specs.Counted.{written}
@@ -102,9 +102,9 @@ abbrev pub HasTooMany : State → Plan → Type 0
 HasTooMany now p = (row : List Cell) × (greatest_count < count_of row (rows_of now.content p))
 
 -- The steps of the memories and the reads of the graph, as they were and as they are once a plan's rows were kept up over a change, are within what
--- its parts may do.
+-- its parts may do, and what is read to tell whether the change concerns it.
 pub record IsUpkeep (before now : State) (p : Plan) (taken taken_now read read_now : ℕ) : Type 0 where
   pub touches : Touches
   pub change : IsChange before now touches
   pub steps : taken_now ≤ taken + all_steps (rows_of before.content) (rows_of now.content) touches p
-  pub reads : read_now ≤ read + all_reads (rows_of before.content) (rows_of now.content) touches p
+  pub reads : read_now ≤ read + (asked_reads touches p + all_reads (rows_of before.content) (rows_of now.content) touches p)

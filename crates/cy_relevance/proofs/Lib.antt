@@ -1,0 +1,4 @@
+pub mod Rules
+pub mod Ranges
+pub mod Scanned
+pub mod Untouched

@@ -1,0 +1,9 @@
+use Rattle.cy_trees.specs.Views.{expression_of}
+use Rattle.cy_plans.specs.Views.{plan_of}
+use Rattle.cy_relevance.proofs.Rules.{left_out}
+use Rattle.cy_relevance.proofs.parts.is_left_out.Goals as goal
+
+pub returns-then-looks_labels_up : goal.returns-then-looks_labels_up
+returns-then-looks_labels_up c = λ yes.
+    let found = c.in-Some.ensures in
+    left_out c.args.entity (plan_of c.args.below.now) (expression_of c.args.test.now) found.0 c.in-Some.label.now (c.looks_labels_up.ensures c.if-looks_labels_up.true) found.1.0 found.1.1 (c.lacks_label.ensures yes)

@@ -15,8 +15,9 @@ use cy_scans::label_in;
 use cy_trees::Expr;
 
 /// Whether the rows of a part, and of the parts below it that a scan doesn't take together, are the same before and after, as far as
-/// they come of the entity. Where it says no, they may be so too.
-pub(crate) fn is_unchanged(part: &Operator, entity: Entity<'_>) -> bool
+/// they come of the entity. Where it says no, they may be so too. Of look-ups and filters one over another only the uppermost is asked
+/// whether it has no row of the entity, so that a long chain is gone through twice at most.
+pub(crate) fn is_unchanged(part: &Operator, entity: Entity<'_>, is_uppermost: bool) -> bool
     ensures { result ≡ true → IsUnchanged entity.entry (plan_of part.now) }
 {
     match part {
@@ -24,19 +25,24 @@ pub(crate) fn is_unchanged(part: &Operator, entity: Entity<'_>) -> bool
         Operator::Nodes => keeps_node(entity),
         Operator::Rels(types, _) => keeps_rel(entity) || makes_no_rel(entity, types),
         Operator::Lookup(below, _, attribute) => {
-            is_unchanged(below, entity) && has_same(entity, attribute) || is_absent(part, entity)
+            is_unchanged(below, entity, false) && has_same(entity, attribute)
+                || is_uppermost && is_absent(part, entity)
         }
-        Operator::Filter(below, _) => is_unchanged(below, entity) || is_absent(part, entity),
-        Operator::AllDifferent(below, _) => is_unchanged(below, entity),
-        Operator::Project(below, _) => is_unchanged(below, entity),
-        Operator::Distinct(below) => is_unchanged(below, entity),
+        Operator::Filter(below, _) => {
+            is_unchanged(below, entity, false) || is_uppermost && is_absent(part, entity)
+        }
+        Operator::AllDifferent(below, _) => is_unchanged(below, entity, true),
+        Operator::Project(below, _) => is_unchanged(below, entity, true),
+        Operator::Distinct(below) => is_unchanged(below, entity, true),
         Operator::Join(left, right, _) => {
-            is_unchanged(left, entity) && is_unchanged(right, entity)
+            is_unchanged(left, entity, true) && is_unchanged(right, entity, true)
         }
         Operator::Outer(left, right, _, _) => {
-            is_unchanged(left, entity) && is_unchanged(right, entity)
+            is_unchanged(left, entity, true) && is_unchanged(right, entity, true)
         }
-        Operator::Union(left, right) => is_unchanged(left, entity) && is_unchanged(right, entity),
+        Operator::Union(left, right) => {
+            is_unchanged(left, entity, true) && is_unchanged(right, entity, true)
+        }
     }
 }
 

@@ -17,17 +17,17 @@ returns-else-keeps_rel t c = λ yes.
     let none = subst (λ types. NoRows e (plan.rels types part.field-1)) c.deref.ensures.value (c.makes_no_rel.ensures yes part.field-1) in
     subst (λ (p : Plan). IsUnchanged e p) (sym is) (unchanged_no_rel e part.types.items part.field-1 none)
 
-pub returns-else-has_same : goal.returns-else-has_same
-returns-else-has_same t c = λ yes.
+pub returns-then-is_uppermost : goal.returns-then-is_uppermost
+returns-then-is_uppermost t c = λ yes.
     let e = c.args.entity in
     let part = c.in-Lookup in
     let is : plan_of c.args.part.now ≡ plan.lookup (plan_of part.below.value) part.field-1 part.attribute = ap plan_of (part.is ∙ sym (rolls-Lookup part.below part.field-1 part.attribute)) ∙ fold-roll-Operator Plan plan_step _ in
     subst (λ (p : Plan). IsUnchanged e p) (sym is) (unchanged_absent_lookup e (plan_of part.below.value) part.field-1 part.attribute (subst (λ (p : Plan). IsAbsent e p) is (c.is_absent.ensures yes)))
 
-pub returns-else-is_unchanged-2 : goal.returns-else-is_unchanged-2
-returns-else-is_unchanged-2 t c = λ yes.
+pub returns-then-is_uppermost-2 : goal.returns-then-is_uppermost-2
+returns-then-is_uppermost-2 t c = λ yes.
     let e = c.args.entity in
     let part = c.in-Filter in
     let is : plan_of c.args.part.now ≡ plan.filter (plan_of part.below.value) (expression_of part.field-1) = ap plan_of (part.is ∙ sym (rolls-Filter part.below part.field-1)) ∙ fold-roll-Operator Plan plan_step _ in
     subst (λ (p : Plan). IsUnchanged e p) (sym is)
-    (unchanged_absent_filter e (plan_of part.below.value) (expression_of part.field-1) (subst (λ (p : Plan). IsAbsent e p) is (c.is_absent-else-is_unchanged-2.ensures yes)))
+    (unchanged_absent_filter e (plan_of part.below.value) (expression_of part.field-1) (subst (λ (p : Plan). IsAbsent e p) is (c.is_absent-then-is_uppermost-2.ensures yes)))

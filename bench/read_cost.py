@@ -96,6 +96,10 @@ def costs(program, size):
             answer(f"MATCH (a:A {{k: {k}}})-[:T]-(b)-[:T]-(c) WHERE b.k = {k + 1} RETURN count(*) AS n", ["n"], [4]) for k in some
         ]
         yield "two hops, where WHERE fixes the node between", session.count(between), True
+        below = [
+            answer(f"MATCH (a:A {{k: {k}}})-[:T]-(b)-[:T]-(c) WHERE b.k < {k + 2} RETURN count(*) AS n", ["n"], [4]) for k in some
+        ]
+        yield "two hops, where WHERE takes one of the nodes between", session.count(below), True
 
 
 def hub_costs(program, size):

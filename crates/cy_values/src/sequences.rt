@@ -57,7 +57,7 @@ impl<T> Sequence<T> {
 
 impl<T: Duplicate> Duplicate for Sequence<T> {
     fn copy(&self, alloc: Global) -> Result<Self, Fault> {
-        let mut elements = Vec::new(alloc);
+        let mut elements = Vec::with_capacity(alloc, self.elements.len())?;
         for element in self.elements.iter() {
             elements.push(element.copy(alloc)?)?;
         }

@@ -19,7 +19,7 @@ use Rattle.cy_deltas.specs.declared.shifts.Shift.{Shift}
 use Rattle.cy_deltas.specs.Deltas.{IsBounded, IsDelta, counts, counts_after, rows_at}
 use Rattle.cy_deltas.proofs.PlanLemmas.{different_at, filter_at, lookup_at, once_at, project_at}
 use Rattle.cy_scans.specs.Changes.{Touches}
-use Rattle.cy_network.specs.Memories.{is_row_by_row, is_scan, unless}
+use Rattle.cy_network.specs.Memories.{is_row_by_row, is_scan, none_where}
 use Rattle.cy_network.specs.internal.Upkeep.{IsDeltaOf, IsOwnBegun, IsOwnDone, IsStep, content_of, state_of}
 use Rattle.cy_network.proofs.Shifted.{after_is, held_delta, of_shifts}
 use Rattle.cy_network.proofs.Slices.{same_at}
@@ -95,15 +95,15 @@ module _ (old : Option State) (now : State) (touches : Touches) (p : Plan) (outp
     (kept : is_row_by_row p outputs ≡ false) (step : IsStep old now touches (plan.project p outputs)) (begun : IsOwnBegun old (plan.project p outputs) (key ∷ []) (was ∷ []) (staged ∷ []))
     (part : IsDeltaOf old now p shifts) where
   pub project_keyed : key ≡ all_columns (length outputs)
-  project_keyed = same_at key (key ∷ []) (all_columns (length outputs) ∷ []) 0 (begun.keyed ∙ ap (λ so. unless so (all_columns (length outputs) ∷ [])) kept)
+  project_keyed = same_at key (key ∷ []) (all_columns (length outputs) ∷ []) 0 (begun.keyed ∙ ap (λ so. none_where so (all_columns (length outputs) ∷ [])) kept)
 
   project_held : was ≡ counts (rows_at (content_of old) (plan.project p outputs))
   project_held = same_at was (was ∷ []) (counts (rows_at (content_of old) (plan.project p outputs)) ∷ []) 0
-      (begun.held ∙ ap (λ so. unless so (counts (rows_at (content_of old) (plan.project p outputs)) ∷ [])) kept)
+      (begun.held ∙ ap (λ so. none_where so (counts (rows_at (content_of old) (plan.project p outputs)) ∷ [])) kept)
 
   pub project_settled : staged ≡ was
   project_settled = same_at staged (staged ∷ []) (counts (rows_at (content_of old) (plan.project p outputs)) ∷ []) 0
-      (begun.settled ∙ ap (λ so. unless so (counts (rows_at (content_of old) (plan.project p outputs)) ∷ [])) kept) ∙ sym project_held
+      (begun.settled ∙ ap (λ so. none_where so (counts (rows_at (content_of old) (plan.project p outputs)) ∷ [])) kept) ∙ sym project_held
 
   pub project_within : AreBounded was
   project_within = subst AreBounded (sym project_held) (own_within (content_of old) (plan.project p outputs) begun.within)
@@ -119,7 +119,7 @@ module _ (old : Option State) (now : State) (touches : Touches) (p : Plan) (outp
       delta = subst (λ rows. IsDelta (counts rows) (counts (rows_at (Some now.content) (plan.project p outputs))) made) (sym (project_at (content_of old) p outputs)) leads;
       bounded = bounds;
     };
-    holds = ap (λ n. n ∷ []) holds_now ∙ sym (ap (λ so. unless so (counts (rows_at (Some now.content) (plan.project p outputs)) ∷ [])) kept);
+    holds = ap (λ n. n ∷ []) holds_now ∙ sym (ap (λ so. none_where so (counts (rows_at (Some now.content) (plan.project p outputs)) ∷ [])) kept);
   }
 
 -- ---- look-ups
@@ -127,13 +127,13 @@ module _ (old : Option State) (now : State) (touches : Touches) (p : Plan) (outp
 module _ (old : Option State) (now : State) (touches : Touches) (p : Plan) (column : ℕ) (attribute : Attribute) (shifts : List Shift) (key : List ℕ) (was staged : Counts)
     (kept : is_scan (plan.lookup p column attribute) ≡ false) (step : IsStep old now touches (plan.lookup p column attribute)) (begun : IsOwnBegun old (plan.lookup p column attribute) (key ∷ []) (was ∷ []) (staged ∷ [])) (part : IsDeltaOf old now p shifts) where
   pub lookup_keyed : key ≡ column ∷ []
-  lookup_keyed = same_at key (key ∷ []) ((column ∷ []) ∷ []) 0 (begun.keyed ∙ ap (λ so. unless so ((column ∷ []) ∷ [])) kept)
+  lookup_keyed = same_at key (key ∷ []) ((column ∷ []) ∷ []) 0 (begun.keyed ∙ ap (λ so. none_where so ((column ∷ []) ∷ [])) kept)
 
   pub lookup_held : was ≡ counts (rows_at (content_of old) p)
-  lookup_held = same_at was (was ∷ []) (counts (rows_at (content_of old) p) ∷ []) 0 (begun.held ∙ ap (λ so. unless so (counts (rows_at (content_of old) p) ∷ [])) kept)
+  lookup_held = same_at was (was ∷ []) (counts (rows_at (content_of old) p) ∷ []) 0 (begun.held ∙ ap (λ so. none_where so (counts (rows_at (content_of old) p) ∷ [])) kept)
 
   pub lookup_settled : staged ≡ was
-  lookup_settled = same_at staged (staged ∷ []) (counts (rows_at (content_of old) p) ∷ []) 0 (begun.settled ∙ ap (λ so. unless so (counts (rows_at (content_of old) p) ∷ [])) kept) ∙ sym lookup_held
+  lookup_settled = same_at staged (staged ∷ []) (counts (rows_at (content_of old) p) ∷ []) 0 (begun.settled ∙ ap (λ so. none_where so (counts (rows_at (content_of old) p) ∷ [])) kept) ∙ sym lookup_held
 
   pub lookup_leads : IsDelta was (counts_after shifts was) shifts
   lookup_leads = held_delta was (rows_at (content_of old) p) (rows_at (Some now.content) p) shifts lookup_held part.delta
@@ -157,5 +157,5 @@ module _ (old : Option State) (now : State) (touches : Touches) (p : Plan) (colu
       bounded = bounds;
     };
     holds = ap (λ n. n ∷ []) (holds_now ∙ after_is was (rows_at (content_of old) p) (rows_at (Some now.content) p) shifts lookup_held part.delta)
-        ∙ sym (ap (λ so. unless so (counts (rows_at (Some now.content) p) ∷ [])) kept);
+        ∙ sym (ap (λ so. none_where so (counts (rows_at (Some now.content) p) ∷ [])) kept);
   }

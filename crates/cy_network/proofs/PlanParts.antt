@@ -10,7 +10,7 @@ use Rattle.cy_plans.specs.WellFormed.{IsWellFormed}
 use Rattle.cy_apart.specs.Lists.{are_apart}
 use Rattle.cy_deltas.specs.Deltas.{counts}
 use Rattle.cy_merges.specs.Merges.{all_columns}
-use Rattle.cy_network.specs.Memories.{contents, is_row_by_row, is_scan, keys, own_contents, own_keys, unless}
+use Rattle.cy_network.specs.Memories.{contents, is_row_by_row, is_scan, keys, none_where, own_contents, own_keys}
 use Rattle.cy_network.specs.internal.Parts.{below_count, first_below, second_below}
 use Rattle.cy_network.specs.internal.Upkeep.{in_all}
 
@@ -93,12 +93,12 @@ over_two (plan.union left right) h = record {
 }
 
 -- of two things none is there, or both are
-unless_long : {A B : Type 0} (so : Bool) (x : A) (y : B) → length (unless so (x ∷ [])) ≡ length (unless so (y ∷ []))
+unless_long : {A B : Type 0} (so : Bool) (x : A) (y : B) → length (none_where so (x ∷ [])) ≡ length (none_where so (y ∷ []))
 unless_long true x y = refl
 unless_long false x y = refl
 
 -- one thing, unless this is so
-pub one_unless : {A : Type 0} (so : Bool) (x : A) → mir.Val.bool_byte (not so) ≡ length (unless so (x ∷ []))
+pub one_unless : {A : Type 0} (so : Bool) (x : A) → mir.Val.bool_byte (not so) ≡ length (none_where so (x ∷ []))
 one_unless true x = refl
 one_unless false x = refl
 

@@ -19,7 +19,7 @@ use Rattle.cy_deltas.proofs.PlanLemmas.{parts_wide, project_at}
 use Rattle.cy_scans.specs.Changes.{Touches}
 use Rattle.cy_scans.specs.Scans.{kept_at}
 use Rattle.cy_network.proofs.ScanFacts.{kept_cell}
-use Rattle.cy_network.specs.Memories.{is_row_by_row, is_scan, keeps_all, own_contents, own_keys, unless}
+use Rattle.cy_network.specs.Memories.{is_row_by_row, is_scan, keeps_all, none_where, own_contents, own_keys}
 use Rattle.cy_network.specs.internal.Parts.{first_below}
 use Rattle.cy_network.specs.internal.Upkeep.{IsDeltaOf, IsStep, content_of}
 
@@ -71,25 +71,25 @@ module _ (p below : Plan) (outputs : List Output) (is : p ≡ plan.project below
       ap (λ q. is_scan q || keeps_all (width below) outputs) (sym is) ∙ ap (λ so. so || keeps_all (width below) outputs) unscanned
       ∙ sym (kept ∙ ap (λ n. keeps_all n outputs) wide)
 
-  pub keys_are : own_keys p ≡ unless found (all_columns (length outputs) ∷ [])
-  keys_are = ap own_keys is ∙ ap (λ so. unless so (all_columns (length outputs) ∷ [])) row_by_row_is
+  pub keys_are : own_keys p ≡ none_where found (all_columns (length outputs) ∷ [])
+  keys_are = ap own_keys is ∙ ap (λ so. none_where so (all_columns (length outputs) ∷ [])) row_by_row_is
 
-  pub contents_are : (rows : Plan → List (List Cell)) → own_contents rows p ≡ unless found (counts (rows p) ∷ [])
+  pub contents_are : (rows : Plan → List (List Cell)) → own_contents rows p ≡ none_where found (counts (rows p) ∷ [])
   contents_are rows =
-      ap (own_contents rows) is ∙ ap (λ so. unless so (counts (rows (plan.project below outputs)) ∷ [])) row_by_row_is
-      ∙ ap (λ q. unless found (counts (rows q) ∷ [])) (sym is)
+      ap (own_contents rows) is ∙ ap (λ so. none_where so (counts (rows (plan.project below outputs)) ∷ [])) row_by_row_is
+      ∙ ap (λ q. none_where found (counts (rows q) ∷ [])) (sym is)
 
-pub none_unless : {A : Type 0} (so : Bool) (x : A) → length (unless so (x ∷ [])) ≡ 0 → so ≡ true
+pub none_unless : {A : Type 0} (so : Bool) (x : A) → length (none_where so (x ∷ [])) ≡ 0 → so ≡ true
 none_unless true x none = refl
 none_unless false x none = absurd (omega (arith, none))
 
-pub some_unless : {A : Type 0} (so : Bool) (x : A) → 0 < length (unless so (x ∷ [])) → so ≡ false
+pub some_unless : {A : Type 0} (so : Bool) (x : A) → 0 < length (none_where so (x ∷ [])) → so ≡ false
 some_unless true x some = absurd (omega (arith, some))
 some_unless false x some = refl
 
 -- a projection without memory that is no scan keeps all columns, and one with a memory isn't gone through row by row
 module _ {M : Type 0} (key_columns : M → List ℕ) (own : List M) (p : Plan) (outputs : List Output) (is : p ≡ plan.project (first_below p) outputs) (keyed : map key_columns own ≡ own_keys p) where
-  long : length own ≡ length (unless (is_row_by_row (first_below p) outputs) (all_columns (length outputs) ∷ []))
+  long : length own ≡ length (none_where (is_row_by_row (first_below p) outputs) (all_columns (length outputs) ∷ []))
   long = sym (length-map own key_columns) ∙ ap length keyed ∙ ap (λ q. length (own_keys q)) is
 
   pub with_memory : 0 < length own → is_row_by_row (first_below p) outputs ≡ false
@@ -104,4 +104,4 @@ module _ {M : Type 0} (key_columns : M → List ℕ) (own : List M) (p : Plan) (
     pub without_contents : (rows : Plan → List (List Cell)) → own_contents rows p ≡ []
     without_contents rows =
         contents_are p (first_below p) outputs is (width (first_below p)) refl unscanned (keeps_all (width (first_below p)) outputs) refl rows
-        ∙ ap (λ so. unless so (counts (rows p) ∷ [])) without_memory
+        ∙ ap (λ so. none_where so (counts (rows p) ∷ [])) without_memory

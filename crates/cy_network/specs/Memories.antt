@@ -26,8 +26,8 @@ abbrev pub is_row_by_row : Plan → List Output → Bool
 is_row_by_row p outputs = is_scan (plan.project p outputs) || keeps_all (width p) outputs
 
 -- some things, but none where this is so
-abbrev pub unless : {X : Type 0} → Bool → List X → List X
-unless so xs = if so then [] else xs
+abbrev pub none_where : {X : Type 0} → Bool → List X → List X
+none_where so xs = if so then [] else xs
 
 -- the key columns of the memories that a part has itself: a join keeps the rows of both sides by their keys, an outer join these and the number of
 -- partners of each row of its left side, a look-up the rows below it by its column, and what adds counts keeps its own rows. A scan
@@ -38,12 +38,12 @@ own_keys plan.nodes = []
 own_keys (plan.rels types orientation) = []
 own_keys (plan.join left right keys) = map (λ k. k.left) keys ∷ map (λ k. k.right) keys ∷ []
 own_keys (plan.outer left right keys test) = map (λ k. k.left) keys ∷ map (λ k. k.right) keys ∷ all_columns (width left) ∷ []
-own_keys (plan.lookup p column attribute) = unless (is_scan (plan.lookup p column attribute)) ((column ∷ []) ∷ [])
+own_keys (plan.lookup p column attribute) = none_where (is_scan (plan.lookup p column attribute)) ((column ∷ []) ∷ [])
 own_keys (plan.filter p test) = []
 own_keys (plan.all_different p columns) = []
-own_keys (plan.project p outputs) = unless (is_row_by_row p outputs) (all_columns (length outputs) ∷ [])
+own_keys (plan.project p outputs) = none_where (is_row_by_row p outputs) (all_columns (length outputs) ∷ [])
 own_keys (plan.distinct p) = []
-own_keys (plan.union left right) = unless (are_apart left right) (all_columns (width left) ∷ [])
+own_keys (plan.union left right) = none_where (are_apart left right) (all_columns (width left) ∷ [])
 
 -- the key columns of all memories of a plan
 abbrev pub keys : Plan → List (List ℕ)
@@ -66,12 +66,12 @@ own_contents rows plan.nodes = []
 own_contents rows (plan.rels types orientation) = []
 own_contents rows (plan.join left right ks) = counts (rows left) ∷ counts (rows right) ∷ []
 own_contents rows (plan.outer left right ks test) = counts (rows left) ∷ counts (rows right) ∷ numbers_of_partners ks test (rows left) (rows right) ∷ []
-own_contents rows (plan.lookup p column attribute) = unless (is_scan (plan.lookup p column attribute)) (counts (rows p) ∷ [])
+own_contents rows (plan.lookup p column attribute) = none_where (is_scan (plan.lookup p column attribute)) (counts (rows p) ∷ [])
 own_contents rows (plan.filter p test) = []
 own_contents rows (plan.all_different p columns) = []
-own_contents rows (plan.project p outputs) = unless (is_row_by_row p outputs) (counts (rows (plan.project p outputs)) ∷ [])
+own_contents rows (plan.project p outputs) = none_where (is_row_by_row p outputs) (counts (rows (plan.project p outputs)) ∷ [])
 own_contents rows (plan.distinct p) = []
-own_contents rows (plan.union left right) = unless (are_apart left right) (counts (rows (plan.union left right)) ∷ [])
+own_contents rows (plan.union left right) = none_where (are_apart left right) (counts (rows (plan.union left right)) ∷ [])
 
 -- what all memories of a plan count
 abbrev pub contents : (Plan → List (List Cell)) → Plan → List Counts

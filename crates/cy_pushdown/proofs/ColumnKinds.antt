@@ -36,7 +36,7 @@ use Rattle.cy_plans.specs.WellFormed.{IsWellFormed}
 use Rattle.cy_row_plans.proofs.Lists.{each_both_of, each_mapped}
 use Rattle.cy_row_plans.proofs.Lowerable.{each_both}
 use Rattle.cy_row_plans.proofs.OverRows.{IsLong, long_rows}
-use Rattle.cy_pushdown.specs.internal.Pushed.{column_of, common_kind, kind_at, kind_computed, kind_made, kind_of_nodes, kind_of_rels}
+use Rattle.cy_pushdown.specs.internal.Pushed.{column_taken_over, common_kind, kind_at, kind_computed, kind_made, kind_of_nodes, kind_of_rels}
 use Rattle.cy_pushdown.proofs.Conjunctions.{each_sifted}
 
 pub rest_of_nodes : (column : ℕ) → 1 ≤ column → kind_of_nodes column ≡ None
@@ -73,7 +73,7 @@ same_kind : (k l : Kind) → Some k ≡ Some l → k ≡ l
 same_kind k l is = cc
 
 -- the output that a column is
-pub output_known : (o : Option Output) (c : ℕ) → column_of o ≡ Some c → (v : Variable) × (o ≡ Some (computed (variable v))) × (v.column ≡ Some c)
+pub output_known : (o : Option Output) (c : ℕ) → column_taken_over o ≡ Some c → (v : Variable) × (o ≡ Some (computed (variable v))) × (v.column ≡ Some c)
 output_known (Some (computed (variable v))) c is = (v, refl, is)
 output_known (Some (computed null)) c is = cc
 output_known (Some (computed (boolean b))) c is = cc
@@ -97,7 +97,7 @@ output_at outputs column o is row =
     get_or_from_slice_get (projected outputs row) column (output_cell row o) language.null (slice_get-map (output_cell row) outputs column ∙ ap (option_map (output_cell row)) is)
 
 -- a column that a projection takes over
-pub taken_over : (outputs : List Output) (column c : ℕ) → column_of (slice_get outputs column) ≡ Some c → (row : List Cell) → cell_at (projected outputs row) column ≡ cell_at row c
+pub taken_over : (outputs : List Output) (column c : ℕ) → column_taken_over (slice_get outputs column) ≡ Some c → (row : List Cell) → cell_at (projected outputs row) column ≡ cell_at row c
 taken_over outputs column c is row =
     let known = output_known (slice_get outputs column) c is in
     output_at outputs column (computed (variable known.0)) known.1 row ∙ ap (λ (o : Option ℕ). column_value o row) known.2
@@ -131,7 +131,7 @@ last_part n column k is = by (column == n) refl is
     by true same at = (eqb-true column n same, same_kind kind.Value k at)
     by false same at = cc
 
-output_inside : (outputs : List Output) (column : ℕ) (k : Kind) (p : ℕ → Option Kind) (o : Option Output) → slice_get outputs column ≡ o → option_map_or p (column_of o) (kind_made o) ≡ Some k → column < length outputs
+output_inside : (outputs : List Output) (column : ℕ) (k : Kind) (p : ℕ → Option Kind) (o : Option Output) → slice_get outputs column ≡ o → option_map_or p (column_taken_over o) (kind_made o) ≡ Some k → column < length outputs
 output_inside outputs column k p (Some o) at is = slice_get_within outputs column o at
 output_inside outputs column k p None at is = cc
 
@@ -310,7 +310,7 @@ module _ (graph : Content) where
   abbrev Have : Plan → ℕ → Kind → Type 0
   Have p column k = AllByRecursion (HasKindAt column k) (rows_of graph p)
 
-  project_has : (p : Plan) (outputs : List Output) (column : ℕ) (k : Kind) → ((c : ℕ) → kind_at p c ≡ Some k → Have p c k) → (o : Option ℕ) → column_of (slice_get outputs column) ≡ o
+  project_has : (p : Plan) (outputs : List Output) (column : ℕ) (k : Kind) → ((c : ℕ) → kind_at p c ≡ Some k → Have p c k) → (o : Option ℕ) → column_taken_over (slice_get outputs column) ≡ o
       → option_map_or (kind_at p) o (kind_made (slice_get outputs column)) ≡ Some k → Have (plan.project p outputs) column k
   project_has p outputs column k have (Some c) at is =
       each_mapped (HasKindAt c k) (HasKindAt column k) (projected outputs) (λ row here. ap (is_cell_of k) (taken_over outputs column c at row) ∙ here) (rows_of graph p) (have c is)
@@ -354,7 +354,7 @@ module _ (graph : Content) where
   have_kind (plan.lookup p c attribute) column k good is = lookup_has p c column attribute k good.0 (λ at. have_kind p column k good.0 at) is
   have_kind (plan.filter p test) column k good is = each_sifted (HasKindAt column k) _ (rows_of graph p) (have_kind p column k good.0 is)
   have_kind (plan.all_different p columns) column k good is = each_sifted (HasKindAt column k) _ (rows_of graph p) (have_kind p column k good.0 is)
-  have_kind (plan.project p outputs) column k good is = project_has p outputs column k (λ c at. have_kind p c k good.0 at) (column_of (slice_get outputs column)) refl is
+  have_kind (plan.project p outputs) column k good is = project_has p outputs column k (λ c at. have_kind p c k good.0 at) (column_taken_over (slice_get outputs column)) refl is
   have_kind (plan.distinct p) column k good is = each_once_of (HasKindAt column k) (rows_of graph p) (have_kind p column k good is)
   have_kind (plan.union left right) column k good is =
       let both = both_kinds (kind_at left column) (kind_at right column) k is in

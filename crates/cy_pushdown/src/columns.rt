@@ -24,7 +24,7 @@ fn variable_column(expression: &Expr) -> Option<usize>
 }
 
 fn taken_over(output: &Output) -> Option<usize>
-    ensures { result ≡ spec.column_of (Some (output_of output.now)) }
+    ensures { result ≡ spec.column_taken_over (Some (output_of output.now)) }
 {
     match output {
         Output::Cell(expression) => variable_column(expression),
@@ -34,7 +34,7 @@ fn taken_over(output: &Output) -> Option<usize>
 
 /// The column that a projection takes over.
 pub(crate) fn column_of(outputs: &[Output], column: usize) -> Option<usize>
-    ensures { result ≡ spec.column_of (slice_get (map output_of outputs.now) column) }
+    ensures { result ≡ spec.column_taken_over (slice_get (map output_of outputs.now) column) }
 {
     match outputs.get(column) {
         Some(output) => taken_over(output),

@@ -26,7 +26,7 @@ use Rattle.cy_lowering.specs.declared.places.Wanted.{Wanted}
 use Rattle.cy_row_plans.specs.Columns.{column_output}
 use Rattle.cy_row_plans.specs.internal.Lookups.{over}
 use Rattle.cy_row_plans.proofs.OverRows.{IsLong, long_rows, own_part, within_over}
-use Rattle.cy_rewriting.specs.internal.Columns.{column_of}
+use Rattle.cy_rewriting.specs.internal.Columns.{taken_column}
 use Rattle.cy_rewriting.specs.internal.Lowered.{lookup_at, moved, with_columns}
 use Rattle.cy_rewriting.specs.Rewritten.{IsRewritten}
 use Rattle.cy_rewriting.proofs.Congruent.{over_lookup, rewritten_again, same_plan, same_within}
@@ -138,12 +138,12 @@ all_through_different (w ∷ ws) p columns well =
 -- ---- through a projection
 
 -- the output that stands in a column
-output_there : (os : Option Output) (a : Attribute) (m : Wanted) → option_map (lookup_at a) (option_and_then column_of os) ≡ Some m
-    → (o : Output) × (os ≡ Some o) × (column_of o ≡ Some m.column) × (m.attribute ≡ a)
+output_there : (os : Option Output) (a : Attribute) (m : Wanted) → option_map (lookup_at a) (option_and_then taken_column os) ≡ Some m
+    → (o : Output) × (os ≡ Some o) × (taken_column o ≡ Some m.column) × (m.attribute ≡ a)
 output_there None a m is = cc
-output_there (Some o) a m is = known (column_of o) refl is
+output_there (Some o) a m is = known (taken_column o) refl is
   where
-    known : (c : Option ℕ) → column_of o ≡ c → option_map (lookup_at a) c ≡ Some m → (q : Output) × (Some o ≡ Some q) × (column_of q ≡ Some m.column) × (m.attribute ≡ a)
+    known : (c : Option ℕ) → taken_column o ≡ c → option_map (lookup_at a) c ≡ Some m → (q : Output) × (Some o ≡ Some q) × (taken_column q ≡ Some m.column) × (m.attribute ≡ a)
     known None at h = cc
     known (Some c) at h = (o, refl, at ∙ cc, cc)
 
@@ -160,7 +160,7 @@ got_over n (x ∷ outputs) (suc i) o is each = got_over n outputs i o is (All-ta
 moved_longer : (outputs others : List Output) (w m : Wanted) → moved outputs w ≡ Some m → moved (outputs ++ others) w ≡ Some m
 moved_longer outputs others w m is =
     let there = output_there (slice_get outputs w.column) w.attribute m is in
-    ap (λ os. option_map (lookup_at w.attribute) (option_and_then column_of os)) (got_longer outputs others w.column there.0 there.1 ∙ sym there.1) ∙ is
+    ap (λ os. option_map (lookup_at w.attribute) (option_and_then taken_column os)) (got_longer outputs others w.column there.0 there.1 ∙ sym there.1) ∙ is
 
 pub all_moved_longer : (outputs others : List Output) (ws ms : List Wanted) → map (moved outputs) ws ≡ map Some ms → map (moved (outputs ++ others)) ws ≡ map Some ms
 all_moved_longer outputs others [] [] is = refl
@@ -178,7 +178,7 @@ module _ (p : Plan) (outputs : List Output) (w m : Wanted) (is : moved outputs w
   abbrev wide_outputs : List Output
   wide_outputs = outputs ++ column_output (width p) ∷ []
 
-  there : (o : Output) × (slice_get outputs w.column ≡ Some o) × (column_of o ≡ Some m.column) × (m.attribute ≡ w.attribute)
+  there : (o : Output) × (slice_get outputs w.column ≡ Some o) × (taken_column o ≡ Some m.column) × (m.attribute ≡ w.attribute)
   there = output_there (slice_get outputs w.column) w.attribute m is
 
   inside : m.column < width p

@@ -19,10 +19,10 @@ use Rattle.cy_plans.specs.Sure.{HasCell, HasCells}
 use Rattle.cy_plans.specs.WellFormed.{IsColumn, IsOutputOver}
 use Rattle.cy_renumbering.specs.Renumbered.{new_column}
 use Rattle.cy_renumbering.proofs.RenumberedLemmas.{reads_inside, same_cell, same_reading}
-use Rattle.cy_rewriting.specs.internal.Columns.{AreColumns, are_columns_from, column_of, is_column, renumbered_output}
+use Rattle.cy_rewriting.specs.internal.Columns.{AreColumns, are_columns_from, is_column, renumbered_output, taken_column}
 
 -- the variable that an output is
-pub output_known : (o : Output) (c : ℕ) → column_of o ≡ Some c → (v : Variable) × (o ≡ computed (variable v)) × (v.column ≡ Some c)
+pub output_known : (o : Output) (c : ℕ) → taken_column o ≡ Some c → (v : Variable) × (o ≡ computed (variable v)) × (v.column ≡ Some c)
 output_known (computed (variable v)) c is = (v, refl, is)
 output_known (computed null) c is = cc
 output_known (computed (boolean b)) c is = cc
@@ -40,7 +40,7 @@ output_known (computed (call_star name)) c is = cc
 output_known (gathered columns) c is = cc
 
 -- the cell of an output that is a column
-pub column_cell : (row : List Cell) (o : Output) (c : ℕ) → column_of o ≡ Some c → output_cell row o ≡ cell_at row c
+pub column_cell : (row : List Cell) (o : Output) (c : ℕ) → taken_column o ≡ Some c → output_cell row o ≡ cell_at row c
 column_cell row o c is =
     let known = output_known o c is in
     ap (output_cell row) known.1 ∙ ap (λ (d : Option ℕ). column_value d row) known.2
@@ -51,7 +51,7 @@ columns_cells row [] [] is = refl
 columns_cells row [] (c ∷ columns) is = cc
 columns_cells row (o ∷ outputs) [] is = cc
 columns_cells row (o ∷ outputs) (c ∷ columns) is =
-    let first : column_of o ≡ Some c = cc in
+    let first : taken_column o ≡ Some c = cc in
     let rest : AreColumns outputs columns = cc in
     λ i. column_cell row o c first i ∷ columns_cells row outputs columns rest i
 
@@ -64,8 +64,8 @@ known_column column None is = cc
 from_column : (row : List Cell) (first : ℕ) (outputs : List Output) → are_columns_from first outputs ≡ true → first + length outputs ≡ length row → projected outputs row ≡ drop first row
 from_column row first [] is long = sym (drop_all first row (omega (arith, long)))
 from_column row first (o ∷ outputs) is long =
-    let both = and_parts (is_column first (column_of o)) (are_columns_from (first + 1) outputs) is in
-    (λ i. column_cell row o first (known_column first (column_of o) both.0) i ∷ from_column row (first + 1) outputs both.1 (omega (arith, long)) i)
+    let both = and_parts (is_column first (taken_column o)) (are_columns_from (first + 1) outputs) is in
+    (λ i. column_cell row o first (known_column first (taken_column o) both.0) i ∷ from_column row (first + 1) outputs both.1 (omega (arith, long)) i)
     ∙ sym (drop_more row first expressions.null (omega (arith, long)))
 
 pub first_cells : (row : List Cell) (outputs : List Output) → are_columns_from 0 outputs ≡ true → length outputs ≡ length row → projected outputs row ≡ row
@@ -105,7 +105,7 @@ all_sure row columns (o ∷ outputs) each sure =
     (all_sure row columns outputs (All-tail (IsOutputOver (length columns)) o outputs each) (All-tail (HasCell (map (cell_at row) columns)) o outputs sure))
 
 -- the columns that a projection takes over lie in the rows
-pub column_inside : (n c : ℕ) (o : Output) → column_of o ≡ Some c → IsOutputOver n o → c < n
+pub column_inside : (n c : ℕ) (o : Output) → taken_column o ≡ Some c → IsOutputOver n o → c < n
 column_inside n c o is over =
     let known = output_known o c is in
     let inside : nat_lt c n ≡ true = ap (λ (d : Option ℕ). option_map_or (λ column. nat_lt column n) d true) (sym known.2) ∙ (subst (IsOutputOver n) known.1 over).1 in
@@ -115,7 +115,7 @@ pub columns_inside : (n : ℕ) (outputs : List Output) (columns : List ℕ) → 
 columns_inside n outputs [] is each = tt
 columns_inside n [] (c ∷ columns) is each = cc
 columns_inside n (o ∷ outputs) (c ∷ columns) is each =
-    let first : column_of o ≡ Some c = cc in
+    let first : taken_column o ≡ Some c = cc in
     let rest : AreColumns outputs columns = cc in
     (column_inside n c o first (All-head (IsOutputOver n) o outputs each), columns_inside n outputs columns rest (All-tail (IsOutputOver n) o outputs each))
 
@@ -143,4 +143,4 @@ all_over n columns (o ∷ outputs) inside each =
     (all_over n columns outputs inside (All-tail (IsOutputOver (length columns)) o outputs each))
 
 pub as_many : (outputs : List Output) (columns : List ℕ) → AreColumns outputs columns → length columns ≡ length outputs
-as_many outputs columns is = sym (length-map columns Some) ∙ ap length (sym is) ∙ length-map outputs column_of
+as_many outputs columns is = sym (length-map columns Some) ∙ ap length (sym is) ∙ length-map outputs taken_column

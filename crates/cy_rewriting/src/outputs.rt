@@ -24,7 +24,7 @@ fn variable_column(expression: &Expr) -> Option<usize>
 
 /// The column that an output takes over.
 pub(crate) fn column_of(output: &Output) -> Option<usize>
-    ensures { result ≡ spec.column_of (output_of output.now) }
+    ensures { result ≡ spec.taken_column (output_of output.now) }
 {
     match output {
         Output::Cell(expression) => variable_column(expression),
@@ -43,7 +43,7 @@ pub(crate) fn column_output(alloc: Global, column: usize) -> Output
 }
 
 fn is_column(column: usize, output: &Output) -> bool
-    ensures { result ≡ spec.is_column column (spec.column_of (output_of output.now)) }
+    ensures { result ≡ spec.is_column column (spec.taken_column (output_of output.now)) }
 {
     match column_of(output) {
         Some(other) => column == other,

@@ -24,9 +24,9 @@ variable_column (variable v) = v.column
 variable_column e = None
 
 -- the column that a projection takes over
-abbrev pub column_of : Option Output → Option ℕ
-column_of (Some (computed e)) = variable_column e
-column_of o = None
+abbrev pub column_taken_over : Option Output → Option ℕ
+column_taken_over (Some (computed e)) = variable_column e
+column_taken_over o = None
 
 -- the kind of what an expression makes; a variable is taken over
 abbrev pub kind_computed : Expression → Option Kind
@@ -67,7 +67,7 @@ kind_at (plan.outer left right keys test) column = if nat_lt column (width left)
 kind_at (plan.lookup p c attribute) column = if nat_lt column (width p) then kind_at p column else if column == width p then Some kind.Value else None
 kind_at (plan.filter p test) column = kind_at p column
 kind_at (plan.all_different p columns) column = kind_at p column
-kind_at (plan.project p outputs) column = option_map_or (kind_at p) (column_of (slice_get outputs column)) (kind_made (slice_get outputs column))
+kind_at (plan.project p outputs) column = option_map_or (kind_at p) (column_taken_over (slice_get outputs column)) (kind_made (slice_get outputs column))
 kind_at (plan.distinct p) column = kind_at p column
 kind_at (plan.union left right) column = common_kind (kind_at left column) (kind_at right column)
 
@@ -124,7 +124,7 @@ pub record IsOnRight (left right : Plan) (keys : List KeyColumns) (column other 
 
 -- a column that a projection takes over from another one
 abbrev pub IsTakenOver : List Output → ℕ → ℕ → Type 0
-IsTakenOver outputs column other = column_of (slice_get outputs column) ≡ Some other
+IsTakenOver outputs column other = column_taken_over (slice_get outputs column) ≡ Some other
 
 -- Of the rows of a plan, in their order, those for which a condition is true of the cells in some columns.
 pub record IsPushed (below : Plan) (columns : List ℕ) (test : Expression) (p : Plan) : Type 0 where

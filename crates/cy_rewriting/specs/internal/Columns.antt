@@ -9,13 +9,13 @@ variable_column (variable v) = v.column
 variable_column e = None
 
 -- the column that an output takes over
-abbrev pub column_of : Output → Option ℕ
-column_of (computed e) = variable_column e
-column_of (gathered columns) = None
+abbrev pub taken_column : Output → Option ℕ
+taken_column (computed e) = variable_column e
+taken_column (gathered columns) = None
 
 -- a projection takes over these columns and makes no other one
 abbrev pub AreColumns : List Output → List ℕ → Type 0
-AreColumns outputs columns = map column_of outputs ≡ map Some columns
+AreColumns outputs columns = map taken_column outputs ≡ map Some columns
 
 abbrev pub is_column : ℕ → Option ℕ → Bool
 is_column column (Some other) = column == other
@@ -24,7 +24,7 @@ is_column column None = false
 -- a projection takes over the columns from a number on, in their order
 abbrev pub are_columns_from : ℕ → List Output → Bool
 are_columns_from first [] = true
-are_columns_from first (output ∷ outputs) = is_column first (column_of output) && are_columns_from (first + 1) outputs
+are_columns_from first (output ∷ outputs) = is_column first (taken_column output) && are_columns_from (first + 1) outputs
 
 -- an output over taken columns, over the rows that these are columns of
 abbrev pub renumbered_output : List ℕ → Output → Output

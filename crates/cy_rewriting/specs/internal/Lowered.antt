@@ -7,7 +7,7 @@ use Rattle.cy_plans.specs.Plans.{Plan, Output, width}
 use Rattle.cy_plans.specs.WellFormed.{IsWellFormed, greatest_width}
 use Rattle.cy_lowering.specs.declared.places.Wanted.{Wanted}
 use Rattle.cy_row_plans.specs.Columns.{column_output}
-use Rattle.cy_rewriting.specs.internal.Columns.{column_of}
+use Rattle.cy_rewriting.specs.internal.Columns.{taken_column}
 
 -- a look-up of an attribute in a column
 abbrev pub lookup_at : Attribute → ℕ → Wanted
@@ -15,7 +15,7 @@ lookup_at attribute column = record { column = column; attribute = attribute }
 
 -- the look-up below a projection that one above it is, where its column is one that the projection takes over
 abbrev pub moved : List Output → Wanted → Option Wanted
-moved outputs w = option_map (lookup_at w.attribute) (option_and_then column_of (slice_get outputs w.column))
+moved outputs w = option_map (lookup_at w.attribute) (option_and_then taken_column (slice_get outputs w.column))
 
 -- the outputs of a projection, and after them so many columns
 abbrev pub with_columns : List Output → ℕ → ℕ → List Output

@@ -16,7 +16,7 @@ use Rattle.cy_deltas.specs.declared.shifts.Shift.{Shift}
 use Rattle.cy_deltas.specs.Deltas.{IsBounded, IsDelta, counts, counts_after, rows_at}
 use Rattle.cy_scans.specs.Changes.{IsChange, Touches}
 use Rattle.cy_scans.specs.Costs.{naming_rows}
-use Rattle.cy_network.specs.Memories.{is_scan, own_keys, unless}
+use Rattle.cy_network.specs.Memories.{is_scan, none_where, own_keys}
 use Rattle.cy_network.specs.internal.Parts.{first_below}
 use Rattle.cy_network.specs.internal.Upkeep.{IsFed, IsOwnBegun, IsOwnDone, IsStep, content_of, own_reads, own_steps, state_of}
 use Rattle.cy_network.proofs.Lent.{begun_as, done_as, own_length, steps_of_one}
@@ -34,7 +34,7 @@ still p column attribute is kept = subst (λ q. is_scan q ≡ false) is kept
 one_kept : {M : Type 0} (key_columns : M → List ℕ) (own : List M) (p : Plan) (column : ℕ) (attribute : Attribute) → p ≡ plan.lookup (first_below p) column attribute → is_scan p ≡ false
     → map key_columns own ≡ own_keys p → length own ≡ 1
 one_kept key_columns own p column attribute is kept keyed =
-    own_length key_columns own (own_keys p) keyed ∙ ap (λ q. length (own_keys q)) is ∙ ap (λ so. length (unless so ((column ∷ []) ∷ []))) (still p column attribute is kept)
+    own_length key_columns own (own_keys p) keyed ∙ ap (λ q. length (own_keys q)) is ∙ ap (λ so. length (none_where so ((column ∷ []) ∷ []))) (still p column attribute is kept)
 
 -- what a look-up is given, told by its form
 fed_lookup : {M : Type 0} (key_columns : M → List ℕ) (was staged : M → Counts) (d : M) (own : List M) (p : Plan) (column : ℕ) (attribute : Attribute) (old : Option State) (now : State) (touches : Touches) (shifts : List Shift)

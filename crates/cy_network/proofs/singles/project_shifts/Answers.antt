@@ -14,7 +14,7 @@ use Rattle.cy_plans.specs.Views.{output_of, plan_of}
 use Rattle.cy_deltas.specs.declared.shifts.Shift.{Shift}
 use Rattle.cy_deltas.specs.Deltas.{IsBounded, IsDelta, counts, rows_at}
 use Rattle.cy_scans.specs.Changes.{Touches}
-use Rattle.cy_network.specs.Memories.{is_row_by_row, own_keys, unless}
+use Rattle.cy_network.specs.Memories.{is_row_by_row, none_where, own_keys}
 use Rattle.cy_network.specs.internal.Parts.{first_below}
 use Rattle.cy_network.specs.internal.Upkeep.{HasTooMany, IsFed, IsOwnBegun, IsOwnDone, IsStep, content_of, own_reads, own_steps}
 use Rattle.cy_network.proofs.Lent.{begun_as, done_as, own_length, steps_of_one}
@@ -28,7 +28,7 @@ use Rattle.cy_network.proofs.singles.project_shifts.Goals as goal
 one_kept : {M : Type 0} (key_columns : M → List ℕ) (own : List M) (p : Plan) (outputs : List Output) → p ≡ plan.project (first_below p) outputs → is_row_by_row (first_below p) outputs ≡ false
     → map key_columns own ≡ own_keys p → length own ≡ 1
 one_kept key_columns own p outputs is kept keyed =
-    own_length key_columns own (own_keys p) keyed ∙ ap (λ q. length (own_keys q)) is ∙ ap (λ so. length (unless so (all_columns (length outputs) ∷ []))) kept
+    own_length key_columns own (own_keys p) keyed ∙ ap (λ q. length (own_keys q)) is ∙ ap (λ so. length (none_where so (all_columns (length outputs) ∷ []))) kept
 
 -- what a projection is given, told by its form
 fed_project : {M : Type 0} (key_columns : M → List ℕ) (was staged : M → Counts) (d : M) (own : List M) (p : Plan) (outputs : List Output) (old : Option State) (now : State) (touches : Touches) (shifts : List Shift)

@@ -1,5 +1,6 @@
 pub mod RowMaps
 pub mod Soundness
+pub mod Places
 pub mod Replacing
 pub mod LookUps
 pub mod RowLists

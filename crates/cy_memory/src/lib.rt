@@ -4,6 +4,7 @@
 mod buckets;
 mod faults;
 mod keyed;
+mod keys;
 mod listed;
 mod lists;
 mod memory;

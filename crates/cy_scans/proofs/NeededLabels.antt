@@ -20,15 +20,16 @@ use Rattle.cy_expr.specs.Operators.{value_in_cell}
 use Rattle.cy_plans.specs.declared.operators.Attribute.{Attribute}
 use Rattle.cy_plans.specs.declared.operators.Attribute.TheVariants.{Labels}
 use Rattle.cy_plans.specs.declared.operators.Operator.{Operator}
-use Rattle.cy_plans.specs.Expressions.{cell_at, cell_of, holds, is_true}
+use Rattle.cy_graph.specs.declared.nodes.Node.{Node}
+use Rattle.cy_plans.specs.Expressions.{cell_at, cell_of, holds, is_true, projected}
 use Rattle.cy_plans.specs.Plans as plan
-use Rattle.cy_plans.specs.Plans.{Plan, computed}
+use Rattle.cy_plans.specs.Plans.{Output, Plan, computed}
 use Rattle.cy_plans.specs.Views.{plan_of}
 use Rattle.cy_scans.specs.Scans.{is_column}
 use Rattle.cy_scans.specs.internal.Attributes.{node_attribute}
 use Rattle.cy_scans.specs.internal.Rows.{node_rows}
-use Rattle.cy_scans.specs.internal.Through.{IsNeeded, through}
-use Rattle.cy_scans.proofs.Through.{column_is}
+use Rattle.cy_scans.specs.internal.Through.{IsLabelTest, IsNeeded, LeaveNode, labelled, through}
+use Rattle.cy_scans.proofs.Through.{column_cell, column_is}
 use Rattle.cy_scans.proofs.ThroughSteps.{none_after}
 
 -- a label in the list of a node's labels
@@ -61,21 +62,45 @@ module _ (row : List Cell) (labels : Expression) (column : is_column 1 (computed
       by true = refl
       by false = refl
 
--- a filter that tests for a label leaves out a node without it
-pub tests_label : (label : Name) (tested looking leaf p q : Plan) (column : ℕ) (labels : Expression)
+-- a filter that tests for a label keeps the row of a node that has it
+pub label_test : (label : Name) (tested looking leaf p q : Plan) (column : ℕ) (labels : Expression)
     → tested ≡ plan.filter p (binary In (text label) labels) → looking ≡ plan.lookup q column Labels → leaf ≡ plan.nodes → is_column 1 (computed labels) ≡ true
-    → IsNeeded label (tested ∷ looking ∷ leaf ∷ [])
-tests_label label tested looking leaf p q column labels is_filter is_lookup is_leaf second number node without =
+    → IsLabelTest label (tested ∷ looking ∷ leaf ∷ [])
+label_test label tested looking leaf p q column labels is_filter is_lookup is_leaf second number node =
     ap (λ f. through values (f ∷ looking ∷ leaf ∷ []) (node_rows number (Some node))) is_filter
     ∙ ap (λ f. through values (plan.filter p (binary In (text label) labels) ∷ f ∷ leaf ∷ []) (node_rows number (Some node))) is_lookup
     ∙ ap (λ f. through values (plan.filter p (binary In (text label) labels) ∷ plan.lookup q column Labels ∷ f ∷ []) (node_rows number (Some node))) is_leaf
-    ∙ ap (λ b. cond b (row ∷ []) []) (passes row labels second label (map (λ l. l.0) node.labels) refl ∙ without)
+    ∙ ap (λ b. cond b (labelled number node ∷ []) []) (passes (labelled number node) labels second label (map (λ l. l.0) node.labels) refl)
   where
     values : Attribute → Value
     values a = node_attribute a (Some node)
 
-    row : List Cell
-    row = cell.Node (record { 0 = number }) ∷ cell.Value (node_attribute Labels (Some node)) ∷ []
+-- and leaves out one without it
+pub without_label : (label : Name) (ps : List Plan) → IsLabelTest label ps → IsNeeded label ps
+without_label label ps tests number node without = tests number node ∙ ap (λ b. cond b (labelled number node ∷ []) []) without
+
+pub tests_label : (label : Name) (tested looking leaf p q : Plan) (column : ℕ) (labels : Expression)
+    → tested ≡ plan.filter p (binary In (text label) labels) → looking ≡ plan.lookup q column Labels → leaf ≡ plan.nodes → is_column 1 (computed labels) ≡ true
+    → IsNeeded label (tested ∷ looking ∷ leaf ∷ [])
+tests_label label tested looking leaf p q column labels is_filter is_lookup is_leaf second =
+    without_label label (tested ∷ looking ∷ leaf ∷ []) (label_test label tested looking leaf p q column labels is_filter is_lookup is_leaf second)
+
+-- a projection to the first column then leaves the row of such a node as it is
+pub leaves_node : (label : Name) (node : Node) (projection r : Plan) (o : Output) (ps : List Plan) → IsLabelTest label ps → list_any (bytes_eq label) (map (λ l. l.0) node.labels) ≡ true
+    → projection ≡ plan.project r (o ∷ []) → is_column 0 o ≡ true → LeaveNode node (projection ∷ ps)
+leaves_node label node projection r o ps tests with is first number =
+    ap (λ q. through values (q ∷ ps) (node_rows number (Some node))) is
+    ∙ ap (map (projected (o ∷ []))) (tests number node ∙ ap (λ b. cond b (labelled number node ∷ []) []) with)
+    ∙ ap (λ c. (c ∷ []) ∷ []) (column_cell o 0 (labelled number node) first)
+  where
+    values : Attribute → Value
+    values a = node_attribute a (Some node)
+
+-- none is left out where all are left
+pub all_left : (node : Node) (parts : List (Bor Operator)) (count : ℕ) → count ≡ length parts → LeaveNode node (drop count (map (λ (part : Bor Operator). plan_of part.now) parts))
+all_left node parts count all number =
+    let same = length-map parts (λ (part : Bor Operator). plan_of part.now) in
+    ap (λ ps. through (λ a. node_attribute a (Some node)) ps (node_rows number (Some node))) (drop_all count (map (λ (part : Bor Operator). plan_of part.now) parts) (omega (arith, all, same)))
 
 -- the last three of some parts
 module _ (parts : List (Bor Operator)) (some : 3 ≤ length parts) where
@@ -105,6 +130,17 @@ module _ (parts : List (Bor Operator)) (some : 3 ≤ length parts) where
       ∙ ap (λ n. plan_of y.now ∷ drop n plans) one
       ∙ ap (λ ps. plan_of y.now ∷ ps) (one_of (length parts - 1) z (omega (arith, some)) third
       ∙ ap (λ ps. plan_of z.now ∷ ps) (drop_all (length parts - 1 + 1) plans (omega (arith, some, many)))))
+
+  -- what the last four leave
+  pub left_by_last : (node : Node) (w x y z : Bor Operator) → 4 ≤ length parts → w ≡ get_or parts (length parts - 4) w → x ≡ get_or parts (length parts - 3) x → y ≡ get_or parts (length parts - 2) y
+      → z ≡ get_or parts (length parts - 1) z → LeaveNode node (plan_of w.now ∷ plan_of x.now ∷ plan_of y.now ∷ plan_of z.now ∷ []) → LeaveNode node (drop (length parts - 4) plans)
+  left_by_last node w x y z four first second third fourth leaves number =
+      let three : length parts - 4 + 1 ≡ length parts - 3 = omega (arith, four) in
+      let last : drop (length parts - 4) plans ≡ plan_of w.now ∷ plan_of x.now ∷ plan_of y.now ∷ plan_of z.now ∷ [] =
+      one_of (length parts - 4) w (omega (arith, four)) first
+      ∙ ap (λ n. plan_of w.now ∷ drop n plans) three
+      ∙ ap (λ ps. plan_of w.now ∷ ps) (last_three x y z second third fourth) in
+      ap (λ ps. through (λ a. node_attribute a (Some node)) ps (node_rows number (Some node))) last ∙ leaves number
 
   -- what they need all need
   pub needed_by_last : (label : Name) (x y z : Bor Operator) → x ≡ get_or parts (length parts - 3) x → y ≡ get_or parts (length parts - 2) y → z ≡ get_or parts (length parts - 1) z

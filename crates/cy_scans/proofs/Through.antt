@@ -163,7 +163,7 @@ column_is (case arms e) column row is = absurd (false≢true is)
 column_is (call name distinct es) column row is = absurd (false≢true is)
 column_is (call_star name) column row is = absurd (false≢true is)
 
-column_cell : (o : Output) (column : ℕ) (row : List Cell) → is_column column o ≡ true → output_cell row o ≡ cell_at row column
+pub column_cell : (o : Output) (column : ℕ) (row : List Cell) → is_column column o ≡ true → output_cell row o ≡ cell_at row column
 column_cell (gathered columns) column row is = absurd (false≢true is)
 column_cell (computed e) column row is = ap cell_or_null (column_is e column row is)
 

@@ -1,5 +1,5 @@
 -- The parts of a scan, one after another.
-use Rattle.std.proofs.Common.{◌≡◌, ℕ, zero, suc, ◌+◌, ◌-◌, ◌<◌, ◌≤◌, Bool, true, false, cond, List, [], ◌∷◌, ◌++◌, Option, None, Some, refl, sym, ap, subst, ◌∙◌, map, filter, length, get_or, drop, arith}
+use Rattle.std.proofs.Common.{◌≡◌, ℕ, zero, suc, ◌+◌, ◌-◌, ◌<◌, ◌≤◌, Bool, true, false, cond, List, [], ◌∷◌, ◌++◌, Option, None, Some, refl, sym, ap, subst, ◌∙◌, map, filter, length, get_or, drop, take, arith}
 use Rattle.std.specs.Prelude.{IsSome}
 use Rattle.std.specs.List.{All}
 use Rattle.std.proofs.lemmas.Bool.{false≢true}
@@ -53,6 +53,19 @@ module _ (value_of : Attribute → Value) where
   none_after [] (suc k) rows none = none
   none_after (p ∷ ps) zero rows none = none
   none_after (p ∷ ps) (suc k) rows none = ap (made_by value_of p) (none_after ps k rows none) ∙ none_made p
+
+  -- the last parts, and then the others
+  pub through_split : (ps : List Plan) (k : ℕ) (rows : List (List Cell)) → through value_of ps rows ≡ through value_of (take k ps) (through value_of (drop k ps) rows)
+  through_split [] zero rows = refl
+  through_split [] (suc k) rows = refl
+  through_split (p ∷ ps) zero rows = refl
+  through_split (p ∷ ps) (suc k) rows = ap (made_by value_of p) (through_split ps k rows)
+
+  pub fit_split : (ps : List Plan) (k : ℕ) (rows : List (List Cell)) → AreFit value_of ps rows → AreFit value_of (take k ps) (through value_of (drop k ps) rows)
+  fit_split [] zero rows fit = tt
+  fit_split [] (suc k) rows fit = tt
+  fit_split (p ∷ ps) zero rows fit = tt
+  fit_split (p ∷ ps) (suc k) rows fit = (subst (IsFit p) (through_split ps k rows) fit.0, fit_split ps k rows fit.1)
 
   -- one part more
   pub one_part : (ps : List Plan) (k : ℕ) (rows : List (List Cell)) (d : Plan) → k < length ps

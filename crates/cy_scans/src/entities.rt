@@ -8,6 +8,7 @@ ghost use Rattle.cy_scans.specs.internal.Through as spec;
 ghost use Rattle.cy_scans.specs.internal.Through.{AreFit, IsFit, IsNodeFit, IsRelFit, attribute_in};
 
 use crate::attributes::{node_value, rel_value};
+use crate::needs::parts_left;
 use crate::rels::rows_of_rel;
 use cy_graph::{Node, Rel};
 use cy_plans::{Attribute, Operator, Orientation, rows};
@@ -36,7 +37,13 @@ pub(crate) fn row_at_node(
     };
     let mut cells = Vec::with_capacity(alloc, parts.len())?;
     cells.push(Cell::Node(id))?;
-    row_through(alloc, parts, EntityValue::Node(node), Sequence::new(cells))
+    let left = parts_left(parts, node);
+    row_through(
+        alloc,
+        &parts[..left],
+        EntityValue::Node(node),
+        Sequence::new(cells),
+    )
 }
 
 /// The rows of a relationship in a scan with these parts, if it is there. Fails only for want of memory.

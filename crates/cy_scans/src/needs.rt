@@ -1,6 +1,6 @@
 //! The label that a scan of nodes needs.
 
-ghost use Rattle.std.specs.Prelude.{◌≡◌, ◌∷◌, [], ℕ, List, IfSome, true, map};
+ghost use Rattle.std.specs.Prelude.{◌≡◌, ◌≤◌, ◌∷◌, [], ℕ, List, IfSome, true, drop, length, map};
 ghost use Rattle.std.specs.List.{list_any};
 ghost use Rattle.std.specs.Option.{option_copied};
 ghost use Rattle.std.specs.Str.{bytes_eq};
@@ -10,13 +10,13 @@ ghost use Rattle.cy_trees.specs.declared.expressions.BinaryOperator.TheVariants.
 ghost use Rattle.cy_plans.specs.declared.operators.Attribute.TheVariants.{Labels};
 ghost use Rattle.cy_plans.specs.Plans as plan;
 ghost use Rattle.cy_plans.specs.Plans.{Plan, computed};
-ghost use Rattle.cy_plans.specs.Views.{plan_of};
-ghost use Rattle.cy_scans.specs.Scans.{is_column};
-ghost use Rattle.cy_scans.specs.internal.Through.{IsNeeded, IsNodeFit, node_made};
+ghost use Rattle.cy_plans.specs.Views.{output_of, plan_of};
+ghost use Rattle.cy_scans.specs.Scans as scans;
+ghost use Rattle.cy_scans.specs.internal.Through.{IsLabelTest, IsNeeded, IsNodeFit, LeaveNode, node_made};
 
-use crate::scan_columns::is_variable;
+use crate::scan_columns::{is_column, is_variable};
 use cy_graph::Node;
-use cy_plans::{Attribute, Operator};
+use cy_plans::{Attribute, Operator, Output};
 use cy_trees::{BinaryOperator, Expr};
 use cy_values::Text;
 
@@ -31,9 +31,64 @@ pub(crate) fn needed_label<'p>(parts: &[&'p Operator]) -> Option<&'p Text>
     label_tested(parts[count - 3], parts[count - 2], parts[count - 1])
 }
 
+/// How many parts of a scan, from the top, are left to make the row of a node: none of those at its end that test no more than that the
+/// nodes have a label, if this one has it.
+pub(crate) fn parts_left(parts: &[&Operator], node: &Node) -> usize
+    ensures within { result ≤ length parts.now }
+    ensures same { LeaveNode node.now (drop result (map (λ part. plan_of part.now) parts.now)) }
+{
+    let count = parts.len();
+    if count < 4 {
+        return count;
+    }
+    if leave_node(
+        parts[count - 4],
+        parts[count - 3],
+        parts[count - 2],
+        parts[count - 1],
+        node,
+    ) {
+        return count - 4;
+    }
+    count
+}
+
+// Whether a projection over a filter of nodes by their labels leaves the row of a node as it is.
+fn leave_node(
+    projection: &Operator,
+    filter: &Operator,
+    lookup: &Operator,
+    nodes: &Operator,
+    node: &Node,
+) -> bool
+    ensures { result ≡ true → LeaveNode node.now (plan_of projection.now ∷ plan_of filter.now ∷ plan_of lookup.now ∷ plan_of nodes.now ∷ []) }
+{
+    match label_tested(filter, lookup, nodes) {
+        Some(label) => has_label(node, label) && gives_first(projection),
+        None => false,
+    }
+}
+
+// Whether a part is a projection to the first column alone.
+fn gives_first(part: &Operator) -> bool
+    ensures { result ≡ true → (p : Plan) × ((o : plan.Output) × ((plan_of part.now ≡ plan.project p (o ∷ [])) × (scans.is_column 0 o ≡ true))) }
+{
+    match part {
+        Operator::Project(_, outputs) => is_first(outputs),
+        _ => false,
+    }
+}
+
+// Whether what a projection makes is the first column alone.
+fn is_first(outputs: &[Output]) -> bool
+    ensures { result ≡ true → (o : plan.Output) × ((map output_of outputs.now ≡ o ∷ []) × (scans.is_column 0 o ≡ true)) }
+{
+    outputs.len() == 1 && is_column(&outputs[0], 0)
+}
+
 // The label for which a filter tests the nodes, over a part that looks their labels up.
 fn label_tested<'p>(filter: &'p Operator, lookup: &Operator, nodes: &Operator) -> Option<&'p Text>
-    ensures { IfSome result (λ label. IsNeeded label.now (plan_of filter.now ∷ plan_of lookup.now ∷ plan_of nodes.now ∷ [])) }
+    ensures { IfSome result (λ label. IsLabelTest label.now (plan_of filter.now ∷ plan_of lookup.now ∷ plan_of nodes.now ∷ [])) }
 {
     if !looks_labels_up(lookup) || !are_nodes(nodes) {
         return None;
@@ -70,7 +125,7 @@ fn are_nodes(part: &Operator) -> bool
 
 /// The label of which an expression tests whether it is in the list in the second column.
 pub fn label_in(test: &Expr) -> Option<&Text>
-    ensures { IfSome result (λ label. (labels : Expression) × ((expression_of test.now ≡ binary In (text label.now) labels) × (is_column 1 (computed labels) ≡ true))) }
+    ensures { IfSome result (λ label. (labels : Expression) × ((expression_of test.now ≡ binary In (text label.now) labels) × (scans.is_column 1 (computed labels) ≡ true))) }
 {
     match test {
         Expr::Binary(BinaryOperator::In, label, labels) if is_variable(labels, 1) => text_of(label),

@@ -59,8 +59,8 @@ fn kept_at(outputs: &[Output], column: usize) -> Option<usize>
     None
 }
 
-// Whether a column that a projection makes is a column alone: this one.
-fn is_column(output: &Output, column: usize) -> bool
+/// Whether a column that a projection makes is a column alone: this one.
+pub(crate) fn is_column(output: &Output, column: usize) -> bool
     ensures { result ≡ scans.is_column column (output_of output.now) }
 {
     match output {

@@ -1,5 +1,5 @@
 -- What the parts of a scan make of the rows of one entity.
-use Rattle.std.specs.Prelude.{ℕ, Bool, true, false, ◌≡◌, ◌++◌, ⊤, List, [], ◌∷◌, Option, None, Some, map}
+use Rattle.std.specs.Prelude.{ℕ, Bool, true, false, ◌≡◌, ◌++◌, ⊤, List, [], ◌∷◌, Option, None, Some, if◌then◌else◌, map}
 use Rattle.std.specs.Prelude as std
 use Rattle.std.specs.List.{All, list_any}
 use Rattle.std.specs.Str.{bytes_eq}
@@ -13,6 +13,7 @@ use Rattle.cy_graph.specs.declared.nodes.Rel.{Rel}
 use Rattle.cy_graph.specs.Graph.{State}
 use Rattle.cy_expr.specs.Lookups.{IsNumbered}
 use Rattle.cy_plans.specs.declared.operators.Attribute.{Attribute}
+use Rattle.cy_plans.specs.declared.operators.Attribute.TheVariants.{Labels}
 use Rattle.cy_plans.specs.declared.operators.Orientation.{Orientation}
 use Rattle.cy_plans.specs.Expressions.{holds, projected, relationships_at}
 use Rattle.cy_plans.specs.Meaning.{are_different}
@@ -88,6 +89,19 @@ IsNodeFit ps number (Some node) = AreFit (λ a. node_attribute a (Some node)) ps
 abbrev pub IsRelFit : List Name → Orientation → List Plan → ℕ → Option Rel → Type 0
 IsRelFit types orientation ps number None = ⊤
 IsRelFit types orientation ps number (Some rel) = AreFit (λ a. rel_attribute a (Some rel)) ps (rel_rows types orientation number (Some rel))
+
+-- the row of a node with its labels
+abbrev pub labelled : ℕ → Node → List Cell
+labelled number node = cell.Node (record { 0 = number }) ∷ cell.Value (node_attribute Labels (Some node)) ∷ []
+
+-- these parts make a node's row with its labels of it, if it has this label, and no row otherwise
+abbrev pub IsLabelTest : Name → List Plan → Type 0
+IsLabelTest label ps =
+    (number : ℕ) (node : Node) → node_made ps number (Some node) ≡ (if list_any (bytes_eq label) (map (λ l. l.0) node.labels) then labelled number node ∷ [] else [])
+
+-- these parts leave a node's row as it is
+abbrev pub LeaveNode : Node → List Plan → Type 0
+LeaveNode node ps = (number : ℕ) → node_made ps number (Some node) ≡ node_rows number (Some node)
 
 -- a node without this label has no row in a scan with these parts
 abbrev pub IsNeeded : Name → List Plan → Type 0

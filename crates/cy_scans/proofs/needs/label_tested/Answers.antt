@@ -5,7 +5,7 @@ use Rattle.cy_plans.specs.declared.operators.Operator.TheVariants.{rolls-Filter}
 use Rattle.cy_plans.specs.Plans as plan
 use Rattle.cy_plans.specs.Plans.{Plan}
 use Rattle.cy_plans.specs.Views.{plan_of, plan_step}
-use Rattle.cy_scans.proofs.NeededLabels.{tests_label}
+use Rattle.cy_scans.proofs.NeededLabels.{label_test}
 use Rattle.cy_scans.proofs.ThroughScans.{if_some_then}
 use Rattle.cy_scans.proofs.needs.label_tested.Goals as goal
 
@@ -17,6 +17,6 @@ returns-in-Filter c =
     let filter : plan_of c.args.filter.now ≡ plan.filter (plan_of c.in-Filter.field-0.value) (expression_of c.in-Filter.test) =
     ap plan_of (c.in-Filter.is ∙ sym (rolls-Filter c.in-Filter.field-0 c.in-Filter.test)) ∙ fold-roll-Operator Plan plan_step _ in
     if_some_then _ _ c.label_in.result
-    (λ label is. tests_label label.now (plan_of c.args.filter.now) (plan_of c.args.lookup.now) (plan_of c.args.nodes.now) (plan_of c.in-Filter.field-0.value) lookup.0 lookup.1.0 is.0
+    (λ label is. label_test label.now (plan_of c.args.filter.now) (plan_of c.args.lookup.now) (plan_of c.args.nodes.now) (plan_of c.in-Filter.field-0.value) lookup.0 lookup.1.0 is.0
     (filter ∙ ap (plan.filter (plan_of c.in-Filter.field-0.value)) is.1.0) lookup.1.1 (c.are_nodes.ensures nodes) is.1.1)
     c.label_in.ensures

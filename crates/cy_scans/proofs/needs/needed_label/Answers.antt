@@ -1,5 +1,6 @@
-use Rattle.std.proofs.Common.{◌≤◌, length, arith}
-use Rattle.cy_scans.proofs.NeededLabels.{needed_by_last}
+use Rattle.std.proofs.Common.{◌≤◌, [], ◌∷◌, length, arith}
+use Rattle.cy_plans.specs.Views.{plan_of}
+use Rattle.cy_scans.proofs.NeededLabels.{needed_by_last, without_label}
 use Rattle.cy_scans.proofs.ThroughScans.{if_some_then}
 use Rattle.cy_scans.proofs.needs.needed_label.Goals as goal
 
@@ -7,5 +8,6 @@ pub returns : goal.returns
 returns c =
     let some : 3 ≤ length c.args.parts.now = omega arith in
     if_some_then _ _ c.label_tested.result
-    (λ label needed. needed_by_last c.args.parts.now some label.now c.index-parts-count.result c.index-parts-count-2.result c.index-parts-count-3.result c.index-parts-count.is c.index-parts-count-2.is c.index-parts-count-3.is needed)
+    (λ label tests. needed_by_last c.args.parts.now some label.now c.index-parts-count.result c.index-parts-count-2.result c.index-parts-count-3.result c.index-parts-count.is c.index-parts-count-2.is c.index-parts-count-3.is
+    (without_label label.now (plan_of c.index-parts-count.result.now ∷ plan_of c.index-parts-count-2.result.now ∷ plan_of c.index-parts-count-3.result.now ∷ []) tests))
     c.label_tested.ensures

@@ -1,2 +1,3 @@
 pub mod LoweredLemmas
 pub mod LoweredLists
+pub mod WantedLemmas

@@ -1,5 +1,6 @@
 -- Where look-ups stand: those that are wanted stand in columns of their own, one after another.
-use Rattle.std.specs.Prelude.{ℕ, ◌+◌, ◌==◌, Bool, true, false, ◌&&◌, List, [], ◌∷◌, if◌then◌else◌}
+use Rattle.std.specs.Prelude.{ℕ, ◌+◌, ◌==◌, Bool, true, false, ◌&&◌, List, [], ◌∷◌, ◌++◌, if◌then◌else◌}
+use Rattle.std.specs.List.{list_any}
 use Rattle.std.specs.Str.{bytes_eq}
 use Rattle.cy_plans.specs.declared.operators.Attribute.{Attribute}
 use Rattle.cy_plans.specs.declared.operators.Attribute.TheVariants.{Property, RelType, Labels}
@@ -19,3 +20,7 @@ is_of column attribute w = w.column == column && same_attribute w.attribute attr
 abbrev pub place : ℕ → List Wanted → ℕ → Attribute → ℕ
 place first [] column attribute = first
 place first (w ∷ others) column attribute = if is_of column attribute w then first else place (first + 1) others column attribute
+
+-- what is wanted, with one look-up more unless it is there
+abbrev pub added : List Wanted → Wanted → List Wanted
+added wanted w = if list_any (is_of w.column w.attribute) wanted then wanted else wanted ++ w ∷ []

@@ -3,6 +3,8 @@
 
 mod lowering;
 mod places;
+mod wanted;
 
 pub use lowering::{lower, lowering_keeps_values};
-pub use places::{Wanted, is_of, place};
+pub use places::{Wanted, place};
+pub use wanted::WantedList;

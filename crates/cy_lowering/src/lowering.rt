@@ -20,7 +20,7 @@ ghost use Rattle.cy_plans.specs.Expressions.{no_graph};
 ghost use Rattle.cy_lowering.specs.Lowered as spec;
 ghost use Rattle.cy_lowering.specs.Places as places;
 
-use crate::places::{Wanted, place};
+use crate::wanted::WantedList;
 use cy_kinds::Function;
 use cy_plans::Attribute;
 use cy_trees::{Arm, BinaryOperator, Expr, Link, UnaryOperator, Variable};
@@ -41,7 +41,7 @@ fn looked_up(
     owner: &Expr,
     attribute: &Attribute,
     first: usize,
-    wanted: &[Wanted],
+    wanted: &WantedList,
 ) -> Result<Expr, Fault>
     requires { first + length wanted.now ≤ greatest_width }
     ensures { IfOk result (λ e. expression_of e ≡ spec.looked_up (places.place first wanted.now) (expression_of owner.now) attribute.now) }
@@ -49,7 +49,7 @@ fn looked_up(
     match owner {
         Expr::Variable(variable) => {
             let column = match variable.column {
-                Some(column) => Some(place(first, wanted, column, attribute)),
+                Some(column) => Some(wanted.place(alloc, first, column, attribute)?),
                 None => None,
             };
             Ok(Expr::Variable(Variable {
@@ -119,7 +119,7 @@ fn exists(
     owner: &Expr,
     key: &Text,
     first: usize,
-    wanted: &[Wanted],
+    wanted: &WantedList,
 ) -> Result<Expr, Fault>
     requires { first + length wanted.now ≤ greatest_width }
     ensures { IfOk result (λ e. expression_of e ≡ spec.unless_null (expression_of owner.now) (unary IsNotNull (spec.looked_up (places.place first wanted.now) (expression_of owner.now) (Property key.now)))) }
@@ -135,7 +135,7 @@ fn lower_box(
     alloc: Global,
     expression: &Expr,
     first: usize,
-    wanted: &[Wanted],
+    wanted: &WantedList,
 ) -> Result<Box<Expr>, Fault>
     requires { first + length wanted.now ≤ greatest_width }
     ensures { IfOk result (λ e. expression_of e.value ≡ spec.lowered (places.place first wanted.now) (expression_of expression.now)) }
@@ -149,7 +149,7 @@ fn lower_elements(
     alloc: Global,
     elements: &[Expr],
     first: usize,
-    wanted: &[Wanted],
+    wanted: &WantedList,
 ) -> Result<Vec<Expr>, Fault>
     requires { first + length wanted.now ≤ greatest_width }
     ensures { IfOk result (λ es. expressions_from (map expression_of es.items) ≡ spec.lowered_expressions (places.place first wanted.now) (expressions_from (map expression_of elements.now))) }
@@ -167,7 +167,7 @@ fn lower_links(
     alloc: Global,
     links: &[Link],
     first: usize,
-    wanted: &[Wanted],
+    wanted: &WantedList,
 ) -> Result<Vec<Link>, Fault>
     requires { first + length wanted.now ≤ greatest_width }
     ensures { IfOk result (λ ls. links_from (map link_of ls.items) ≡ spec.lowered_links (places.place first wanted.now) (links_from (map link_of links.now))) }
@@ -188,7 +188,7 @@ fn lower_arms(
     alloc: Global,
     arms: &[Arm],
     first: usize,
-    wanted: &[Wanted],
+    wanted: &WantedList,
 ) -> Result<Vec<Arm>, Fault>
     requires { first + length wanted.now ≤ greatest_width }
     ensures { IfOk result (λ made. arms_from (map arm_of made.items) ≡ spec.lowered_arms (places.place first wanted.now) (arms_from (map arm_of arms.now))) }
@@ -210,7 +210,7 @@ fn lower_single(
     argument: &Expr,
     asked: Expr,
     first: usize,
-    wanted: &[Wanted],
+    wanted: &WantedList,
 ) -> Result<Expr, Fault>
     requires { first + length wanted.now ≤ greatest_width }
     ensures { IfOk result (λ e. expression_of e ≡ spec.lowered_single (places.place first wanted.now) function (expression_of argument.now) (expression_of asked)) }
@@ -228,7 +228,7 @@ fn lower_exists(
     argument: &Expr,
     asked: Expr,
     first: usize,
-    wanted: &[Wanted],
+    wanted: &WantedList,
 ) -> Result<Expr, Fault>
     requires { first + length wanted.now ≤ greatest_width }
     ensures { IfOk result (λ e. expression_of e ≡ spec.lowered_exists (places.place first wanted.now) (expression_of argument.now) (expression_of asked)) }
@@ -248,7 +248,7 @@ fn lower_call(
     distinct: bool,
     arguments: &[Expr],
     first: usize,
-    wanted: &[Wanted],
+    wanted: &WantedList,
 ) -> Result<Expr, Fault>
     requires { first + length wanted.now ≤ greatest_width }
     ensures { let es = expressions_from (map expression_of arguments.now) in let place = places.place first wanted.now in IfOk result (λ e. expression_of e ≡ spec.lowered_call place (function_named name.now) es (call name.now distinct (spec.lowered_expressions place es))) }
@@ -270,7 +270,7 @@ pub fn lower(
     alloc: Global,
     expression: &Expr,
     first: usize,
-    wanted: &[Wanted],
+    wanted: &WantedList,
 ) -> Result<Expr, Fault>
     requires { first + length wanted.now ≤ greatest_width }
     ensures { IfOk result (λ e. expression_of e ≡ spec.lowered (places.place first wanted.now) (expression_of expression.now)) }

@@ -29,7 +29,7 @@ pub fn place(first: usize, wanted: &[Wanted], column: usize, attribute: &Attribu
 }
 
 /// Whether a look-up is the one of an attribute of the entity in a column.
-pub fn is_of(column: usize, attribute: &Attribute, wanted: &Wanted) -> bool
+fn is_of(column: usize, attribute: &Attribute, wanted: &Wanted) -> bool
     ensures { result ≡ spec.is_of column attribute.now wanted.now }
 {
     wanted.column == column && same_attribute(&wanted.attribute, attribute)

@@ -2,46 +2,26 @@
 //! once, and fails only for want of memory; some of it may then have been added.
 
 ghost use Rattle.std.specs.Prelude.{◌≡◌, OnOk, map};
-ghost use Rattle.std.specs.List.{list_any};
 ghost use Rattle.cy_trees.specs.Views.{arm_of, arms_from, expression_of, expressions_from, link_of, links_from};
 ghost use Rattle.cy_kinds.specs.Functions.{function_named};
 ghost use Rattle.cy_kinds.specs.internal.ExpressionTrees.{otherwise_of};
 ghost use Rattle.cy_plans.specs.declared.operators.Attribute.TheVariants as attribute;
-ghost use Rattle.cy_lowering.specs.Places as places;
 ghost use Rattle.cy_row_plans.specs.internal.Asked as spec;
 
 use cy_kinds::Function;
-use cy_lowering::{Wanted, is_of};
+use cy_lowering::{Wanted, WantedList};
 use cy_plans::Attribute;
 use cy_trees::{Arm, Expr, Link};
 use cy_values::{Duplicate, Fault, Text};
 use std::alloc::Global;
 
-/// Adds a look-up, unless it is there.
-fn add(wanted: &mut Vec<Wanted>, asked: Wanted) -> Result<(), Fault>
-    ensures { OnOk result (wanted.new.items ≡ spec.added wanted.old.items asked) }
-{
-    if !is_wanted(wanted.as_slice(), &asked) {
-        wanted.push(asked)?;
-    }
-    Ok(())
-}
-
-fn is_wanted(wanted: &[Wanted], asked: &Wanted) -> bool
-    ensures { result ≡ list_any (places.is_of asked.now.column asked.now.attribute) wanted.now }
-{
-    wanted
-        .iter()
-        .any(|other| is_of(asked.column, &asked.attribute, other))
-}
-
 /// Adds an attribute of what a variable stands for.
-fn add_attribute(wanted: &mut Vec<Wanted>, owner: &Expr, attribute: Attribute) -> Result<(), Fault>
-    ensures { OnOk result (wanted.new.items ≡ spec.with_asked wanted.old.items (spec.asked_of (expression_of owner.now) attribute)) }
+fn add_attribute(wanted: &mut WantedList, owner: &Expr, attribute: Attribute) -> Result<(), Fault>
+    ensures { OnOk result (wanted.new ≡ spec.with_asked wanted.old (spec.asked_of (expression_of owner.now) attribute)) }
 {
     match owner {
         Expr::Variable(variable) => match variable.column {
-            Some(column) => add(wanted, Wanted { column, attribute }),
+            Some(column) => wanted.add(Wanted { column, attribute }),
             None => Ok(()),
         },
         _ => Ok(()),
@@ -50,11 +30,11 @@ fn add_attribute(wanted: &mut Vec<Wanted>, owner: &Expr, attribute: Attribute) -
 
 /// Adds an attribute of what the first argument stands for.
 fn add_of_first(
-    wanted: &mut Vec<Wanted>,
+    wanted: &mut WantedList,
     arguments: &[Expr],
     attribute: Attribute,
 ) -> Result<(), Fault>
-    ensures { OnOk result (wanted.new.items ≡ spec.with_asked wanted.old.items (spec.asked_of_first (expressions_from (map expression_of arguments.now)) attribute)) }
+    ensures { OnOk result (wanted.new ≡ spec.with_asked wanted.old (spec.asked_of_first (expressions_from (map expression_of arguments.now)) attribute)) }
 {
     if arguments.is_empty() {
         return Ok(());
@@ -64,8 +44,8 @@ fn add_of_first(
 
 /// Adds what an expression asks.
 #[cycle(asked)]
-pub fn add_asked(alloc: Global, wanted: &mut Vec<Wanted>, expression: &Expr) -> Result<(), Fault>
-    ensures { OnOk result (wanted.new.items ≡ spec.with_tree wanted.old.items (expression_of expression.now)) }
+pub fn add_asked(alloc: Global, wanted: &mut WantedList, expression: &Expr) -> Result<(), Fault>
+    ensures { OnOk result (wanted.new ≡ spec.with_tree wanted.old (expression_of expression.now)) }
 {
     match expression {
         Expr::Null => Ok(()),
@@ -99,11 +79,11 @@ pub fn add_asked(alloc: Global, wanted: &mut Vec<Wanted>, expression: &Expr) -> 
 #[cycle(asked)]
 fn add_call(
     alloc: Global,
-    wanted: &mut Vec<Wanted>,
+    wanted: &mut WantedList,
     name: &Text,
     arguments: &[Expr],
 ) -> Result<(), Fault>
-    ensures { OnOk result (wanted.new.items ≡ (let es = expressions_from (map expression_of arguments.now) in spec.with_call wanted.old.items (function_named name.now) es (spec.with_elements wanted.old.items es))) }
+    ensures { OnOk result (wanted.new ≡ (let es = expressions_from (map expression_of arguments.now) in spec.with_call wanted.old (function_named name.now) es (spec.with_elements wanted.old es))) }
 {
     match Function::named(name.as_str()) {
         Some(Function::Labels) => add_of_first(wanted, arguments, Attribute::Labels),
@@ -113,8 +93,8 @@ fn add_call(
 }
 
 #[cycle(asked)]
-fn add_elements(alloc: Global, wanted: &mut Vec<Wanted>, elements: &[Expr]) -> Result<(), Fault>
-    ensures { OnOk result (wanted.new.items ≡ spec.with_elements wanted.old.items (expressions_from (map expression_of elements.now))) }
+fn add_elements(alloc: Global, wanted: &mut WantedList, elements: &[Expr]) -> Result<(), Fault>
+    ensures { OnOk result (wanted.new ≡ spec.with_elements wanted.old (expressions_from (map expression_of elements.now))) }
 {
     for element in elements {
         add_asked(alloc, wanted, element)?;
@@ -123,8 +103,8 @@ fn add_elements(alloc: Global, wanted: &mut Vec<Wanted>, elements: &[Expr]) -> R
 }
 
 #[cycle(asked)]
-fn add_links(alloc: Global, wanted: &mut Vec<Wanted>, links: &[Link]) -> Result<(), Fault>
-    ensures { OnOk result (wanted.new.items ≡ spec.with_links wanted.old.items (links_from (map link_of links.now))) }
+fn add_links(alloc: Global, wanted: &mut WantedList, links: &[Link]) -> Result<(), Fault>
+    ensures { OnOk result (wanted.new ≡ spec.with_links wanted.old (links_from (map link_of links.now))) }
 {
     for link in links {
         add_asked(alloc, wanted, &link.operand)?;
@@ -133,8 +113,8 @@ fn add_links(alloc: Global, wanted: &mut Vec<Wanted>, links: &[Link]) -> Result<
 }
 
 #[cycle(asked)]
-fn add_arms(alloc: Global, wanted: &mut Vec<Wanted>, arms: &[Arm]) -> Result<(), Fault>
-    ensures { OnOk result (wanted.new.items ≡ spec.with_arms wanted.old.items (arms_from (map arm_of arms.now))) }
+fn add_arms(alloc: Global, wanted: &mut WantedList, arms: &[Arm]) -> Result<(), Fault>
+    ensures { OnOk result (wanted.new ≡ spec.with_arms wanted.old (arms_from (map arm_of arms.now))) }
 {
     for arm in arms {
         add_asked(alloc, wanted, &arm.condition)?;
@@ -146,10 +126,10 @@ fn add_arms(alloc: Global, wanted: &mut Vec<Wanted>, arms: &[Arm]) -> Result<(),
 #[cycle(asked)]
 fn add_otherwise(
     alloc: Global,
-    wanted: &mut Vec<Wanted>,
+    wanted: &mut WantedList,
     otherwise: &Option<Box<Expr>>,
 ) -> Result<(), Fault>
-    ensures { OnOk result (wanted.new.items ≡ spec.with_else wanted.old.items (otherwise_of otherwise.now)) }
+    ensures { OnOk result (wanted.new ≡ spec.with_else wanted.old (otherwise_of otherwise.now)) }
 {
     match otherwise {
         Some(otherwise) => add_asked(alloc, wanted, otherwise),

@@ -13,15 +13,15 @@ ghost use Rattle.cy_row_plans.specs.Rows as spec;
 use crate::asked::add_asked;
 use crate::filters::check_room;
 use crate::lookups::with_lookups;
-use cy_lowering::{Wanted, lower};
+use cy_lowering::{WantedList, lower};
 use cy_plans::{Output, Plan};
 use cy_trees::Item;
 use cy_values::Fault;
 use std::alloc::Global;
 
 /// Adds what the expressions of several items ask.
-fn add_asked_by_items(alloc: Global, wanted: &mut Vec<Wanted>, items: &[Item]) -> Result<(), Fault>
-    ensures { OnOk result (wanted.new.items ≡ with_asked wanted.old.items (flat_map asked (map (λ i. expression_of i.expression) items.now))) }
+fn add_asked_by_items(alloc: Global, wanted: &mut WantedList, items: &[Item]) -> Result<(), Fault>
+    ensures { OnOk result (wanted.new ≡ with_asked wanted.old (flat_map asked (map (λ i. expression_of i.expression) items.now))) }
 {
     for item in items {
         add_asked(alloc, wanted, &item.expression)?;
@@ -34,7 +34,7 @@ fn item_outputs(
     alloc: Global,
     items: &[Item],
     first: usize,
-    wanted: &[Wanted],
+    wanted: &WantedList,
 ) -> Result<Vec<Output>, Fault>
     requires { first + length wanted.now ≤ greatest_width }
     ensures { IfOk result (λ outputs. map output_of outputs.items ≡ map (λ e. computed (lowered (place first wanted.now) e)) (map (λ i. expression_of i.expression) items.now)) }
@@ -53,11 +53,11 @@ pub fn project_items(alloc: Global, below: Plan, items: &[Item]) -> Result<Plan,
     ensures { IfOk result (λ p. spec.IsProjected (plan_of below) (map (λ i. expression_of i.expression) items.now) (plan_of p)) }
 {
     let width = below.width();
-    let mut wanted = Vec::new(alloc);
+    let mut wanted = WantedList::new(alloc);
     add_asked_by_items(alloc, &mut wanted, items)?;
     check_room(width, wanted.len())?;
     check_room(0, items.len())?;
-    let outputs = item_outputs(alloc, items, width, wanted.as_slice())?;
+    let outputs = item_outputs(alloc, items, width, &wanted)?;
     let wide = with_lookups(alloc, below, wanted.as_slice())?;
     wide.project(alloc, outputs)
 }

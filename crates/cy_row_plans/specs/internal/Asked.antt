@@ -1,6 +1,5 @@
 -- What an expression asks of the graph: attributes of what stands in columns of the row. (own)
-use Rattle.std.specs.Prelude.{ℕ, List, [], ◌∷◌, ◌++◌, Option, Some, None, if◌then◌else◌}
-use Rattle.std.specs.List.{list_any}
+use Rattle.std.specs.Prelude.{ℕ, List, [], ◌∷◌, ◌++◌, Option, Some, None}
 use Rattle.cy_trees.specs.Trees.{Expression, null, boolean, integer, text, variable, property, has_labels, unary, binary, comparison, list, case, call, call_star, Expressions, no_more, more, Links, no_links, link, Arms, no_arms, arm, Otherwise, nothing, otherwise}
 use Rattle.cy_kinds.specs.declared.functions.Function.{Function}
 use Rattle.cy_kinds.specs.declared.functions.Function.TheVariants as function
@@ -8,7 +7,7 @@ use Rattle.cy_kinds.specs.Functions.{function_named}
 use Rattle.cy_plans.specs.declared.operators.Attribute.{Attribute}
 use Rattle.cy_plans.specs.declared.operators.Attribute.TheVariants.{Property, RelType, Labels}
 use Rattle.cy_lowering.specs.declared.places.Wanted.{Wanted}
-use Rattle.cy_lowering.specs.Places.{is_of}
+pub use Rattle.cy_lowering.specs.Places.{added}
 
 abbrev pub asked_in : Option ℕ → Attribute → List Wanted
 asked_in None attribute = []
@@ -61,10 +60,6 @@ abbrev mutual
   pub asked_by_else : Otherwise → List Wanted
   asked_by_else nothing = []
   asked_by_else (otherwise e) = asked e
-
--- what is wanted, with one look-up more unless it is there
-abbrev pub added : List Wanted → Wanted → List Wanted
-added wanted w = if list_any (is_of w.column w.attribute) wanted then wanted else wanted ++ w ∷ []
 
 -- with several look-ups more, each once
 abbrev pub with_asked : List Wanted → List Wanted → List Wanted

@@ -1,8 +1,8 @@
-use Rattle.std.proofs.Common.{◌≡◌, [], ◌∷◌, List, map, true, false, arith, ap, ◌∙◌}
+use Rattle.std.proofs.Common.{◌∷◌, List, map, true, false, arith, ap, ◌∙◌}
 use Rattle.std.proofs.lemmas.List.{take_all}
 use Rattle.cy_trees.specs.declared.expressions.BinaryOperator.TheVariants.{In}
 use Rattle.cy_trees.specs.declared.expressions.UnaryOperator.TheVariants.{IsNull, Not}
-use Rattle.cy_trees.specs.Trees.{Name, Expression, binary, boolean, null, text, unary}
+use Rattle.cy_trees.specs.Trees.{Name, binary, boolean, null, text, unary}
 use Rattle.cy_trees.specs.Views.{expression_of}
 use Rattle.cy_lowering.proofs.LoweredLists.{all_in_by_arms, boolean_is}
 use Rattle.cy_lowering.proofs.lowering.all_in.Goals as goal

@@ -1,5 +1,5 @@
 -- The arms so far.
-use Rattle.std.proofs.Common.{◌≡◌, [], ◌∷◌, ◌++◌, List, map, take, true, false}
+use Rattle.std.proofs.Common.{◌≡◌, ◌∷◌, map, take, false}
 use Rattle.cy_trees.specs.declared.expressions.BinaryOperator.TheVariants.{In}
 use Rattle.cy_trees.specs.declared.expressions.UnaryOperator.TheVariants.{IsNull, Not}
 use Rattle.cy_trees.specs.Trees.{binary, boolean, null, text, unary}

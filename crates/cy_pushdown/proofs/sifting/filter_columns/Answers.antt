@@ -29,7 +29,7 @@ with_lookups-requires-clause-columns c =
     let below : Plan = plan_of c.args.below in
     let test : Expression = renumbered c.args.columns.now (expression_of c.args.test.now) in
     let same : expression_of c.in_ok-condition.condition ≡ test = c.in_ok-condition.ensures in
-    let wants : c.as_slice-2.result.now ≡ with_tree [] (expression_of c.in_ok-condition.condition) = first_of (cc, grind (arith, common_steps)) in
+    let wants : c.as_slice.result.now ≡ with_tree [] (expression_of c.in_ok-condition.condition) = first_of (cc, grind (arith, common_steps)) in
     let read : IsReadOver below test = read_over below c.args.columns.now (expression_of c.args.test.now) c.width-width.ensures.well_formed c.requires in
     subst (λ (ws : List Wanted). All (λ w. w.column < width below) ws) (sym (wants ∙ ap (with_tree []) same ∙ tree_is [] test))
     (all_of_each (IsInside (width below)) (wanted_of test) (wanted_inside below test read))
@@ -39,10 +39,10 @@ filter-requires c =
     let below : Plan = plan_of c.args.below in
     let test : Expression = renumbered c.args.columns.now (expression_of c.args.test.now) in
     let same : expression_of c.in_ok-condition.condition ≡ test = c.in_ok-condition.ensures in
-    let wants : c.as_slice.result.now ≡ with_tree [] (expression_of c.in_ok-condition.condition) = first_of (cc, grind (arith, common_steps)) in
-    let wants_again : c.as_slice-2.result.now ≡ with_tree [] (expression_of c.in_ok-condition.condition) = first_of (cc, grind (arith, common_steps)) in
-    let first : c.as_slice.result.now ≡ wanted_of test = wants ∙ ap (with_tree []) same ∙ tree_is [] test in
-    let second : c.as_slice-2.result.now ≡ wanted_of test = wants_again ∙ ap (with_tree []) same ∙ tree_is [] test in
+    let wants : c.add_asked.new.wanted ≡ with_tree [] (expression_of c.in_ok-condition.condition) = first_of (cc, grind (arith, common_steps)) in
+    let wants_again : c.as_slice.result.now ≡ with_tree [] (expression_of c.in_ok-condition.condition) = first_of (cc, grind (arith, common_steps)) in
+    let first : c.add_asked.new.wanted ≡ wanted_of test = wants ∙ ap (with_tree []) same ∙ tree_is [] test in
+    let second : c.as_slice.result.now ≡ wanted_of test = wants_again ∙ ap (with_tree []) same ∙ tree_is [] test in
     let read : IsReadOver below test = read_over below c.args.columns.now (expression_of c.args.test.now) c.width-width.ensures.well_formed c.requires in
     let wide : plan_of c.in_ok-wide.wide ≡ over below (wanted_of test) = c.in_ok-wide.ensures ∙ ap (over below) second in
     let condition : expression_of c.in_ok-lowered.lowered ≡ lowered (place (width below) (wanted_of test)) test =
@@ -55,8 +55,8 @@ pub first_columns-requires : goal.first_columns-requires
 first_columns-requires c =
     let below : Plan = plan_of c.args.below in
     let kept : width (plan_of c.in_ok-kept.kept) ≡ width (plan_of c.in_ok-wide.wide) = ap width c.in_ok-kept.ensures in
-    let wide : width (plan_of c.in_ok-wide.wide) ≡ width (over below c.as_slice-2.result.now) = ap width c.in_ok-wide.ensures in
-    let more = width_over below c.as_slice-2.result.now in
+    let wide : width (plan_of c.in_ok-wide.wide) ≡ width (over below c.as_slice.result.now) = ap width c.in_ok-wide.ensures in
+    let more = width_over below c.as_slice.result.now in
     let same = c.width-width.ensures.width in
     omega (arith, kept, wide, more, same)
 
@@ -67,13 +67,13 @@ returns c =
     let tested : Expression = expression_of c.args.test.now in
     let test : Expression = renumbered columns tested in
     let same : expression_of c.in_ok-condition.condition ≡ test = c.in_ok-condition.ensures in
-    let wants : c.as_slice.result.now ≡ with_tree [] (expression_of c.in_ok-condition.condition) = first_of (cc, grind (arith, common_steps)) in
-    let wants_again : c.as_slice-2.result.now ≡ with_tree [] (expression_of c.in_ok-condition.condition) = first_of (cc, grind (arith, common_steps)) in
-    let first : c.as_slice.result.now ≡ wanted_of test = wants ∙ ap (with_tree []) same ∙ tree_is [] test in
-    let second : c.as_slice-2.result.now ≡ wanted_of test = wants_again ∙ ap (with_tree []) same ∙ tree_is [] test in
+    let wants : c.add_asked.new.wanted ≡ with_tree [] (expression_of c.in_ok-condition.condition) = first_of (cc, grind (arith, common_steps)) in
+    let wants_again : c.as_slice.result.now ≡ with_tree [] (expression_of c.in_ok-condition.condition) = first_of (cc, grind (arith, common_steps)) in
+    let first : c.add_asked.new.wanted ≡ wanted_of test = wants ∙ ap (with_tree []) same ∙ tree_is [] test in
+    let second : c.as_slice.result.now ≡ wanted_of test = wants_again ∙ ap (with_tree []) same ∙ tree_is [] test in
     let well = c.width-width.ensures.well_formed in
     let read : IsReadOver below test = read_over below columns tested well c.requires in
-    let room : c.width-width.result + length c.as_slice-2.result.now ≤ greatest_width = first_of (search rules, grind (arith, common_steps)) in
+    let room : c.width-width.result + length c.as_slice.result.now ≤ greatest_width = first_of (search rules, grind (arith, common_steps)) in
     let here : width below + length (wanted_of test) ≤ greatest_width =
     subst (λ (ws : List Wanted). width below + length ws ≤ greatest_width) second
     (let wide = c.width-width.ensures.width in omega (arith, room, wide)) in

@@ -24,7 +24,7 @@ pub with_lookups-requires-clause-columns : goal.with_lookups-requires-clause-col
 with_lookups-requires-clause-columns c =
     let below : Plan = plan_of c.args.below in
     let test : Expression = expression_of c.args.test.now in
-    let wants : c.as_slice-2.result.now ≡ with_tree [] test = first_of (cc, grind (arith, common_steps)) in
+    let wants : c.as_slice.result.now ≡ with_tree [] test = first_of (cc, grind (arith, common_steps)) in
     subst (λ (ws : List Wanted). All (λ w. w.column < width below) ws) (sym (wants ∙ tree_is [] test))
     (all_of_each (IsInside (width below)) (wanted_of test) (wanted_inside below test c.requires))
 
@@ -32,8 +32,8 @@ pub filter-requires : goal.filter-requires
 filter-requires c =
     let below : Plan = plan_of c.args.below in
     let test : Expression = expression_of c.args.test.now in
-    let wants : c.as_slice.result.now ≡ with_tree [] test = first_of (cc, grind (arith, common_steps)) in
-    let wants_again : c.as_slice-2.result.now ≡ with_tree [] test = first_of (cc, grind (arith, common_steps)) in
+    let wants : c.add_asked.new.wanted ≡ with_tree [] test = first_of (cc, grind (arith, common_steps)) in
+    let wants_again : c.as_slice.result.now ≡ with_tree [] test = first_of (cc, grind (arith, common_steps)) in
     let wide : plan_of c.in_ok-wide.wide ≡ over below (wanted_of test) = c.in_ok-wide.ensures ∙ ap (over below) (wants_again ∙ tree_is [] test) in
     let condition : expression_of c.in_ok-condition.condition ≡ lowered (place (width below) (wanted_of test)) test =
     c.in_ok-condition.ensures ∙ (λ i. lowered (place (c.width-width.ensures.width i) ((wants ∙ tree_is [] test) i)) test) in
@@ -45,8 +45,8 @@ pub narrowed-requires : goal.narrowed-requires
 narrowed-requires c =
     let below : Plan = plan_of c.args.below in
     let kept : width (plan_of c.in_ok-kept.kept) ≡ width (plan_of c.in_ok-wide.wide) = ap width c.in_ok-kept.ensures in
-    let wide : width (plan_of c.in_ok-wide.wide) ≡ width (over below c.as_slice-2.result.now) = ap width c.in_ok-wide.ensures in
-    let more = width_over below c.as_slice-2.result.now in
+    let wide : width (plan_of c.in_ok-wide.wide) ≡ width (over below c.as_slice.result.now) = ap width c.in_ok-wide.ensures in
+    let more = width_over below c.as_slice.result.now in
     let same = c.width-width.ensures.width in
     omega (arith, kept, wide, more, same)
 
@@ -54,9 +54,9 @@ pub returns : goal.returns
 returns c =
     let below : Plan = plan_of c.args.below in
     let test : Expression = expression_of c.args.test.now in
-    let wants : c.as_slice.result.now ≡ with_tree [] test = first_of (cc, grind (arith, common_steps)) in
-    let wants_again : c.as_slice-2.result.now ≡ with_tree [] test = first_of (cc, grind (arith, common_steps)) in
-    let room : c.width-width.result + length c.as_slice-2.result.now ≤ greatest_width = first_of (search rules, grind (arith, common_steps)) in
+    let wants : c.add_asked.new.wanted ≡ with_tree [] test = first_of (cc, grind (arith, common_steps)) in
+    let wants_again : c.as_slice.result.now ≡ with_tree [] test = first_of (cc, grind (arith, common_steps)) in
+    let room : c.width-width.result + length c.as_slice.result.now ≤ greatest_width = first_of (search rules, grind (arith, common_steps)) in
     let here : width below + length (wanted_of test) ≤ greatest_width =
     subst (λ (ws : List Wanted). width below + length ws ≤ greatest_width) (wants_again ∙ tree_is [] test)
     (let same = c.width-width.ensures.width in omega (arith, room, same)) in

@@ -7,5 +7,5 @@ use Rattle.cy_row_plans.proofs.projections.add_asked_by_items.Given as goal
 
 abbrev pub invariant-loop-item : goal.invariant-loop-item
 invariant-loop-item l =
-    with_asked l.wanted.items (flat_map asked (map (λ i. expression_of i.expression) (drop l.item-index l.items)))
-    ≡ with_asked l.initial.wanted.items (flat_map asked (map (λ i. expression_of i.expression) l.items))
+    with_asked l.wanted (flat_map asked (map (λ i. expression_of i.expression) (drop l.item-index l.items)))
+    ≡ with_asked l.initial.wanted (flat_map asked (map (λ i. expression_of i.expression) l.items))

@@ -23,7 +23,7 @@ pub with_lookups-requires-clause-columns : goal.with_lookups-requires-clause-col
 with_lookups-requires-clause-columns c =
     let below : Plan = plan_of c.args.below in
     let es : List Expression = map (λ (i : Item). expression_of i.expression) c.args.items.now in
-    let wants : c.as_slice-2.result.now ≡ wanted_of_all es = first_of (cc, grind (arith, common_steps)) in
+    let wants : c.as_slice.result.now ≡ wanted_of_all es = first_of (cc, grind (arith, common_steps)) in
     subst (λ (ws : List Wanted). All (λ w. w.column < width below) ws) (sym wants)
     (all_of_each (IsInside (width below)) (wanted_of_all es) (all_wanted_inside below es c.requires))
 
@@ -31,8 +31,8 @@ pub project-requires-clause-outputs : goal.project-requires-clause-outputs
 project-requires-clause-outputs c =
     let below : Plan = plan_of c.args.below in
     let es : List Expression = map (λ (i : Item). expression_of i.expression) c.args.items.now in
-    let wants : c.as_slice.result.now ≡ wanted_of_all es = first_of (cc, grind (arith, common_steps)) in
-    let wants_again : c.as_slice-2.result.now ≡ wanted_of_all es = first_of (cc, grind (arith, common_steps)) in
+    let wants : c.add_asked_by_items.new.wanted ≡ wanted_of_all es = first_of (cc, grind (arith, common_steps)) in
+    let wants_again : c.as_slice.result.now ≡ wanted_of_all es = first_of (cc, grind (arith, common_steps)) in
     let wide : plan_of c.in_ok-wide.wide ≡ over below (wanted_of_all es) = c.in_ok-wide.ensures ∙ ap (over below) wants_again in
     let outputs : map output_of c.in_ok-outputs.outputs.items ≡ map (λ e. computed (lowered (place (width below) (wanted_of_all es)) e)) es =
     c.in_ok-outputs.ensures ∙ (λ i. map (λ e. computed (lowered (place (c.width-width.ensures.width i) (wants i)) e)) es) in
@@ -43,9 +43,9 @@ pub returns : goal.returns
 returns c =
     let below : Plan = plan_of c.args.below in
     let es : List Expression = map (λ (i : Item). expression_of i.expression) c.args.items.now in
-    let wants : c.as_slice.result.now ≡ wanted_of_all es = first_of (cc, grind (arith, common_steps)) in
-    let wants_again : c.as_slice-2.result.now ≡ wanted_of_all es = first_of (cc, grind (arith, common_steps)) in
-    let room : c.width-width.result + length c.as_slice-2.result.now ≤ greatest_width = first_of (search rules, grind (arith, common_steps)) in
+    let wants : c.add_asked_by_items.new.wanted ≡ wanted_of_all es = first_of (cc, grind (arith, common_steps)) in
+    let wants_again : c.as_slice.result.now ≡ wanted_of_all es = first_of (cc, grind (arith, common_steps)) in
+    let room : c.width-width.result + length c.as_slice.result.now ≤ greatest_width = first_of (search rules, grind (arith, common_steps)) in
     let here : width below + length (wanted_of_all es) ≤ greatest_width =
     subst (λ (ws : List Wanted). width below + length ws ≤ greatest_width) wants_again (let same = c.width-width.ensures.width in omega (arith, room, same)) in
     let wide : plan_of c.in_ok-wide.wide ≡ over below (wanted_of_all es) = c.in_ok-wide.ensures ∙ ap (over below) wants_again in

@@ -1,69 +1,174 @@
 //! What becomes of the rows of a plan's parts where one entity has another value.
 
-ghost use Rattle.std.specs.Prelude.{◌≡◌, true};
+ghost use Rattle.std.specs.Prelude.{◌≡◌, List, Some, true};
 ghost use Rattle.cy_trees.specs.Views.{expression_of};
 ghost use Rattle.cy_plans.specs.declared.operators.Attribute.TheVariants.{Labels};
+ghost use Rattle.cy_plans.specs.declared.operators.Orientation.{Orientation};
 ghost use Rattle.cy_plans.specs.Plans as plan;
+ghost use Rattle.cy_plans.specs.Plans.{Output, Plan};
 ghost use Rattle.cy_plans.specs.Views.{plan_of};
+ghost use Rattle.cy_scans.specs.Scans as scans;
+ghost use Rattle.cy_relevance.specs.declared.entities.Entity.{Entity};
+ghost use Rattle.cy_relevance.specs.internal.Effects as effects;
+ghost use Rattle.cy_relevance.specs.internal.Effects.{IsEffect};
 ghost use Rattle.cy_relevance.specs.internal.Kept.{IsAbsent, IsUnchanged};
 
 use crate::entities::{
     Entity, has_same, keeps_node, keeps_rel, lacks_label, makes_no_node, makes_no_rel,
 };
 use cy_plans::{Attribute, Operator};
-use cy_scans::label_in;
+use cy_scans::{column_over, label_in};
 use cy_trees::Expr;
+use cy_values::Text;
+
+/// What becomes of the rows of a part, as far as they come of one entity, where that has another value.
+#[derive(Clone, Copy, Debug, Drop)]
+pub(crate) enum Effect {
+    /// None comes of it, neither before nor after: the part is a scan that names its entities in the first column.
+    Absent,
+    /// They are the same before and after, and so are those of the parts below it that a scan doesn't take together.
+    Unchanged,
+    /// They may be others.
+    Changed,
+}
 
 /// Whether the rows of a part, and of the parts below it that a scan doesn't take together, are the same before and after, as far as
-/// they come of the entity. Where it says no, they may be so too. Of look-ups and filters one over another only the uppermost is asked
-/// whether it has no row of the entity, so that a long chain is gone through twice at most.
-pub(crate) fn is_unchanged(part: &Operator, entity: Entity<'_>, is_uppermost: bool) -> bool
-    ensures { result ≡ true → IsUnchanged entity.entry (plan_of part.now) }
+/// they come of the entity. Where it says no, they may be so too.
+pub(crate) fn is_unchanged(part: &Operator, entity: &Entity<'_>) -> bool
+    ensures { result ≡ true → IsUnchanged entity.now (plan_of part.now) }
+{
+    is_kept(effect_of(part, entity))
+}
+
+// What becomes of the rows of a part. Each part is gone through once at most.
+fn effect_of(part: &Operator, entity: &Entity<'_>) -> Effect
+    ensures { IsEffect result entity.now (plan_of part.now) }
 {
     match part {
-        Operator::Unit => true,
-        Operator::Nodes => keeps_node(entity),
-        Operator::Rels(types, _) => keeps_rel(entity) || makes_no_rel(entity, types),
-        Operator::Lookup(below, _, attribute) => {
-            is_unchanged(below, entity, false) && has_same(entity, attribute)
-                || is_uppermost && is_absent(part, entity)
+        Operator::Unit => Effect::Unchanged,
+        Operator::Nodes => of_nodes(entity),
+        Operator::Rels(types, _) => of_rels(types, entity),
+        Operator::Lookup(below, column, attribute) => {
+            over_lookup(effect_of(below, entity), *column, attribute, entity)
         }
-        Operator::Filter(below, _) => {
-            is_unchanged(below, entity, false) || is_uppermost && is_absent(part, entity)
-        }
-        Operator::AllDifferent(below, _) => is_unchanged(below, entity, true),
-        Operator::Project(below, _) => is_unchanged(below, entity, true),
-        Operator::Distinct(below) => is_unchanged(below, entity, true),
-        Operator::Join(left, right, _) => {
-            is_unchanged(left, entity, true) && is_unchanged(right, entity, true)
-        }
-        Operator::Outer(left, right, _, _) => {
-            is_unchanged(left, entity, true) && is_unchanged(right, entity, true)
+        Operator::Filter(below, test) => over_filter(effect_of(below, entity), below, test, entity),
+        Operator::Project(below, _) => over_projection(effect_of(below, entity), part),
+        Operator::AllDifferent(below, _) => over_one(effect_of(below, entity)),
+        Operator::Distinct(below) => over_one(effect_of(below, entity)),
+        Operator::Join(left, right, _) | Operator::Outer(left, right, _, _) => {
+            if is_kept(effect_of(left, entity)) {
+                over_one(effect_of(right, entity))
+            } else {
+                Effect::Changed
+            }
         }
         Operator::Union(left, right) => {
-            is_unchanged(left, entity, true) && is_unchanged(right, entity, true)
+            if is_kept(effect_of(left, entity)) {
+                over_one(effect_of(right, entity))
+            } else {
+                Effect::Changed
+            }
         }
     }
 }
 
-// Whether no row of a part, which is a scan then, comes of the entity, neither before nor after. Where it says no, it may be so too.
-fn is_absent(part: &Operator, entity: Entity<'_>) -> bool
-    ensures { result ≡ true → IsAbsent entity.entry (plan_of part.now) }
+// Whether rows are the same before and after.
+fn is_kept(effect: Effect) -> bool
+    ensures { result ≡ effects.is_kept effect }
 {
-    match part {
-        Operator::Nodes => makes_no_node(entity),
-        Operator::Rels(types, _) => makes_no_rel(entity, types),
-        Operator::Lookup(below, column, _) => *column == 0 && is_absent(below, entity),
-        Operator::Filter(below, test) => {
-            is_left_out(below, test, entity) || is_absent(below, entity)
-        }
-        Operator::Unit
-        | Operator::Join(_, _, _)
-        | Operator::Outer(_, _, _, _)
-        | Operator::AllDifferent(_, _)
-        | Operator::Project(_, _)
-        | Operator::Distinct(_)
-        | Operator::Union(_, _) => false,
+    match effect {
+        Effect::Absent | Effect::Unchanged => true,
+        Effect::Changed => false,
+    }
+}
+
+// Whether none comes of the entity.
+fn is_absent(effect: Effect) -> bool
+    ensures { result ≡ effects.is_absent effect }
+{
+    matches!(effect, Effect::Absent)
+}
+
+// What becomes of those of a part that makes the same rows of the same, where those below it are given.
+fn over_one(below: Effect) -> Effect
+    ensures { (e : Entity) (p q : Plan) → (IsUnchanged e p → IsUnchanged e q) → IsEffect below e p → IsEffect result e q }
+{
+    if is_kept(below) {
+        Effect::Unchanged
+    } else {
+        Effect::Changed
+    }
+}
+
+// What becomes of those of the nodes.
+fn of_nodes(entity: &Entity<'_>) -> Effect
+    ensures { IsEffect result entity.now plan.nodes }
+{
+    if makes_no_node(*entity) {
+        Effect::Absent
+    } else if keeps_node(*entity) {
+        Effect::Unchanged
+    } else {
+        Effect::Changed
+    }
+}
+
+// What becomes of those of the relationships of some types.
+fn of_rels(types: &[Text], entity: &Entity<'_>) -> Effect
+    ensures { (orientation : Orientation) → IsEffect result entity.now (plan.rels types.now orientation) }
+{
+    if makes_no_rel(*entity, types) {
+        Effect::Absent
+    } else if keeps_rel(*entity) {
+        Effect::Unchanged
+    } else {
+        Effect::Changed
+    }
+}
+
+// What becomes of those of a look-up.
+fn over_lookup(below: Effect, column: usize, attribute: &Attribute, entity: &Entity<'_>) -> Effect
+    ensures { (p : Plan) → IsEffect below entity.now p → IsEffect result entity.now (plan.lookup p column attribute.now) }
+{
+    if column == 0 && is_absent(below) {
+        return Effect::Absent;
+    }
+    if is_kept(below) && has_same(*entity, attribute) {
+        return Effect::Unchanged;
+    }
+    Effect::Changed
+}
+
+// What becomes of those of a filter over a part.
+fn over_filter(effect: Effect, below: &Operator, test: &Expr, entity: &Entity<'_>) -> Effect
+    ensures { IsEffect effect entity.now (plan_of below.now) → IsEffect result entity.now (plan.filter (plan_of below.now) (expression_of test.now)) }
+{
+    if is_kept(effect) {
+        return effect;
+    }
+    if is_left_out(below, test, *entity) {
+        return Effect::Absent;
+    }
+    Effect::Changed
+}
+
+// What becomes of those of a projection.
+fn over_projection(below: Effect, part: &Operator) -> Effect
+    ensures { (e : Entity) (p : Plan) (outputs : List Output) → plan_of part.now ≡ plan.project p outputs → IsEffect below e p → IsEffect result e (plan.project p outputs) }
+{
+    if is_absent(below) && keeps_first(part) {
+        return Effect::Absent;
+    }
+    over_one(below)
+}
+
+// Whether the first column below a part names its entities in the first column of its own.
+fn keeps_first(part: &Operator) -> bool
+    ensures { result ≡ true → scans.column_over (plan_of part.now) (Some 0) ≡ Some 0 }
+{
+    match column_over(part, Some(0)) {
+        Some(column) => column == 0,
+        None => false,
     }
 }
 

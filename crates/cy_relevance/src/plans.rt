@@ -58,7 +58,7 @@ fn changes_by_nodes<'a>(part: &Operator, change: &GraphChange<'a>, sight: &mut S
 {
     for (number, was) in change.nodes() {
         let now = sight.node(NodeId(*number));
-        if !is_unchanged(part, Entity::Node(*was, now), true) {
+        if !is_unchanged(part, &Entity::Node(*was, now)) {
             return true;
         }
     }
@@ -73,7 +73,7 @@ fn changes_by_rels<'a>(part: &Operator, change: &GraphChange<'a>, sight: &mut Si
 {
     for (number, was) in change.rels() {
         let now = sight.rel(RelId(*number));
-        if !is_unchanged(part, Entity::Rel(*was, now), true) {
+        if !is_unchanged(part, &Entity::Rel(*was, now)) {
             return true;
         }
     }

@@ -1,12 +1,14 @@
 -- A projection that keeps all columns of the rows below it makes different rows of different ones.
 use Rattle.std.proofs.Common.{◌≡◌, ℕ, ◌+◌, ◌<◌, ◌||◌, Bool, true, false, Option, Some, None, List, [], ◌∷◌, length, get_or, refl, sym, ap, subst, ◌∙◌, arith, true≢false}
-use Rattle.std.specs.Prelude.{is_some}
+use Rattle.std.specs.Prelude.{IfSome, is_some}
 use Rattle.std.specs.List.{list_all}
 use Rattle.std.proofs.lemmas.List.{ext_get_or, length-map}
 use Rattle.std.proofs.lemmas.List.Folds.{list_all_at}
 use Rattle.std.proofs.lemmas.List.FromFn.{get_or-range_with_len, length-range_with_len}
 use Rattle.cy_values.specs.declared.rows.Cell.{Cell}
-use Rattle.cy_merges.specs.Merges.{IsOneToOne, all_columns}
+use Rattle.cy_apart.specs.Trails as trails
+use Rattle.cy_apart.specs.Trails.{tells_apart}
+use Rattle.cy_merges.specs.Merges.{IsOneToOne, IsOneToOneOn, all_columns}
 use Rattle.cy_plans.specs.Expressions.{cell_at, null, projected}
 use Rattle.cy_plans.specs.Plans as plan
 use Rattle.cy_plans.specs.Plans.{Output, Plan, width}
@@ -14,12 +16,13 @@ use Rattle.cy_deltas.specs.declared.shifts.Shift.{Shift}
 use Rattle.cy_deltas.specs.Deltas.{AreWide, IsBounded, IsDelta, counts, rows_at}
 use Rattle.std.specs.List.{All}
 use Rattle.std.proofs.Common.{map}
-use Rattle.cy_graph.specs.Graph.{State}
+use Rattle.cy_graph.specs.Graph.{IsGraph, State}
 use Rattle.cy_deltas.proofs.PlanLemmas.{parts_wide, project_at}
 use Rattle.cy_scans.specs.Changes.{Touches}
 use Rattle.cy_scans.specs.Scans.{kept_at}
 use Rattle.cy_network.proofs.ScanFacts.{kept_cell}
-use Rattle.cy_network.specs.Memories.{is_row_by_row, is_scan, keeps_all, none_where, own_contents, own_keys}
+use Rattle.cy_network.proofs.Steps.{old_graph}
+use Rattle.cy_network.specs.Memories.{is_row_by_row, is_scan, keeps_all, own_contents, own_keys, tells_rows, none_where}
 use Rattle.cy_network.specs.internal.Parts.{first_below}
 use Rattle.cy_network.specs.internal.Upkeep.{IsDeltaOf, IsStep, content_of}
 
@@ -61,15 +64,38 @@ rearranged old now touches p outputs shifts made all leads bounds step part = re
   bounded = bounds part.bounded;
 }
 
+-- ---- trails that are told apart
+
+-- on the graph of a change, if there is one
+told_at : (old : Option State) → IfSome old IsGraph → (p : Plan) (outputs : List Output) → trails.IsOneToOne p outputs → IsOneToOneOn (rows_at (content_of old) p) outputs
+told_at None is p outputs one = λ row other here there same. absurd (omega (arith, here))
+told_at (Some s) is p outputs one = one s is
+
+pub gathered : (old : Option State) (now : State) (touches : Touches) (p : Plan) (outputs : List Output) (shifts made : List Shift) → trails.IsOneToOne p outputs
+    → ((before after : List (List Cell)) → IsOneToOneOn before outputs → IsOneToOneOn after outputs → IsDelta (counts before) (counts after) shifts
+    → IsDelta (counts (map (projected outputs) before)) (counts (map (projected outputs) after)) made)
+    → (All IsBounded shifts → All IsBounded made) → IsStep old now touches (plan.project p outputs) → IsDeltaOf old now p shifts → IsDeltaOf old now (plan.project p outputs) made
+gathered old now touches p outputs shifts made one leads bounds step part = record {
+  delta =
+      subst (λ rows. IsDelta (counts rows) (counts (rows_at (Some now.content) (plan.project p outputs))) made) (sym (project_at (content_of old) p outputs))
+      (leads (rows_at (content_of old) p) (rows_at (Some now.content) p) (told_at old (old_graph old now touches step.change) p outputs one) (one now step.change.graph_now) part.delta);
+  bounded = bounds part.bounded;
+}
+
+-- one that doesn't tell trails apart keeps all columns
+pub other_told : (p : Plan) (outputs : List Output) → tells_rows p outputs ≡ true → tells_apart p outputs ≡ false → keeps_all (width p) outputs ≡ true
+other_told p outputs tells other = by (keeps_all (width p) outputs) (tells_apart p outputs) tells other
+  where
+    by : (a b : Bool) → (a || b) ≡ true → b ≡ false → a ≡ true
+    by true b either other = refl
+    by false b either other = absurd (true≢false (sym either ∙ other))
+
 -- ---- whether it is gone through row by row
 
--- what the code finds is whether all columns are kept
-module _ (p below : Plan) (outputs : List Output) (is : p ≡ plan.project below outputs) (number : ℕ) (wide : number ≡ width below) (unscanned : is_scan p ≡ false) (found : Bool)
-    (kept : found ≡ keeps_all number outputs) where
+-- what the code finds is whether it tells the rows apart
+module _ (p below : Plan) (outputs : List Output) (is : p ≡ plan.project below outputs) (unscanned : is_scan p ≡ false) (found : Bool) (told : found ≡ tells_rows below outputs) where
   pub row_by_row_is : is_row_by_row below outputs ≡ found
-  row_by_row_is =
-      ap (λ q. is_scan q || keeps_all (width below) outputs) (sym is) ∙ ap (λ so. so || keeps_all (width below) outputs) unscanned
-      ∙ sym (kept ∙ ap (λ n. keeps_all n outputs) wide)
+  row_by_row_is = ap (λ q. is_scan q || tells_rows below outputs) (sym is) ∙ ap (λ so. so || tells_rows below outputs) unscanned ∙ sym told
 
   pub keys_are : own_keys p ≡ none_where found (all_columns (length outputs) ∷ [])
   keys_are = ap own_keys is ∙ ap (λ so. none_where so (all_columns (length outputs) ∷ [])) row_by_row_is
@@ -87,7 +113,7 @@ pub some_unless : {A : Type 0} (so : Bool) (x : A) → 0 < length (none_where so
 some_unless true x some = absurd (omega (arith, some))
 some_unless false x some = refl
 
--- a projection without memory that is no scan keeps all columns, and one with a memory isn't gone through row by row
+-- a projection without memory that is no scan tells the rows apart, and one with a memory isn't gone through row by row
 module _ {M : Type 0} (key_columns : M → List ℕ) (own : List M) (p : Plan) (outputs : List Output) (is : p ≡ plan.project (first_below p) outputs) (keyed : map key_columns own ≡ own_keys p) where
   long : length own ≡ length (none_where (is_row_by_row (first_below p) outputs) (all_columns (length outputs) ∷ []))
   long = sym (length-map own key_columns) ∙ ap length keyed ∙ ap (λ q. length (own_keys q)) is
@@ -96,12 +122,12 @@ module _ {M : Type 0} (key_columns : M → List ℕ) (own : List M) (p : Plan) (
   with_memory some = some_unless (is_row_by_row (first_below p) outputs) (all_columns (length outputs)) (subst (λ n. 0 < n) long some)
 
   module _ (unscanned : is_scan p ≡ false) (none : length own ≡ 0) where
-    pub without_memory : keeps_all (width (first_below p)) outputs ≡ true
+    pub without_memory : tells_rows (first_below p) outputs ≡ true
     without_memory =
-        sym (row_by_row_is p (first_below p) outputs is (width (first_below p)) refl unscanned (keeps_all (width (first_below p)) outputs) refl)
+        sym (row_by_row_is p (first_below p) outputs is unscanned (tells_rows (first_below p) outputs) refl)
         ∙ none_unless (is_row_by_row (first_below p) outputs) (all_columns (length outputs)) (sym long ∙ none)
 
     pub without_contents : (rows : Plan → List (List Cell)) → own_contents rows p ≡ []
     without_contents rows =
-        contents_are p (first_below p) outputs is (width (first_below p)) refl unscanned (keeps_all (width (first_below p)) outputs) refl rows
+        contents_are p (first_below p) outputs is unscanned (tells_rows (first_below p) outputs) refl rows
         ∙ ap (λ so. none_where so (counts (rows p) ∷ [])) without_memory

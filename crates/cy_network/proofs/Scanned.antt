@@ -18,7 +18,7 @@ use Rattle.cy_deltas.proofs.PlanLemmas.{different_at, filter_at, lookup_at, node
 use Rattle.cy_scans.specs.Changes.{Touches}
 use Rattle.cy_scans.specs.Scans.{IsScan, column_over, if_this, kept, scan_column, scan_parts, scan_reads}
 use Rattle.cy_network.proofs.ScanFacts.{scan_few}
-use Rattle.cy_network.specs.Memories.{AreWithin, contents, is_scan, keeps_all, keys, none_where, own_contents, own_keys}
+use Rattle.cy_network.specs.Memories.{AreWithin, contents, is_scan, keys, own_contents, own_keys, tells_rows, none_where}
 use Rattle.cy_network.specs.internal.Parts.{below_count, chain, first_below}
 use Rattle.cy_network.specs.internal.Upkeep.{IsBegun, IsDeltaOf, IsDone, IsStep, all_reads, content_of, state_of}
 use Rattle.cy_network.proofs.Steps.{done_leaf, old_content}
@@ -148,7 +148,7 @@ scan_own_keys (plan.outer left right ks test) is = none_scan is
 scan_own_keys (plan.lookup p column attribute) is = ap (λ so. none_where so ((column ∷ []) ∷ [])) is
 scan_own_keys (plan.filter p test) is = refl
 scan_own_keys (plan.all_different p columns) is = refl
-scan_own_keys (plan.project p outputs) is = ap (λ so. none_where (so || keeps_all (width p) outputs) (all_columns (length outputs) ∷ [])) is
+scan_own_keys (plan.project p outputs) is = ap (λ so. none_where (so || tells_rows p outputs) (all_columns (length outputs) ∷ [])) is
 scan_own_keys (plan.distinct p) is = refl
 scan_own_keys (plan.union left right) is = none_scan is
 
@@ -161,7 +161,7 @@ scan_own_contents rows (plan.outer left right ks test) is = none_scan is
 scan_own_contents rows (plan.lookup p column attribute) is = ap (λ so. none_where so (counts (rows p) ∷ [])) is
 scan_own_contents rows (plan.filter p test) is = refl
 scan_own_contents rows (plan.all_different p columns) is = refl
-scan_own_contents rows (plan.project p outputs) is = ap (λ so. none_where (so || keeps_all (width p) outputs) (counts (rows (plan.project p outputs)) ∷ [])) is
+scan_own_contents rows (plan.project p outputs) is = ap (λ so. none_where (so || tells_rows p outputs) (counts (rows (plan.project p outputs)) ∷ [])) is
 scan_own_contents rows (plan.distinct p) is = refl
 scan_own_contents rows (plan.union left right) is = none_scan is
 

@@ -8,6 +8,7 @@ use Rattle.cy_plans.specs.Plans as plan
 use Rattle.cy_plans.specs.Plans.{Output, Plan, width}
 use Rattle.cy_plans.specs.Parts.{parts}
 use Rattle.cy_apart.specs.Lists.{are_apart}
+use Rattle.cy_apart.specs.Trails.{tells_apart}
 use Rattle.cy_deltas.specs.Deltas.{counts, rows_at}
 use Rattle.cy_merges.specs.Merges.{AreBounded, all_columns}
 use Rattle.cy_scans.specs.Scans.{kept_at, scan_column}
@@ -21,9 +22,13 @@ is_scan p = is_some (scan_column p)
 abbrev pub keeps_all : ℕ → List Output → Bool
 keeps_all number outputs = list_all (λ column. is_some (kept_at column outputs)) (all_columns number)
 
--- a projection is a scan, or makes different rows of different ones, since it keeps all columns of the rows below it
+-- a projection makes different rows of different ones, since it keeps all columns of the rows below it, or tells trails apart
+abbrev pub tells_rows : Plan → List Output → Bool
+tells_rows p outputs = keeps_all (width p) outputs || tells_apart p outputs
+
+-- it does, or is a scan
 abbrev pub is_row_by_row : Plan → List Output → Bool
-is_row_by_row p outputs = is_scan (plan.project p outputs) || keeps_all (width p) outputs
+is_row_by_row p outputs = is_scan (plan.project p outputs) || tells_rows p outputs
 
 -- some things, but none where this is so
 abbrev pub none_where : {X : Type 0} → Bool → List X → List X

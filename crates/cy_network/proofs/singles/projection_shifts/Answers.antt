@@ -9,8 +9,8 @@ use Rattle.cy_network.proofs.Lent.{no_length, some_length}
 use Rattle.cy_network.proofs.RowByRow.{with_memory, without_contents, without_memory}
 use Rattle.cy_network.proofs.singles.projection_shifts.Goals as goal
 
-pub rearranged_shifts-requires-clause-all : goal.rearranged_shifts-requires-clause-all
-rearranged_shifts-requires-clause-all g c =
+pub row_by_row_shifts-requires-clause-told : goal.row_by_row_shifts-requires-clause-told
+row_by_row_shifts-requires-clause-told g c =
     without_memory g.M.Memory.key_columns c.args.own.now (plan_of c.args.part.now) (map output_of c.args.outputs.now) c.requires.is c.requires.begun.1.own.keyed c.requires.unscanned
     (no_length (length c.args.own.now) (sym c.is_empty.ensures ∙ c.if-is_empty.true))
 
@@ -26,6 +26,6 @@ returns-then-is_empty-clause-done g c old fed =
     without_contents g.M.Memory.key_columns c.args.own.now p (map output_of c.args.outputs.now) c.requires.is c.requires.begun.1.own.keyed c.requires.unscanned
     (no_length (length c.args.own.now) (sym c.is_empty.ensures ∙ c.if-is_empty.true)) in
     record {
-      change = c.in_ok-rearranged_shifts.ensures old c.args.sight.now.graph.now c.args.change.now fed.step fed.below;
+      change = c.in_ok-row_by_row_shifts.ensures old c.args.sight.now.graph.now c.args.change.now fed.step fed.below;
       holds = fed.own.settled ∙ none (rows_at (content_of old)) ∙ sym (none (rows_at (Some c.args.sight.now.graph.now.content)));
     }

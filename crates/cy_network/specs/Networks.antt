@@ -1,5 +1,5 @@
 -- What a network stands for. Its rows are those of a plan on a graph; a change of the graph is prepared, and then settled or abandoned. (own)
-use Rattle.std.specs.Prelude.{◌≡◌, ℕ, ◌<◌, ◌≤◌, List, [], Option, Some, None, length, map, sum_by}
+use Rattle.std.specs.Prelude.{◌≡◌, ℕ, ◌<◌, ◌≤◌, Bool, true, List, [], Option, Some, None, is_none, length, map, sum_by}
 use Rattle.std.specs.List.{Any}
 use Rattle.std.specs.declared.alloc.Global.{Global}
 use Rattle.std.specs.declared.vec.Vec.{Vec}
@@ -23,7 +23,8 @@ use Rattle.cy_network.specs.Memories.{AreHeld}
 
 -- A network: its plan; of its memories the key columns, how often each row counts as it was and as it is staged, and how many steps they took
 -- since they were made; the rows that count, and how many there is room for beside them; the counts that are written over these when the change
--- that is prepared is settled, and what it changes, if one is prepared; and the steps of the last one.
+-- that is prepared is settled, and whether it leaves them and the memories as they are; what it changes, if one is prepared; and the steps of the last
+-- one.
 pub record NetworkState : Type 0 where
   pub plan : Plan
   pub columns : List (List ℕ)
@@ -33,6 +34,7 @@ pub record NetworkState : Type 0 where
   pub rows : List (List Cell × ℕ)
   pub room : ℕ
   pub next : List (List Cell × ℕ)
+  pub unmoved : Bool
   pub pending : Option Change
   pub steps : ℕ
 
@@ -52,6 +54,7 @@ state_of key_columns was staged step_count n = record {
   rows = n.rows.entries;
   room = spare n.rows;
   next = next_counts n.next;
+  unmoved = is_none n.next;
   pending = n.pending;
   steps = n.steps;
 }
@@ -87,6 +90,7 @@ pub record IsPrepared (before after : Content) (n : NetworkState) : Type 0 where
   pub positive : ArePositive n.rows
   pub next : written n.next (counted n.rows) ≡ counts (rows_of after n.plan)
   pub fits : length n.next ≤ n.room
+  pub unmoved : n.unmoved ≡ true → n.staged ≡ n.was
   pub change : Change
   pub pending : n.pending ≡ Some change
   pub difference : IsDifference (rows_of before n.plan) (rows_of after n.plan) change

@@ -15,8 +15,8 @@ use cy_values::{Duplicate, Fault, Row, Sequence};
 use indexmap::IndexMap;
 use std::alloc::Global;
 
-// No row goes, and none comes.
-fn nothing(alloc: Global) -> Change
+/// No row goes, and none comes.
+pub(crate) fn nothing(alloc: Global) -> Change
     ensures removed { result.removed ≡ [] }
     ensures added { result.added ≡ [] }
 {

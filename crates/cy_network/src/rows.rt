@@ -7,7 +7,6 @@ ghost use Rattle.cy_values.specs.declared.rows.Cell.{Cell};
 ghost use Rattle.cy_values.specs.Bag.{IsCanonical, weight_of};
 ghost use Rattle.cy_memory.specs.Counts.{is_row, with_count};
 ghost use Rattle.cy_network.specs.Counted.{ArePositive, counted, written};
-ghost use Rattle.cy_network.specs.Networks.{next_counts};
 ghost use Rattle.cy_network.specs.internal.Roots.{AreOnce};
 
 use cy_memory::rows_equal;
@@ -24,18 +23,6 @@ pub(crate) fn write_counts(rows: &mut IndexMap<Row, u64>, next: Vec<(Row, u64)>)
 {
     for (row, count) in next {
         write_count(rows, row, count);
-    }
-}
-
-/// Writes the counts that a prepared change leaves, if one is prepared, over those of the rows. There is room for them.
-pub(crate) fn write_next(rows: &mut IndexMap<Row, u64>, next: Option<Vec<(Row, u64)>>)
-    requires room { length (next_counts next) ≤ spare rows.old }
-    requires positive { ArePositive rows.old.entries }
-    ensures counts { counted rows.new.entries ≡ written (next_counts next) (counted rows.old.entries) }
-    ensures positive { ArePositive rows.new.entries }
-{
-    if let Some(next) = next {
-        write_counts(rows, next);
     }
 }
 

@@ -1,9 +1,9 @@
-use Rattle.std.proofs.Common.{◌≡◌, ℕ, ◌+◌, ◌<◌, ◌||◌, Bool, false, List, [], ◌∷◌, ◌++◌, Option, length, map, replicate, take, get_or, refl, sym, ap, subst, ◌∙◌, arith}
+use Rattle.std.proofs.Common.{◌≡◌, ℕ, ◌+◌, ◌<◌, ◌||◌, Bool, false, List, [], ◌∷◌, ◌++◌, Option, length, map, replicate, take, sym, ap, subst, ◌∙◌}
 use Rattle.std.specs.Prelude.{is_some, slice_index_or}
 use Rattle.std.proofs.lemmas.List.{get_or-replicate, length-replicate, map-append, take_all, take_more}
 use Rattle.cy_plans.specs.declared.operators.Output as coded
 use Rattle.cy_plans.specs.Views.{output_of}
-use Rattle.cy_scans.specs.Scans.{is_column, is_this, kept_at}
+use Rattle.cy_scans.specs.Scans.{is_this, kept_at}
 use Rattle.cy_apart.specs.Lists.{column_alone}
 use Rattle.cy_network.proofs.Kept.{alone_is, flags_are, kept_more}
 use Rattle.cy_network.proofs.kept_columns.flags_of.Goals as goal

@@ -1,4 +1,4 @@
-use Rattle.std.proofs.Common.{map, true, sym, subst, ap, ◌∙◌}
+use Rattle.std.proofs.Common.{map, sym, subst, ap, ◌∙◌}
 use Rattle.cy_apart.specs.Trails.{IsOneToOne, tells_apart}
 use Rattle.cy_plans.specs.Plans.{Plan}
 use Rattle.cy_plans.specs.Views.{output_of, plan_of}

@@ -1,5 +1,6 @@
 -- A base with look-ups on it, split.
 use Rattle.std.proofs.Common.{◌≡◌, Global, ℕ, ◌+◌, ◌<◌, ◌≤◌, List, [], Vec, length, map, sym, subst, arith}
+use Rattle.std.specs.Prelude.{None, Option, Some}
 use Rattle.std.specs.Cmp.{IsTotalOrder}
 use Rattle.std.specs.List.{AllByRecursion}
 use Rattle.cy_values.specs.Order.{row_cmp}
@@ -24,7 +25,7 @@ use Rattle.cy_rewriting.specs.declared.splits.Joint.TheVariants as joint
 use Rattle.cy_rewriting.specs.declared.splits.Side.{Side}
 use Rattle.cy_rewriting.specs.declared.splits.Split.{Split}
 use Rattle.cy_rewriting.specs.declared.splits.Split.TheVariants as split
-use Rattle.cy_rewriting.specs.internal.Layers.{layered}
+use Rattle.cy_rewriting.specs.internal.Layers.{layered, over_outputs}
 use Rattle.cy_rewriting.specs.internal.Lowered.{CanBeSplit, both_columns, joined_columns, lefts, rights}
 use Rattle.cy_rewriting.specs.internal.Splits.{AreLessDeep, AreSides, HasParts, side_plan, together}
 use Rattle.cy_rewriting.specs.Rewritten.{IsRewritten}
@@ -74,7 +75,7 @@ module _ (total : IsTotalOrder row_cmp) (left right : Operator) (ws : List Wante
   abbrev b : Plan
   b = plan_of right
 
-  pub join_sides : IsWellFormed (over (plan.join a b keys.items) ws) → AreSides (plan.join a b keys.items) ws (joint.Join keys outputs) l r
+  pub join_sides : IsWellFormed (over (plan.join a b keys.items) ws) → AreSides (plan.join a b keys.items) ws (joint.Join keys (Some outputs)) l r
   join_sides well = record {
     left = good_left;
     right = good_right;
@@ -85,7 +86,7 @@ module _ (total : IsTotalOrder row_cmp) (left right : Operator) (ws : List Wante
         (subst (λ (vs : List Wanted). IsRewritten whole (plan.project (plan.join (side_plan l) (over b vs) keys.items) (map column_output (joined_columns (width a) (width b) ws)))) (sym is_right)
         (subst (λ (us : List Wanted). IsRewritten whole (plan.project (plan.join (over a us) (over b (rights (width a) ws)) keys.items) (map column_output (joined_columns (width a) (width b) ws)))) (sym is_left)
         (on_join total a b ws keys.items inside well))) in
-        rewritten_again whole (plan.project (plan.join (side_plan l) (side_plan r) keys.items) (map output_of outputs.items)) (together (joint.Join keys outputs) p q) put
+        rewritten_again whole (plan.project (plan.join (side_plan l) (side_plan r) keys.items) (map output_of outputs.items)) (together (joint.Join keys (Some outputs)) p q) put
         (over_project (plan.join (side_plan l) (side_plan r) keys.items) (plan.join p q keys.items) (over_join (side_plan l) (side_plan r) p q first second keys.items) (map output_of outputs.items));
   }
 
@@ -93,7 +94,7 @@ module _ (total : IsTotalOrder row_cmp) (left right : Operator) (ws : List Wante
     abbrev t : Expression
     t = expression_of test
 
-    pub outer_sides : IsWellFormed (over (plan.outer a b keys.items t) ws) → AreSides (plan.outer a b keys.items t) ws (joint.Outer keys moved outputs) l r
+    pub outer_sides : IsWellFormed (over (plan.outer a b keys.items t) ws) → AreSides (plan.outer a b keys.items t) ws (joint.Outer keys moved (Some outputs)) l r
     outer_sides well = record {
       left = good_left;
       right = good_right;
@@ -107,23 +108,51 @@ module _ (total : IsTotalOrder row_cmp) (left right : Operator) (ws : List Wante
           (subst (λ (us : List Wanted). IsRewritten whole
           (plan.project (plan.outer (over a us) (over b (rights (width a) ws)) keys.items (renumbered (both_columns (width a) (width b) (length (lefts (width a) ws))) t)) (map column_output (joined_columns (width a) (width b) ws)))) (sym is_left)
           (on_outer total a b ws keys.items inside t well)))) in
-          rewritten_again whole (plan.project (plan.outer (side_plan l) (side_plan r) keys.items (expression_of moved)) (map output_of outputs.items)) (together (joint.Outer keys moved outputs) p q) put
+          rewritten_again whole (plan.project (plan.outer (side_plan l) (side_plan r) keys.items (expression_of moved)) (map output_of outputs.items)) (together (joint.Outer keys moved (Some outputs)) p q) put
           (over_project (plan.outer (side_plan l) (side_plan r) keys.items (expression_of moved)) (plan.outer p q keys.items (expression_of moved))
           (over_outer (side_plan l) (side_plan r) p q first second keys.items (expression_of moved)) (map output_of outputs.items));
     }
 
--- the sides of a union
-pub union_sides : (left right : Operator) (ws none nothing : Vec Wanted Global) → none.items ≡ [] → nothing.items ≡ [] → IsWellFormed (over (plan.union (plan_of left) (plan_of right)) ws.items)
-    → AreSides (plan.union (plan_of left) (plan_of right)) ws.items (joint.Union ws) (record { part = left; lookups = none }) (record { part = right; lookups = nothing })
-union_sides left right ws none nothing no_left no_right well =
-    let good = well_looked_up ws.items (plan.union (plan_of left) (plan_of right)) well in
-    record {
-      left = subst (λ (us : List Wanted). IsWellFormed (over (plan_of left) us)) (sym no_left) good.0;
-      right = subst (λ (us : List Wanted). IsWellFormed (over (plan_of right) us)) (sym no_right) good.1;
-      whole = λ p q first second.
-          looked_up_alike ws.items (plan.union (plan_of left) (plan_of right)) (plan.union p q)
-          (over_union (plan_of left) (plan_of right) p q (subst (λ (us : List Wanted). IsRewritten (over (plan_of left) us) p) no_left first) (subst (λ (us : List Wanted). IsRewritten (over (plan_of right) us) q) no_right second));
-    }
+-- sides without look-ups: of a join, of an outer join, and of a union
+module _ (left right : Operator) (l r : Side) (is_left : l.part ≡ left) (is_right : r.part ≡ right) (no_left : l.lookups.items ≡ []) (no_right : r.lookups.items ≡ []) where
+  left_plan : side_plan l ≡ plan_of left
+  left_plan = λ i. over (plan_of (is_left i)) (no_left i)
+
+  right_plan : side_plan r ≡ plan_of right
+  right_plan = λ i. over (plan_of (is_right i)) (no_right i)
+
+  pub bare_join_sides : (keys : Vec KeyColumns Global) → IsWellFormed (plan.join (plan_of left) (plan_of right) keys.items) → AreSides (plan.join (plan_of left) (plan_of right) keys.items) [] (joint.Join keys None) l r
+  bare_join_sides keys well = record {
+    left = subst IsWellFormed (sym left_plan) well.0;
+    right = subst IsWellFormed (sym right_plan) well.1;
+    whole = λ p q first second.
+        over_join (plan_of left) (plan_of right) p q (subst (λ (s : Plan). IsRewritten s p) left_plan first) (subst (λ (s : Plan). IsRewritten s q) right_plan second) keys.items;
+  }
+
+  pub bare_outer_sides : (keys : Vec KeyColumns Global) (test : Expr) → IsWellFormed (plan.outer (plan_of left) (plan_of right) keys.items (expression_of test))
+      → AreSides (plan.outer (plan_of left) (plan_of right) keys.items (expression_of test)) [] (joint.Outer keys test None) l r
+  bare_outer_sides keys test well = record {
+    left = subst IsWellFormed (sym left_plan) well.0;
+    right = subst IsWellFormed (sym right_plan) well.1;
+    whole = λ p q first second.
+        over_outer (plan_of left) (plan_of right) p q (subst (λ (s : Plan). IsRewritten s p) left_plan first) (subst (λ (s : Plan). IsRewritten s q) right_plan second) keys.items (expression_of test);
+  }
+
+  pub union_sides : (ws : Vec Wanted Global) → IsWellFormed (over (plan.union (plan_of left) (plan_of right)) ws.items) → AreSides (plan.union (plan_of left) (plan_of right)) ws.items (joint.Union ws) l r
+  union_sides ws well =
+      let good = well_looked_up ws.items (plan.union (plan_of left) (plan_of right)) well in
+      record {
+        left = subst IsWellFormed (sym left_plan) good.0;
+        right = subst IsWellFormed (sym right_plan) good.1;
+        whole = λ p q first second.
+            looked_up_alike ws.items (plan.union (plan_of left) (plan_of right)) (plan.union p q)
+            (over_union (plan_of left) (plan_of right) p q (subst (λ (s : Plan). IsRewritten s p) left_plan first) (subst (λ (s : Plan). IsRewritten s q) right_plan second));
+      }
+
+-- what a join stands below is well formed, if what stands there is
+pub well_joined : (outputs : Option (Vec Output Global)) (p : Plan) → IsWellFormed (over_outputs outputs p) → IsWellFormed p
+well_joined None p well = well
+well_joined (Some outputs) p well = well.0
 
 -- layers over plans that can stand in place of the sides, together
 pub over_sides : (orig base p q : Plan) (ls : List Layer) (ws : List Wanted) (j : Joint) (l r : Side) → IsRewritten orig (layered ls (over base ws)) → AreSides base ws j l r → IsRewritten (side_plan l) p → IsRewritten (side_plan r) q

@@ -61,6 +61,12 @@ stays ls all others l ts us p is none place well =
     subst (λ (ws : List Wanted). IsRewritten (stacked ls ts (over_layer l p)) (stacked others ws p)) (sym none)
     (subst (λ (q : Plan). IsRewritten q (layered others p)) whole (place (subst IsWellFormed (sym whole) well)))
 
+-- where there are none
+pub without_lookups : (ls others : List Layer) (l : Layer) (ts : List Wanted) (p : Plan) → ts ≡ [] → AreInPlace (ls ++ l ∷ []) others p p → GoesOn ls ts (over_layer l p) others ts p
+without_lookups ls others l ts p none place =
+    subst (λ (ws : List Wanted). GoesOn ls ws (over_layer l p) others ws p) (sym none)
+    (λ well. subst (λ (q : Plan). IsRewritten q (layered others p)) (layers_over ls (l ∷ []) p) (place (subst IsWellFormed (sym (layers_over ls (l ∷ []) p)) well)))
+
 map_reversed : {A B : Type 0} (f : A → B) (xs : List A) → map f (reverse xs) ≡ reverse (map f xs)
 map_reversed f [] = refl
 map_reversed f (x ∷ xs) =

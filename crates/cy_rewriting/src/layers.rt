@@ -160,6 +160,14 @@ fn add_columns(
     }
 }
 
+/// Whether a projection below all can go up over the lowest layer, or be one with it.
+fn lets_up(layers: &[Layer]) -> bool {
+    matches!(
+        layers.last(),
+        Some(Layer::Project(_) | Layer::Filter(_) | Layer::AllDifferent(_))
+    )
+}
+
 /// Puts a projection below all, or what can stand in its place.
 pub(crate) fn add_projection(
     alloc: Global,
@@ -168,6 +176,9 @@ pub(crate) fn add_projection(
 ) -> Result<(), Fault>
     ensures { OnOk result ((p : Plan) → spec.AreInPlace (layers.old.items ++ layer.Project outputs ∷ []) layers.new.items p p) }
 {
+    if !lets_up(layers.as_slice()) {
+        return push(layers, Layer::Project(outputs));
+    }
     match columns_of(alloc, outputs.as_slice())? {
         Some(columns) => add_columns(alloc, layers, outputs, columns.as_slice(), MOST_PASSED),
         None => push(layers, Layer::Project(outputs)),
@@ -208,6 +219,9 @@ fn put_projection(
     requires { IsWellFormed (plan_of below.now) }
     ensures { OnOk result (spec.GoesOn layers.old.items pending.old.items (spec.over_layer (layer.Project outputs) (plan_of below.now)) layers.new.items pending.new.items (plan_of below.now)) }
 {
+    if pending.is_empty() {
+        return add_projection(alloc, layers, outputs);
+    }
     let width = below.width();
     match below_projection(alloc, outputs.as_slice(), pending.as_slice(), width)? {
         Some(moved) => {
@@ -295,7 +309,7 @@ fn with_base(layers: Vec<Layer>, pending: Vec<Wanted>, base: Operator) -> Result
 {
     let mut layers = layers;
     let mut lookups = pending;
-    if are_inside(lookups.as_slice(), base.width()) {
+    if are_inside(lookups.as_slice(), &base) {
         lookups.reverse();
         Ok(Layers {
             layers,

@@ -20,7 +20,7 @@ fn projected(alloc: Global, below: Plan, outputs: Vec<Output>) -> Result<Plan, F
     requires { IsWellFormed (plan.project (plan_of below) (map output_of outputs.items)) }
     ensures { IfOk result (λ p. IsRewritten (plan.project (plan_of below) (map output_of outputs.items)) (plan_of p)) }
 {
-    if are_first_columns(outputs.as_slice()) && below.width() == outputs.len() {
+    if below.width() == outputs.len() && are_first_columns(outputs.as_slice()) {
         Ok(below)
     } else {
         below.project(alloc, outputs)
@@ -71,8 +71,24 @@ pub(crate) fn over_lookups(
     layered(alloc, base, layers)
 }
 
+/// Layers over a plan, or over a projection of it, if there is one.
+pub(crate) fn over_outputs(
+    alloc: Global,
+    base: Plan,
+    outputs: Option<Vec<Output>>,
+    layers: Vec<Layer>,
+) -> Result<Plan, Fault>
+    requires { IsWellFormed (spec.layered layers.items (spec.over_outputs outputs (plan_of base))) }
+    ensures { IfOk result (λ p. IsRewritten (spec.layered layers.items (spec.over_outputs outputs (plan_of base))) (plan_of p)) }
+{
+    match outputs {
+        Some(outputs) => over_projection(alloc, base, outputs, layers),
+        None => layered(alloc, base, layers),
+    }
+}
+
 /// Layers over a projection of a plan.
-pub(crate) fn over_projection(
+fn over_projection(
     alloc: Global,
     base: Plan,
     outputs: Vec<Output>,

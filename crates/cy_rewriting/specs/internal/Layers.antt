@@ -1,7 +1,10 @@
 -- The layers of a plan: parts with one part below them. (own)
-use Rattle.std.specs.Prelude.{◌≡◌, ◌<◌, ◌≤◌, List, [], ◌∷◌, map, reverse, ⊤}
+use Rattle.std.specs.Prelude.{◌≡◌, ◌<◌, ◌≤◌, List, [], ◌∷◌, map, reverse, None, Option, Some, ⊤}
+use Rattle.std.specs.declared.alloc.Global.{Global}
+use Rattle.std.specs.declared.vec.Vec.{Vec}
 use Rattle.cy_trees.specs.Views.{expression_of}
 use Rattle.cy_plans.specs.declared.operators.Operator.{Operator, size-Operator}
+use Rattle.cy_plans.specs.declared.operators.Output.{Output}
 use Rattle.cy_plans.specs.Plans as plan
 use Rattle.cy_plans.specs.Plans.{Plan}
 use Rattle.cy_plans.specs.Views.{output_of, plan_of}
@@ -26,6 +29,11 @@ over_layer layer.Distinct p = plan.distinct p
 abbrev pub layered : List Layer → Plan → Plan
 layered [] p = p
 layered (l ∷ ls) p = over_layer l (layered ls p)
+
+-- a plan, or a projection of it, if there is one
+abbrev pub over_outputs : Option (Vec Output Global) → Plan → Plan
+over_outputs None p = p
+over_outputs (Some outputs) p = plan.project p (map output_of outputs.items)
 
 -- a part with two parts below it, or none
 abbrev pub IsBase : Plan → Type 0

@@ -1,13 +1,14 @@
 -- A base with look-ups on it, split into its two parts with look-ups on them. (own)
-use Rattle.std.specs.Prelude.{◌≡◌, ℕ, ◌<◌, List, map, ⊤}
+use Rattle.std.specs.Prelude.{◌≡◌, ℕ, ◌<◌, List, ⊤}
 use Rattle.cy_trees.specs.Views.{expression_of}
 use Rattle.cy_plans.specs.declared.operators.Operator.{Operator, size-Operator}
 use Rattle.cy_plans.specs.Plans as plan
 use Rattle.cy_plans.specs.Plans.{Plan}
-use Rattle.cy_plans.specs.Views.{output_of, plan_of}
+use Rattle.cy_plans.specs.Views.{plan_of}
 use Rattle.cy_plans.specs.WellFormed.{IsWellFormed}
 use Rattle.cy_lowering.specs.declared.places.Wanted.{Wanted}
 use Rattle.cy_row_plans.specs.internal.Lookups.{over}
+use Rattle.cy_rewriting.specs.internal.Layers.{over_outputs}
 use Rattle.cy_rewriting.specs.Rewritten.{IsRewritten}
 use Rattle.cy_rewriting.specs.declared.splits.Joint.{Joint}
 use Rattle.cy_rewriting.specs.declared.splits.Joint.TheVariants as joint
@@ -17,8 +18,8 @@ use Rattle.cy_rewriting.specs.declared.splits.Split.TheVariants as split
 
 -- two plans together
 abbrev pub together : Joint → Plan → Plan → Plan
-together (joint.Join keys outputs) p q = plan.project (plan.join p q keys.items) (map output_of outputs.items)
-together (joint.Outer keys test outputs) p q = plan.project (plan.outer p q keys.items (expression_of test)) (map output_of outputs.items)
+together (joint.Join keys outputs) p q = over_outputs outputs (plan.join p q keys.items)
+together (joint.Outer keys test outputs) p q = over_outputs outputs (plan.outer p q keys.items (expression_of test))
 together (joint.Union lookups) p q = over (plan.union p q) lookups.items
 
 -- a part with look-ups on it

@@ -10,11 +10,11 @@ use Rattle.cy_rewriting.proofs.Congruent.{equal_plans}
 use Rattle.cy_rewriting.proofs.Rules.{project_to_all}
 use Rattle.cy_rewriting.proofs.parts.projected.Goals as goal
 
-pub returns-then-width-len : goal.returns-then-width-len
-returns-then-width-len c =
+pub returns-then-are_first_columns : goal.returns-then-are_first_columns
+returns-then-are_first_columns c =
     let wide : width (plan_of c.args.below) ≡ length c.args.outputs.items = first_of (search rules, grind (arith, common_steps)) in
     let first : are_columns_from 0 (map output_of c.args.outputs.items) ≡ true = first_of (search rules, grind (arith, common_steps)) in
     project_to_all (plan_of c.args.below) (map output_of c.args.outputs.items) c.width.ensures.well_formed first (wide ∙ sym (length-map c.args.outputs.items output_of))
 
-pub returns-else-are_first_columns : goal.returns-else-are_first_columns
-returns-else-are_first_columns c = IfOk-weaker c.project.result _ _ (λ p is. equal_plans (plan.project (plan_of c.args.below) (map output_of c.args.outputs.items)) (plan_of p) (sym is)) c.project.ensures
+pub returns-else-width-len : goal.returns-else-width-len
+returns-else-width-len c = IfOk-weaker c.project.result _ _ (λ p is. equal_plans (plan.project (plan_of c.args.below) (map output_of c.args.outputs.items)) (plan_of p) (sym is)) c.project.ensures

@@ -12,7 +12,7 @@ use Rattle.cy_rewriting.specs.internal.Redirected.{IsRedirect, redirected}
 use Rattle.cy_rewriting.proofs.Passing.{well_looked_up}
 use Rattle.cy_rewriting.proofs.Redirecting.{AreElsewhere, elsewhere}
 use Rattle.cy_rewriting.proofs.Splitting.{join_sides, join_splits, sides_from}
-use Rattle.cy_rewriting.proofs.splits.split_join.Goals as goal
+use Rattle.cy_rewriting.proofs.splits.split_looked_up_join.Goals as goal
 
 pub redirects-requires-clause-left : goal.redirects-requires-clause-left
 redirects-requires-clause-left c = (well_looked_up c.args.lookups.items (plan.join (plan_of c.args.left) (plan_of c.args.right) c.args.keys.items) c.requires.good).0

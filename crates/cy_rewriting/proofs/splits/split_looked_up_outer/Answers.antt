@@ -9,7 +9,7 @@ use Rattle.cy_rewriting.specs.internal.Lowered.{CanBeSplit, both_columns, lefts}
 use Rattle.cy_rewriting.proofs.Passing.{well_looked_up}
 use Rattle.cy_rewriting.proofs.Sides.{as_many_sides}
 use Rattle.cy_rewriting.proofs.Splitting.{outer_sides, outer_splits}
-use Rattle.cy_rewriting.proofs.splits.split_outer.Goals as goal
+use Rattle.cy_rewriting.proofs.splits.split_looked_up_outer.Goals as goal
 
 pub split_lookups-requires : goal.split_lookups-requires
 split_lookups-requires c =

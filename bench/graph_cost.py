@@ -191,10 +191,11 @@ def keeps_nothing(program):
     return kept <= ROUND_LIMIT
 
 
-def built():
-    with open(f"{CRATE}/stdin") as it:
-        subprocess.run(["rt", "run"], cwd=CRATE, stdin=it, stdout=subprocess.DEVNULL, check=True)
-    found = [f"{at}/{it}" for at, _, files in os.walk(f"{CRATE}/out") for it in files]
+def built(crate=CRATE):
+    """The program of a crate, by its path."""
+    with open(f"{crate}/stdin") as it:
+        subprocess.run(["rt", "run"], cwd=crate, stdin=it, stdout=subprocess.DEVNULL, check=True)
+    found = [f"{at}/{it}" for at, _, files in os.walk(f"{crate}/out") for it in files]
     programs = [it for it in found if os.access(it, os.X_OK) and open(it, "rb").read(4) == b"\x7fELF"]
     return programs[0]
 

@@ -5,8 +5,9 @@ Run it at the top of the repository. It builds the program by `rt run` in crates
 it. There are four views, such as people would have, on graphs of 1,000 and of 100,000 nodes. A view is made when the graph is
 there, and then it is changed by statements. What the same statements take without a view is subtracted, so what is counted is the
 upkeep, with the entry of the view's feed. A statement that concerns no part of a view is counted so too. The script prints both
-counts and their ratio, and the most steps of a statement at both sizes. Then it builds a program over a copy of the crates of
-memories in a temporary folder, which puts rows into a memory, and prints the bytes of a row in each kind. A ratio or a count
+counts and their ratio, and the most steps of a statement at both sizes. Beside these stands what the contract of a network allows the
+first statement at the smaller size, worked out from the plan that crates/cy_plan_tests prints. Then it builds a program over a copy of
+the crates of memories in a temporary folder, which puts rows into a memory, and prints the bytes of a row in each kind. A ratio or a count
 above its limit ends the script with status 1, and so does a line that isn't answered as it should be.
 """
 import json
@@ -17,6 +18,7 @@ import tempfile
 
 import graph_cost
 import lexer_cost
+from plan_bound import Graph, bound
 from session import Session, peak
 
 LIMIT = 1.3
@@ -83,6 +85,13 @@ fn main(rt: HostRuntime) -> io::Result<()> {
     }
 }
 """
+
+# Prints the plans of queries.
+PLANS = "crates/cy_plan_tests"
+# The properties of the graphs, and what shows all nodes and relationships with them.
+KEYS = ("k", "name", "open", "text", "role", "amount")
+NODES = f"MATCH (n) RETURN n, labels(n) AS l, {', '.join(f'n.{key} AS {key}' for key in KEYS)}"
+RELS = f"MATCH (a)-[r]->(b) RETURN r, a, b, type(r) AS t, {', '.join(f'r.{key} AS {key}' for key in KEYS)}"
 
 
 def names(letter, count):
@@ -214,6 +223,32 @@ def most_steps(program, name, size):
     return max(answer["steps"][0][1] for answer in found if "steps" in answer)
 
 
+def graph_of(nodes, rels):
+    """A graph by what `NODES` and `RELS` are answered."""
+    return Graph(
+        {n["node"]: (tuple(labels), dict(zip(KEYS, values))) for n, labels, *values in nodes["rows"]},
+        {r["rel"]: (a["node"], b["node"], of_type, dict(zip(KEYS, values))) for r, a, b, of_type, *values in rels["rows"]},
+    )
+
+
+def plan_of(plans, query):
+    """The text of the plan of a query, which is printed after the query."""
+    printed = subprocess.run([plans], input=query, capture_output=True, check=True, text=True).stdout
+    return printed.removeprefix(f"{query}\n").split("\n\n")[0]
+
+
+def most_steps_allowed(program, plans, name, size):
+    """The bound on the steps of the first statement."""
+    query, make, labels, _, _ = VIEWS[name]
+    made = [line for line, _ in graph(make, labels, size)]
+    text, removed, added = statements(name, size)[0]
+    *_, nodes, rels, _, nodes_after, rels_after = answers(program, [*made, NODES, RELS, text, NODES, RELS])
+    allowed, *changes = bound(plan_of(plans, query), graph_of(nodes, rels), graph_of(nodes_after, rels_after))
+    if changes != [removed, added]:
+        sys.exit(f"{name}: {changes} by the plan")
+    return allowed
+
+
 def idle(program, size):
     """How many instructions a statement takes more with a view of which it concerns no part."""
     texts = [f"MATCH (a:Account {{k: {first}}}) SET a.j = 1" for first, _ in blocks(size)]
@@ -237,15 +272,23 @@ def memory_program(folder):
     return lexer_cost.built(folder, "memory_cost", PROGRAM, " ".join(crates))
 
 
-def main():
-    program = sys.argv[1] if len(sys.argv) > 1 else graph_cost.built()
+def all_upkeep(program, plans):
+    """Prints what the upkeep of each view takes, and tells whether it is within its limits."""
     is_within = True
     for name in VIEWS:
         most = VIEWS[name][4]
         few, many = (upkeep(program, name, size) for size in SIZES)
         is_within = is_within and many <= LIMIT * few and many <= most
         print(f"{name:56} {few:12,.0f} {many:12,.0f} {many / few:6.2f}  of at most {LIMIT} and {most:,}", flush=True)
-        print(f"{'its steps':56} {most_steps(program, name, SIZES[0]):12,} {most_steps(program, name, SIZES[1]):12,}", flush=True)
+        steps, allowed = [most_steps(program, name, size) for size in SIZES], most_steps_allowed(program, plans, name, SIZES[0])
+        is_within = is_within and steps[0] <= allowed
+        print(f"{'its steps':56} {steps[0]:12,} {steps[1]:12,}  of at most {allowed:,}", flush=True)
+    return is_within
+
+
+def main():
+    program = sys.argv[1] if len(sys.argv) > 1 else graph_cost.built()
+    is_within = all_upkeep(program, graph_cost.built(PLANS))
     for size in SIZES:
         count = idle(program, size)
         is_within = is_within and count <= IDLE_LIMIT

@@ -1,5 +1,5 @@
 -- Where look-ups stand, by their words.
-use Rattle.std.proofs.Common.{◌≡◌, ℕ, ◌+◌, ◌&&◌, ◌||◌, Bool, true, false, cond, eqb, is_some, if◌then◌else◌, List, [], ◌∷◌, ◌++◌, Some, None, length, refl, sym, ap, ◌∙◌, arith}
+use Rattle.std.proofs.Common.{◌≡◌, ℕ, ◌+◌, ◌&&◌, ◌||◌, Bool, true, false, cond, eqb, is_some, not, if◌then◌else◌, List, [], ◌∷◌, ◌++◌, Some, None, length, refl, sym, ap, ◌∙◌, arith}
 use Rattle.std.specs.Prelude.{Option}
 use Rattle.std.specs.BTreeMap.{insert_entry}
 use Rattle.std.specs.Cmp.Lexicographic.{nat_list_eq_equiv, slice_cmp}
@@ -21,13 +21,10 @@ use Rattle.cy_plans.specs.declared.operators.Attribute.{Attribute}
 use Rattle.cy_plans.specs.declared.operators.Attribute.TheVariants.{Property, RelType, Labels}
 use Rattle.cy_lowering.specs.declared.places.Wanted.{Wanted}
 use Rattle.cy_lowering.specs.Places.{added, is_of, place, same_attribute}
-use Rattle.cy_lowering.specs.internal.WantedLists.{ArePlaced, attribute_words, has, has_words, words_of}
+use Rattle.cy_lowering.specs.internal.WantedLists.{ArePlaced, attribute_words, by_items, has, has_words, words_of}
 
 abbrev Key : Type 0
 Key = Vec ℕ Global
-
-abbrev by_items : Key → Key → Ordering
-by_items k l = slice_cmp nat_cmp k.items l.items
 
 -- a key has its own words, and no others
 has_is : (words : List ℕ) (k : Key) → has words k ≡ bytes_eq words k.items
@@ -130,6 +127,11 @@ either false n (Some m) h = refl
 none_found : (o : Option ℕ) → is_some o ≡ false → o ≡ None
 none_found None is = refl
 none_found (Some p) is = absurd (false≢true (sym is))
+
+-- what is found, by whether it is new
+pub unless_new : (b new : Bool) → not b ≡ new → b ≡ not new
+unless_new true new is = ap not is
+unless_new false new is = ap not is
 
 -- its words have the next place
 pub placed_more : (entries : List (Key × ℕ)) (ws : List Wanted) (w : Wanted) (k : Key) (found : Option ℕ) (n : ℕ) → ArePlaced entries ws → k.items ≡ words_of w.column w.attribute

@@ -1,7 +1,9 @@
 //! Look-ups that are wanted, each once. Each call fails only for want of memory.
 
-ghost use Rattle.std.specs.Prelude.{◌≡◌, ◌+◌, ◌++◌, ◌≤◌, [], IfOk, OnOk, length};
+ghost use Rattle.std.specs.Prelude.{◌≡◌, ◌+◌, ◌++◌, ◌≤◌, [], IfOk, OnOk, OnErr, if◌then◌else◌, is_some, length, not};
+ghost use Rattle.std.specs.BTreeMap.{insert_entry};
 ghost use Rattle.std.specs.List.{position_from};
+ghost use Rattle.std.specs.Map.{lookup};
 ghost use Rattle.cy_plans.specs.WellFormed.{greatest_width};
 ghost use Rattle.cy_lowering.specs.Places as places;
 ghost use Rattle.cy_lowering.specs.internal.WantedLists as spec;
@@ -11,6 +13,7 @@ use cy_plans::Attribute;
 use cy_values::{Fault, Text};
 use std::alloc::Global;
 use std::collections::BTreeMap;
+use std::collections::btree_map::Entry;
 use std::marker::Model;
 
 /// Look-ups that are wanted, each once, in the order in which they were added.
@@ -69,13 +72,11 @@ impl WantedList {
     {
         let alloc = *self.wanted.allocator();
         let words = words_of(alloc, asked.column, &asked.attribute)?;
-        if self.find(words.as_slice()).is_some() {
-            return Ok(());
-        }
         let place = self.wanted.len();
         self.wanted.reserve(1)?;
-        self.places.insert(words, place)?;
-        self.wanted.push_reserved(asked);
+        if add_place(&mut self.places, words, place)? {
+            self.wanted.push_reserved(asked);
+        }
         Ok(())
     }
 
@@ -95,6 +96,25 @@ impl WantedList {
             Some(place) => Ok(first + place),
             None => Ok(first + self.len()),
         }
+    }
+}
+
+/// Gives the words a place, unless they have one, and tells whether they are new.
+fn add_place(
+    places: &mut BTreeMap<Vec<u64>, usize>,
+    words: Vec<u64>,
+    place: usize,
+) -> Result<bool, Fault>
+    ensures new { IfOk result (λ new. new ≡ not (is_some (lookup (spec.has words.items) places.old.entries))) }
+    ensures places { IfOk result (λ new. places.new.entries ≡ (if new then insert_entry spec.by_items places.old.entries words place else places.old.entries)) }
+    ensures err { OnErr result (places.new.entries ≡ places.old.entries) }
+{
+    match places.entry(words)? {
+        Entry::Vacant(entry) => {
+            let _ = entry.insert(place);
+            Ok(true)
+        }
+        Entry::Occupied(_) => Ok(false),
     }
 }
 

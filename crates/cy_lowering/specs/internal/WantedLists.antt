@@ -7,6 +7,7 @@ use Rattle.std.specs.Map.{lookup}
 use Rattle.std.specs.Ordering.{nat_cmp}
 use Rattle.std.specs.Str.{bytes_eq}
 use Rattle.std.specs.declared.alloc.Global.{Global}
+use Rattle.std.specs.declared.cmp.Ordering.{Ordering}
 use Rattle.std.specs.declared.vec.Vec.{Vec}
 use Rattle.cy_plans.specs.declared.operators.Attribute.{Attribute}
 use Rattle.cy_plans.specs.declared.operators.Attribute.TheVariants.{Property, RelType, Labels}
@@ -27,6 +28,10 @@ has_words words w = bytes_eq words (words_of w.column w.attribute)
 -- the test for a key of the words
 abbrev pub has : List ℕ → Vec ℕ Global → Bool
 has words = is_at (λ k. slice_cmp nat_cmp words k.items)
+
+-- keys are ordered by their words
+abbrev pub by_items : Vec ℕ Global → Vec ℕ Global → Ordering
+by_items k l = slice_cmp nat_cmp k.items l.items
 
 -- the words of each look-up have its place, and no others have one
 abbrev pub ArePlaced : List (Vec ℕ Global × ℕ) → List Wanted → Type 0

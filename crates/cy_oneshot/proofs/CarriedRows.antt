@@ -26,7 +26,7 @@ use Rattle.cy_columns.proofs.Agreeing.{cell-same}
 use Rattle.cy_queries.specs.Groups.{Grouped, aggregate_if, aggregated, and_also, cells_on, group_cells, group_keys, group_rows, grouped, grouping, over_rows, rows_of_group, taken, values_among}
 use Rattle.cy_queries.specs.Projection.{Projected, cut, distinct_rows, item_of_key, item_rows, key_cell, keyed, project, projection_rows, with_columns_alone}
 use Rattle.cy_queries.specs.Queries.{rows_after, rows_after_all}
-use Rattle.cy_oneshot.specs.internal.Carried.{AreKeysRead, AreNeeded, AreRead, AreSeen, IsClauseRead, IsEnough, IsProjectionRead, IsSeen, carried, carried_from, is_last, is_needed, is_projection}
+use Rattle.cy_oneshot.specs.internal.Carried.{AreKeysRead, AreNeeded, AreRead, AreSeen, IsClauseRead, IsEnough, IsProjectionRead, IsSeen, carried, carried_from, is_last, is_needed, is_projection, keys_of}
 use Rattle.cy_queries.specs.internal.Answers.{on_value}
 use Rattle.cy_oneshot.proofs.Carried.{AreLong, all_carried, column_carried}
 use Rattle.cy_oneshot.proofs.CarriedMatch.{cell_less, long_grown, reading_less}
@@ -235,11 +235,11 @@ module _ (graph : Content) (needed : List Bool) where
     abbrev seen_with : List Cell → List Cell → Projected
     seen_with cells before = record { row = cells; seen = cells ++ before }
 
-    key_seen : (cells before : List Cell) (place : Option ℕ) (e : Expression) → AreSeen needed (length cells) (columns_read e) → key_cell graph (seen_with cells (less before)) place e ≡ key_cell graph (seen_with cells before) place e
+    key_seen : (cells before : List Cell) (place : Option ℕ) (e : Expression) → (place ≡ None → AreSeen needed (length cells) (columns_read e)) → key_cell graph (seen_with cells (less before)) place e ≡ key_cell graph (seen_with cells before) place e
     key_seen cells before (Some column) e are = refl
-    key_seen cells before None e are = cell-same (lookups graph) (cells ++ less before) (cells ++ before) e (seen_agree cells before (columns_read e) are)
+    key_seen cells before None e are = cell-same (lookups graph) (cells ++ less before) (cells ++ before) e (seen_agree cells before (columns_read e) (are refl))
 
-    keys_seen : (cells before : List Cell) (keys : List Key) → AreKeysRead needed (length cells) keys
+    keys_seen : (cells before : List Cell) (keys : List Key) → AreKeysRead needed (length cells) (map (λ key. (item_of_key p.items key, key)) keys)
         → map (λ key. key_cell graph (seen_with cells (less before)) (item_of_key p.items key) key.expression) keys ≡ map (λ key. key_cell graph (seen_with cells before) (item_of_key p.items key) key.expression) keys
     keys_seen cells before [] are = refl
     keys_seen cells before (key ∷ keys) are = λ j. key_seen cells before (item_of_key p.items key) key.expression are.0 j ∷ keys_seen cells before keys are.1 j
@@ -247,23 +247,23 @@ module _ (graph : Content) (needed : List Bool) where
     abbrev with_keys : Result Projected EvalFault → Result (Result Keyed EvalFault) EvalFault
     with_keys o = on_value (keyed graph p) o
 
-    cells_keyed : (before : List Cell) → AreKeysRead needed (length p.items) p.order → (o : Result (List Cell) EvalFault) → IfOk o (λ cells. length cells ≡ length p.items)
+    cells_keyed : (before : List Cell) → AreKeysRead needed (length p.items) (keys_of p) → (o : Result (List Cell) EvalFault) → IfOk o (λ cells. length cells ≡ length p.items)
         → with_keys (on_one (λ cells. Ok (seen_with cells (less before))) o) ≡ with_keys (on_one (λ cells. Ok (seen_with cells before)) o)
     cells_keyed before are (Ok cells) long =
-        ap (λ os. Ok (on_one (λ keys. Ok (record { row = cells; keys = keys })) (gathered os))) (keys_seen cells before p.order (subst (λ n. AreKeysRead needed n p.order) (sym long) are))
+        ap (λ os. Ok (on_one (λ keys. Ok (record { row = cells; keys = keys })) (gathered os))) (keys_seen cells before p.order (subst (λ n. AreKeysRead needed n (keys_of p)) (sym long) are))
     cells_keyed before are (Err fault) long = refl
 
-    row_keyed : (row : List Cell) → AreRead needed p.items → AreKeysRead needed (length p.items) p.order → with_keys (project graph p.items (less row)) ≡ with_keys (project graph p.items row)
+    row_keyed : (row : List Cell) → AreRead needed p.items → AreKeysRead needed (length p.items) (keys_of p) → with_keys (project graph p.items (less row)) ≡ with_keys (project graph p.items row)
     row_keyed row read are =
         ap (λ o. with_keys (on_one (λ cells. Ok (seen_with cells (less row))) o)) (on_less p.items row read)
         ∙ cells_keyed row are (cells_on graph p.items row) (cells_length graph p.items row)
 
-    all_keyed : (rows : List (List Cell)) → AreRead needed p.items → AreKeysRead needed (length p.items) p.order
+    all_keyed : (rows : List (List Cell)) → AreRead needed p.items → AreKeysRead needed (length p.items) (keys_of p)
         → map (λ row. with_keys (project graph p.items row)) (map less rows) ≡ map (λ row. with_keys (project graph p.items row)) rows
     all_keyed [] read are = refl
     all_keyed (row ∷ rows) read are = λ j. row_keyed row read are j ∷ all_keyed rows read are j
 
-    keyed_same : (rows : List (List Cell)) → AreRead needed p.items → AreKeysRead needed (length p.items) p.order → on_value (map (keyed graph p)) (each_row (map less rows)) ≡ on_value (map (keyed graph p)) (each_row rows)
+    keyed_same : (rows : List (List Cell)) → AreRead needed p.items → AreKeysRead needed (length p.items) (keys_of p) → on_value (map (keyed graph p)) (each_row (map less rows)) ≡ on_value (map (keyed graph p)) (each_row rows)
     keyed_same rows read are =
         sym (gathered_values (keyed graph p) (project graph p.items) (map less rows)) ∙ ap gathered (all_keyed rows read are) ∙ gathered_values (keyed graph p) (project graph p.items) rows
 
@@ -277,7 +277,7 @@ module _ (graph : Content) (needed : List Bool) where
     plain once_each (Ok rs) = ap (λ b. end (cond b (distinct_rows rs) rs)) once_each
     plain once_each (Err fault) = refl
 
-    plain_same : p.distinct ≡ false → has_aggregates p ≡ false → (rows : List (List Cell)) → AreRead needed p.items → AreKeysRead needed (length p.items) p.order
+    plain_same : p.distinct ≡ false → has_aggregates p ≡ false → (rows : List (List Cell)) → AreRead needed p.items → AreKeysRead needed (length p.items) (keys_of p)
         → projection_rows graph p (map less rows) ≡ projection_rows graph p rows
     plain_same once_each alone rows read are =
         let as_rows : (table : List (List Cell)) → projection_rows graph p table ≡ on_one end (each_row table) =

@@ -13,7 +13,7 @@ use Rattle.cy_scope.specs.Views.{is_update}
 use Rattle.cy_patterns.specs.Places.{Place, column_at, entries_at, link_place, node, path_places, places, relationship, step_places}
 use Rattle.cy_columns.specs.Columns.{column_list, columns_read}
 use Rattle.cy_queries.proofs.Each.{each_append, each_flat_map, each_then}
-use Rattle.cy_oneshot.specs.internal.Carried.{AreAlike, AreEntriesRead, AreKeysRead, AreNeeded, ArePlacesRead, AreRead, AreSeen, IsAlike, IsClauseRead, IsEnough, IsPlaceRead, IsProjectionRead, IsRemoveRead, IsSeen, IsSetRead, IsTestRead, IsVariableRead, StillNeeded, first_row, is_last, is_needed, is_projection, updates_ahead}
+use Rattle.cy_oneshot.specs.internal.Carried.{AreAlike, AreEntriesRead, AreKeysRead, AreNeeded, ArePlacesRead, AreRead, AreSeen, IsAlike, IsClauseRead, IsEnough, IsKeyRead, IsPlaceRead, IsProjectionRead, IsRemoveRead, IsSeen, IsSetRead, IsTestRead, IsVariableRead, StillNeeded, first_row, is_last, is_needed, is_projection, keys_of, updates_ahead}
 
 pub marked_there : (needed : List Bool) (column : ℕ) → is_needed (set needed column true) column ≡ true
 marked_there [] column = refl
@@ -85,14 +85,14 @@ module _ (needed after : List Bool) (still : StillNeeded needed after) where
     pub still_seen : (columns : List ℕ) → AreSeen needed count columns → AreSeen after count columns
     still_seen columns are = each_then (IsSeen needed count) (IsSeen after count) still_seen_one columns are
 
-    pub still_key : (k : Key) → AreSeen needed count (columns_read k.expression) → AreSeen after count (columns_read k.expression)
-    still_key k are = still_seen (columns_read k.expression) are
+    pub still_key : (k : Option ℕ × Key) → IsKeyRead needed count k → IsKeyRead after count k
+    still_key k is = λ none. still_seen (columns_read k.1.expression) (is none)
 
-    pub still_keys : (keys : List Key) → AreKeysRead needed count keys → AreKeysRead after count keys
-    still_keys keys are = each_then (λ k. AreSeen needed count (columns_read k.expression)) (λ k. AreSeen after count (columns_read k.expression)) still_key keys are
+    pub still_keys : (keys : List (Option ℕ × Key)) → AreKeysRead needed count keys → AreKeysRead after count keys
+    still_keys keys are = each_then (IsKeyRead needed count) (IsKeyRead after count) still_key keys are
 
   still_projection : (p : Projection) → IsProjectionRead needed p → IsProjectionRead after p
-  still_projection p are = (still_items p.items are.0, still_keys (length p.items) p.order are.1)
+  still_projection p are = (still_items p.items are.0, still_keys (length p.items) (keys_of p) are.1)
 
   pub still_set : (i : SetItem) → IsSetRead needed i → IsSetRead after i
   still_set (set_property v key e) are = (still_variable v are.0, still_columns (columns_read e) are.1)

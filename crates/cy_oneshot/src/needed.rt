@@ -2,19 +2,21 @@
 
 ghost use Rattle.std.specs.Prelude.{◌≡◌, ◌⊎◌, ◌≤◌, ℕ, [], IfOk, IfSome, OnOk, flat_map, length, map, option_map, slice_get, true, false};
 ghost use Rattle.std.specs.List.{AllByRecursion};
-ghost use Rattle.cy_trees.specs.Views.{clause_of, entry_of, expression_of, filter_of, item_of, key_of, path_of, projection_of, remove_item_of, set_item_of, step_of};
+ghost use Rattle.cy_trees.specs.Views.{clause_of, entry_of, expression_of, filter_of, item_of, path_of, projection_of, remove_item_of, set_item_of, step_of};
 ghost use Rattle.cy_columns.specs.Columns.{columns_read};
 ghost use Rattle.cy_patterns.specs.Places.{path_places, places, step_places};
 ghost use Rattle.cy_patterns.specs.internal.Patterns.{place_of};
+ghost use Rattle.cy_projections.specs.SortKeys.{sort_key_of};
 ghost use Rattle.cy_oneshot.specs.internal.Carried as spec;
-ghost use Rattle.cy_oneshot.specs.internal.Carried.{AreEntriesRead, AreKeysRead, AreNeeded, ArePlacesRead, AreRead, AreSeen, IsClauseRead, IsEnough, IsPlaceRead, IsProjectionRead, IsRemoveRead, IsSeen, IsSetRead, IsTestRead, IsVariableRead, StillNeeded, AreAlike, IsAlike, updates_ahead};
+ghost use Rattle.cy_oneshot.specs.internal.Carried.{AreEntriesRead, AreKeysRead, AreNeeded, ArePlacesRead, AreRead, AreSeen, IsClauseRead, IsEnough, IsKeyRead, IsPlaceRead, IsProjectionRead, IsRemoveRead, IsSeen, IsSetRead, IsTestRead, IsVariableRead, StillNeeded, AreAlike, IsAlike, updates_ahead};
 
 use cy_columns::columns_read;
 use cy_outcomes::cell_order;
 use cy_patterns::Place;
+use cy_projections::{SortKey, sort_keys};
 use cy_scope::is_update;
 use cy_trees::{
-    Clause, Expr, Item, Key, MapEntry, Match, Path, Projection, RemoveItem, SetItem, Step, Variable,
+    Clause, Expr, Item, MapEntry, Match, Path, Projection, RemoveItem, SetItem, Step, Variable,
 };
 use cy_values::{Cell, Fault, Row};
 use std::alloc::Global;
@@ -320,7 +322,8 @@ fn mark_projection(
     ensures still { OnOk result (StillNeeded needed.old.items needed.new.items) }
 {
     mark_items(alloc, needed, &projection.items)?;
-    mark_keys(alloc, needed, projection.items.len(), &projection.order)
+    let keys = sort_keys(alloc, projection)?;
+    mark_keys(alloc, needed, projection.items.len(), &keys)
 }
 
 // Marks the columns that items read.
@@ -335,14 +338,36 @@ fn mark_items(alloc: Global, needed: &mut Vec<bool>, items: &[Item]) -> Result<(
 }
 
 // Marks the columns that keys read of the row before, which stand after those of so many items.
-fn mark_keys(alloc: Global, needed: &mut Vec<bool>, count: usize, keys: &[Key]) -> Result<(), Fault>
-    ensures read { OnOk result (AreKeysRead needed.new.items count (map key_of keys.now)) }
+fn mark_keys(
+    alloc: Global,
+    needed: &mut Vec<bool>,
+    count: usize,
+    keys: &[SortKey<'_>],
+) -> Result<(), Fault>
+    ensures read { OnOk result (AreKeysRead needed.new.items count (map sort_key_of keys.now)) }
     ensures still { OnOk result (StillNeeded needed.old.items needed.new.items) }
 {
     for key in keys {
-        let columns = columns_read(alloc, &key.expression)?;
-        mark_seen(needed, count, &columns);
+        mark_key(alloc, needed, count, key)?;
     }
+    Ok(())
+}
+
+// The same for one key. If it repeats an item, it is that item's column and reads nothing of the row before.
+fn mark_key(
+    alloc: Global,
+    needed: &mut Vec<bool>,
+    count: usize,
+    key: &SortKey<'_>,
+) -> Result<(), Fault>
+    ensures read { OnOk result (IsKeyRead needed.new.items count (sort_key_of key.now)) }
+    ensures still { OnOk result (StillNeeded needed.old.items needed.new.items) }
+{
+    if key.place.is_some() {
+        return Ok(());
+    }
+    let columns = columns_read(alloc, &key.key.expression)?;
+    mark_seen(needed, count, &columns);
     Ok(())
 }
 

@@ -1,1 +1,2 @@
+pub mod SortKeys
 pub mod internal

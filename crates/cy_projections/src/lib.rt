@@ -8,4 +8,4 @@ mod order;
 mod projection;
 
 pub use order::sort_rows;
-pub use projection::{projection_rows, unordered_rows};
+pub use projection::{SortKey, projection_rows, sort_keys, unordered_rows};

@@ -12,7 +12,8 @@ ghost use Rattle.cy_queries.specs.Reading.{AreInGraph};
 ghost use Rattle.cy_queries.specs.internal.Answers.{IsAnswer, IsRowThere};
 ghost use Rattle.cy_projections.specs.internal.KeyPlaces.{AreFirst};
 ghost use Rattle.cy_queries.specs.internal.Seen.{keyed_by, projected_of, seen_by};
-ghost use Rattle.cy_projections.specs.internal.Keys.{keyed_of, sort_key_of};
+ghost use Rattle.cy_projections.specs.SortKeys.{sort_key_of};
+ghost use Rattle.cy_projections.specs.internal.Keys.{keyed_of};
 ghost use Rattle.cy_queries.specs.internal.Permuted.{IsAlikeAnswer};
 
 use crate::groups::{aggregated, cells_on, expressions_of};
@@ -28,9 +29,11 @@ use std::alloc::Global;
 
 /// A key of ORDER BY, and the place of the item that it repeats, if it repeats one.
 #[derive(Clone, Copy)]
-pub(crate) struct SortKey<'a> {
-    pub(crate) key: &'a Key,
-    pub(crate) place: Option<usize>,
+pub struct SortKey<'a> {
+    /// The key as it stands in the projection.
+    pub key: &'a Key,
+    /// The place of the first item whose tree is the key's.
+    pub place: Option<usize>,
 }
 
 /// The rows of WITH or RETURN in their order (openCypher 9, WITH and RETURN). All items are evaluated before the first key. Of faults
@@ -108,8 +111,9 @@ fn descending_keys(alloc: Global, keys: &[Key]) -> Result<Vec<bool>, Fault>
     Ok(found)
 }
 
-// The keys, each with the place of the item that it repeats.
-fn sort_keys(alloc: Global, projection: &Projection) -> Result<Vec<SortKey<'_>>, Fault>
+/// The keys of a projection, each with the place of the item that it repeats: a key whose tree is that of an item is that item's
+/// column, and no other cell is read for it. Fails only for want of memory. (openCypher 9, ORDER BY)
+pub fn sort_keys(alloc: Global, projection: &Projection) -> Result<Vec<SortKey<'_>>, Fault>
     ensures { IfOk result (λ keys. map sort_key_of keys.items ≡ map (λ k. (spec.item_of_key (map item_of projection.now.items.items) k, k)) (map key_of projection.now.order.items)) }
 {
     let places = item_places(alloc, projection)?;

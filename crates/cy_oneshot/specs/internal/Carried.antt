@@ -1,5 +1,5 @@
 -- What UNWIND carries along: a cell that the next clauses don't read is null.
-use Rattle.std.specs.Prelude.{◌≡◌, ◌⊎◌, ◌||◌, ◌+◌, ◌-◌, ◌≤◌, ℕ, Bool, true, false, List, [], ◌∷◌, length, map, slice_get, slice_index_or, if◌then◌else◌, Option, IfSome, Result, Ok, Err, MatchResult}
+use Rattle.std.specs.Prelude.{◌≡◌, ◌⊎◌, ◌||◌, ◌+◌, ◌-◌, ◌≤◌, ℕ, Bool, true, false, List, [], ◌∷◌, length, map, slice_get, slice_index_or, if◌then◌else◌, Option, None, IfSome, Result, Ok, Err, MatchResult}
 use Rattle.std.specs.List.{AllByRecursion}
 use Rattle.cy_values.specs.declared.scalars.Value.TheVariants as value
 use Rattle.cy_values.specs.declared.rows.Cell.{Cell}
@@ -14,6 +14,7 @@ use Rattle.cy_expr.specs.Faults.{on_one}
 use Rattle.cy_patterns.specs.Outcomes.{IsSameOutcome}
 use Rattle.cy_patterns.specs.Places.{Place, column_at, entries_at, places}
 use Rattle.cy_columns.specs.Columns.{column_list, columns_read}
+use Rattle.cy_queries.specs.Projection.{item_of_key}
 use Rattle.cy_queries.specs.Queries.{rows_after}
 
 -- whether the cell at a place is needed; past the end of what is known each is
@@ -50,18 +51,26 @@ carried_by clause needed outcome = outcome
 abbrev pub AreRead : List Bool → List Item → Type 0
 AreRead needed items = AllByRecursion (λ i. AreNeeded needed (columns_read i.expression)) items
 
--- a key sees the columns of the items and, after them, those of the row before, which are needed where it reads them
+-- what is seen of an item's column or, after these, of a column of the row before, which is needed then
 abbrev pub IsSeen : List Bool → ℕ → ℕ → Type 0
 IsSeen needed count column = count ≤ column → is_needed needed (column - count) ≡ true
 
 abbrev pub AreSeen : List Bool → ℕ → List ℕ → Type 0
 AreSeen needed count columns = AllByRecursion (IsSeen needed count) columns
 
-abbrev pub AreKeysRead : List Bool → ℕ → List Key → Type 0
-AreKeysRead needed count keys = AllByRecursion (λ k. AreSeen needed count (columns_read k.expression)) keys
+-- a key that repeats an item is that item's column; any other one sees the columns of the items and, after them, those of the row before
+abbrev pub IsKeyRead : List Bool → ℕ → Option ℕ × Key → Type 0
+IsKeyRead needed count key = key.0 ≡ None → AreSeen needed count (columns_read key.1.expression)
+
+abbrev pub AreKeysRead : List Bool → ℕ → List (Option ℕ × Key) → Type 0
+AreKeysRead needed count keys = AllByRecursion (IsKeyRead needed count) keys
+
+-- the keys of a projection, each with the item that it repeats
+abbrev pub keys_of : Projection → List (Option ℕ × Key)
+keys_of p = map (λ k. (item_of_key p.items k, k)) p.order
 
 abbrev pub IsProjectionRead : List Bool → Projection → Type 0
-IsProjectionRead needed p = AreRead needed p.items × AreKeysRead needed (length p.items) p.order
+IsProjectionRead needed p = AreRead needed p.items × AreKeysRead needed (length p.items) (keys_of p)
 
 -- all columns that the expressions of entries read are needed
 abbrev pub AreEntriesRead : List Bool → List MapEntry → Type 0

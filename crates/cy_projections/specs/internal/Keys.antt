@@ -1,24 +1,17 @@
--- Keys, rows with their keys, and groups, as the code has them.
-use Rattle.std.specs.Prelude.{ℕ, List, Option}
+-- Rows with their keys, and groups, as the code has them.
+use Rattle.std.specs.Prelude.{List}
 use Rattle.std.specs.declared.alloc.Global.{Global}
 use Rattle.std.specs.declared.vec.Vec.{Vec}
 use Rattle.cy_values.specs.declared.rows.Cell.{Cell}
-use Rattle.cy_trees.specs.Trees.{Key}
-use Rattle.cy_trees.specs.Views.{key_of}
 use Rattle.cy_queries.specs.Groups.{Grouped}
 use Rattle.cy_queries.specs.Order.{Keyed}
 use Rattle.cy_projections.specs.internal.Grouping.{Gathering}
 use Rattle.cy_projections.specs.declared.order.Keyed as coded_keyed
-use Rattle.cy_projections.specs.declared.projection.SortKey as coded_key
 use Rattle.cy_projections.specs.declared.groups.Grouped as coded_grouped
 use Rattle.cy_projections.specs.declared.groups.Group as coded_group
 
 abbrev pub keyed_of : coded_keyed.Keyed → Keyed
 keyed_of k = record { row = k.row; keys = k.keys }
-
--- the item that a key repeats, if it repeats one, and the key
-abbrev pub sort_key_of : coded_key.SortKey → Option ℕ × Key
-sort_key_of s = (s.place, key_of s.key.now)
 
 abbrev pub grouped_of : coded_grouped.Grouped → Grouped
 grouped_of g = record { key = g.key; row = g.row }

@@ -1,12 +1,12 @@
 -- The columns of the keys so far are marked.
 use Rattle.std.proofs.Common.{map, take}
-use Rattle.cy_trees.specs.Views.{key_of}
+use Rattle.cy_projections.specs.SortKeys.{sort_key_of}
 use Rattle.cy_oneshot.specs.internal.Carried.{AreKeysRead, StillNeeded}
 use Rattle.cy_oneshot.proofs.needed.mark_keys.Given as goal
 
 abbrev pub invariant-loop-key : goal.invariant-loop-key
 invariant-loop-key l =
     record {
-      read : AreKeysRead l.needed.items l.count (map key_of (take l.key-index l.keys));
+      read : AreKeysRead l.needed.items l.count (map sort_key_of (take l.key-index l.keys));
       still : StillNeeded l.initial.needed.items l.needed.items;
     }

@@ -10,7 +10,7 @@ use Rattle.cy_queries.specs.Order.{Keyed}
 use Rattle.cy_patterns.specs.Outcomes.{together, gathered}
 use Rattle.cy_queries.specs.Projection.{key_cell}
 use Rattle.cy_queries.specs.internal.Seen.{projected_of}
-use Rattle.cy_projections.specs.internal.Keys.{sort_key_of}
+use Rattle.cy_projections.specs.SortKeys.{sort_key_of}
 use Rattle.cy_projections.proofs.Failing.{fault_of_part}
 use Rattle.cy_patterns.proofs.SliceReads.{next_of}
 use Rattle.cy_queries.proofs.Together.{goes_on, goes_through, single, single_settled, together_first}

@@ -2,7 +2,7 @@ use Rattle.std.proofs.Common.{◌≡◌, drop, map}
 use Rattle.cy_patterns.specs.Outcomes.{together, gathered}
 use Rattle.cy_queries.specs.Projection.{key_cell}
 use Rattle.cy_queries.specs.internal.Seen.{projected_of}
-use Rattle.cy_projections.specs.internal.Keys.{sort_key_of}
+use Rattle.cy_projections.specs.SortKeys.{sort_key_of}
 use Rattle.cy_projections.proofs.projection.keyed_row.Given as goal
 
 -- the cells so far, and those of the keys that are left

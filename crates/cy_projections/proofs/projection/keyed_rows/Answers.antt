@@ -6,7 +6,8 @@ use Rattle.cy_patterns.specs.Outcomes.{together, gathered}
 use Rattle.cy_queries.specs.Reading.{AreInGraph}
 use Rattle.cy_queries.specs.internal.Answers.{on_value}
 use Rattle.cy_queries.specs.internal.Seen.{keyed_by, projected_of}
-use Rattle.cy_projections.specs.internal.Keys.{keyed_of, sort_key_of}
+use Rattle.cy_projections.specs.SortKeys.{sort_key_of}
+use Rattle.cy_projections.specs.internal.Keys.{keyed_of}
 use Rattle.cy_queries.proofs.Together.{answered, finished_as, goes_on, goes_through, made_single, made_together, single, together_first}
 use Rattle.cy_projections.proofs.projection.keyed_rows.Goals as goal
 

@@ -5,7 +5,7 @@ use Rattle.cy_trees.specs.declared.clauses.Key as coded
 use Rattle.cy_trees.specs.Trees.{Key}
 use Rattle.cy_trees.specs.Views.{item_of, key_of}
 use Rattle.cy_queries.specs.Projection.{item_of_key}
-use Rattle.cy_projections.specs.internal.Keys.{sort_key_of}
+use Rattle.cy_projections.specs.SortKeys.{sort_key_of}
 use Rattle.cy_projections.proofs.ProjectionAnswers.{made_more}
 use Rattle.cy_projections.proofs.projection.placed_keys.Goals as goal
 

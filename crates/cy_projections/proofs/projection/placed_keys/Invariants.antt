@@ -1,7 +1,7 @@
 use Rattle.std.proofs.Common.{◌≡◌, map, take}
 use Rattle.cy_trees.specs.Views.{item_of, key_of}
 use Rattle.cy_queries.specs.Projection.{item_of_key}
-use Rattle.cy_projections.specs.internal.Keys.{sort_key_of}
+use Rattle.cy_projections.specs.SortKeys.{sort_key_of}
 use Rattle.cy_projections.proofs.projection.placed_keys.Given as goal
 
 -- the keys so far

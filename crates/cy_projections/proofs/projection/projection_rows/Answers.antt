@@ -10,7 +10,7 @@ use Rattle.cy_queries.specs.Order.{Keyed}
 use Rattle.cy_patterns.specs.Outcomes.{gathered}
 use Rattle.cy_queries.specs.Projection.{Projected, cut, keyed, projected}
 use Rattle.cy_queries.specs.internal.Seen.{keyed_by, projected_of}
-use Rattle.cy_projections.specs.internal.Keys.{sort_key_of}
+use Rattle.cy_projections.specs.SortKeys.{sort_key_of}
 use Rattle.cy_projections.proofs.Failing.{fault_of_part}
 use Rattle.cy_projections.proofs.ProjectionAnswers.{cut_is}
 use Rattle.cy_projections.proofs.Projections.{after_seen}

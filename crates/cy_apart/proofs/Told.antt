@@ -22,7 +22,7 @@ use Rattle.cy_plans.specs.Meaning.{paired, rows_of}
 use Rattle.cy_plans.specs.WellFormed.{IsWellFormed}
 use Rattle.cy_plans.proofs.Counts.{count_cons, count_passing, identity, same}
 use Rattle.cy_plans.proofs.Widths.{all_made, wide_rows}
-use Rattle.cy_apart.specs.Trails.{IsOneToOneOn, are_two, gathers_both, has_links, has_lists, is_alone, is_kept, is_key, is_told, tells_apart, tells_trails}
+use Rattle.cy_apart.specs.Trails.{TellsRowsApartOn, are_two, gathers_both, has_links, has_lists, is_alone, is_kept, is_key, is_told, tells_apart, tells_trails}
 use Rattle.cy_apart.proofs.AnyOutput.{one_fails}
 use Rattle.cy_apart.proofs.Links.{HasEnds, IsLink, IsListed, alone_cell, links, lists, no_node, second_end, within}
 
@@ -337,7 +337,7 @@ module _ (graph : State) (is_graph : IsGraph graph) (left right : Plan) (keys : 
   third_part : (list_any (gathers_both 0 (width left)) outputs ≡ true) × (list_all (is_told (width left) keys outputs) (range_with_len 0 (width left + width right)) ≡ true)
   third_part = and_parts (list_any (gathers_both 0 (width left)) outputs) _ second_part.1
 
-  told_trails : IsOneToOneOn graph (plan.join left right keys) outputs
+  told_trails : TellsRowsApartOn graph (plan.join left right keys) outputs
   told_trails row other here there same_rows =
       let rows = joined graph.content left right keys left_good right_good (links graph is_graph left first_part.0) (lists graph.content right second_part.0) in
       let a = of_counted (IsJoined graph.content (width left) (width right) keys) (rows_of graph.content (plan.join left right keys)) rows row here in
@@ -356,7 +356,7 @@ joins_told p left right lent_left lent_right keys lent_keys outputs is same_left
 
 -- ---- all plans
 
-pub told : (graph : State) → IsGraph graph → (p : Plan) (outputs : List Output) → IsWellFormed p → tells_apart p outputs ≡ true → IsOneToOneOn graph p outputs
+pub told : (graph : State) → IsGraph graph → (p : Plan) (outputs : List Output) → IsWellFormed p → tells_apart p outputs ≡ true → TellsRowsApartOn graph p outputs
 told graph is plan.unit outputs good tells = absurd (false≢true tells)
 told graph is plan.nodes outputs good tells = absurd (false≢true tells)
 told graph is (plan.rels types orientation) outputs good tells = absurd (false≢true tells)

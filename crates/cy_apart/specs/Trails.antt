@@ -110,9 +110,9 @@ tells_apart (plan.distinct p) outputs = false
 tells_apart (plan.union left right) outputs = false
 
 -- of different rows of a plan on one graph it makes different ones
-abbrev pub IsOneToOneOn : State → Plan → List Output → Type 0
-IsOneToOneOn graph p outputs =
+abbrev pub TellsRowsApartOn : State → Plan → List Output → Type 0
+TellsRowsApartOn graph p outputs =
     (row other : List Cell) → 0 < count_of row (rows_of graph.content p) → 0 < count_of other (rows_of graph.content p) → projected outputs row ≡ projected outputs other → row ≡ other
 
-abbrev pub IsOneToOne : Plan → List Output → Type 0
-IsOneToOne p outputs = (graph : State) → IsGraph graph → IsOneToOneOn graph p outputs
+abbrev pub TellsRowsApart : Plan → List Output → Type 0
+TellsRowsApart p outputs = (graph : State) → IsGraph graph → TellsRowsApartOn graph p outputs

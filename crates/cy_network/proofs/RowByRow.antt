@@ -66,11 +66,11 @@ rearranged old now touches p outputs shifts made all leads bounds step part = re
 -- ---- trails that are told apart
 
 -- on the graph of a change, if there is one
-told_at : (old : Option State) → IfSome old IsGraph → (p : Plan) (outputs : List Output) → trails.IsOneToOne p outputs → IsOneToOneOn (rows_at (content_of old) p) outputs
+told_at : (old : Option State) → IfSome old IsGraph → (p : Plan) (outputs : List Output) → trails.TellsRowsApart p outputs → IsOneToOneOn (rows_at (content_of old) p) outputs
 told_at None is p outputs one = λ row other here there same. absurd (omega (arith, here))
 told_at (Some s) is p outputs one = one s is
 
-pub gathered : (old : Option State) (now : State) (touches : Touches) (p : Plan) (outputs : List Output) (shifts made : List Shift) → trails.IsOneToOne p outputs
+pub gathered : (old : Option State) (now : State) (touches : Touches) (p : Plan) (outputs : List Output) (shifts made : List Shift) → trails.TellsRowsApart p outputs
     → ((before after : List (List Cell)) → IsOneToOneOn before outputs → IsOneToOneOn after outputs → IsDelta (counts before) (counts after) shifts
     → IsDelta (counts (map (projected outputs) before)) (counts (map (projected outputs) after)) made)
     → (All IsBounded shifts → All IsBounded made) → IsStep old now touches (plan.project p outputs) → IsDeltaOf old now p shifts → IsDeltaOf old now (plan.project p outputs) made

@@ -1,5 +1,5 @@
 use Rattle.std.proofs.Common.{map, sym, subst, ap, ◌∙◌}
-use Rattle.cy_apart.specs.Trails.{IsOneToOne, tells_apart}
+use Rattle.cy_apart.specs.Trails.{TellsRowsApart, tells_apart}
 use Rattle.cy_plans.specs.Plans.{Plan}
 use Rattle.cy_plans.specs.Views.{output_of, plan_of}
 use Rattle.cy_plans.specs.WellFormed.{IsWellFormed}
@@ -14,7 +14,7 @@ tells_apart-requires c =
 
 pub gathered_shifts-requires-clause-one : goal.gathered_shifts-requires-clause-one
 gathered_shifts-requires-clause-one c =
-    subst (λ (q : Plan). IsOneToOne q (map output_of c.args.outputs.now)) c.first_below.ensures (c.tells_apart.ensures.rows c.if-tells_apart.true)
+    subst (λ (q : Plan). TellsRowsApart q (map output_of c.args.outputs.now)) c.first_below.ensures (c.tells_apart.ensures.rows c.if-tells_apart.true)
 
 pub rearranged_shifts-requires-clause-all : goal.rearranged_shifts-requires-clause-all
 rearranged_shifts-requires-clause-all c =

@@ -1,5 +1,6 @@
 -- What proofs alone need.
 pub mod Buckets
+pub mod Keys
 pub mod Maps
 pub mod Tables
 pub mod Lists

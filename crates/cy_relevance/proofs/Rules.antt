@@ -1,11 +1,12 @@
 -- What is known of a part by what is known of the parts below it.
-use Rattle.std.proofs.Common.{◌≡◌, ℕ, ◌+◌, ◌-◌, ◌^◌, ◌≤◌, min, arith, Bool, true, false, cond, List, [], ◌∷◌, ◌++◌, Option, None, Some, refl, sym, ap, subst, ◌∙◌, map, filter, is_some, not, inl, inr}
-use Rattle.std.specs.Option.{option_copied}
+use Rattle.std.proofs.Common.{◌≡◌, ◌||◌, ℕ, suc, ◌+◌, ◌-◌, ◌^◌, ◌≤◌, min, arith, Bool, true, false, cond, List, [], ◌∷◌, ◌++◌, Option, None, Some, refl, sym, ap, subst, ◌∙◌, map, filter, is_some, not, inl, inr}
+use Rattle.std.specs.Prelude.{if◌then◌else◌, slice_get}
+use Rattle.std.specs.Option.{option_copied, option_map}
 use Rattle.std.proofs.lemmas.Bool.{false≢true}
 use Rattle.std.specs.List.{list_any}
 use Rattle.std.specs.Str.{bytes_eq}
 use Rattle.cy_values.specs.declared.rows.Cell.TheVariants as cell
-use Rattle.cy_trees.specs.Trees.{Expression, Name, binary, text}
+use Rattle.cy_trees.specs.Trees.{Expression, Name, null, boolean, integer, text, variable, property, has_labels, unary, binary, comparison, list, case, call, call_star}
 use Rattle.cy_trees.specs.declared.expressions.BinaryOperator.TheVariants.{In}
 use Rattle.cy_graph.specs.declared.nodes.Node.{Node}
 use Rattle.cy_graph.specs.declared.nodes.Rel.{Rel}
@@ -16,8 +17,9 @@ use Rattle.cy_plans.specs.declared.operators.Orientation.{Orientation}
 use Rattle.cy_plans.specs.Expressions.{holds, projected, relationships_at}
 use Rattle.cy_plans.specs.Meaning.{are_different, has_type, ways}
 use Rattle.cy_plans.specs.Plans as plan
-use Rattle.cy_plans.specs.Plans.{Output, Plan, computed}
-use Rattle.cy_scans.specs.Scans.{column_over, if_this, is_column, kept, kept_at, scan_parts}
+use Rattle.cy_plans.specs.Plans.{Output, Plan, computed, gathered}
+use Rattle.cy_apart.specs.Lists.{column_alone}
+use Rattle.cy_scans.specs.Scans.{if_this, is_column, is_this, kept, kept_at, scan_parts}
 use Rattle.cy_scans.specs.internal.Attributes.{node_attribute, rel_attribute}
 use Rattle.cy_scans.specs.internal.Rows.{rel_rows}
 use Rattle.cy_scans.specs.internal.Through.{HaveSameEnds, IsNeeded, leaf_of, node_made, rel_made}
@@ -203,15 +205,51 @@ pub effect_absent_lookup : (e : Entity) (p : Plan) (column : ℕ) (attribute : A
 effect_absent_lookup e p column attribute first absent =
     let none = absent_lookup e p column attribute first absent in (unchanged_absent_lookup e p column attribute none, none)
 
-pub effect_absent_project : (e : Entity) (q p : Plan) (outputs : List Output) → column_over q (Some 0) ≡ Some 0 → q ≡ plan.project p outputs → IsUnchanged e p → IsAbsent e p
-    → IsEffect effect.Absent e (plan.project p outputs)
-effect_absent_project e q p outputs first is unchanged absent = (unchanged, absent_project e p outputs (subst (λ (r : Plan). column_over r (Some 0) ≡ Some 0) is first) absent)
+pub effect_absent_project : (e : Entity) (p : Plan) (outputs : List Output) → kept_at 0 outputs ≡ Some 0 → IsUnchanged e p → IsAbsent e p → IsEffect effect.Absent e (plan.project p outputs)
+effect_absent_project e p outputs first unchanged absent = (unchanged, absent_project e p outputs first absent)
 
 pub effect_no_node : (e : Entity) → NoRows e plan.nodes → IsEffect effect.Absent e plan.nodes
 effect_no_node e none = (none_kept e plan.nodes none, (refl, none))
 
 pub effect_no_rel : (e : Entity) (types : List Name) (orientation : Orientation) → NoRows e (plan.rels types orientation) → IsEffect effect.Absent e (plan.rels types orientation)
 effect_no_rel e types orientation none = (none_kept e (plan.rels types orientation) none, (refl, none))
+
+-- ---- the columns that a projection makes
+
+-- one that a projection makes is a column alone where this one stands alone in it
+pub alone_is : (k : ℕ) (o : Output) → is_column k o ≡ is_this k (column_alone o)
+alone_is k (gathered columns) = refl
+alone_is k (computed (variable v)) = refl
+alone_is k (computed null) = refl
+alone_is k (computed (boolean b)) = refl
+alone_is k (computed (integer n)) = refl
+alone_is k (computed (text t)) = refl
+alone_is k (computed (property e key)) = refl
+alone_is k (computed (has_labels e labels)) = refl
+alone_is k (computed (unary operator e)) = refl
+alone_is k (computed (binary operator a b)) = refl
+alone_is k (computed (comparison e links)) = refl
+alone_is k (computed (list es)) = refl
+alone_is k (computed (case arms e)) = refl
+alone_is k (computed (call name distinct es)) = refl
+alone_is k (computed (call_star name)) = refl
+
+-- the first of them is the first column below it
+pub first_kept : {A : Type 0} (f : A → Output) (outputs : List A) (o : A) → Some o ≡ slice_get outputs 0 → is_column 0 (f o) ≡ true → kept_at 0 (map f outputs) ≡ Some 0
+first_kept f [] o at is = absurd (cc)
+first_kept f (x ∷ outputs) o at is =
+    let same : o ≡ x = cc in
+    ap (λ (b : Bool). if b then Some 0 else option_map suc (kept_at 0 (map f outputs))) (ap (λ y. is_column 0 (f y)) (sym same) ∙ is)
+
+-- ---- what the parts of a plan read
+
+or_right : (a : Bool) → a || true ≡ true
+or_right true = refl
+or_right false = refl
+
+-- where labels matter to one of two parts, or to none
+pub both_matter : (a b : Bool) {Same First Second : Type 0} → ((a ≡ true → Same) → First) → ((b ≡ true → Same) → Second) → (a || b ≡ true → Same) → First × Second
+both_matter a b first second same = (first (λ is. same (ap (λ x. x || b) is)), second (λ is. same (ap (λ x. a || x) is ∙ or_right a)))
 
 -- ---- leaves
 

@@ -4,5 +4,6 @@
 mod entities;
 mod parts;
 mod plans;
+mod reads;
 
 pub use plans::is_relevant;

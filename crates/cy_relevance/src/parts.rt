@@ -1,12 +1,13 @@
 //! What becomes of the rows of a plan's parts where one entity has another value.
 
-ghost use Rattle.std.specs.Prelude.{◌≡◌, List, Some, true};
+ghost use Rattle.std.specs.Prelude.{◌≡◌, Some, map, true};
+ghost use Rattle.cy_trees.specs.Trees.{Expression};
 ghost use Rattle.cy_trees.specs.Views.{expression_of};
 ghost use Rattle.cy_plans.specs.declared.operators.Attribute.TheVariants.{Labels};
 ghost use Rattle.cy_plans.specs.declared.operators.Orientation.{Orientation};
 ghost use Rattle.cy_plans.specs.Plans as plan;
-ghost use Rattle.cy_plans.specs.Plans.{Output, Plan};
-ghost use Rattle.cy_plans.specs.Views.{plan_of};
+ghost use Rattle.cy_plans.specs.Plans.{Plan};
+ghost use Rattle.cy_plans.specs.Views.{output_of, plan_of};
 ghost use Rattle.cy_scans.specs.Scans as scans;
 ghost use Rattle.cy_relevance.specs.declared.entities.Entity.{Entity};
 ghost use Rattle.cy_relevance.specs.internal.Effects as effects;
@@ -16,8 +17,10 @@ ghost use Rattle.cy_relevance.specs.internal.Kept.{IsAbsent, IsUnchanged};
 use crate::entities::{
     Entity, has_same, keeps_node, keeps_rel, lacks_label, makes_no_node, makes_no_rel,
 };
-use cy_plans::{Attribute, Operator};
-use cy_scans::{column_over, label_in};
+use crate::reads::{is_labels, reads_the_same};
+use cy_apart::column_alone;
+use cy_plans::{Attribute, Operator, Output};
+use cy_scans::label_in;
 use cy_trees::Expr;
 use cy_values::Text;
 
@@ -33,10 +36,14 @@ pub(crate) enum Effect {
 }
 
 /// Whether the rows of a part, and of the parts below it that a scan doesn't take together, are the same before and after, as far as
-/// they come of the entity. Where it says no, they may be so too.
+/// they come of the entity. Where it says no, they may be so too. Of one that is there before and after it is asked first whether what they
+/// read of it is the same, which takes less.
 pub(crate) fn is_unchanged(part: &Operator, entity: &Entity<'_>) -> bool
     ensures { result ≡ true → IsUnchanged entity.now (plan_of part.now) }
 {
+    if reads_the_same(part, entity) {
+        return true;
+    }
     is_kept(effect_of(part, entity))
 }
 
@@ -51,8 +58,14 @@ fn effect_of(part: &Operator, entity: &Entity<'_>) -> Effect
         Operator::Lookup(below, column, attribute) => {
             over_lookup(effect_of(below, entity), *column, attribute, entity)
         }
-        Operator::Filter(below, test) => over_filter(effect_of(below, entity), below, test, entity),
-        Operator::Project(below, _) => over_projection(effect_of(below, entity), part),
+        Operator::Filter(below, test) => {
+            if is_left_out(below, test, *entity) {
+                Effect::Absent
+            } else {
+                over_filter(effect_of(below, entity))
+            }
+        }
+        Operator::Project(below, outputs) => over_projection(effect_of(below, entity), outputs),
         Operator::AllDifferent(below, _) => over_one(effect_of(below, entity)),
         Operator::Distinct(below) => over_one(effect_of(below, entity)),
         Operator::Join(left, right, _) | Operator::Outer(left, right, _, _) => {
@@ -139,34 +152,38 @@ fn over_lookup(below: Effect, column: usize, attribute: &Attribute, entity: &Ent
     Effect::Changed
 }
 
-// What becomes of those of a filter over a part.
-fn over_filter(effect: Effect, below: &Operator, test: &Expr, entity: &Entity<'_>) -> Effect
-    ensures { IsEffect effect entity.now (plan_of below.now) → IsEffect result entity.now (plan.filter (plan_of below.now) (expression_of test.now)) }
+// What becomes of those of a filter.
+fn over_filter(below: Effect) -> Effect
+    ensures { (e : Entity) (p : Plan) (test : Expression) → IsEffect below e p → IsEffect result e (plan.filter p test) }
 {
-    if is_kept(effect) {
-        return effect;
-    }
-    if is_left_out(below, test, *entity) {
-        return Effect::Absent;
-    }
-    Effect::Changed
+    below
 }
 
 // What becomes of those of a projection.
-fn over_projection(below: Effect, part: &Operator) -> Effect
-    ensures { (e : Entity) (p : Plan) (outputs : List Output) → plan_of part.now ≡ plan.project p outputs → IsEffect below e p → IsEffect result e (plan.project p outputs) }
+fn over_projection(below: Effect, outputs: &[Output]) -> Effect
+    ensures { (e : Entity) (p : Plan) → IsEffect below e p → IsEffect result e (plan.project p (map output_of outputs.now)) }
 {
-    if is_absent(below) && keeps_first(part) {
+    if is_absent(below) && keeps_first(outputs) {
         return Effect::Absent;
     }
     over_one(below)
 }
 
-// Whether the first column below a part names its entities in the first column of its own.
-fn keeps_first(part: &Operator) -> bool
-    ensures { result ≡ true → scans.column_over (plan_of part.now) (Some 0) ≡ Some 0 }
+// Whether the first column that a projection makes is the first one below it.
+fn keeps_first(outputs: &[Output]) -> bool
+    ensures { result ≡ true → scans.kept_at 0 (map output_of outputs.now) ≡ Some 0 }
 {
-    match column_over(part, Some(0)) {
+    match outputs.first() {
+        Some(output) => is_first(output),
+        None => false,
+    }
+}
+
+// Whether a column that a projection makes is the first one below it.
+fn is_first(output: &Output) -> bool
+    ensures { result ≡ true → scans.is_column 0 (output_of output.now) ≡ true }
+{
+    match column_alone(output) {
         Some(column) => column == 0,
         None => false,
     }
@@ -174,7 +191,8 @@ fn keeps_first(part: &Operator) -> bool
 
 // Whether a filter over a part tests all nodes for a label that the entity lacks.
 fn is_left_out(below: &Operator, test: &Expr, entity: Entity<'_>) -> bool
-    ensures { result ≡ true → IsAbsent entity.entry (plan.filter (plan_of below.now) (expression_of test.now)) }
+    ensures unchanged { result ≡ true → IsUnchanged entity.entry (plan.filter (plan_of below.now) (expression_of test.now)) }
+    ensures absent { result ≡ true → IsAbsent entity.entry (plan.filter (plan_of below.now) (expression_of test.now)) }
 {
     match label_in(test) {
         Some(label) => looks_labels_up(below) && lacks_label(entity, label),
@@ -192,13 +210,6 @@ fn looks_labels_up(part: &Operator) -> bool
         }
         _ => false,
     }
-}
-
-// Whether an attribute is the list of labels.
-fn is_labels(attribute: &Attribute) -> bool
-    ensures { result ≡ true → attribute.now ≡ Labels }
-{
-    matches!(attribute, Attribute::Labels)
 }
 
 // Whether a part gives the nodes.

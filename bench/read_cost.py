@@ -1,6 +1,6 @@
 #!/usr/bin/env python3
 """Counts the instructions of queries on graphs of 10,000 and of 100,000 nodes, of UNWIND over lists of 3,000 and of 30,000 elements, and
-of 700 and 2,800 keys of ORDER BY, by valgrind, and the memory of UNWIND.
+of 700 and 2,800 keys of ORDER BY, by valgrind, and the memory of UNWIND and of lists of relationships.
 
 Run it at the top of the repository. It builds the program by `rt run` in crates/cypher_live, or takes the one that is named
 after it. Each node has five relationships, and a value of its own at `k`, which has an index. For each cost the script
@@ -19,6 +19,8 @@ SORT_LIMIT = 1.4
 TIMES = 20
 # How many elements a list has: a line has room for the longer one.
 ELEMENTS = 3_000, 30_000
+# How many relationships a list has at most. In a group of ten nodes a node has 105 lists of up to three, and 20,119 of up to seven.
+LENGTHS = 3, 7
 # How many keys a line has, and how many items that they repeat.
 KEYS = 700, 2_800
 
@@ -157,6 +159,12 @@ def key_costs(program, count):
         yield "keys of ORDER BY that repeat items, a key", session.count([line]) / count, True
 
 
+def trail_costs(program, length):
+    """The memory of a query over all lists of up to so many relationships that begin at a node, where WHERE keeps none of them."""
+    lines = [*graph(GROUP), answer(f"MATCH (:A {{k: 0}})-[r:T*1..{length}]-(c) WHERE c.k + size(r) < 0 RETURN count(*) AS n", ["n"], [0])]
+    yield "lists of relationships that WHERE drops, bytes of memory", peak([program], lines), True
+
+
 def main():
     program = sys.argv[1] if len(sys.argv) > 1 else built()
     is_flat = report(lambda size: costs(program, size), *SIZES, LIMIT)
@@ -164,7 +172,8 @@ def main():
     is_near = report(lambda size: hub_costs(program, size), *SIZES, LIMIT)
     is_linear = report(lambda count: list_costs(program, count), *ELEMENTS, SORT_LIMIT)
     is_looked_up = report(lambda count: key_costs(program, count), *KEYS, SORT_LIMIT)
-    return 0 if is_flat and is_sorted and is_near and is_linear and is_looked_up else 1
+    is_dropped = report(lambda length: trail_costs(program, length), *LENGTHS, LIMIT)
+    return 0 if is_flat and is_sorted and is_near and is_linear and is_looked_up and is_dropped else 1
 
 
 if __name__ == "__main__":

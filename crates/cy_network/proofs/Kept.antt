@@ -9,31 +9,13 @@ use Rattle.std.proofs.lemmas.List.Elements.{All-head, All-tail}
 use Rattle.std.proofs.lemmas.List.Folds.{list_all-map}
 use Rattle.std.proofs.lemmas.List.FromFn.{get_or-map-range_with_len, length-map-range_with_len, length-range_with_len}
 use Rattle.std.proofs.lemmas.List.Sums.{AllPass-from_list_all, sum_by-cons}
-use Rattle.cy_trees.specs.Trees.{null, boolean, integer, text, variable, property, has_labels, unary, binary, comparison, list, case, call, call_star}
 use Rattle.cy_merges.specs.Merges.{all_columns}
-use Rattle.cy_plans.specs.Plans.{Output, computed, gathered}
+use Rattle.cy_plans.specs.Plans.{Output}
 use Rattle.cy_apart.specs.Lists.{column_alone}
 use Rattle.cy_scans.specs.Scans.{is_column, is_this, kept_at}
+use Rattle.cy_relevance.proofs.Rules.{alone_is}
 use Rattle.cy_network.specs.Memories.{keeps_all}
 use Rattle.cy_network.specs.internal.Kept.{kept_flags}
-
--- one that a projection makes is a column alone where this one stands alone in it
-pub alone_is : (k : ℕ) (o : Output) → is_column k o ≡ is_this k (column_alone o)
-alone_is k (gathered columns) = refl
-alone_is k (computed (variable v)) = refl
-alone_is k (computed null) = refl
-alone_is k (computed (boolean b)) = refl
-alone_is k (computed (integer n)) = refl
-alone_is k (computed (text t)) = refl
-alone_is k (computed (property e key)) = refl
-alone_is k (computed (has_labels e labels)) = refl
-alone_is k (computed (unary operator e)) = refl
-alone_is k (computed (binary operator a b)) = refl
-alone_is k (computed (comparison e links)) = refl
-alone_is k (computed (list es)) = refl
-alone_is k (computed (case arms e)) = refl
-alone_is k (computed (call name distinct es)) = refl
-alone_is k (computed (call_star name)) = refl
 
 -- ---- one more output
 

@@ -5,7 +5,8 @@ use Rattle.cy_plans.specs.declared.operators.Output as coded
 use Rattle.cy_plans.specs.Views.{output_of}
 use Rattle.cy_scans.specs.Scans.{is_this, kept_at}
 use Rattle.cy_apart.specs.Lists.{column_alone}
-use Rattle.cy_network.proofs.Kept.{alone_is, flags_are, kept_more}
+use Rattle.cy_relevance.proofs.Rules.{alone_is}
+use Rattle.cy_network.proofs.Kept.{flags_are, kept_more}
 use Rattle.cy_network.proofs.kept_columns.flags_of.Goals as goal
 
 -- at first no column is marked

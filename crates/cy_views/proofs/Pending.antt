@@ -1,10 +1,11 @@
 -- The entries of views that are ready for the end of a change.
-use Rattle.std.proofs.Common.{ℕ, [], ◌∷◌, ◌++◌, Some, None, Option, string_bytes, refl, inl, inr}
+use Rattle.std.proofs.Common.{◌≡◌, ◌≤◌, ℕ, [], ◌∷◌, ◌++◌, length, map, Some, None, Option, string_bytes, refl, sym, ap, subst, ◌∙◌, arith, inl, inr}
 use Rattle.cy_trees.specs.Views.{statement_of}
 use Rattle.cy_graph.specs.Graph.{State}
 use Rattle.cy_bags.specs.declared.changes.Change.{Change}
-use Rattle.cy_views.specs.Upkeep.{IsItsChange, IsReady, Registry, entries_in, entry_if}
-use Rattle.cy_views.specs.Views.{AreEntries, rows_of}
+use Rattle.cy_views.specs.Upkeep.{AreNamed, AreReady, IsItsChange, IsReady, Registry, entries_in, entry_if, held, views_in}
+use Rattle.cy_views.specs.Views.{AreEntries, Entries, rows_of, view_limit}
+use Rattle.cy_views.specs.declared.views.Views.{Views}
 use Rattle.cy_views.proofs.Going.{All}
 use Rattle.cy_views.proofs.Named.{views}
 
@@ -23,3 +24,23 @@ are_entries before after tick (e ∷ entries) ready = from (are_entries before a
       record { differs = differs; tick_is = refl; difference = difference },
       rest,
     )
+
+-- where there are no views, they are ready, and there are no entries
+module _ (held_views : Views) (none : length held_views.registered.entries ≡ 0) (before after : State) (tick : ℕ) (entries : Entries) (is : entries ≡ []) where
+  no_views : (registry : Registry) → length registry ≡ 0 → registry ≡ []
+  no_views [] long = refl
+  no_views (e ∷ registry) long = absurd (omega (arith, long))
+
+  none_are : held_views.registered.entries ≡ []
+  none_are = no_views held_views.registered.entries none
+
+  pub none_ready : AreReady held_views before after tick entries
+  none_ready = record {
+    ready = subst (All (λ view. IsReady view before after tick)) (sym none_are) tt;
+    named = subst (λ (es : Registry). AreNamed (views es)) (sym none_are) tt;
+    few = subst (λ (es : Registry). length (map held es) ≤ view_limit) (sym none_are) (omega arith);
+    are = is ∙ ap (entries_in tick) (sym none_are);
+  }
+
+  pub none_changed : AreEntries (views_in held_views) before.content after.content tick entries
+  none_changed = subst (λ (es : Registry). AreEntries (views es) before.content after.content tick entries) (sym none_are) is

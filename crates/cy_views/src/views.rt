@@ -162,7 +162,7 @@ impl Views {
 
     /// Makes the views ready for the end of the open change, in the order in which they were made, and gives the entries that it
     /// makes at this tick. `TooManyRows` only where a part of a plan has a row that counts more than 2^62 - 1 on the graph of the
-    /// change. After a refusal the views are as before.
+    /// change. After a refusal the views are as before. Where there are no views, it isn't asked what the change touched.
     pub fn prepare(
         &mut self,
         store: &Store,
@@ -176,6 +176,9 @@ impl Views {
         ensures held { held_in self.new ≡ held_in self.old }
         ensures refused { IfErr result (CannotFollow (upkeep_in self.old) store.now.graph.now.content) }
     {
+        if self.registered.is_empty() {
+            return Ok(Sequence::new(Vec::new(self.alloc)));
+        }
         match self.make_ready(store, tick) {
             Ok(entries) => Ok(entries),
             Err(fault) => {

@@ -2,6 +2,7 @@ use Rattle.std.proofs.Common.{◌∙◌}
 use Rattle.cy_scans.specs.Changes.{before_change}
 use Rattle.cy_views.specs.declared.views.Views.{Views}
 use Rattle.cy_views.proofs.Making.{few_alike, named_alike}
+use Rattle.cy_views.proofs.Pending.{none_changed, none_ready}
 use Rattle.cy_views.proofs.views.Views.prepare.Goals as goal
 
 pub returns-in-Err-clause-err : goal.returns-in-Err-clause-err
@@ -13,3 +14,13 @@ returns-in-Err-clause-err c = λ last stand.
       named = named_alike c.args.self.now left held stand.named;
       few = few_alike c.args.self.now left held stand.few;
     }
+
+pub returns-then-is_empty-clause-ready : goal.returns-then-is_empty-clause-ready
+returns-then-is_empty-clause-ready c =
+    let graph = c.args.store.now.graph in
+    none_ready c.args.self.now (c.is_empty.ensures.0 c.if-is_empty.true) (before_change graph) graph.now c.args.tick _ (c.new-then-is_empty.ensures ∙ c.new.ensures.items)
+
+pub returns-then-is_empty-clause-entries : goal.returns-then-is_empty-clause-entries
+returns-then-is_empty-clause-entries c =
+    let graph = c.args.store.now.graph in
+    none_changed c.args.self.now (c.is_empty.ensures.0 c.if-is_empty.true) (before_change graph) graph.now c.args.tick _ (c.new-then-is_empty.ensures ∙ c.new.ensures.items)

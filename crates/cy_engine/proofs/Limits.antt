@@ -10,9 +10,9 @@ use Rattle.cy_graph.specs.Graph.{Content}
 use Rattle.cy_feeds.specs.Following.{last_count}
 use Rattle.cy_plans.specs.Meaning as plans
 use Rattle.cy_plans.specs.Plans.{Plan}
-use Rattle.cy_network.specs.Memories.{AreWithin}
+use Rattle.cy_plan_parts.specs.Memories.{AreWithin}
 use Rattle.cy_network.specs.Networks.{HasTooManyRows}
-use Rattle.cy_network.proofs.Steps.{own_within}
+use Rattle.cy_plan_parts.proofs.Steps.{own_within}
 use Rattle.cy_views.specs.declared.registered.Registered.{Registered}
 use Rattle.cy_views.specs.declared.views.Views.{Views}
 use Rattle.cy_views.specs.Upkeep.{Registry, Rests, SomeHasTooManyRows, StandFor, StandsFor, held, network_of, upkeep_in, upkeep_of, view_of, views_in}

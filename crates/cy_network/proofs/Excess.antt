@@ -11,7 +11,7 @@ use Rattle.cy_memory.specs.Counts.{Counts, is_row}
 use Rattle.cy_deltas.specs.declared.shifts.Shift.{Shift}
 use Rattle.cy_deltas.specs.Deltas.{IsDelta, counts_after, shift_between, shifts_of}
 use Rattle.cy_deltas.proofs.Same.{row_itself}
-use Rattle.cy_network.specs.Counted.{written}
+use Rattle.cy_plan_parts.specs.Counted.{written}
 use Rattle.cy_network.specs.internal.Roots.{AreOnce, excess}
 
 nothing_added : (n : ℕ) → 0 + n ≡ n

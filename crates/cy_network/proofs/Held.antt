@@ -13,9 +13,9 @@ use Rattle.cy_deltas.proofs.Staging.{after_delta}
 use Rattle.cy_merges.specs.Merges.{AreBounded}
 use Rattle.cy_scans.specs.Changes.{IsChange, Touches}
 use Rattle.cy_costs.specs.Costs.{cost}
-use Rattle.cy_network.specs.Counted.{written}
-use Rattle.cy_network.specs.Memories.{AreHeld, contents, keys}
-use Rattle.cy_network.specs.internal.Upkeep.{IsDone, IsUpkeep, all_reads, all_steps, asked_reads}
+use Rattle.cy_plan_parts.specs.Counted.{written}
+use Rattle.cy_plan_parts.specs.Memories.{AreHeld, contents, keys}
+use Rattle.cy_plan_parts.specs.internal.Upkeep.{IsDone, IsUpkeep, all_reads, all_steps, asked_reads}
 use Rattle.cy_network.proofs.Excess.{written_shifts}
 
 -- what was staged for a graph is held there

@@ -1,4 +1,2 @@
-pub mod Counted
-pub mod Memories
 pub mod Networks
 pub mod internal

@@ -1,25 +1,23 @@
 -- What a network stands for. Its rows are those of a plan on a graph; a change of the graph is prepared, and then settled or abandoned. (own)
-use Rattle.std.specs.Prelude.{◌≡◌, ℕ, ◌<◌, ◌≤◌, Bool, true, List, [], Option, Some, None, is_none, length, map, sum_by}
-use Rattle.std.specs.List.{Any}
+use Rattle.std.specs.Prelude.{◌≡◌, ℕ, ◌≤◌, Bool, true, List, [], Option, Some, None, is_none, length, map, sum_by}
 use Rattle.std.specs.declared.alloc.Global.{Global}
 use Rattle.std.specs.declared.vec.Vec.{Vec}
 use Rattle.indexmap.specs.IndexMap.{spare}
 use Rattle.cy_values.specs.declared.rows.Cell.{Cell}
-use Rattle.cy_values.specs.Bag.{count_of}
 use Rattle.cy_bags.specs.declared.changes.Change.{Change}
 use Rattle.cy_bags.specs.Difference.{IsDifference}
 use Rattle.cy_graph.specs.Graph.{Content}
-use Rattle.cy_memory.specs.Counts.{Counts, greatest_count}
+use Rattle.cy_memory.specs.Counts.{Counts}
 use Rattle.cy_plans.specs.declared.operators.Operator.{Operator}
 use Rattle.cy_plans.specs.Plans.{Plan}
-use Rattle.cy_plans.specs.Parts.{parts}
 use Rattle.cy_plans.specs.Meaning.{rows_of}
 use Rattle.cy_plans.specs.Sure.{IsSure}
 use Rattle.cy_plans.specs.Views.{plan_of}
 use Rattle.cy_deltas.specs.Deltas.{counts}
 use Rattle.cy_network.specs.declared.networks.Network.{Network}
-use Rattle.cy_network.specs.Counted.{ArePositive, counted, written}
-use Rattle.cy_network.specs.Memories.{AreHeld}
+use Rattle.cy_plan_parts.specs.Counted.{ArePositive, counted, written}
+use Rattle.cy_plan_parts.specs.Memories.{AreHeld}
+pub use Rattle.cy_plan_parts.specs.Limits.{HasTooManyRows}
 
 -- A network: its plan; of its memories the key columns, how often each row counts as it was and as it is staged, and how many steps they took
 -- since they were made; the rows that count, and how many there is room for beside them; the counts that are written over these when the change
@@ -62,10 +60,6 @@ state_of key_columns was staged step_count n = record {
 -- the plan of a network, as the code has it
 abbrev pub operator_of : {M C : Type 0} → Network M C → Operator
 operator_of n = n.plan
-
--- some part of the plan has a row that counts more than 2^62 - 1
-abbrev pub HasTooManyRows : Content → Plan → Type 0
-HasTooManyRows graph p = Any (λ part. (row : List Cell) × (greatest_count < count_of row (rows_of graph part))) (parts p)
 
 -- the network stands for the graph: its rows are those of its plan there, its memories hold those of the plan's parts, and nothing is prepared
 pub record StandsFor (graph : Content) (n : NetworkState) : Type 0 where

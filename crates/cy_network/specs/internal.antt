@@ -1,5 +1,2 @@
 -- What proofs alone need.
-pub mod Kept
-pub mod Parts
 pub mod Roots
-pub mod Upkeep

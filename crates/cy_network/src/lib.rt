@@ -2,14 +2,8 @@
 #![tactic(auto)]
 
 mod changes;
-mod kept_columns;
-mod leaves;
-mod memories;
 mod networks;
-mod pairs;
-mod parts;
 mod pending;
 mod rows;
-mod singles;
 
 pub use networks::Network;

@@ -5,7 +5,7 @@ ghost use Rattle.indexmap.specs.IndexMap.{spare};
 ghost use Rattle.cy_values.specs.declared.rows.Cell.{Cell};
 ghost use Rattle.cy_bags.specs.Difference.{IsDifference};
 ghost use Rattle.cy_deltas.specs.Deltas.{IsDelta, counts};
-ghost use Rattle.cy_network.specs.Counted.{ArePositive, counted, written};
+ghost use Rattle.cy_plan_parts.specs.Counted.{ArePositive, counted, written};
 ghost use Rattle.cy_network.specs.internal.Roots.{excess};
 
 use crate::rows::{sorted, write_counts};

@@ -6,7 +6,7 @@ ghost use Rattle.indexmap.specs.IndexMap.{IsUnique, spare};
 ghost use Rattle.cy_values.specs.declared.rows.Cell.{Cell};
 ghost use Rattle.cy_values.specs.Bag.{IsCanonical, weight_of};
 ghost use Rattle.cy_memory.specs.Counts.{is_row, with_count};
-ghost use Rattle.cy_network.specs.Counted.{ArePositive, counted, written};
+ghost use Rattle.cy_plan_parts.specs.Counted.{ArePositive, counted, written};
 ghost use Rattle.cy_network.specs.internal.Roots.{AreOnce};
 
 use cy_memory::rows_equal;

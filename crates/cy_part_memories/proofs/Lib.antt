@@ -1,0 +1,6 @@
+pub mod Passes
+pub mod Nothing
+pub mod ChainParts
+pub mod Popped
+pub mod Kept
+pub mod CutChains

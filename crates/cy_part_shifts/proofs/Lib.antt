@@ -1,0 +1,4 @@
+pub mod Shifted
+pub mod OwnSingles
+pub mod OwnPairs
+pub mod OwnOuter

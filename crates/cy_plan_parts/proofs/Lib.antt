@@ -1,0 +1,12 @@
+pub mod Slices
+pub mod PlanParts
+pub mod Steps
+pub mod Lent
+pub mod Outcomes
+pub mod Refusals
+pub mod Chains
+pub mod ScanFacts
+pub mod RowByRow
+pub mod Apart
+pub mod Scanned
+pub mod Cuts

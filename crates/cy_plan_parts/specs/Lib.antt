@@ -1,0 +1,4 @@
+pub mod Limits
+pub mod Counted
+pub mod Memories
+pub mod internal

@@ -1,0 +1,3 @@
+-- What proofs alone need.
+pub mod Parts
+pub mod Upkeep

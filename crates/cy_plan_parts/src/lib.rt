@@ -1,0 +1,6 @@
+//! The parts of a plan: those right below a part, and the chain that it begins.
+#![tactic(auto)]
+
+mod parts;
+
+pub use parts::{below_count, chain_of, cut_of, first_below, is_unit, second_below};

@@ -1,5 +1,5 @@
 -- What is known of a part by what is known of the parts below it.
-use Rattle.std.proofs.Common.{◌≡◌, ◌||◌, ℕ, suc, ◌+◌, ◌-◌, ◌^◌, ◌≤◌, min, arith, Bool, true, false, cond, List, [], ◌∷◌, ◌++◌, Option, None, Some, refl, sym, ap, subst, ◌∙◌, map, filter, is_some, not, inl, inr}
+use Rattle.std.proofs.Common.{◌≡◌, ℕ, suc, ◌+◌, ◌-◌, ◌^◌, ◌≤◌, min, arith, Bool, true, false, cond, List, [], ◌∷◌, ◌++◌, Option, None, Some, refl, sym, ap, subst, ◌∙◌, map, filter, is_some, not, inl, inr}
 use Rattle.std.specs.Prelude.{if◌then◌else◌, slice_get}
 use Rattle.std.specs.Option.{option_copied, option_map}
 use Rattle.std.proofs.lemmas.Bool.{false≢true}
@@ -240,16 +240,6 @@ first_kept f [] o at is = absurd (cc)
 first_kept f (x ∷ outputs) o at is =
     let same : o ≡ x = cc in
     ap (λ (b : Bool). if b then Some 0 else option_map suc (kept_at 0 (map f outputs))) (ap (λ y. is_column 0 (f y)) (sym same) ∙ is)
-
--- ---- what the parts of a plan read
-
-or_right : (a : Bool) → a || true ≡ true
-or_right true = refl
-or_right false = refl
-
--- where labels matter to one of two parts, or to none
-pub both_matter : (a b : Bool) {Same First Second : Type 0} → ((a ≡ true → Same) → First) → ((b ≡ true → Same) → Second) → (a || b ≡ true → Same) → First × Second
-both_matter a b first second same = (first (λ is. same (ap (λ x. x || b) is)), second (λ is. same (ap (λ x. a || x) is ∙ or_right a)))
 
 -- ---- leaves
 

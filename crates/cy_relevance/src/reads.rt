@@ -1,7 +1,9 @@
 //! Whether the parts of a plan read the same of an entity.
 
 ghost use Rattle.std.specs.Prelude.{◌≡◌, IfSome, true};
+ghost use Rattle.cy_plans.specs.declared.operators.Attribute.{Attribute};
 ghost use Rattle.cy_plans.specs.declared.operators.Attribute.TheVariants.{Labels};
+ghost use Rattle.cy_plans.specs.Plans as plan;
 ghost use Rattle.cy_plans.specs.Views.{plan_of};
 ghost use Rattle.cy_relevance.specs.internal.Kept.{IsUnchanged, KeepsValue};
 
@@ -39,8 +41,10 @@ fn labels_matter(part: &Operator, entity: &Entity<'_>) -> Option<bool>
         Operator::Unit => Some(false),
         Operator::Nodes => unless_changed(keeps_node(*entity)),
         Operator::Rels(_, _) => unless_changed(keeps_rel(*entity)),
-        Operator::Lookup(below, _, attribute) => {
-            if is_labels(attribute) {
+        Operator::Lookup(below, column, attribute) => {
+            if is_of_others(below, *column, entity) {
+                Some(false)
+            } else if is_labels(attribute) {
                 labels_matter(below, entity)?;
                 Some(true)
             } else if has_same(*entity, attribute) {
@@ -64,6 +68,19 @@ fn labels_matter(part: &Operator, entity: &Entity<'_>) -> Option<bool>
             let right = labels_matter(right, entity)?;
             Some(left || right)
         }
+    }
+}
+
+// Whether a look-up in this column of a part is one of all relationships or all nodes, and the entity is none of these.
+fn is_of_others(below: &Operator, column: usize, entity: &Entity<'_>) -> bool
+    ensures { result ≡ true → (attribute : Attribute) → IsUnchanged entity.now (plan.lookup (plan_of below.now) column attribute) }
+{
+    if column > 0 {
+        return false;
+    }
+    match entity {
+        Entity::Node(_, _) => matches!(below, Operator::Rels(_, _)),
+        Entity::Rel(_, _) => matches!(below, Operator::Nodes),
     }
 }
 

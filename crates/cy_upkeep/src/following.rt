@@ -3,6 +3,8 @@
 ghost use Rattle.std.specs.Prelude.{◌≡◌, Some, IsNone, IsSome, IfOk, OnOk};
 ghost use Rattle.cy_graph.specs.Graph.{Content};
 ghost use Rattle.cy_scans.specs.Changes.{before_change};
+ghost use Rattle.cy_plans.specs.Sure.{IsSure};
+ghost use Rattle.cy_plans.specs.Views.{plan_of};
 ghost use Rattle.cy_network.specs.Networks.{HasRows, IsPrepared, StandsFor, state_of};
 
 use cy_bags::counted_in_order;
@@ -14,6 +16,7 @@ use cy_network::Network;
 use cy_oneshot::answer;
 use cy_parser::parse;
 use cy_planner::plan;
+use cy_plans::Plan;
 use cy_scans::GraphChange;
 use cy_scope::{Checked, ViewQuery, check, check_view, has_update};
 use cy_updates::execute;
@@ -211,13 +214,35 @@ fn changed<M: Memory>(
     Ok(text)
 }
 
-// Executes a statement, and a network follows it: it changes as wanted, where that is said, and has the rows that the query answers, as has
+// A query answers these rows, and a network of it that is made anew has them too.
+fn expect_answered<M: Memory>(
+    rt: &impl Abort,
+    alloc: Global,
+    query: &ViewQuery,
+    store: &Store,
+    rows: &str,
+    line: &str,
+) -> Result<(), Fail> {
+    assert_eq!(rt;
+        rows,
+        rows_answered(alloc, query, store)?.as_str(),
+        "{line}"
+    );
+    assert_eq!(rt;
+        rows,
+        rows_built::<M>(alloc, query, store)?.as_str(),
+        "{line}"
+    );
+    Ok(())
+}
+
+// Executes a statement, and a network follows it: it changes as wanted, where that is said, and has the rows that its query answers, as has
 // one that is made anew.
 #[tactic(auto, using(crate::proofs::Standing::rows_standing))]
 fn expect_line<M: Memory>(
     rt: &impl Abort,
     alloc: Global,
-    query: &ViewQuery,
+    query: Option<&ViewQuery>,
     network: &mut Network<M>,
     store: &mut Store,
     case: &str,
@@ -230,16 +255,9 @@ fn expect_line<M: Memory>(
     let (line, wanted) = case.split_once(" =>").unwrap_or((case, ""));
     let mut text = changed(alloc, network, store, line)?;
     let rows = rows_text(alloc, network)?;
-    assert_eq!(rt;
-        rows.as_str(),
-        rows_answered(alloc, query, store)?.as_str(),
-        "{line}"
-    );
-    assert_eq!(rt;
-        rows.as_str(),
-        rows_built::<M>(alloc, query, store)?.as_str(),
-        "{line}"
-    );
+    if let Some(query) = query {
+        expect_answered::<M>(rt, alloc, query, store, rows.as_str(), line)?;
+    }
     if !wanted.is_empty() {
         text.push_str(" =")?;
         text.push_str(rows.as_str())?;
@@ -252,7 +270,7 @@ fn expect_line<M: Memory>(
 fn expect_lines<M: Memory>(
     rt: &impl Abort,
     alloc: Global,
-    query: &ViewQuery,
+    query: Option<&ViewQuery>,
     network: &mut Network<M>,
     store: &mut Store,
     lines: &str,
@@ -277,7 +295,7 @@ fn expect_over<M: Memory>(
     requires { IsNone store.old.graph.was }
 {
     let mut network: Network<M> = built(alloc, query, store)?;
-    expect_lines(rt, alloc, query, &mut network, store, lines)
+    expect_lines(rt, alloc, Some(query), &mut network, store, lines)
 }
 
 /// A network of a query follows statements, each a line, from an empty store on. After ` =>` a line has what goes and what comes, and the
@@ -291,4 +309,35 @@ pub(crate) fn expect_query<M: Memory>(
     let query = check_view(alloc, statement_of(alloc, query)?)?;
     let mut store = Store::new(alloc);
     expect_over::<M>(rt, alloc, &query, &mut store, lines)
+}
+
+// All nodes, twice. No query has this plan: the parts of its union have all rows in common.
+#[tactic(auto, using(crate::proofs::Standing::nodes_twice_sure))]
+fn nodes_twice(alloc: Global) -> Result<Plan, Fail>
+    ensures { IfOk result (λ p. IsSure (plan_of p)) }
+{
+    Ok(Plan::union(alloc, Plan::nodes(), Plan::nodes())?)
+}
+
+// A network of all nodes twice is made over the store, and follows it.
+fn expect_twice<M: Memory>(
+    rt: &impl Abort,
+    alloc: Global,
+    store: &mut Store,
+    lines: &str,
+) -> Result<(), Fail>
+    requires { IsNone store.old.graph.was }
+{
+    let mut network: Network<M> = Network::build(alloc, nodes_twice(alloc)?, store)?;
+    expect_lines(rt, alloc, None, &mut network, store, lines)
+}
+
+/// A network of all nodes twice follows statements from an empty store on, as one of a query does.
+pub(crate) fn expect_union<M: Memory>(
+    rt: &impl Abort,
+    alloc: Global,
+    lines: &str,
+) -> Result<(), Fail> {
+    let mut store = Store::new(alloc);
+    expect_twice::<M>(rt, alloc, &mut store, lines)
 }

@@ -1,6 +1,6 @@
 //! Sessions: a view, and what each statement changes in its rows.
 
-use crate::following::expect_query;
+use crate::following::{expect_query, expect_union};
 use cy_memory::{KeyedMemory, ListMemory};
 use std::test::Fail;
 
@@ -91,6 +91,12 @@ MATCH (a)-[r]->(b) WHERE id(r) = 2 CREATE (b)-[:T]->(b) => - + [rel1,rel2,rel3]x
 = [rel1,rel2,rel3]x1 [rel2,rel3,rel1]x1 [rel3,rel1,rel2]x1",
 ];
 
+// What changes in the rows of all nodes twice.
+const NODES_TWICE: &str = "\
+CREATE (), () => - + [node1]x2 [node2]x2 = [node1]x2 [node2]x2
+MATCH (n) WHERE id(n) = 2 SET n.k = 1 => - + = [node1]x2 [node2]x2
+MATCH (n {k: 1}) CREATE () DELETE n => - [node2]x2 + [node3]x2 = [node1]x2 [node3]x2";
+
 #[test]
 fn sessions_over_keyed_memories(rt: HostRuntime) -> Result<(), Fail> {
     for session in SESSIONS {
@@ -107,4 +113,10 @@ fn sessions_over_list_memories(rt: HostRuntime) -> Result<(), Fail> {
         expect_query::<ListMemory>(&rt, rt.alloc(), query, lines)?;
     }
     Ok(())
+}
+
+#[test]
+fn union_of_all_nodes(rt: HostRuntime) -> Result<(), Fail> {
+    expect_union::<KeyedMemory>(&rt, rt.alloc(), NODES_TWICE)?;
+    expect_union::<ListMemory>(&rt, rt.alloc(), NODES_TWICE)
 }

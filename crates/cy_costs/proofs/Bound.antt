@@ -9,8 +9,8 @@ use Rattle.cy_plans.specs.Plans.{Plan}
 use Rattle.cy_plans.specs.Parts.{parts}
 use Rattle.cy_plans.specs.Meaning.{rows_of}
 use Rattle.cy_deltas.specs.Costs.{changed_pairs}
-use Rattle.cy_scans.specs.Changes.{Touches}
-use Rattle.cy_scans.specs.Costs.{naming_rows}
+use Rattle.cy_touches.specs.Changes.{Touches}
+use Rattle.cy_touches.specs.Costs.{naming_rows}
 use Rattle.cy_costs.specs.Costs.{changed, cost, part_cost, touched_entities}
 use Rattle.cy_costs.specs.internal.Work.{all_reads, all_steps, asked_reads, in_all, looks_at_graph, own_reads, own_steps}
 

@@ -13,7 +13,7 @@ use Rattle.cy_plans.specs.declared.operators.Attribute.TheVariants.{Property}
 use Rattle.cy_plans.specs.declared.operators.KeyColumns.{KeyColumns}
 use Rattle.cy_plans.specs.declared.operators.Orientation.TheVariants.{Directed, Either}
 use Rattle.cy_plans.specs.Plans.{Plan, unit, nodes, rels, join, outer, lookup, project, distinct, union, computed}
-use Rattle.cy_scans.specs.Changes.{Touches}
+use Rattle.cy_touches.specs.Changes.{Touches}
 use Rattle.cy_costs.specs.Costs.{cost, part_cost}
 
 abbrev n : ℕ → NodeId

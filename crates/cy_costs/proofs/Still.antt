@@ -18,9 +18,9 @@ use Rattle.cy_plans.specs.Plans as plan
 use Rattle.cy_plans.specs.Plans.{Plan}
 use Rattle.cy_plans.specs.Parts.{parts}
 use Rattle.cy_deltas.specs.Costs.{changed_pairs, changed_rows, is_changed, rows_either}
-use Rattle.cy_scans.specs.Changes.{IsChange, IsImage, Touches, image_at}
-use Rattle.cy_scans.specs.Costs.{names_touched, naming_rows}
-use Rattle.cy_scans.proofs.Determined.{node_number, rel_number, same_naming}
+use Rattle.cy_touches.specs.Changes.{IsChange, IsImage, Touches, image_at}
+use Rattle.cy_touches.specs.Costs.{names_touched, naming_rows}
+use Rattle.cy_touches.proofs.Determined.{node_number, rel_number, same_naming}
 use Rattle.cy_costs.specs.Costs.{changed, cost, joining, part_cost, touched_entities}
 
 -- ---- one cost

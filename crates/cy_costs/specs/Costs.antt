@@ -9,8 +9,8 @@ use Rattle.cy_plans.specs.Plans.{Plan}
 use Rattle.cy_plans.specs.Parts.{parts}
 use Rattle.cy_plans.specs.Meaning.{rows_of}
 use Rattle.cy_deltas.specs.Costs.{changed_rows, changed_pairs}
-use Rattle.cy_scans.specs.Changes.{Touches}
-use Rattle.cy_scans.specs.Costs.{naming_rows}
+use Rattle.cy_touches.specs.Changes.{Touches}
+use Rattle.cy_touches.specs.Costs.{naming_rows}
 
 -- the nodes and relationships that a change touched
 abbrev pub touched_entities : Touches → ℕ

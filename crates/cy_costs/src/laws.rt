@@ -4,7 +4,7 @@ ghost use Rattle.std.specs.Prelude.{◌≡◌, ◌≤◌, ◌+◌, ◌*◌};
 ghost use Rattle.cy_graph.specs.Graph.{Content, State};
 ghost use Rattle.cy_plans.specs.Plans.{Plan};
 ghost use Rattle.cy_plans.specs.Meaning.{rows_of};
-ghost use Rattle.cy_scans.specs.Changes.{IsChange, Touches};
+ghost use Rattle.cy_touches.specs.Changes.{IsChange, Touches};
 ghost use Rattle.cy_costs.specs.Costs.{cost};
 ghost use Rattle.cy_costs.specs.internal.Work.{all_reads, all_steps, asked_reads};
 

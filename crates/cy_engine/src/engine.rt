@@ -6,7 +6,7 @@ ghost use Rattle.cy_trees.specs.Views.{statement_of};
 ghost use Rattle.cy_queries.specs.Queries.{query_columns};
 ghost use Rattle.cy_updates.specs.Answers.{outcome_seen};
 ghost use Rattle.cy_graph.specs.Graph.{State};
-ghost use Rattle.cy_scans.specs.Changes.{before_change};
+ghost use Rattle.cy_touches.specs.Changes.{before_change};
 ghost use Rattle.cy_views.specs.Upkeep.{StandFor, held_in, upkeep_in};
 ghost use Rattle.cy_views.specs.Views.{View, entry_at};
 ghost use Rattle.cy_engine.specs.Model.{new_machine, state_of};

@@ -11,7 +11,7 @@ use Rattle.cy_deltas.specs.declared.shifts.Shift.{Shift}
 use Rattle.cy_deltas.specs.Deltas.{IsDelta, counts, rows_at}
 use Rattle.cy_deltas.proofs.Staging.{after_delta}
 use Rattle.cy_merges.specs.Merges.{AreBounded}
-use Rattle.cy_scans.specs.Changes.{IsChange, Touches}
+use Rattle.cy_touches.specs.Changes.{IsChange, Touches}
 use Rattle.cy_costs.specs.Costs.{cost}
 use Rattle.cy_plan_parts.specs.Counted.{written}
 use Rattle.cy_plan_parts.specs.Memories.{AreHeld, contents, keys}

@@ -18,7 +18,7 @@ use Rattle.cy_plans.specs.Sure.{HasCells, HasTruth, IsSure}
 use Rattle.cy_deltas.specs.declared.shifts.Shift.{Shift}
 use Rattle.cy_deltas.specs.Deltas.{IsBounded, IsDelta, counts, counts_after, rows_at}
 use Rattle.cy_deltas.proofs.PlanLemmas.{different_at, filter_at, lookup_at, once_at, project_at}
-use Rattle.cy_scans.specs.Changes.{Touches}
+use Rattle.cy_touches.specs.Changes.{Touches}
 use Rattle.cy_plan_parts.specs.Memories.{is_row_by_row, is_scan, none_where}
 use Rattle.cy_plan_parts.specs.internal.Upkeep.{IsDeltaOf, IsOwnBegun, IsOwnDone, IsStep, content_of, state_of}
 use Rattle.cy_part_shifts.proofs.Shifted.{after_is, held_delta, of_shifts}

@@ -15,7 +15,8 @@ use cy_deltas::{Shift, add_shift};
 use cy_index::Sight;
 use cy_plan_parts::is_unit;
 use cy_plans::Operator;
-use cy_scans::{GraphChange, scan};
+use cy_scans::scan;
+use cy_touches::GraphChange;
 use cy_values::{Fault, Sequence};
 use std::alloc::Global;
 

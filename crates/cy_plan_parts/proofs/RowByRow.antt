@@ -1,5 +1,5 @@
 -- A projection that keeps all columns of the rows below it makes different rows of different ones.
-use Rattle.std.proofs.Common.{◌≡◌, ℕ, ◌+◌, ◌<◌, ◌||◌, Bool, true, false, Option, Some, None, List, [], ◌∷◌, length, get_or, refl, sym, ap, subst, ◌∙◌, arith, true≢false}
+use Rattle.std.proofs.Common.{◌≡◌, ℕ, ◌+◌, ◌<◌, ◌||◌, Bool, true, false, Option, Some, None, List, [], ◌∷◌, length, get_or, refl, sym, ap, subst, ◌∙◌, arith, true≢false, map}
 use Rattle.std.specs.Prelude.{IfSome, is_some}
 use Rattle.std.proofs.lemmas.List.{ext_get_or, length-map}
 use Rattle.std.proofs.lemmas.List.Folds.{list_all_at}
@@ -14,10 +14,9 @@ use Rattle.cy_plans.specs.Plans.{Output, Plan, width}
 use Rattle.cy_deltas.specs.declared.shifts.Shift.{Shift}
 use Rattle.cy_deltas.specs.Deltas.{AreWide, IsBounded, IsDelta, counts, rows_at}
 use Rattle.std.specs.List.{All}
-use Rattle.std.proofs.Common.{map}
 use Rattle.cy_graph.specs.Graph.{IsGraph, State}
 use Rattle.cy_deltas.proofs.PlanLemmas.{parts_wide, project_at}
-use Rattle.cy_scans.specs.Changes.{Touches}
+use Rattle.cy_touches.specs.Changes.{Touches}
 use Rattle.cy_scans.specs.Scans.{kept_at}
 use Rattle.cy_plan_parts.proofs.ScanFacts.{kept_cell}
 use Rattle.cy_plan_parts.proofs.Steps.{old_graph}

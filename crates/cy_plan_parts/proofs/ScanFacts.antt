@@ -24,10 +24,10 @@ use Rattle.cy_plans.specs.Meaning.{attribute_of, backwards, forwards, has_type, 
 use Rattle.cy_plans.specs.Plans as plan
 use Rattle.cy_plans.specs.Plans.{Output, Plan, computed, gathered}
 use Rattle.cy_scans.specs.Scans.{is_column, is_this, kept_at, scan_column, scan_parts}
-use Rattle.cy_scans.specs.internal.Attributes.{node_attribute, rel_attribute}
+use Rattle.cy_touches.specs.Attributes.{node_attribute, rel_attribute}
 use Rattle.cy_scans.specs.internal.Rows.{node_rows, rel_rows}
 use Rattle.cy_scans.specs.internal.Through.{leaf_of, node_made, reads_graph, rel_made}
-use Rattle.cy_scans.proofs.LookupLemmas.{at_node, at_rel}
+use Rattle.cy_touches.proofs.LookupLemmas.{at_node, at_rel}
 use Rattle.cy_scans.proofs.Recounting.{counted_within}
 use Rattle.cy_scans.proofs.ScanDeltas.{node_rows_of, node_under, rel_under}
 use Rattle.cy_scans.proofs.ScanLemmas.{count_at, count_scan}

@@ -15,7 +15,7 @@ use Rattle.cy_plans.specs.Meaning.{are_different, rows_of, with_attribute}
 use Rattle.cy_deltas.specs.declared.shifts.Shift.{Shift}
 use Rattle.cy_deltas.specs.Deltas.{IsBounded, IsDelta, content_at, counts, rows_at}
 use Rattle.cy_deltas.proofs.PlanLemmas.{different_at, filter_at, lookup_at, nodes_at, project_at, rels_at}
-use Rattle.cy_scans.specs.Changes.{Touches}
+use Rattle.cy_touches.specs.Changes.{Touches}
 use Rattle.cy_scans.specs.Scans.{IsScan, column_over, if_this, kept, scan_column, scan_parts, scan_reads}
 use Rattle.cy_plan_parts.proofs.ScanFacts.{scan_few}
 use Rattle.cy_plan_parts.specs.Memories.{AreWithin, contents, is_scan, keys, own_contents, own_keys, tells_rows, none_where}

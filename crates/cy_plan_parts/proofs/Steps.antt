@@ -17,7 +17,7 @@ use Rattle.cy_plans.specs.Meaning.{rows_of}
 use Rattle.cy_deltas.specs.declared.shifts.Shift.{Shift}
 use Rattle.cy_deltas.specs.Deltas.{content_at, counts, rows_at}
 use Rattle.cy_deltas.proofs.ShiftLemmas.{after_bounded}
-use Rattle.cy_scans.specs.Changes.{IsChange, Touches}
+use Rattle.cy_touches.specs.Changes.{IsChange, Touches}
 use Rattle.cy_plan_parts.specs.Memories.{AreWithin, contents, keys, own_contents, own_keys}
 use Rattle.cy_plan_parts.specs.Limits.{HasTooManyRows}
 use Rattle.cy_plan_parts.specs.internal.Parts.{below_count, first_below, second_below}

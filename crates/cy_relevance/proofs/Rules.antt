@@ -20,7 +20,7 @@ use Rattle.cy_plans.specs.Plans as plan
 use Rattle.cy_plans.specs.Plans.{Output, Plan, computed, gathered}
 use Rattle.cy_apart.specs.Lists.{column_alone}
 use Rattle.cy_scans.specs.Scans.{if_this, is_column, is_this, kept, kept_at, scan_parts}
-use Rattle.cy_scans.specs.internal.Attributes.{node_attribute, rel_attribute}
+use Rattle.cy_touches.specs.Attributes.{node_attribute, rel_attribute}
 use Rattle.cy_scans.specs.internal.Rows.{rel_rows}
 use Rattle.cy_scans.specs.internal.Through.{HaveSameEnds, IsNeeded, leaf_of, node_made, rel_made}
 use Rattle.cy_scans.proofs.NeededLabels.{tests_label}

@@ -15,11 +15,11 @@ use Rattle.cy_plans.specs.Expressions.{cell_at, holds, projected, relationships_
 use Rattle.cy_plans.specs.Meaning.{are_different, attribute_of, each_once, joined, outer_joined, rows_of}
 use Rattle.cy_plans.specs.Plans as plan
 use Rattle.cy_plans.specs.Plans.{Output, Plan, width}
-use Rattle.cy_scans.specs.Changes.{IsChange, IsImage, Touches}
+use Rattle.cy_touches.specs.Changes.{IsChange, IsImage, Touches}
 use Rattle.cy_scans.specs.Scans.{scan_column}
-use Rattle.cy_scans.specs.internal.Attributes.{node_attribute, rel_attribute}
-use Rattle.cy_scans.proofs.Keys.{same_number}
-use Rattle.cy_scans.proofs.LookupLemmas.{at_node, at_rel, at_rels, at_value}
+use Rattle.cy_touches.specs.Attributes.{node_attribute, rel_attribute}
+use Rattle.cy_touches.proofs.Keys.{same_number}
+use Rattle.cy_touches.proofs.LookupLemmas.{at_node, at_rel, at_rels, at_value}
 use Rattle.cy_scans.proofs.ScanDeltas.{node_under, rel_under}
 use Rattle.cy_scans.proofs.Through.{holds_found}
 use Rattle.cy_relevance.specs.Relevance.{IsUntouched}

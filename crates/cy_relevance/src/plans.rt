@@ -4,7 +4,7 @@ ghost use Rattle.std.specs.Prelude.{◌≡◌, ◌≤◌, ◌+◌, false, length
 ghost use Rattle.std.specs.List.{All};
 ghost use Rattle.cy_graph.specs.Graph.{State, node_at, rel_at};
 ghost use Rattle.cy_plans.specs.Views.{plan_of};
-ghost use Rattle.cy_scans.specs.Changes.{IsChange};
+ghost use Rattle.cy_touches.specs.Changes.{IsChange};
 ghost use Rattle.cy_costs.specs.internal.Work as work;
 ghost use Rattle.cy_costs.specs.internal.Work.{asked_reads};
 ghost use Rattle.cy_relevance.specs.Relevance.{IsUntouched};
@@ -14,7 +14,7 @@ use crate::entities::Entity;
 use crate::parts::is_unchanged;
 use cy_index::Sight;
 use cy_plans::Operator;
-use cy_scans::GraphChange;
+use cy_touches::GraphChange;
 use cy_values::{NodeId, RelId};
 
 /// Whether a change of the graph is relevant to a plan. Where it says no, the rows of its parts are the same before and after. It reads each

@@ -1,13 +1,5 @@
-pub mod Keys
-pub mod Gathering
 pub mod ScanLemmas
-pub mod ScanRows
 pub mod ScanDeltas
-pub mod LookupLemmas
-pub mod LookupDeltas
-pub mod AttributeLemmas
-pub mod CostLemmas
-pub mod Determined
 pub mod Through
 pub mod ThroughSteps
 pub mod ThroughCounts
@@ -16,3 +8,4 @@ pub mod Recounting
 pub mod Replaced
 pub mod ThroughScans
 pub mod SameEnds
+pub mod TypeTests

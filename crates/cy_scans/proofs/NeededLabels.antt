@@ -26,7 +26,7 @@ use Rattle.cy_plans.specs.Plans as plan
 use Rattle.cy_plans.specs.Plans.{Output, Plan, computed}
 use Rattle.cy_plans.specs.Views.{plan_of}
 use Rattle.cy_scans.specs.Scans.{is_column}
-use Rattle.cy_scans.specs.internal.Attributes.{node_attribute}
+use Rattle.cy_touches.specs.Attributes.{node_attribute}
 use Rattle.cy_scans.specs.internal.Rows.{node_rows}
 use Rattle.cy_scans.specs.internal.Through.{IsLabelTest, IsNeeded, LeaveNode, labelled, through}
 use Rattle.cy_scans.proofs.Through.{column_cell, column_is}

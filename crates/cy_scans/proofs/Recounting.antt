@@ -14,7 +14,7 @@ use Rattle.cy_deltas.specs.Deltas.{IsBounded, shift_between, shifts_of}
 use Rattle.cy_deltas.proofs.Same.{is_row_back, row_itself, same_row}
 use Rattle.cy_deltas.proofs.ShiftLemmas.{shifts_between}
 use Rattle.cy_scans.specs.internal.Through.{recounted}
-use Rattle.cy_scans.proofs.ScanRows.{bounded_between}
+use Rattle.cy_touches.proofs.Owners.{bounded_between}
 
 -- the rows that are others than this one
 abbrev pub others : List Cell → List (List Cell) → List (List Cell)

@@ -1,23 +1,17 @@
 -- The rows that are made of single entities, and how they change where the entities do.
-use Rattle.std.proofs.Common.{◌≡◌, ℕ, ◌+◌, ◌==◌, Bool, true, false, cond, List, [], ◌∷◌, Option, None, Some, refl, sym, ap, ◌∙◌, filter, nat_eq, arith}
+use Rattle.std.proofs.Common.{◌≡◌, ℕ, ◌+◌, true, false, List, [], ◌∷◌, Option, None, Some, refl, sym, ap, ◌∙◌, filter, nat_eq, arith}
 use Rattle.std.specs.Prelude.{sum_by, flat_map}
 use Rattle.std.specs.Option.{option_map_or}
 use Rattle.std.specs.declared.cmp.Ordering.{Ordering}
 use Rattle.std.specs.Ordering.{eq_by_cmp, nat_cmp}
 use Rattle.std.specs.FinMap.Entries as entries
 use Rattle.std.proofs.lemmas.List.Sums.{sum_by-cons}
-use Rattle.std.proofs.lemmas.Bool.Decides.{nat_tests}
 use Rattle.cy_values.specs.declared.rows.Cell.{Cell}
 use Rattle.cy_values.specs.Bag.{count_of}
 use Rattle.cy_memory.specs.Counts.{is_row}
 use Rattle.cy_plans.proofs.Counts.{count_flat_map}
-use Rattle.cy_deltas.specs.Deltas.{shift_between}
-use Rattle.cy_scans.proofs.Keys.{found_alike, own_entries, rising_once, same_by_order, same_number, sum_kept}
-
--- whether a row is of the entity with the number, where it is known which one it is of
-abbrev pub owns : Option ℕ → ℕ → Bool
-owns None n = false
-owns (Some q) n = nat_eq q n
+use Rattle.cy_touches.proofs.Keys.{found_alike, own_entries, rising_once, same_by_order, same_number, sum_kept}
+use Rattle.cy_touches.proofs.Owners.{owns}
 
 -- Rows that are made of entities by number: which ones each makes, none where it isn't there, and of which one a row may be.
 pub record Scan (V : Type 0) : Type 0 where
@@ -30,15 +24,6 @@ pub record Scan (V : Type 0) : Type 0 where
 abbrev pub count_at : {V : Type 0} → (ℕ → Option V → List (List Cell)) → (ℕ → Option V) → List Cell → Option ℕ → ℕ
 count_at rows at row None = 0
 count_at rows at row (Some q) = count_of row (rows q (at q))
-
-equal_between : (row : List Cell) (n : ℕ) → shift_between row n n ≡ []
-equal_between row n = ap (λ b. cond b [] ((record { row = row; before = n; after = n }) ∷ [])) (itself n)
-  where
-    itself : (m : ℕ) → (m == m) ≡ true
-    itself m = grind (arith, nat_tests)
-
-pub none_between : (row : List Cell) (m n : ℕ) → m ≡ n → shift_between row m n ≡ []
-none_between row m n same = ap (λ k. shift_between row k n) same ∙ equal_between row n
 
 module _ {V : Type 0} (scan : Scan V) where
   no_rows : (row : List Cell) (n : ℕ) (o : Option V) → o ≡ None → count_of row (scan.rows n o) ≡ 0

@@ -31,16 +31,16 @@ use Rattle.cy_plans.specs.Sure.{IsSure}
 use Rattle.cy_plans.proofs.Numbers.{numbered_rows}
 use Rattle.cy_deltas.specs.declared.shifts.Shift.{Shift}
 use Rattle.cy_deltas.specs.Deltas.{IsDelta, counts, shift_between, shifts_of}
-use Rattle.cy_scans.specs.Changes.{IsChange, IsImage, Touches}
+use Rattle.cy_touches.specs.Changes.{IsChange, IsImage, Touches}
 use Rattle.cy_scans.specs.Scans.{scan_column, scan_parts}
-use Rattle.cy_scans.specs.internal.Attributes.{node_attribute, rel_attribute}
+use Rattle.cy_touches.specs.Attributes.{node_attribute, rel_attribute}
 use Rattle.cy_scans.specs.internal.Rows.{node_rows, rel_rows}
 use Rattle.cy_scans.specs.internal.Through.{AreFit, IsNodeFit, IsRelFit, leaf_of, node_made, recounted, rel_made}
-use Rattle.cy_scans.proofs.Keys.{found_alike, number_itself, own_entries, rising_once, same_by_order, same_number}
-use Rattle.cy_scans.proofs.LookupLemmas.{at_node, at_rel}
+use Rattle.cy_touches.proofs.Keys.{found_alike, number_itself, own_entries, rising_once, same_by_order, same_number}
+use Rattle.cy_touches.proofs.LookupLemmas.{at_node, at_rel}
 use Rattle.cy_scans.proofs.ScanDeltas.{node_rows_of, node_under, rel_under}
-use Rattle.cy_scans.proofs.ScanLemmas.{Scan, count_at, count_scan, none_between, owns}
-use Rattle.cy_scans.proofs.ScanRows.{none_counted}
+use Rattle.cy_scans.proofs.ScanLemmas.{Scan, count_at, count_scan}
+use Rattle.cy_touches.proofs.Owners.{none_between, owns, none_counted}
 use Rattle.cy_scans.proofs.Through.{each_found, each_weaker, fit_entities, holds_found, named, rows_by_entity}
 
 -- ---- how a row's count changes, where the entities change by which are touched

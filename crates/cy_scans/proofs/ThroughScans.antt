@@ -18,7 +18,7 @@ use Rattle.cy_plans.specs.Plans.{Plan}
 use Rattle.cy_plans.specs.Views.{plan_of}
 use Rattle.cy_deltas.specs.declared.shifts.Shift.{Shift}
 use Rattle.cy_deltas.specs.Deltas.{IsDelta, counts, shifts_of}
-use Rattle.cy_scans.specs.Changes.{Touches}
+use Rattle.cy_touches.specs.Changes.{Touches}
 use Rattle.cy_scans.specs.Scans.{scan_column, scan_parts, scan_reads}
 use Rattle.cy_scans.specs.internal.Through.{IsNodeFit, IsRelFit, IsScanOver, leaf_of, node_made, recounted, rel_made, made_by, through}
 use Rattle.cy_scans.proofs.ScanDeltas.{node_under, rel_under}

@@ -22,9 +22,9 @@ use Rattle.cy_plans.specs.Meaning.{are_different, backwards, forwards, has_type,
 use Rattle.cy_plans.specs.Plans as plan
 use Rattle.cy_plans.specs.Plans.{Output, Plan}
 use Rattle.cy_plans.specs.Sure.{HasCells, HasTruth}
-use Rattle.cy_scans.specs.Changes.{Touches}
+use Rattle.cy_touches.specs.Changes.{Touches}
 use Rattle.cy_scans.specs.Scans.{if_this, kept, scan_column, scan_parts, scan_reads}
-use Rattle.cy_scans.specs.internal.Attributes.{node_attribute, rel_attribute}
+use Rattle.cy_touches.specs.Attributes.{node_attribute, rel_attribute}
 use Rattle.cy_scans.specs.internal.Rows.{node_rows, rel_rows}
 use Rattle.cy_scans.specs.internal.Through.{AreFit, IsFit, leaf_of, made_by, node_made, reads_graph, rel_made, through}
 

@@ -1,4 +1,2 @@
-pub mod Changes
-pub mod Costs
 pub mod Scans
 pub mod internal

@@ -1,6 +1,3 @@
 -- What proofs alone need.
-pub mod Attributes
-pub mod Images
-pub mod Named
 pub mod Rows
 pub mod Through

@@ -7,7 +7,7 @@ ghost use Rattle.cy_trees.specs.Trees.{Name};
 ghost use Rattle.cy_graph.specs.Maps.{value_at};
 ghost use Rattle.cy_plans.specs.Views.{plan_of};
 ghost use Rattle.cy_plans.specs.declared.operators.Orientation.{Orientation};
-ghost use Rattle.cy_scans.specs.internal.Attributes.{node_attribute, rel_attribute};
+ghost use Rattle.cy_touches.specs.Attributes.{node_attribute, rel_attribute};
 ghost use Rattle.cy_scans.specs.internal.Through as spec;
 ghost use Rattle.cy_scans.specs.internal.Through.{HaveSameEnds, attribute_in, node_made, rel_made};
 

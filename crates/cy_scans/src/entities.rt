@@ -7,11 +7,11 @@ ghost use Rattle.cy_plans.specs.Views.{plan_of};
 ghost use Rattle.cy_scans.specs.internal.Through as spec;
 ghost use Rattle.cy_scans.specs.internal.Through.{AreFit, IsFit, IsNodeFit, IsRelFit, attribute_in};
 
-use crate::attributes::{node_value, rel_value};
 use crate::needs::parts_left;
 use crate::rels::rows_of_rel;
 use cy_graph::{Node, Rel};
 use cy_plans::{Attribute, Operator, Orientation, rows};
+use cy_touches::{node_value, rel_value};
 use cy_values::{Cell, Fault, NodeId, RelId, Row, Sequence, Text, Value};
 use std::alloc::Global;
 

@@ -1,12 +1,8 @@
-//! What changes of the rows of those parts of a plan that read the graph, over what an open change of the store touched.
+//! What changes of the rows of a scan, a part of a plan whose rows come of one entity each, over what an open change of the store touched.
 #![tactic(auto)]
 
 mod alike;
-mod attributes;
-mod changes;
 mod entities;
-pub mod laws;
-mod lookups;
 mod needs;
 mod recounts;
 mod rels;
@@ -14,8 +10,6 @@ mod scan_columns;
 mod scanning;
 
 pub use alike::{have_same_ends, node_has_same, rel_has_same};
-pub use changes::GraphChange;
-pub use lookups::lookup;
 pub use needs::{has_label, label_in};
 pub use rels::has_type;
 pub use scan_columns::column_over;

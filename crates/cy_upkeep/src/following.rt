@@ -2,7 +2,7 @@
 
 ghost use Rattle.std.specs.Prelude.{◌≡◌, Some, IsNone, IsSome, IfOk, OnOk};
 ghost use Rattle.cy_graph.specs.Graph.{Content};
-ghost use Rattle.cy_scans.specs.Changes.{before_change};
+ghost use Rattle.cy_touches.specs.Changes.{before_change};
 ghost use Rattle.cy_plans.specs.Sure.{IsSure};
 ghost use Rattle.cy_plans.specs.Views.{plan_of};
 ghost use Rattle.cy_network.specs.Networks.{HasRows, IsPrepared, StandsFor, state_of};
@@ -17,8 +17,8 @@ use cy_oneshot::answer;
 use cy_parser::parse;
 use cy_planner::plan;
 use cy_plans::Plan;
-use cy_scans::GraphChange;
 use cy_scope::{Checked, ViewQuery, check, check_view, has_update};
+use cy_touches::GraphChange;
 use cy_updates::execute;
 use cy_values::Row;
 use std::alloc::{AllocError, Global};

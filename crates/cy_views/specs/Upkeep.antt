@@ -17,7 +17,7 @@ use Rattle.cy_memory.specs.contracts.keyed.KeyedMemoryMemory.TheImpl.{ghosts}
 use Rattle.cy_plans.specs.declared.operators.Operator.{Operator}
 use Rattle.cy_plans.specs.Plans.{Plan}
 use Rattle.cy_plans.specs.Views.{plan_of}
-use Rattle.cy_scans.specs.Changes.{Touches, IsChange}
+use Rattle.cy_touches.specs.Changes.{Touches, IsChange}
 use Rattle.cy_costs.specs.Costs.{cost}
 use Rattle.cy_network.specs.Networks as networks
 use Rattle.cy_network.specs.Networks.{HasTooManyRows, NetworkState, operator_of, state_of}

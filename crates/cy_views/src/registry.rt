@@ -3,14 +3,14 @@
 ghost use Rattle.std.specs.Prelude.{◌≡◌, ℕ, ◌<◌, IfErr, OnErr, OnOk, map};
 ghost use Rattle.std.specs.List.{AllByRecursion};
 ghost use Rattle.cy_graph.specs.Graph.{Content};
-ghost use Rattle.cy_scans.specs.Changes.{IsChange, before_change};
+ghost use Rattle.cy_touches.specs.Changes.{IsChange, before_change};
 ghost use Rattle.cy_views.specs.Upkeep.{CannotFollow, held, upkeep_of};
 ghost use Rattle.cy_views.specs.internal.Loops.{AllAreSettled, AllCanRest, AllReady, AllRest, AllTake};
 
 use crate::faults::UpkeepFault;
 use crate::registered::Registered;
 use cy_index::Sight;
-use cy_scans::GraphChange;
+use cy_touches::GraphChange;
 use indexmap::IndexMap;
 use std::alloc::Global;
 

@@ -4,7 +4,7 @@ ghost use Rattle.std.specs.Prelude.{◌≡◌, ◌≤◌, IfErr, IfOk, OnErr, On
 ghost use Rattle.cy_trees.specs.Views.{statement_of};
 ghost use Rattle.cy_graph.specs.Graph.{Content, State};
 ghost use Rattle.cy_planner.specs.Weight.{greatest_weight, weight};
-ghost use Rattle.cy_scans.specs.Changes.{IsChange, before_change};
+ghost use Rattle.cy_touches.specs.Changes.{IsChange, before_change};
 ghost use Rattle.cy_bags.specs.Difference.{IsDifference};
 ghost use Rattle.cy_network.specs.Networks.{operator_of};
 ghost use Rattle.cy_views.specs.Upkeep.{CannotFollowBy, IsPrepared, IsUnkept, StandsFor, network_of};
@@ -16,8 +16,8 @@ use cy_index::{Sight, Store};
 use cy_memory::KeyedMemory;
 use cy_network::Network;
 use cy_planner::plan;
-use cy_scans::GraphChange;
 use cy_scope::ViewQuery;
+use cy_touches::GraphChange;
 use cy_values::{Fault, Row};
 use std::alloc::Global;
 

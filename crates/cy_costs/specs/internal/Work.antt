@@ -4,8 +4,8 @@ use Rattle.cy_values.specs.declared.rows.Cell.{Cell}
 use Rattle.cy_plans.specs.Plans as plan
 use Rattle.cy_plans.specs.Plans.{Plan}
 use Rattle.cy_deltas.specs.Costs.{changed_pairs, changed_rows}
-use Rattle.cy_scans.specs.Changes.{Touches}
-use Rattle.cy_scans.specs.Costs.{naming_rows}
+use Rattle.cy_touches.specs.Changes.{Touches}
+use Rattle.cy_touches.specs.Costs.{naming_rows}
 
 -- how many steps the memories of a part take at most, where the rows of each part before and after are given
 abbrev pub own_steps : (Plan → List (List Cell)) → (Plan → List (List Cell)) → Touches → Plan → ℕ

@@ -14,7 +14,7 @@ use Rattle.cy_plans.specs.Sure.{IsSure}
 use Rattle.cy_plans.specs.WellFormed.{IsWellFormed}
 use Rattle.cy_deltas.specs.declared.shifts.Shift.{Shift}
 use Rattle.cy_deltas.specs.Deltas.{IsBounded, IsDelta, counts, rows_at}
-use Rattle.cy_scans.specs.Changes.{IsChange, Touches}
+use Rattle.cy_touches.specs.Changes.{IsChange, Touches}
 pub use Rattle.cy_costs.specs.internal.Work.{all_reads, all_steps, asked_reads, in_all, own_reads, own_steps}
 use Rattle.cy_plan_parts.specs.Memories.{AreHeld, AreWithin, contents, is_scan, keys, own_contents, own_keys}
 use Rattle.cy_plan_parts.specs.internal.Parts.{chain, first_below, own_of_all, second_below}

@@ -22,11 +22,11 @@ use Rattle.cy_plans.specs.Plans.{Plan}
 use Rattle.cy_plans.specs.Sure.{HasCells, HasTruth}
 use Rattle.cy_deltas.specs.declared.shifts.Shift.{Shift}
 use Rattle.cy_deltas.specs.Deltas.{shift_between}
-use Rattle.cy_scans.specs.Changes.{Touches}
+use Rattle.cy_touches.specs.Changes.{Touches}
 use Rattle.cy_scans.specs.Scans.{IsScan}
 use Rattle.cy_scans.specs.declared.entities.EntityValue.{EntityValue}
 use Rattle.cy_scans.specs.declared.entities.EntityValue.TheVariants as entity
-use Rattle.cy_scans.specs.internal.Attributes.{node_attribute, rel_attribute}
+use Rattle.cy_touches.specs.Attributes.{node_attribute, rel_attribute}
 use Rattle.cy_scans.specs.internal.Rows.{node_rows, rel_rows}
 
 -- an attribute of an entity that is there

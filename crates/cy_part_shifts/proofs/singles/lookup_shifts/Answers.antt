@@ -14,8 +14,8 @@ use Rattle.cy_plans.specs.Meaning.{with_attribute}
 use Rattle.cy_plans.specs.Views.{plan_of}
 use Rattle.cy_deltas.specs.declared.shifts.Shift.{Shift}
 use Rattle.cy_deltas.specs.Deltas.{IsBounded, IsDelta, counts, counts_after, rows_at}
-use Rattle.cy_scans.specs.Changes.{IsChange, Touches}
-use Rattle.cy_scans.specs.Costs.{naming_rows}
+use Rattle.cy_touches.specs.Changes.{IsChange, Touches}
+use Rattle.cy_touches.specs.Costs.{naming_rows}
 use Rattle.cy_plan_parts.specs.Memories.{is_scan, none_where, own_keys}
 use Rattle.cy_plan_parts.specs.internal.Parts.{first_below}
 use Rattle.cy_plan_parts.specs.internal.Upkeep.{IsFed, IsOwnBegun, IsOwnDone, IsStep, content_of, own_reads, own_steps, state_of}

@@ -13,7 +13,7 @@ use Rattle.cy_plans.specs.Expressions.{projected}
 use Rattle.cy_plans.specs.Views.{output_of, plan_of}
 use Rattle.cy_deltas.specs.declared.shifts.Shift.{Shift}
 use Rattle.cy_deltas.specs.Deltas.{IsBounded, IsDelta, counts, rows_at}
-use Rattle.cy_scans.specs.Changes.{Touches}
+use Rattle.cy_touches.specs.Changes.{Touches}
 use Rattle.cy_plan_parts.specs.Memories.{is_row_by_row, none_where, own_keys}
 use Rattle.cy_plan_parts.specs.internal.Parts.{first_below}
 use Rattle.cy_plan_parts.specs.internal.Upkeep.{HasTooMany, IsFed, IsOwnBegun, IsOwnDone, IsStep, content_of, own_reads, own_steps}

@@ -8,7 +8,7 @@ use Rattle.cy_graph.specs.Graph.{Versions, rel_at}
 use Rattle.cy_index.specs.Index.{SightState}
 use Rattle.cy_plans.specs.Plans.{Plan}
 use Rattle.cy_plans.specs.Views.{plan_of}
-use Rattle.cy_scans.proofs.AttributeLemmas.{one_less}
+use Rattle.cy_touches.proofs.AttributeLemmas.{one_less}
 use Rattle.cy_relevance.specs.internal.Kept.{IsRelUnchanged}
 use Rattle.cy_relevance.proofs.Rules.{one_read}
 use Rattle.cy_relevance.proofs.plans.changes_by_rels.Goals as goal

@@ -4,7 +4,7 @@ use Rattle.std.proofs.lemmas.Bool.{and_parts}
 use Rattle.cy_values.specs.declared.scalars.Scalar.TheVariants as scalar
 use Rattle.cy_values.specs.declared.scalars.Value.TheVariants as value
 use Rattle.cy_graph.proofs.Same.{same_lists}
-use Rattle.cy_scans.specs.internal.Attributes.{node_attribute}
+use Rattle.cy_touches.specs.Attributes.{node_attribute}
 use Rattle.cy_scans.proofs.alike.node_has_same.Goals as goal
 
 same_label : (x y : List ℕ × Unit {0}) → (pointwise nat_eq x.0 y.0 && true) ≡ true → x ≡ y

@@ -2,7 +2,7 @@ use Rattle.std.proofs.Common.{◌++◌, sym, ap, ◌∙◌}
 use Rattle.std.proofs.lemmas.List.{append-nil}
 use Rattle.cy_values.specs.Bag.{count_of}
 use Rattle.cy_deltas.specs.Deltas.{shifts_of}
-use Rattle.cy_scans.proofs.ScanLemmas.{none_between}
+use Rattle.cy_touches.proofs.Owners.{none_between}
 use Rattle.cy_scans.proofs.scanning.add_node.Goals as goal
 
 pub returns-then-are_alike_nodes-clause-made : goal.returns-then-are_alike_nodes-clause-made

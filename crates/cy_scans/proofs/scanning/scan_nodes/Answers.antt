@@ -11,7 +11,7 @@ use Rattle.cy_plans.specs.Plans.{Plan}
 use Rattle.cy_plans.specs.Views.{plan_of}
 use Rattle.cy_deltas.specs.Deltas.{shifts_of}
 use Rattle.cy_scans.specs.internal.Through.{IsNodeFit, node_made, recounted}
-use Rattle.cy_scans.proofs.AttributeLemmas.{one_less, walked}
+use Rattle.cy_touches.proofs.AttributeLemmas.{one_less, walked}
 use Rattle.cy_scans.proofs.ScanDeltas.{node_under}
 use Rattle.cy_scans.proofs.scanning.scan_nodes.Goals as goal
 

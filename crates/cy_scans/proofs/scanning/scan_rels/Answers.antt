@@ -12,7 +12,7 @@ use Rattle.cy_deltas.specs.Deltas.{shifts_of}
 use Rattle.cy_trees.specs.Trees.{Name}
 use Rattle.cy_plans.specs.declared.operators.Orientation.{Orientation}
 use Rattle.cy_scans.specs.internal.Through.{IsRelFit, recounted, rel_made}
-use Rattle.cy_scans.proofs.AttributeLemmas.{one_less, walked}
+use Rattle.cy_touches.proofs.AttributeLemmas.{one_less, walked}
 use Rattle.cy_scans.proofs.ScanDeltas.{rel_under}
 use Rattle.cy_scans.proofs.scanning.scan_rels.Goals as goal
 

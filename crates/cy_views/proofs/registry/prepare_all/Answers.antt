@@ -1,7 +1,7 @@
 use Rattle.std.proofs.Common.{◌≡◌, ◌+◌, ◌<◌, ℕ, List, map, refl, sym, ap, subst, ◌∙◌, arith}
 use Rattle.std.proofs.lemmas.Result.{err_from_is_err_and}
 use Rattle.cy_graph.specs.Graph.{Versions}
-use Rattle.cy_scans.specs.Changes.{IsChange, before_change}
+use Rattle.cy_touches.specs.Changes.{IsChange, before_change}
 use Rattle.cy_views.specs.declared.registered.Registered.{Registered}
 use Rattle.cy_views.specs.Upkeep.{CannotFollow, Held, IsReady, Registry, Rests, held, upkeep_of}
 use Rattle.cy_views.specs.internal.Loops.{CanRest, IsOne}

@@ -1,5 +1,5 @@
 use Rattle.std.proofs.Common.{◌≡◌}
-use Rattle.cy_scans.specs.Changes.{before_change}
+use Rattle.cy_touches.specs.Changes.{before_change}
 use Rattle.cy_views.proofs.Going.{FirstDone}
 use Rattle.cy_views.proofs.Steps.{IsPreparedFrom}
 use Rattle.cy_views.proofs.registry.prepare_all.Given as goal

@@ -4,7 +4,7 @@ use Rattle.std.proofs.lemmas.Result.{err_from_is_err_and}
 use Rattle.cy_graph.specs.Graph.{Content, State}
 use Rattle.cy_effects.specs.Statements.{Outcome}
 use Rattle.cy_index.specs.Index.{StoreState}
-use Rattle.cy_scans.specs.Changes.{before_change}
+use Rattle.cy_touches.specs.Changes.{before_change}
 use Rattle.cy_trees.specs.Views.{statement_of}
 use Rattle.cy_updates.specs.Answers.{outcome_seen}
 use Rattle.cy_views.specs.declared.views.Views.{Views}

@@ -5,7 +5,7 @@ use Rattle.cy_trees.specs.Views.{statement_of}
 use Rattle.cy_plans.specs.Views.{plan_of}
 use Rattle.cy_plans.specs.declared.operators.Operator.{Operator}
 use Rattle.cy_planner.specs.Serves.{Serves}
-use Rattle.cy_scans.specs.Changes.{before_change}
+use Rattle.cy_touches.specs.Changes.{before_change}
 use Rattle.cy_views.specs.Upkeep.{StandsFor, network_of}
 use Rattle.cy_views.proofs.Served.{unprepared}
 use Rattle.cy_views.proofs.rows.QueryRows.prepare.Goals as goal

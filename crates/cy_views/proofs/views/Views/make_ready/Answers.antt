@@ -1,7 +1,7 @@
 use Rattle.std.proofs.Common.{List, map, sym, ap, subst, ◌∙◌}
 use Rattle.std.specs.Prelude.{IsSome}
 use Rattle.cy_graph.specs.Graph.{Versions}
-use Rattle.cy_scans.specs.Changes.{before_change}
+use Rattle.cy_touches.specs.Changes.{before_change}
 use Rattle.cy_views.specs.Upkeep.{Held, Rests, entries_in, view_of, views_in}
 use Rattle.cy_views.specs.Views.{AreEntries, Entries}
 use Rattle.cy_views.specs.internal.Loops.{AllCanRest, AllReady, AllRest, CanRest}

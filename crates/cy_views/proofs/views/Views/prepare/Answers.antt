@@ -1,5 +1,5 @@
 use Rattle.std.proofs.Common.{◌∙◌}
-use Rattle.cy_scans.specs.Changes.{before_change}
+use Rattle.cy_touches.specs.Changes.{before_change}
 use Rattle.cy_views.specs.declared.views.Views.{Views}
 use Rattle.cy_views.proofs.Making.{few_alike, named_alike}
 use Rattle.cy_views.proofs.Pending.{none_changed, none_ready}

@@ -1,0 +1,4 @@
+pub mod Attributes
+pub mod Changes
+pub mod Costs
+pub mod internal

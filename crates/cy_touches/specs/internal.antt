@@ -1,0 +1,4 @@
+-- What proofs alone need.
+pub mod Attributes
+pub mod Images
+pub mod Named

@@ -12,7 +12,7 @@ use Rattle.cy_deltas.specs.Costs.{changed_pairs}
 use Rattle.cy_touches.specs.Changes.{Touches}
 use Rattle.cy_touches.specs.Costs.{naming_rows}
 use Rattle.cy_costs.specs.Costs.{changed, cost, part_cost, touched_entities}
-use Rattle.cy_costs.specs.internal.Work.{all_reads, all_steps, asked_reads, in_all, looks_at_graph, own_reads, own_steps}
+use Rattle.cy_costs.specs.Work.{all_reads, all_steps, asked_reads, in_all, looks_at_graph, own_reads, own_steps}
 
 -- ---- what a number of each part comes to in a plan is its sum over the parts
 

@@ -6,7 +6,7 @@ ghost use Rattle.cy_plans.specs.Plans.{Plan};
 ghost use Rattle.cy_plans.specs.Meaning.{rows_of};
 ghost use Rattle.cy_touches.specs.Changes.{IsChange, Touches};
 ghost use Rattle.cy_costs.specs.Costs.{cost};
-ghost use Rattle.cy_costs.specs.internal.Work.{all_reads, all_steps, asked_reads};
+ghost use Rattle.cy_costs.specs.Work.{all_reads, all_steps, asked_reads};
 
 /// What the operators may do at the parts of a plan, counted in steps of memories and reads of the graph, is at most sixteen times the cost, the
 /// reads included that tell whether the change concerns the plan. From one graph to another a plan has one cost; and where nothing differs, it costs nothing (own).

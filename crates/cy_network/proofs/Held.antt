@@ -15,7 +15,8 @@ use Rattle.cy_touches.specs.Changes.{IsChange, Touches}
 use Rattle.cy_costs.specs.Costs.{cost}
 use Rattle.cy_plan_parts.specs.Counted.{written}
 use Rattle.cy_plan_parts.specs.Memories.{AreHeld, contents, keys}
-use Rattle.cy_plan_parts.specs.internal.Upkeep.{IsDone, IsUpkeep, all_reads, all_steps, asked_reads}
+use Rattle.cy_plan_parts.specs.internal.Upkeep.{IsDone, IsUpkeep}
+use Rattle.cy_costs.specs.Work.{all_reads, all_steps, asked_reads}
 use Rattle.cy_network.proofs.Excess.{written_shifts}
 
 -- what was staged for a graph is held there

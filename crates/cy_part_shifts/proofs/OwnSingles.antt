@@ -20,7 +20,7 @@ use Rattle.cy_deltas.specs.Deltas.{IsBounded, IsDelta, counts, counts_after, row
 use Rattle.cy_deltas.proofs.PlanLemmas.{different_at, filter_at, lookup_at, once_at, project_at}
 use Rattle.cy_touches.specs.Changes.{Touches}
 use Rattle.cy_plan_parts.specs.Memories.{is_row_by_row, is_scan, none_where}
-use Rattle.cy_plan_parts.specs.internal.Upkeep.{IsDeltaOf, IsOwnBegun, IsOwnDone, IsStep, content_of, state_of}
+use Rattle.cy_plan_parts.specs.Upkeep.{IsDeltaOf, IsOwnBegun, IsOwnDone, IsStep, content_of, state_of}
 use Rattle.cy_part_shifts.proofs.Shifted.{after_is, held_delta, of_shifts}
 use Rattle.cy_plan_parts.proofs.Slices.{same_at}
 use Rattle.cy_plan_parts.proofs.Steps.{old_content, old_graph, own_within}

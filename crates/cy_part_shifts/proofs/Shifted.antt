@@ -18,7 +18,7 @@ use Rattle.cy_deltas.proofs.ShiftLemmas.{shift_there}
 use Rattle.cy_deltas.proofs.Staging.{after_delta}
 use Rattle.cy_deltas.proofs.StepLemmas.{shift_number}
 use Rattle.cy_touches.specs.Changes.{IsChange, Touches}
-use Rattle.cy_plan_parts.specs.internal.Upkeep.{IsDeltaOf, content_of, state_of}
+use Rattle.cy_plan_parts.specs.Upkeep.{IsDeltaOf, content_of, state_of}
 use Rattle.cy_plan_parts.proofs.Steps.{old_graph}
 
 -- what holds of all rows holds of each that counts

@@ -8,8 +8,9 @@ ghost use Rattle.cy_plans.specs.Plans.{Plan};
 ghost use Rattle.cy_plans.specs.Views.{plan_of};
 ghost use Rattle.cy_deltas.specs.Deltas.{shift_between};
 ghost use Rattle.cy_plan_parts.specs.Memories.{is_scan};
-ghost use Rattle.cy_plan_parts.specs.internal.Parts as parts;
-ghost use Rattle.cy_plan_parts.specs.internal.Upkeep.{IsDeltaOf, IsStep, all_reads};
+ghost use Rattle.cy_plan_parts.specs.Parts as parts;
+ghost use Rattle.cy_plan_parts.specs.Upkeep.{IsDeltaOf, IsStep};
+ghost use Rattle.cy_costs.specs.Work.{all_reads};
 
 use cy_deltas::{Shift, add_shift};
 use cy_index::Sight;

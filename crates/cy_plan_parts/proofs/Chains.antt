@@ -7,7 +7,8 @@ use Rattle.cy_graph.specs.Graph.{Content}
 use Rattle.cy_plans.specs.Plans as plan
 use Rattle.cy_plans.specs.Plans.{Plan}
 use Rattle.cy_plan_parts.specs.Limits.{HasTooManyRows}
-use Rattle.cy_plan_parts.specs.internal.Parts.{below_count, chain, first_below, own_of_all}
+use Rattle.cy_plan_parts.specs.Parts.{below_count, chain, first_below}
+use Rattle.cy_plan_parts.specs.internal.Parts.{own_of_all}
 use Rattle.cy_plan_parts.proofs.Steps.{too_many_one}
 
 -- a part has one part below it, or it hasn't

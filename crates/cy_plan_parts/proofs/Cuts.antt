@@ -7,7 +7,8 @@ use Rattle.std.proofs.lemmas.List.Elements.{All-append, All-cons, All-nil}
 use Rattle.cy_plans.specs.Plans.{Plan}
 use Rattle.cy_scans.specs.Scans.{column_over, scan_column}
 use Rattle.cy_plan_parts.specs.Memories.{is_scan}
-use Rattle.cy_plan_parts.specs.internal.Parts.{IsCut, IsWholeAt, below_count, chain, first_below}
+use Rattle.cy_plan_parts.specs.Parts.{IsCut, below_count, chain, first_below}
+use Rattle.cy_plan_parts.specs.internal.Parts.{IsWholeAt}
 use Rattle.cy_plan_parts.proofs.Chains.{chain_ends, chain_first, chain_more, link, linked_one, same_first, single_or_not}
 use Rattle.cy_plan_parts.proofs.Scanned.{column_above, column_alone, no_scan_above}
 

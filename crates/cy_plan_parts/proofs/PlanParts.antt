@@ -11,8 +11,8 @@ use Rattle.cy_apart.specs.Lists.{are_apart}
 use Rattle.cy_deltas.specs.Deltas.{counts}
 use Rattle.cy_merges.specs.Merges.{all_columns}
 use Rattle.cy_plan_parts.specs.Memories.{contents, is_row_by_row, is_scan, keys, none_where, own_contents, own_keys}
-use Rattle.cy_plan_parts.specs.internal.Parts.{below_count, first_below, second_below}
-use Rattle.cy_plan_parts.specs.internal.Upkeep.{in_all}
+use Rattle.cy_plan_parts.specs.Parts.{below_count, first_below, second_below}
+use Rattle.cy_costs.specs.Work.{in_all}
 
 -- what a part with one part below it is made of
 pub record IsOverOne (p : Plan) : Type 0 where

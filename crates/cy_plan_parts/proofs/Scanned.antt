@@ -19,8 +19,10 @@ use Rattle.cy_touches.specs.Changes.{Touches}
 use Rattle.cy_scans.specs.Scans.{IsScan, column_over, if_this, kept, scan_column, scan_parts, scan_reads}
 use Rattle.cy_plan_parts.proofs.ScanFacts.{scan_few}
 use Rattle.cy_plan_parts.specs.Memories.{AreWithin, contents, is_scan, keys, own_contents, own_keys, tells_rows, none_where}
-use Rattle.cy_plan_parts.specs.internal.Parts.{below_count, chain, first_below}
-use Rattle.cy_plan_parts.specs.internal.Upkeep.{IsBegun, IsDeltaOf, IsDone, IsStep, all_reads, content_of, state_of}
+use Rattle.cy_plan_parts.specs.Parts.{below_count, chain, first_below}
+use Rattle.cy_plan_parts.specs.internal.Upkeep.{IsBegun, IsDone}
+use Rattle.cy_plan_parts.specs.Upkeep.{IsDeltaOf, IsStep, content_of, state_of}
+use Rattle.cy_costs.specs.Work.{all_reads}
 use Rattle.cy_plan_parts.proofs.Steps.{done_leaf, old_content}
 
 -- ---- what is a scan

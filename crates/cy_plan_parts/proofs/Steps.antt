@@ -20,8 +20,10 @@ use Rattle.cy_deltas.proofs.ShiftLemmas.{after_bounded}
 use Rattle.cy_touches.specs.Changes.{IsChange, Touches}
 use Rattle.cy_plan_parts.specs.Memories.{AreWithin, contents, keys, own_contents, own_keys}
 use Rattle.cy_plan_parts.specs.Limits.{HasTooManyRows}
-use Rattle.cy_plan_parts.specs.internal.Parts.{below_count, first_below, second_below}
-use Rattle.cy_plan_parts.specs.internal.Upkeep.{HasTooMany, IsBegun, IsDeltaOf, IsDone, IsOwnBegun, IsOwnDone, content_of, in_all, state_of}
+use Rattle.cy_plan_parts.specs.Parts.{below_count, first_below, second_below}
+use Rattle.cy_plan_parts.specs.Upkeep.{HasTooMany, IsDeltaOf, IsOwnBegun, IsOwnDone, content_of, state_of}
+use Rattle.cy_plan_parts.specs.internal.Upkeep.{IsBegun, IsDone}
+use Rattle.cy_costs.specs.Work.{in_all}
 use Rattle.cy_plan_parts.proofs.PlanParts.{all_long, over_one, over_two, own_long}
 use Rattle.cy_plan_parts.proofs.Slices.{all_left, all_right, any_first, any_later, any_left, any_right, same_mapped}
 

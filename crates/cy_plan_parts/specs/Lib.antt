@@ -1,4 +1,6 @@
-pub mod Limits
 pub mod Counted
+pub mod Limits
 pub mod Memories
+pub mod Parts
+pub mod Upkeep
 pub mod internal

@@ -22,7 +22,8 @@ use Rattle.cy_apart.specs.Lists.{column_alone}
 use Rattle.cy_scans.specs.Scans.{if_this, is_column, is_this, kept, kept_at, scan_parts}
 use Rattle.cy_touches.specs.Attributes.{node_attribute, rel_attribute}
 use Rattle.cy_scans.specs.internal.Rows.{rel_rows}
-use Rattle.cy_scans.specs.internal.Through.{HaveSameEnds, IsNeeded, leaf_of, node_made, rel_made}
+use Rattle.cy_scans.specs.Ends.{HaveSameEnds}
+use Rattle.cy_scans.specs.internal.Through.{IsNeeded, leaf_of, node_made, rel_made}
 use Rattle.cy_scans.proofs.NeededLabels.{tests_label}
 use Rattle.cy_scans.proofs.SameEnds.{rows_alike}
 use Rattle.cy_relevance.specs.declared.entities.Entity.{Entity}

@@ -5,8 +5,8 @@ ghost use Rattle.std.specs.List.{All};
 ghost use Rattle.cy_graph.specs.Graph.{State, node_at, rel_at};
 ghost use Rattle.cy_plans.specs.Views.{plan_of};
 ghost use Rattle.cy_touches.specs.Changes.{IsChange};
-ghost use Rattle.cy_costs.specs.internal.Work as work;
-ghost use Rattle.cy_costs.specs.internal.Work.{asked_reads};
+ghost use Rattle.cy_costs.specs.Work as work;
+ghost use Rattle.cy_costs.specs.Work.{asked_reads};
 ghost use Rattle.cy_relevance.specs.Relevance.{IsUntouched};
 ghost use Rattle.cy_relevance.specs.internal.Kept.{IsNodeUnchanged, IsRelUnchanged};
 

@@ -11,7 +11,7 @@ use Rattle.cy_plans.specs.declared.operators.Orientation.{Orientation}
 use Rattle.cy_plans.specs.declared.operators.Orientation.TheVariants.{Directed, Either}
 use Rattle.cy_plans.specs.Meaning.{backwards, forwards, has_type, ways}
 use Rattle.cy_scans.specs.internal.Rows.{rel_rows}
-use Rattle.cy_scans.specs.internal.Through.{HaveSameEnds}
+use Rattle.cy_scans.specs.Ends.{HaveSameEnds}
 
 module _ (old new : Rel) (same : HaveSameEnds old new) where
   types_alike : (types : List Name) → has_type types old ≡ has_type types new

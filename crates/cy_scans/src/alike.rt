@@ -9,7 +9,8 @@ ghost use Rattle.cy_plans.specs.Views.{plan_of};
 ghost use Rattle.cy_plans.specs.declared.operators.Orientation.{Orientation};
 ghost use Rattle.cy_touches.specs.Attributes.{node_attribute, rel_attribute};
 ghost use Rattle.cy_scans.specs.internal.Through as spec;
-ghost use Rattle.cy_scans.specs.internal.Through.{HaveSameEnds, attribute_in, node_made, rel_made};
+ghost use Rattle.cy_scans.specs.Ends.{HaveSameEnds};
+ghost use Rattle.cy_scans.specs.internal.Through.{attribute_in, node_made, rel_made};
 
 use crate::entities::EntityValue;
 use cy_graph::{Node, Props, Rel};

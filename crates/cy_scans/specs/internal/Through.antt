@@ -107,12 +107,6 @@ LeaveNode node ps = (number : ℕ) → node_made ps number (Some node) ≡ node_
 abbrev pub IsNeeded : Name → List Plan → Type 0
 IsNeeded label ps = (number : ℕ) (node : Node) → list_any (bytes_eq label) (map (λ l. l.0) node.labels) ≡ false → node_made ps number (Some node) ≡ []
 
--- two values of a relationship have the same ends and the same type
-pub record HaveSameEnds (old new : Rel) : Type 0 where
-  pub source : old.source ≡ new.source
-  pub target : old.target ≡ new.target
-  pub kind : old.kind ≡ new.kind
-
 -- the shift of a row that counts by the one rows before and by the others after
 abbrev pub recounted : List (List Cell) → List (List Cell) → List Cell → List Shift
 recounted old new row = shift_between row (count_of row old) (count_of row new)

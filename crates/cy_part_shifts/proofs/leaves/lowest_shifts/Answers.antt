@@ -8,8 +8,8 @@ use Rattle.cy_plans.specs.Views.{plan_of}
 use Rattle.cy_deltas.specs.declared.shifts.Shift.{Shift}
 use Rattle.cy_deltas.specs.Deltas.{IsBounded, counts, rows_at, shift_between, shifts_of}
 use Rattle.cy_plan_parts.specs.Memories.{is_scan}
-use Rattle.cy_plan_parts.specs.internal.Parts.{is_unit}
-use Rattle.cy_plan_parts.specs.internal.Upkeep.{IsDeltaOf, state_of}
+use Rattle.cy_plan_parts.specs.Parts.{is_unit}
+use Rattle.cy_plan_parts.specs.Upkeep.{IsDeltaOf, state_of}
 use Rattle.cy_plan_parts.proofs.Outcomes.{if_ok_more, if_ok_two}
 use Rattle.cy_plan_parts.proofs.Scanned.{chain_scan, is_scan_of, reads_within, scan_delta}
 use Rattle.cy_part_shifts.proofs.leaves.lowest_shifts.Goals as goal

@@ -17,8 +17,9 @@ use Rattle.cy_deltas.specs.Deltas.{IsBounded, IsDelta, counts, counts_after, row
 use Rattle.cy_touches.specs.Changes.{IsChange, Touches}
 use Rattle.cy_touches.specs.Costs.{naming_rows}
 use Rattle.cy_plan_parts.specs.Memories.{is_scan, none_where, own_keys}
-use Rattle.cy_plan_parts.specs.internal.Parts.{first_below}
-use Rattle.cy_plan_parts.specs.internal.Upkeep.{IsFed, IsOwnBegun, IsOwnDone, IsStep, content_of, own_reads, own_steps, state_of}
+use Rattle.cy_plan_parts.specs.Parts.{first_below}
+use Rattle.cy_plan_parts.specs.Upkeep.{IsFed, IsOwnBegun, IsOwnDone, IsStep, content_of, state_of}
+use Rattle.cy_costs.specs.Work.{own_reads, own_steps}
 use Rattle.cy_plan_parts.proofs.Lent.{begun_as, done_as, own_length, steps_of_one}
 use Rattle.cy_part_shifts.proofs.OwnSingles.{lookup_counted, lookup_done, lookup_keyed, lookup_leads, lookup_settled, lookup_within}
 use Rattle.cy_plan_parts.proofs.Refusals.{if_memory}

@@ -15,8 +15,9 @@ use Rattle.cy_deltas.specs.declared.shifts.Shift.{Shift}
 use Rattle.cy_deltas.specs.Deltas.{IsBounded, IsDelta, counts, rows_at}
 use Rattle.cy_touches.specs.Changes.{Touches}
 use Rattle.cy_plan_parts.specs.Memories.{is_row_by_row, none_where, own_keys}
-use Rattle.cy_plan_parts.specs.internal.Parts.{first_below}
-use Rattle.cy_plan_parts.specs.internal.Upkeep.{HasTooMany, IsFed, IsOwnBegun, IsOwnDone, IsStep, content_of, own_reads, own_steps}
+use Rattle.cy_plan_parts.specs.Parts.{first_below}
+use Rattle.cy_plan_parts.specs.Upkeep.{HasTooMany, IsFed, IsOwnBegun, IsOwnDone, IsStep, content_of}
+use Rattle.cy_costs.specs.Work.{own_reads, own_steps}
 use Rattle.cy_plan_parts.proofs.Lent.{begun_as, done_as, own_length, steps_of_one}
 use Rattle.cy_plan_parts.proofs.Outcomes.{if_err_more, if_ok_from, if_ok_three}
 use Rattle.cy_part_shifts.proofs.OwnSingles.{project_change, project_done, project_keyed, project_settled, project_sure, project_within}

@@ -4,7 +4,7 @@ use Rattle.cy_plans.specs.Plans.{Plan}
 use Rattle.cy_plans.specs.Views.{output_of, plan_of}
 use Rattle.cy_deltas.specs.Deltas.{rows_at}
 use Rattle.cy_plan_parts.specs.Memories.{own_contents}
-use Rattle.cy_plan_parts.specs.internal.Upkeep.{content_of}
+use Rattle.cy_plan_parts.specs.Upkeep.{content_of}
 use Rattle.cy_plan_parts.proofs.Lent.{no_length, some_length}
 use Rattle.cy_plan_parts.proofs.RowByRow.{with_memory, without_contents, without_memory}
 use Rattle.cy_part_shifts.proofs.singles.projection_shifts.Goals as goal

@@ -1,8 +1,8 @@
 use Rattle.std.proofs.Common.{map, sym, subst}
 use Rattle.cy_plans.specs.Plans.{Plan}
 use Rattle.cy_plans.specs.Views.{output_of, plan_of}
-use Rattle.cy_plan_parts.specs.internal.Parts.{first_below}
-use Rattle.cy_plan_parts.specs.internal.Upkeep.{IsDeltaOf, IsStep}
+use Rattle.cy_plan_parts.specs.Parts.{first_below}
+use Rattle.cy_plan_parts.specs.Upkeep.{IsDeltaOf, IsStep}
 use Rattle.cy_plan_parts.proofs.Outcomes.{if_ok_two}
 use Rattle.cy_part_shifts.proofs.OwnSingles.{project_sure}
 use Rattle.cy_plan_parts.proofs.RowByRow.{rearranged}

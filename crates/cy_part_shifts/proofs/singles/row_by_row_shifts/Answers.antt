@@ -3,8 +3,8 @@ use Rattle.cy_apart.specs.Trails.{TellsRowsApart, tells_apart}
 use Rattle.cy_plans.specs.Plans.{Plan}
 use Rattle.cy_plans.specs.Views.{output_of, plan_of}
 use Rattle.cy_plans.specs.WellFormed.{IsWellFormed}
-use Rattle.cy_plan_parts.specs.internal.Parts.{first_below}
-use Rattle.cy_plan_parts.specs.internal.Upkeep.{IsStep}
+use Rattle.cy_plan_parts.specs.Parts.{first_below}
+use Rattle.cy_plan_parts.specs.Upkeep.{IsStep}
 use Rattle.cy_plan_parts.proofs.RowByRow.{other_told}
 use Rattle.cy_part_shifts.proofs.singles.row_by_row_shifts.Goals as goal
 

@@ -17,7 +17,7 @@ use Rattle.cy_plans.specs.Views.{plan_of, plan_step}
 use Rattle.cy_deltas.specs.declared.shifts.Shift.{Shift}
 use Rattle.cy_deltas.specs.Deltas.{IsBounded, IsDelta, counts}
 use Rattle.cy_touches.specs.Changes.{Touches}
-use Rattle.cy_plan_parts.specs.internal.Upkeep.{IsFed, IsOwnDone}
+use Rattle.cy_plan_parts.specs.Upkeep.{IsFed, IsOwnDone}
 use Rattle.cy_part_shifts.proofs.OwnSingles.{different_done, filter_sure}
 use Rattle.cy_part_shifts.proofs.Shifted.{shift_numbers}
 use Rattle.cy_part_shifts.proofs.singles.single_shifts.Goals as goal

@@ -5,7 +5,8 @@ use Rattle.std.proofs.lemmas.List.{length-map}
 use Rattle.cy_plans.specs.declared.operators.Operator.{Operator}
 use Rattle.cy_plans.specs.Plans.{Plan}
 use Rattle.cy_plans.specs.Views.{plan_of}
-use Rattle.cy_plan_parts.specs.internal.Parts.{IsWholeAt, chain}
+use Rattle.cy_plan_parts.specs.internal.Parts.{IsWholeAt}
+use Rattle.cy_plan_parts.specs.Parts.{chain}
 use Rattle.cy_plan_parts.proofs.Cuts.{begins, ends, goes_on, some_parts}
 use Rattle.cy_plan_parts.proofs.parts.cut_of.Goals as goal
 

@@ -1,4 +1,4 @@
--- What the steps of the memories and the reads of the graph may be at the parts of a plan, as the operators promise it.
+-- What the steps of the memories and the reads of the graph may be at the parts of a plan, as the operators promise it. (own)
 use Rattle.std.specs.Prelude.{ℕ, ◌+◌, ◌*◌, ◌||◌, Bool, true, false, List, if◌then◌else◌, length}
 use Rattle.cy_values.specs.declared.rows.Cell.{Cell}
 use Rattle.cy_plans.specs.Plans as plan
@@ -51,9 +51,11 @@ in_all own (plan.project p outputs) = in_all own p + own (plan.project p outputs
 in_all own (plan.distinct p) = in_all own p + own (plan.distinct p)
 in_all own (plan.union left right) = in_all own left + in_all own right + own (plan.union left right)
 
+-- how many steps the memories of all parts of a plan take at most
 abbrev pub all_steps : (Plan → List (List Cell)) → (Plan → List (List Cell)) → Touches → Plan → ℕ
 all_steps rows rows_now touches = in_all (own_steps rows rows_now touches)
 
+-- how many entities all parts of a plan read at most
 abbrev pub all_reads : (Plan → List (List Cell)) → (Plan → List (List Cell)) → Touches → Plan → ℕ
 all_reads rows rows_now touches = in_all (own_reads rows rows_now touches)
 

@@ -1,1 +1,3 @@
 mod CertainSteps
+pub mod Certainties
+pub mod Conjuncts

@@ -3,14 +3,13 @@
 ghost use Rattle.std.specs.Prelude.{◌≡◌, IfOk, IfSome, map};
 ghost use Rattle.cy_trees.specs.Views.{expression_of};
 ghost use Rattle.cy_plans.specs.Views.{output_of};
-ghost use Rattle.cy_row_plans.specs.Columns as shape;
 ghost use Rattle.cy_renumbering.specs.Renumbered.{new_column};
 ghost use Rattle.cy_rewriting.specs.internal.Columns as spec;
 
 use cy_plans::Output;
 use cy_renumbering::renumber;
-use cy_trees::{Expr, Variable};
-use cy_values::{Fault, Text};
+use cy_trees::Expr;
+use cy_values::Fault;
 use std::alloc::Global;
 
 fn variable_column(expression: &Expr) -> Option<usize>
@@ -30,16 +29,6 @@ pub(crate) fn column_of(output: &Output) -> Option<usize>
         Output::Cell(expression) => variable_column(expression),
         Output::Rels(_) => None,
     }
-}
-
-pub(crate) fn column_output(alloc: Global, column: usize) -> Output
-    ensures { output_of result ≡ shape.column_output column }
-{
-    let name = Text::new(String::new(alloc));
-    Output::Cell(Expr::Variable(Variable {
-        name,
-        column: Some(column),
-    }))
 }
 
 fn is_column(column: usize, output: &Output) -> bool

@@ -11,7 +11,8 @@ use cy_trees::{Expr, Variable};
 use cy_values::{Fault, Text};
 use std::alloc::Global;
 
-fn column_output(alloc: Global, column: usize) -> Output
+/// A column as it is.
+pub fn column_output(alloc: Global, column: usize) -> Output
     ensures { output_of result ≡ shape.column_output column }
 {
     let name = Text::new(String::new(alloc));

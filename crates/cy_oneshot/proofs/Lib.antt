@@ -1,6 +1,2 @@
 mod ClauseAnswers
-pub mod Carried
-pub mod CarriedMatch
-pub mod CarriedRows
-pub mod Marked
 mod NewNames

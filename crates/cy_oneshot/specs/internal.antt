@@ -1,4 +1,3 @@
 -- What proofs alone need.
-pub mod Carried
 pub mod Names
 pub mod Reached

@@ -3,9 +3,7 @@
 
 mod clauses;
 mod names;
-mod needed;
 mod table;
-mod unwinding;
 
 pub use clauses::{answer, read_clause, read_clause_before, unit};
 pub use names::{add_names, names_of};

@@ -40,8 +40,9 @@ use Rattle.cy_effects.specs.Faults.{◌>>=◌, each_in_turn, evaluated, of_evalu
 use Rattle.cy_effects.specs.Statements.{GraphTable, Progress, after_clause, after_reading, after_updating, updated}
 use Rattle.cy_effects.specs.internal.Answers.{IsAnswer, graph_table}
 use Rattle.cy_effects.specs.internal.Gone.{AreGone}
-use Rattle.cy_oneshot.specs.internal.Carried.{Carries, carried, carried_by, carried_from, updates_ahead}
-use Rattle.cy_oneshot.proofs.Marked.{all_alike, none_enough}
+use Rattle.cy_oneshot.specs.Carrying.{Carries}
+use Rattle.cy_unwinding.specs.Carried.{carried, carried_by, carried_from, updates_ahead}
+use Rattle.cy_unwinding.proofs.Marked.{all_alike, none_enough}
 use Rattle.cy_updates.specs.internal.Reached.{AreResolved, IsNext, LeadsTo, at_end, carried_after, progress}
 use Rattle.cy_effects.proofs.EntryCounts.{few}
 use Rattle.cy_effects.proofs.Graphs.{SameNumbers, node_number, rel_number}

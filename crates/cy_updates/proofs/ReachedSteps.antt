@@ -23,8 +23,8 @@ use Rattle.cy_oneshot.specs.declared.table.Table.{Table}
 use Rattle.cy_queries.specs.Projection.{projection_rows}
 use Rattle.cy_queries.specs.Queries.{columns_after, columns_after_all, rows_after}
 use Rattle.cy_queries.specs.Reading.{AreInGraph, IsInGraph}
-use Rattle.cy_oneshot.specs.internal.Carried.{carried_from, is_needed}
-use Rattle.cy_oneshot.proofs.Carried.{row_there}
+use Rattle.cy_unwinding.specs.Carried.{carried_from, is_needed}
+use Rattle.cy_unwinding.proofs.Carried.{row_there}
 use Rattle.cy_queries.proofs.Each.{each_map}
 use Rattle.cy_queries.proofs.InGraphClauses.{clause_there}
 use Rattle.cy_queries.proofs.QueryLemmas.{last_later}

@@ -11,7 +11,7 @@ use Rattle.cy_scope.specs.Views.{ends_with_return}
 use Rattle.cy_graph.specs.Graph.{State}
 use Rattle.cy_queries.specs.Queries.{columns_after_all, query_columns}
 use Rattle.cy_queries.specs.Reading.{AreInGraph}
-use Rattle.cy_oneshot.specs.internal.Carried.{AreAlike, IsEnough, carried_from, updates_ahead}
+use Rattle.cy_unwinding.specs.Carried.{AreAlike, IsEnough, carried_from, updates_ahead}
 use Rattle.cy_updates.specs.declared.clauses.Updated.{Updated}
 use Rattle.cy_effects.specs.declared.faults.UpdateFault.{UpdateFault}
 use Rattle.cy_effects.specs.declared.faults.UpdateFault.TheVariants.{NoMemory}

@@ -1,0 +1,5 @@
+pub mod Carried
+pub mod CarriedMatch
+pub mod CarriedRows
+pub mod Marked
+pub mod Filters

@@ -13,7 +13,7 @@ use Rattle.cy_queries.proofs.Together.{answered}
 use Rattle.cy_projections.proofs.groups.grouped_rows.Goals as goal
 
 pub loop-row-init : goal.loop-row-init
-loop-row-init c = rw (c.new-grouped.ensures.items, c.into_iter-row-iterator.ensures.into_iter_gives.0) (refl, c.requires)
+loop-row-init c = rw (c.in_ok-grouped.ensures.items, c.into_iter-row-iterator.ensures.into_iter_gives.0) (refl, c.requires)
 
 pub cells_on-key-requires : goal.cells_on-key-requires
 cells_on-key-requires c = (subst (λ (l : List (List Cell)). AreInGraph c.args.store.now.graph.now.content l) c.in-Some.ensures.steps.0 c.loop-row.invariant.1).0

@@ -1,4 +1,5 @@
-//! Expressions, evaluated on stores. There is nothing here but tests, and the cells as text that they are compared by.
+//! Expressions, evaluated on stores. There is nothing here but tests, the cells as text that they are compared by, and worked examples of the
+//! definitions (`proofs/`).
 #![tactic(auto)]
 
 mod cells;

@@ -1,5 +1,3 @@
-mod Examples
-mod ExampleTrees
 pub mod Rules
 pub mod ReadingLemmas
 pub mod KindLemmas

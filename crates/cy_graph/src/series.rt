@@ -7,7 +7,7 @@ ghost use Rattle.std.specs.Map.{keys_of};
 ghost use Rattle.cy_graph.specs.Graph.{number_end};
 ghost use Rattle.cy_graph.specs.internal.Differences.{AreDifferences, has_still, changed_of, added_of};
 ghost use Rattle.cy_graph.specs.internal.Series.{Keeps, KeepsNothing, Changes, ChangesNothing};
-ghost use Rattle.cy_graph.specs.internal.Slots.{RiseFrom, value_under, live, restored};
+ghost use Rattle.cy_graph.specs.internal.Slots.{RiseFrom, value_under, slot_at, live, restored};
 ghost use Rattle.cy_graph.specs.internal.Versions.{IsNumbered, empty_from, with_last, with_edited, without_number};
 ghost use Rattle.cy_graph.specs.Model.{SeriesVersions};
 
@@ -136,7 +136,7 @@ impl<V: Duplicate + Drop> Series<V> {
         ensures value { option_copied result ≡ value_under number self.now.now.entries }
         ensures numbered { IsNumbered self.now.now }
     {
-        self.slots.get(&number)?.as_ref()
+        slot_of(&self.slots, number)?.1.as_ref()
     }
 
     /// The values with their numbers, by rising number.
@@ -359,14 +359,30 @@ fn put_back<V: Drop>(slots: &mut IndexMap<u64, Option<V>>, mut before: BeforeIma
     }
 }
 
+// The slot of a number with its place, if there is one. As long as none before it was dropped it stands at the place that the number
+// tells, and isn't looked for by its hash.
+fn slot_of<V>(slots: &IndexMap<u64, Option<V>>, number: u64) -> Option<(usize, &Option<V>)>
+    ensures slot { option_map (λ found. found.1.now) result ≡ slot_at number slots.now.entries }
+    ensures place { IfSome result (λ found. slice_get slots.now.entries found.0 ≡ Some (number, found.1.now)) }
+{
+    let place = (number as usize).saturating_sub(1);
+    if let Some((found, slot)) = slots.get_index(place)
+        && *found == number
+    {
+        return Some((place, slot));
+    }
+    let (place, _number, slot) = slots.get_full(&number)?;
+    Some((place, slot))
+}
+
 // The place of a number's slot, with the value, if there is one.
 fn place_of<V>(slots: &IndexMap<u64, Option<V>>, number: u64) -> Option<(usize, &V)>
     requires { RiseFrom 1 number_end slots.now.entries }
     ensures place { IfSome result (λ found. slice_get slots.now.entries found.0 ≡ Some (number, Some found.1.now)) }
     ensures found { is_some result ≡ is_some (value_under number (live slots.now.entries)) }
 {
-    let (slot, _number, value) = slots.get_full(&number)?;
-    Some((slot, value.as_ref()?))
+    let (place, slot) = slot_of(slots, number)?;
+    Some((place, slot.as_ref()?))
 }
 
 // Changes a value, once that from the beginning of the change is kept.

@@ -44,3 +44,5 @@ mod ReturnRows
 mod GrownColumns
 pub mod SureKept
 mod ViewQueries
+pub mod Searches
+pub mod StepOrders

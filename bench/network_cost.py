@@ -3,18 +3,20 @@
 
 Run it at the top of the repository. It builds the program by `rt run` in crates/cypher_live, or takes the one that is named after
 it. There are four views, such as people would have, on graphs of 1,000 and of 100,000 nodes. A view is made when the graph is
-there, and then it is changed by statements. What the same statements take without a view is subtracted, so what is counted is the
-upkeep, with the entry of the view's feed. A statement that concerns no part of a view is counted so too. The script prints both
-counts and their ratio, and the most steps of a statement at both sizes. Beside these stands what the contract of a network allows the
-first statement at the smaller size, worked out from the plan that crates/cy_plan_tests prints. Then it builds a program over a copy of
-the crates of memories in a temporary folder, which puts rows into a memory, and prints the bytes of a row in each kind. A ratio or a count
-above its limit ends the script with status 1, and so does a line that isn't answered as it should be.
+there, and then it is changed by statements, of which each is counted by itself. What the same statement takes without a view is
+subtracted, so what is counted is the upkeep, with the entry of the view's feed. A statement that concerns no part of a view is counted
+so too. The script prints the medians of both sizes with their ratio, what the dearest statement takes, in which a table of the view
+grows, and the most steps of a statement. Beside these stands what the contract of a network allows the first statement at the smaller
+size, worked out from the plan that crates/cy_plan_tests prints. Then it builds a program over a copy of the crates of memories in a
+temporary folder, which puts rows into a memory and looks them up, and prints what a look-up takes at both sizes, and the bytes of a row
+in each kind. A ratio or a count above its limit ends the script with status 1, and so does a line that isn't answered as it should be.
 """
 import json
 import shutil
 import subprocess
 import sys
 import tempfile
+from statistics import median
 
 import graph_cost
 import lexer_cost
@@ -23,19 +25,20 @@ from session import Session, peak
 
 LIMIT = 1.3
 SIZES = (1_000, 100_000)
-# How many statements change a graph, and how many of them aren't counted: the tables of a view, which are as large as its rows, grow once.
+# How many statements change a graph.
 TIMES = 20
-WARMING = 13
 # Instructions of a statement that concerns no part of a view.
 IDLE_LIMIT = 500
 # The nodes that one statement makes, and what is made among them.
 BLOCK = 50
-# Memories whose bytes are measured have so many rows.
+# Memories whose bytes are measured have so many rows, of which some have the same key.
 ROWS = (1_000, 101_000)
+# So many rows have one key where look-ups are counted, and so many look-ups are.
+DEGREE, LOOK_UPS = 5, 100
 # Bytes that a row of a keyed memory may take: its cells three times, one of a node and one of an integer, and so much more.
 KEYED_LIMIT = 3 * 2 * 32 + 64
-# Reads the kind of memory and a number, and puts so many rows of a node and an integer into a memory whose key is the node. Prints the
-# number, and waits for the end of its input.
+# Reads the kind of memory, a number of nodes and one of rows, and puts so many rows for each node into a memory whose key is the node. Then it
+# reads numbers of nodes, looks up the rows of each, and prints how many there are.
 PROGRAM = """#![tactic(auto)]
 
 use cy_memory::{KeyedMemory, ListMemory, Memory, MemoryFault};
@@ -43,46 +46,85 @@ use cy_values::{Cell, NodeId, Row, Sequence, Value};
 use std::alloc::{AllocError, Global};
 use std::io::{self, BufRead, BufReader};
 
-fn row_of(alloc: Global, number: u32) -> Result<Row, AllocError> {
+fn key_of(alloc: Global, node: u32) -> Result<Row, AllocError> {
+    let mut cells = Vec::with_capacity(alloc, 1)?;
+    cells.push(Cell::Node(NodeId(u64::from(node))))?;
+    Ok(Sequence::new(cells))
+}
+
+fn row_of(alloc: Global, node: u32, number: u32) -> Result<Row, AllocError> {
     let mut cells = Vec::with_capacity(alloc, 2)?;
-    cells.push(Cell::Node(NodeId(u64::from(number))))?;
+    cells.push(Cell::Node(NodeId(u64::from(node))))?;
     cells.push(Cell::Value(Value::Int(i64::from(number))))?;
     Ok(Sequence::new(cells))
 }
 
-fn filled<M: Memory>(alloc: Global, count: u32) -> Result<M, MemoryFault> {
+fn filled<M: Memory>(alloc: Global, nodes: u32, degree: u32) -> Result<M, MemoryFault> {
     let mut memory = M::new(alloc, Vec::from_array(alloc, [0])?);
-    for number in 0..count {
-        memory.stage(alloc, &row_of(alloc, number)?, 1)?;
+    for node in 0..nodes {
+        for number in 0..degree {
+            memory.stage(alloc, &row_of(alloc, node, number)?, 1)?;
+        }
         memory.settle();
     }
     Ok(memory)
 }
 
-fn serve<M: Memory>(rt: &HostRuntime, count: u32) -> io::Result<()> {
-    let Ok(memory) = filled::<M>(rt.alloc(), count) else {
+fn rows_at<M: Memory>(alloc: Global, memory: &mut M, node: u32) -> Result<u32, MemoryFault> {
+    let mut cursor = memory.look(alloc, &key_of(alloc, node)?)?;
+    let mut rows = 0u32;
+    for _ in 0..u32::MAX {
+        if memory.take(alloc, &mut cursor)?.is_none() {
+            break;
+        }
+        rows = rows.saturating_add(1);
+    }
+    Ok(rows)
+}
+
+fn answered<M: Memory>(alloc: Global, memory: &mut M, line: &str) -> Result<u32, MemoryFault> {
+    match line.trim().parse::<u32>() {
+        Ok(node) => rows_at(alloc, memory, node),
+        Err(_) => Ok(0),
+    }
+}
+
+fn serve<M: Memory>(rt: &HostRuntime, lines: &mut impl BufRead, nodes: u32, degree: u32) -> io::Result<()> {
+    let alloc = rt.alloc();
+    let Ok(mut memory) = filled::<M>(alloc, nodes, degree) else {
         return println!(rt; "refused");
     };
-    println!(rt; "{count}")?;
-    io::read_to_string(rt.alloc(), rt.reader())?;
-    drop(memory);
+    println!(rt; "{nodes}")?;
+    let mut line = String::new(alloc);
+    for _ in 0..u64::MAX {
+        line.clear();
+        if lines.read_line(&mut line)? == 0 {
+            break;
+        }
+        match answered(alloc, &mut memory, line.as_str()) {
+            Ok(rows) => println!(rt; "{rows}")?,
+            Err(_) => println!(rt; "refused")?,
+        }
+    }
     Ok(())
 }
 
 fn main(rt: HostRuntime) -> io::Result<()> {
     let alloc = rt.alloc();
+    let mut lines = BufReader::new(alloc, rt.reader())?;
     let mut line = String::new(alloc);
-    BufReader::new(alloc, rt.reader())?.read_line(&mut line)?;
-    let Some((kind, count)) = line.as_str().trim().split_once(" ") else {
+    lines.read_line(&mut line)?;
+    let words: Vec<&str> = line.as_str().split_whitespace().collect(alloc)?;
+    let [kind, nodes, degree] = *words.as_slice() else {
         return Ok(());
     };
-    let Ok(count) = count.parse::<u32>() else {
+    let (Ok(nodes), Ok(degree)) = (nodes.parse::<u32>(), degree.parse::<u32>()) else {
         return Ok(());
     };
     if kind == "list" {
-        serve::<ListMemory>(&rt, count)
+        serve::<ListMemory>(&rt, &mut lines, nodes, degree)
     } else {
-        serve::<KeyedMemory>(&rt, count)
+        serve::<KeyedMemory>(&rt, &mut lines, nodes, degree)
     }
 }
 """
@@ -185,21 +227,24 @@ def statements(name, size):
 
 
 def counted(program, queries, lines, texts):
-    """The mean instructions of statements on a graph, with a view of each query. The first ones aren't counted."""
-    changes = [(text, '{"changed":[') for text in texts]
+    """The instructions of each of the statements on a graph, with a view of each query."""
     with Session(program) as session:
         session.give(list(lines))
         session.give([(f":view v{place} {query}", "{") for place, query in enumerate(queries)])
-        session.give(changes[:WARMING])
-        return session.count(changes[WARMING:])
+        return session.each([(text, '{"changed":[') for text in texts])
 
 
 def upkeep(program, name, size):
-    """How many instructions the upkeep of a view takes for a statement."""
+    """How many instructions the upkeep of a view takes for a statement: the median, and the most, for that in which its tables grow."""
     query, make, labels, _, _ = VIEWS[name]
     texts = [text for text, _, _ in statements(name, size)]
-    with_view, without = (counted(program, it, graph(make, labels, size), texts) for it in ([query], []))
-    return with_view - without
+    found = more(*(counted(program, it, graph(make, labels, size), texts) for it in ([], [query])))
+    return median(found), max(found)
+
+
+def more(few, many):
+    """How many instructions each statement takes more in the second case than in the first one."""
+    return [with_view - without for without, with_view in zip(few, many, strict=True)]
 
 
 def answers(program, lines):
@@ -253,13 +298,21 @@ def idle(program, size):
     texts = [f"MATCH (a:Account {{k: {first}}}) SET a.j = 1" for first, _ in blocks(size)]
     query = VIEWS["fraud pattern"][0]
     none, one, two = (counted(program, [query] * many, graph(accounts, ("Account",), size), texts) for many in range(3))
-    return one - none, two - one
+    return median(more(none, one)), median(more(one, two))
 
 
-def bytes_a_row(program, kind):
-    """How many bytes a memory has for a row of a node and an integer."""
-    few, many = (peak([program], [(f"{kind} {rows}", "")]) for rows in ROWS)
+def bytes_a_row(program, kind, degree):
+    """How many bytes a memory has for a row of a node and an integer, where so many rows have one node."""
+    few, many = (peak([program], [(f"{kind} {rows // degree} {degree}", "")]) for rows in ROWS)
     return (many - few) / (ROWS[1] - ROWS[0])
+
+
+def look_up(program, nodes):
+    """How many instructions a keyed memory of so many nodes takes to look up the rows of one, and to take each."""
+    asked = [(f"{place * nodes // LOOK_UPS}", f"{DEGREE}") for place in range(LOOK_UPS)]
+    with Session(program) as session:
+        session.give([(f"keyed {nodes} {DEGREE}", f"{nodes}")])
+        return session.count(asked) - session.count([("-", "0") for _ in asked])
 
 
 def memory_program(folder):
@@ -277,9 +330,10 @@ def all_upkeep(program, plans):
     is_within = True
     for name in VIEWS:
         most = VIEWS[name][4]
-        few, many = (upkeep(program, name, size) for size in SIZES)
+        (few, few_most), (many, many_most) = (upkeep(program, name, size) for size in SIZES)
         is_within = is_within and many <= LIMIT * few and many <= most
         print(f"{name:56} {few:12,.0f} {many:12,.0f} {many / few:6.2f}  of at most {LIMIT} and {most:,}", flush=True)
+        print(f"{'its dearest statement':56} {few_most:12,.0f} {many_most:12,.0f}", flush=True)
         steps, allowed = [most_steps(program, name, size) for size in SIZES], most_steps_allowed(program, plans, name, SIZES[0])
         is_within = is_within and steps[0] <= allowed
         print(f"{'its steps':56} {steps[0]:12,} {steps[1]:12,}  of at most {allowed:,}", flush=True)
@@ -295,10 +349,13 @@ def main():
             print(f"{name + ', at ' + format(size, ','):56} {count:12,.0f}  of at most {IDLE_LIMIT}", flush=True)
     with tempfile.TemporaryDirectory() as folder:
         memories = memory_program(folder)
-        for kind, limit in (("keyed", KEYED_LIMIT), ("list", None)):
-            count = bytes_a_row(memories, kind)
+        few, many = (look_up(memories, size) for size in SIZES)
+        is_within = is_within and many <= LIMIT * few
+        print(f"{'a look-up of ' + str(DEGREE) + ' rows':56} {few:12,.0f} {many:12,.0f} {many / few:6.2f}  of at most {LIMIT}", flush=True)
+        for kind, degree, limit in (("keyed", 1, KEYED_LIMIT), ("keyed", DEGREE, KEYED_LIMIT), ("list", 1, None)):
+            count = bytes_a_row(memories, kind, degree)
             is_within = is_within and (limit is None or count <= limit)
-            print(f"{'bytes a row, ' + kind:56} {count:12,.0f}{f'  of at most {limit}' if limit else ''}", flush=True)
+            print(f"{f'bytes a row, {kind}, {degree} with a key':56} {count:12,.0f}{f'  of at most {limit}' if limit else ''}", flush=True)
     return 0 if is_within else 1
 
 

@@ -50,6 +50,10 @@ class Session:
         self.give(lines, at_once)
         return int(re.search(r"events-1: (\d+)", self.tell("status", "internal")).group(1)) / len(lines)
 
+    def each(self, lines):
+        """Gives the program lines, and tells how many instructions each single one takes."""
+        return [self.count([line]) for line in lines]
+
     def tell(self, *words):
         """Tells valgrind something, and gives its answer."""
         told = subprocess.run(["vgdb", f"--pid={self.run.pid}", *words], capture_output=True, check=True, text=True)

@@ -8,9 +8,9 @@ them: what changes one row of it has a limit for its ratio, and so has what `:si
 count, or a ratio, above its limit ends the script with status 1, and so does a line that isn't answered as it should be.
 """
 import sys
+from statistics import median
 
 from graph_cost import TIMES, built, graph, index, statement
-from network_cost import WARMING
 from session import Session, peak, report
 
 VIEWS, FITTING = (1, 100, 256), 100
@@ -51,10 +51,8 @@ def per_view(program):
 
 
 def counted(session, lines):
-    """The mean instructions of lines but the first ones, in which the tables of a view grow, and the C library sorts the blocks that were freed
-    when the view was made."""
-    session.give(lines[:WARMING])
-    return session.count(lines[WARMING:])
+    """The median of the instructions of single lines: in a few of them a table of a view grows."""
+    return median(session.each(lines))
 
 
 def on_graph(program, size):

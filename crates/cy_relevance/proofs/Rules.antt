@@ -28,9 +28,6 @@ use Rattle.cy_scans.proofs.NeededLabels.{tests_label}
 use Rattle.cy_scans.proofs.SameEnds.{rows_alike}
 use Rattle.cy_relevance.specs.declared.entities.Entity.{Entity}
 use Rattle.cy_relevance.specs.declared.entities.Entity.TheVariants as entity
-use Rattle.cy_relevance.specs.declared.parts.Effect.{Effect}
-use Rattle.cy_relevance.specs.declared.parts.Effect.TheVariants as effect
-use Rattle.cy_relevance.specs.internal.Effects.{IsEffect, is_absent, is_kept}
 use Rattle.cy_relevance.specs.internal.Kept.{IsAbsent, IsUnchanged, KeepsRows, KeepsValue, NoRows, NodeKept, RelKept}
 
 -- ---- what a part over a scan makes of the rows of one entity
@@ -149,7 +146,7 @@ none_project (entity.Rel old new) p outputs none = λ types orientation leaf num
 )
 
 -- where there are none, they are the same
-none_kept : (e : Entity) (p : Plan) → NoRows e p → KeepsRows e p
+pub none_kept : (e : Entity) (p : Plan) → NoRows e p → KeepsRows e p
 none_kept (entity.Node old new) p none = λ leaf number. (none leaf number).0 ∙ sym (none leaf number).1
 none_kept (entity.Rel old new) p none = λ types orientation leaf number. (none types orientation leaf number).0 ∙ sym (none types orientation leaf number).1
 
@@ -165,8 +162,9 @@ absent_filter e p test absent = (absent.0, none_filter e p test absent.1)
 pub absent_project : (e : Entity) (p : Plan) (outputs : List Output) → kept_at 0 outputs ≡ Some 0 → IsAbsent e p → IsAbsent e (plan.project p outputs)
 absent_project e p outputs first absent = (ap (λ (o : Option ℕ). kept o outputs) absent.0 ∙ first, none_project e p outputs absent.1)
 
-pub unchanged_absent_lookup : (e : Entity) (p : Plan) (column : ℕ) (attribute : Attribute) → IsAbsent e (plan.lookup p column attribute) → IsUnchanged e (plan.lookup p column attribute)
-unchanged_absent_lookup e p column attribute absent = inl (ap is_some absent.0, none_kept e (plan.lookup p column attribute) absent.1)
+pub unchanged_absent_lookup : (e : Entity) (p : Plan) (column : ℕ) (attribute : Attribute) → column ≡ 0 → IsAbsent e p → IsUnchanged e (plan.lookup p column attribute)
+unchanged_absent_lookup e p column attribute first absent =
+    let none = absent_lookup e p column attribute first absent in inl (ap is_some none.0, none_kept e (plan.lookup p column attribute) none.1)
 
 pub unchanged_absent_filter : (e : Entity) (p : Plan) (test : Expression) → IsAbsent e (plan.filter p test) → IsUnchanged e (plan.filter p test)
 unchanged_absent_filter e p test absent = inl (ap is_some absent.0, none_kept e (plan.filter p test) absent.1)
@@ -176,44 +174,6 @@ unchanged_lookup e p column attribute unchanged same = inr (unchanged, same)
 
 pub unchanged_filter : (e : Entity) (p : Plan) (test : Expression) → IsUnchanged e p → IsUnchanged e (plan.filter p test)
 unchanged_filter e p test unchanged = inr unchanged
-
--- ---- what becomes of the rows of a part by what becomes of those below it
-
-pub kept_unchanged : (x : Effect) (e : Entity) (p : Plan) → is_kept x ≡ true → IsEffect x e p → IsUnchanged e p
-kept_unchanged effect.Absent e p kept known = known.0
-kept_unchanged effect.Unchanged e p kept known = known
-kept_unchanged effect.Changed e p kept known = absurd (false≢true kept)
-
-pub none_absent : (x : Effect) (e : Entity) (p : Plan) → is_absent x ≡ true → IsEffect x e p → IsAbsent e p
-none_absent effect.Absent e p none known = known.1
-none_absent effect.Unchanged e p none known = absurd (false≢true none)
-none_absent effect.Changed e p none known = absurd (false≢true none)
-
-pub absent_unchanged : (x : Effect) (e : Entity) (p : Plan) → is_absent x ≡ true → IsEffect x e p → IsUnchanged e p
-absent_unchanged effect.Absent e p none known = known.0
-absent_unchanged effect.Unchanged e p none known = known
-absent_unchanged effect.Changed e p none known = absurd (false≢true none)
-
-pub effect_filter : (x : Effect) (e : Entity) (p : Plan) (test : Expression) → IsEffect x e p → IsEffect x e (plan.filter p test)
-effect_filter effect.Absent e p test known = (unchanged_filter e p test known.0, absent_filter e p test known.1)
-effect_filter effect.Unchanged e p test known = unchanged_filter e p test known
-effect_filter effect.Changed e p test known = tt
-
-pub effect_left_out : (e : Entity) (p : Plan) (test : Expression) → IsAbsent e (plan.filter p test) → IsEffect effect.Absent e (plan.filter p test)
-effect_left_out e p test absent = (unchanged_absent_filter e p test absent, absent)
-
-pub effect_absent_lookup : (e : Entity) (p : Plan) (column : ℕ) (attribute : Attribute) → column ≡ 0 → IsAbsent e p → IsEffect effect.Absent e (plan.lookup p column attribute)
-effect_absent_lookup e p column attribute first absent =
-    let none = absent_lookup e p column attribute first absent in (unchanged_absent_lookup e p column attribute none, none)
-
-pub effect_absent_project : (e : Entity) (p : Plan) (outputs : List Output) → kept_at 0 outputs ≡ Some 0 → IsUnchanged e p → IsAbsent e p → IsEffect effect.Absent e (plan.project p outputs)
-effect_absent_project e p outputs first unchanged absent = (unchanged, absent_project e p outputs first absent)
-
-pub effect_no_node : (e : Entity) → NoRows e plan.nodes → IsEffect effect.Absent e plan.nodes
-effect_no_node e none = (none_kept e plan.nodes none, (refl, none))
-
-pub effect_no_rel : (e : Entity) (types : List Name) (orientation : Orientation) → NoRows e (plan.rels types orientation) → IsEffect effect.Absent e (plan.rels types orientation)
-effect_no_rel e types orientation none = (none_kept e (plan.rels types orientation) none, (refl, none))
 
 -- ---- the columns that a projection makes
 

@@ -1,3 +1,2 @@
 -- What proofs alone need.
-pub mod Effects
 pub mod Kept

@@ -1,3 +1,4 @@
+pub mod Chains
 pub mod Counted
 pub mod Limits
 pub mod Memories

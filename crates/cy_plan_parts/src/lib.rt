@@ -3,4 +3,4 @@
 
 mod parts;
 
-pub use parts::{below_count, chain_of, cut_of, first_below, is_unit, second_below};
+pub use parts::{Chain, below_count, cut_of, first_below, is_unit, second_below};

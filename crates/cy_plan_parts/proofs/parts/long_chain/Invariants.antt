@@ -2,7 +2,7 @@ use Rattle.std.proofs.Common.{◌≡◌, ◌++◌, length, map}
 use Rattle.cy_plans.specs.Parts.{parts}
 use Rattle.cy_plans.specs.Views.{plan_of}
 use Rattle.cy_plan_parts.specs.Parts.{chain}
-use Rattle.cy_plan_parts.proofs.parts.chain_of.Given as goal
+use Rattle.cy_plan_parts.proofs.parts.long_chain.Given as goal
 
 -- the parts so far, and those from the next one down, are all
 abbrev pub invariant-down : goal.invariant-down

@@ -29,7 +29,7 @@ pub(crate) fn is_unchanged(part: &Operator, entity: &Entity<'_>) -> bool
 }
 
 // The same, by what the parts make of the entity. Whether the scan below makes nothing of it is asked at the uppermost of the look-ups that
-// stand over one another, and not once more at those below it.
+// stand over one another, and not once more at those below it: so each part is gone through twice at most.
 fn is_kept(part: &Operator, entity: &Entity<'_>, asked: bool) -> bool
     ensures { result ≡ true → IsUnchanged entity.now (plan_of part.now) }
 {
@@ -47,7 +47,9 @@ fn is_kept(part: &Operator, entity: &Entity<'_>, asked: bool) -> bool
             is_left_out(below, test, *entity) || is_kept(below, entity, asked)
         }
         Operator::AllDifferent(below, _) => is_kept(below, entity, false),
-        Operator::Project(below, _) => is_kept(below, entity, false),
+        Operator::Project(below, outputs) => {
+            is_kept(below, entity, asked && keeps_first(outputs))
+        }
         Operator::Distinct(below) => is_kept(below, entity, false),
         Operator::Join(left, right, _) | Operator::Outer(left, right, _, _) => {
             is_kept(left, entity, false) && is_kept(right, entity, false)

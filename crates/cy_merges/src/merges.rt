@@ -9,12 +9,15 @@ ghost use Rattle.cy_deltas.specs.Deltas.{IsBounded, IsDelta, shift_between};
 ghost use Rattle.cy_merges.specs.Merges.{AreBounded, IsWhole};
 ghost use Rattle.cy_merges.specs.internal.Sums.{AreShiftsOf, lost, gained, shift_in, shifts_at};
 
-use crate::distinct_rows::distinct_rows;
+use crate::distinct_rows::{distinct_rows, few_distinct_rows};
 use crate::stages::{stage_gains, stage_losses};
 use cy_deltas::{Shift, add_shift};
 use cy_memory::{Memory, MemoryFault, Record};
 use cy_values::{Fault, Row};
 use std::alloc::Global;
+
+/// The rows of so many changes are compared with one another; those of more are hashed.
+const FEW_CHANGES: usize = 24;
 
 /// Adds some changes of counts to those of a memory whose key is the whole row, and gives what changes there: of each row whose
 /// count differs, both counts. One row may stand in several changes. `TooManyRows` where a row counts too often after all of them;
@@ -63,6 +66,10 @@ fn shifts_of_changes<M: Memory>(
 {
     if changes.len() == 1 {
         return shift_of_change(alloc, memory, changes);
+    }
+    if changes.len() <= FEW_CHANGES {
+        let rows = few_distinct_rows(alloc, changes)?;
+        return shifts_of(alloc, memory, rows.as_slice());
     }
     let rows = distinct_rows(alloc, changes)?;
     shifts_of(alloc, memory, rows.as_slice())

@@ -110,7 +110,7 @@ fn images_of(alloc: Global, outputs: &[Output], shifts: Vec<Shift>) -> Result<Ve
     ensures images { IfOk result (λ images. images.items ≡ map (image (expressions.projected (map output_of outputs.now))) shifts.items) }
     ensures nothing { IfErr result (λ _. 0 < length shifts.items) }
 {
-    let mut images = Vec::new(alloc);
+    let mut images = Vec::with_capacity(alloc, shifts.len())?;
     for shift in shifts {
         let row = rows::projected(alloc, outputs, &shift.row)?;
         images.push(Shift {

@@ -12,5 +12,5 @@ mod scanning;
 pub use alike::{have_same_ends, node_has_same, rel_has_same};
 pub use needs::{has_label, label_in};
 pub use rels::has_type;
-pub use scan_columns::column_over;
+pub use scan_columns::{column_over, kept_at};
 pub use scanning::scan;

@@ -37,18 +37,8 @@ fn if_this(column: usize, other: Option<usize>) -> Option<usize>
     }
 }
 
-// Where a column, if there is one, stands among those that a projection makes: the first that is this column alone.
-fn kept(outputs: &[Output], column: Option<usize>) -> Option<usize>
-    ensures { result ≡ scans.kept column (map output_of outputs.now) }
-{
-    match column {
-        Some(column) => kept_at(outputs, column),
-        None => None,
-    }
-}
-
-// Where a column stands among those that a projection makes.
-fn kept_at(outputs: &[Output], column: usize) -> Option<usize>
+/// Where a column stands among those that a projection makes: the first that is this column alone.
+pub fn kept_at(outputs: &[Output], column: usize) -> Option<usize>
     ensures { result ≡ scans.kept_at column (map output_of outputs.now) }
 {
     for at in 0..outputs.len() {
@@ -57,6 +47,16 @@ fn kept_at(outputs: &[Output], column: usize) -> Option<usize>
         }
     }
     None
+}
+
+// The same of a column, if there is one.
+fn kept(outputs: &[Output], column: Option<usize>) -> Option<usize>
+    ensures { result ≡ scans.kept column (map output_of outputs.now) }
+{
+    match column {
+        Some(column) => kept_at(outputs, column),
+        None => None,
+    }
 }
 
 /// Whether a column that a projection makes is a column alone: this one.

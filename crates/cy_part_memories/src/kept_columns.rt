@@ -9,8 +9,12 @@ ghost use Rattle.cy_part_memories.specs.internal.Kept.{kept_flags};
 
 use cy_apart::column_alone;
 use cy_plans::Output;
+use cy_scans::kept_at;
 use cy_values::Fault;
 use std::alloc::Global;
+
+/// So many columns are looked for one by one, which allocates nothing.
+const FEW_COLUMNS: usize = 16;
 
 /// Whether each of the first columns, so many, stands alone among those that a projection makes. Fails only for want of memory.
 pub(crate) fn keeps_all(alloc: Global, outputs: &[Output], number: usize) -> Result<bool, Fault>
@@ -19,8 +23,18 @@ pub(crate) fn keeps_all(alloc: Global, outputs: &[Output], number: usize) -> Res
     if outputs.len() < number {
         return Ok(false);
     }
+    if number <= FEW_COLUMNS {
+        return Ok(keeps_each(outputs, number));
+    }
     let flags = flags_of(alloc, outputs, number)?;
     Ok(are_all_set(&flags))
+}
+
+// The same, where each of the columns is looked for among the outputs.
+fn keeps_each(outputs: &[Output], number: usize) -> bool
+    ensures { result ≡ spec.keeps_all number (map output_of outputs.now) }
+{
+    (0..number).all(|column| kept_at(outputs, column).is_some())
 }
 
 // Whether each of some flags is set.

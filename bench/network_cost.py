@@ -230,7 +230,7 @@ def counted(program, queries, lines, texts):
     """The instructions of each of the statements on a graph, with a view of each query."""
     with Session(program) as session:
         session.give(list(lines))
-        session.give([(f":view v{place} {query}", "{") for place, query in enumerate(queries)])
+        session.give([(f":view v{place} {query}", '{"columns":') for place, query in enumerate(queries)])
         return session.each([(text, '{"changed":[') for text in texts])
 
 

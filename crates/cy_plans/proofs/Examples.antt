@@ -6,8 +6,9 @@ use Rattle.cy_trees.specs.declared.expressions.Comparator.TheVariants.{NotEqual}
 use Rattle.cy_trees.specs.Trees.{Expression, variable, comparison, link, no_links}
 use Rattle.cy_plans.specs.declared.operators.Attribute.TheVariants.{Property}
 use Rattle.cy_plans.specs.declared.operators.KeyColumns.{KeyColumns}
+use Rattle.cy_plans.specs.declared.operators.Keeping.TheVariants.{Matched, Unmatched}
 use Rattle.cy_plans.specs.declared.operators.Orientation.TheVariants.{Directed, Either}
-use Rattle.cy_plans.specs.Plans.{Plan, nodes, rels, join, outer, lookup, all_different, project, distinct, computed, gathered}
+use Rattle.cy_plans.specs.Plans.{Plan, nodes, rels, join, outer, semi, lookup, all_different, project, distinct, computed, gathered}
 use Rattle.cy_plans.specs.Meaning.{rows_of}
 use Rattle.cy_plans.proofs.ExampleGraphs.{graph, T, k, n, r, t, no}
 
@@ -52,3 +53,14 @@ each_pair_of_ends = refl
 to_another : rows_of graph (project (outer nodes (rels [] Directed) (key 0 1 ∷ []) (comparison (column 0) (link NotEqual (column 3) no_links))) (computed (column 0) ∷ computed (column 1) ∷ []))
     ≡ (n 1 ∷ r 2 ∷ []) ∷ (n 1 ∷ r 3 ∷ []) ∷ (n 2 ∷ no ∷ []) ∷ (n 3 ∷ no ∷ []) ∷ []
 to_another = refl
+
+-- `MATCH (a) WHERE (a)-[]->()`, and `WHERE NOT (a)-[]->()`: a node once, however many relationships leave it
+with_a_target : rows_of graph (semi nodes (rels [] Directed) (key 0 1 ∷ []) Matched) ≡ (n 1 ∷ []) ∷ []
+with_a_target = refl
+
+without_a_target : rows_of graph (semi nodes (rels [] Directed) (key 0 1 ∷ []) Unmatched) ≡ (n 2 ∷ []) ∷ (n 3 ∷ []) ∷ []
+without_a_target = refl
+
+-- a null key has no partner
+null_key : rows_of graph (project (semi with_property with_property (key 1 1 ∷ []) Unmatched) (computed (column 0) ∷ [])) ≡ (n 3 ∷ []) ∷ []
+null_key = refl

@@ -149,6 +149,7 @@ module _ (state : State) (is : IsGraph state) where
       (or_nulls_numbered (width right) (filter (is_partner keys test l) (rows_of state.content right))
       (All-filter (is_partner keys test l) IsNumberedRow (rows_of state.content right) (numbered_rows right))))
       (rows_of state.content left) (numbered_rows left)
+  numbered_rows (plan.semi left right keys keeping) = All-filter _ IsNumberedRow (rows_of state.content left) (numbered_rows left)
   numbered_rows (plan.lookup p column attribute) =
       All-map IsNumberedRow (with_attribute state.content column attribute) (rows_of state.content p)
       (All-weaker IsNumberedRow (λ row. IsNumberedRow (with_attribute state.content column attribute row))

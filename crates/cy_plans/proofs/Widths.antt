@@ -81,6 +81,7 @@ wide_rows graph (plan.outer left right keys test) good =
     (wide_or_nulls (width right) (filter (is_partner keys test l) (rows_of graph right))
     (All-filter (is_partner keys test l) (IsWide (width right)) (rows_of graph right) (wide_rows graph right good.1))))
     (rows_of graph left) (wide_rows graph left good.0)
+wide_rows graph (plan.semi left right keys keeping) good = All-filter _ (IsWide (width left)) (rows_of graph left) (wide_rows graph left good.0)
 wide_rows graph (plan.lookup p column attribute) good =
     All-map (IsWide (width p + 1)) (with_attribute graph column attribute) (rows_of graph p)
     (All-weaker (IsWide (width p)) (λ row. IsWide (width p + 1) (with_attribute graph column attribute row))

@@ -18,6 +18,8 @@ use Rattle.cy_expr.specs.Graphs.{lookups}
 use Rattle.cy_expr.specs.Lookups.{property_value, type_value, labels_value}
 use Rattle.cy_plans.specs.declared.operators.Attribute.{Attribute}
 use Rattle.cy_plans.specs.declared.operators.Attribute.TheVariants.{Property, RelType, Labels}
+use Rattle.cy_plans.specs.declared.operators.Keeping.{Keeping}
+use Rattle.cy_plans.specs.declared.operators.Keeping.TheVariants.{Matched, Unmatched}
 use Rattle.cy_plans.specs.declared.operators.KeyColumns.{KeyColumns}
 use Rattle.cy_plans.specs.declared.operators.Orientation.{Orientation}
 use Rattle.cy_plans.specs.declared.operators.Orientation.TheVariants.{Directed, Either}
@@ -88,6 +90,19 @@ or_nulls count (found ∷ others) = found ∷ others
 abbrev pub outer_joined : List KeyColumns → Expression → ℕ → List (List Cell) → List (List Cell) → List (List Cell)
 outer_joined keys test count lefts rights = flat_map (λ left. paired left (or_nulls count (std.filter (is_partner keys test left) rights))) lefts
 
+-- a row of the left part meets some row of the right one
+abbrev pub has_partner : List KeyColumns → List (List Cell) → List Cell → Bool
+has_partner keys rights left = list_any (meet keys left) rights
+
+-- whether a semi join keeps a row, by whether that has a partner
+abbrev pub stays : Keeping → Bool → Bool
+stays Matched found = found
+stays Unmatched found = not found
+
+-- the rows of the left part that have a partner, or that have none
+abbrev pub semi_joined : List KeyColumns → Keeping → List (List Cell) → List (List Cell) → List (List Cell)
+semi_joined keys keeping lefts rights = std.filter (λ left. stays keeping (has_partner keys rights left)) lefts
+
 -- no relationship stands twice
 abbrev pub are_different : List RelId → Bool
 are_different [] = true
@@ -109,6 +124,7 @@ rows_of graph plan.nodes = map (λ n. cell.Node n.0 ∷ []) graph.nodes
 rows_of graph (plan.rels types orientation) = flat_map (rows_of_rel types orientation) graph.rels
 rows_of graph (plan.join left right keys) = joined keys (rows_of graph left) (rows_of graph right)
 rows_of graph (plan.outer left right keys test) = outer_joined keys test (width right) (rows_of graph left) (rows_of graph right)
+rows_of graph (plan.semi left right keys keeping) = semi_joined keys keeping (rows_of graph left) (rows_of graph right)
 rows_of graph (plan.lookup p column attribute) = map (with_attribute graph column attribute) (rows_of graph p)
 rows_of graph (plan.filter p test) = std.filter (holds test) (rows_of graph p)
 rows_of graph (plan.all_different p columns) = std.filter (λ row. are_different (relationships_at columns row)) (rows_of graph p)

@@ -9,6 +9,7 @@ parts plan.nodes = plan.nodes ∷ []
 parts (plan.rels types orientation) = plan.rels types orientation ∷ []
 parts (plan.join left right keys) = plan.join left right keys ∷ parts left ++ parts right
 parts (plan.outer left right keys test) = plan.outer left right keys test ∷ parts left ++ parts right
+parts (plan.semi left right keys keeping) = plan.semi left right keys keeping ∷ parts left ++ parts right
 parts (plan.lookup p column attribute) = plan.lookup p column attribute ∷ parts p
 parts (plan.filter p test) = plan.filter p test ∷ parts p
 parts (plan.all_different p columns) = plan.all_different p columns ∷ parts p

@@ -3,6 +3,7 @@
 use Rattle.std.specs.Prelude.{ℕ, ◌+◌, List, length}
 use Rattle.cy_trees.specs.Trees.{Name, Expression}
 use Rattle.cy_plans.specs.declared.operators.Attribute.{Attribute}
+use Rattle.cy_plans.specs.declared.operators.Keeping.{Keeping}
 use Rattle.cy_plans.specs.declared.operators.KeyColumns.{KeyColumns}
 use Rattle.cy_plans.specs.declared.operators.Orientation.{Orientation}
 
@@ -24,6 +25,8 @@ pub data Plan : Type 0 where
   join : Plan → Plan → List KeyColumns → Plan
   -- the same where a predicate is true; a row of the left part that finds none stands with nulls
   outer : Plan → Plan → List KeyColumns → Expression → Plan
+  -- the rows of the left part for which the right one has a row with the same key, or those for which it has none
+  semi : Plan → Plan → List KeyColumns → Keeping → Plan
   -- each row with an attribute of the entity in one of its columns
   lookup : Plan → ℕ → Attribute → Plan
   -- the rows for which an expression is true
@@ -44,6 +47,7 @@ width nodes = 1
 width (rels types orientation) = 4
 width (join left right keys) = width left + width right
 width (outer left right keys test) = width left + width right
+width (semi left right keys keeping) = width left
 width (lookup plan column attribute) = width plan + 1
 width (filter plan test) = width plan
 width (all_different plan columns) = width plan

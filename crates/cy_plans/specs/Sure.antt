@@ -30,6 +30,7 @@ IsSureOn graph (plan.rels types orientation) = ⊤
 IsSureOn graph (plan.join left right keys) = IsSureOn graph left × IsSureOn graph right
 IsSureOn graph (plan.outer left right keys test) =
     IsSureOn graph left × IsSureOn graph right × All (HasTruth test) (joined keys (rows_of graph left) (rows_of graph right))
+IsSureOn graph (plan.semi left right keys keeping) = IsSureOn graph left × IsSureOn graph right
 IsSureOn graph (plan.lookup p column attribute) = IsSureOn graph p
 IsSureOn graph (plan.filter p test) = IsSureOn graph p × All (HasTruth test) (rows_of graph p)
 IsSureOn graph (plan.all_different p columns) = IsSureOn graph p

@@ -5,7 +5,7 @@ use Rattle.cy_plans.specs.declared.operators.Output as coded_output
 use Rattle.cy_plans.specs.declared.operators.Output.TheVariants as output
 use Rattle.cy_plans.specs.declared.operators.Operator.{Operator, fold-Operator}
 use Rattle.cy_plans.specs.declared.operators.Operator.TheOpen.{Operator-F}
-use Rattle.cy_plans.specs.Plans.{Plan, unit, nodes, rels, join, outer, lookup, filter, all_different, project, distinct, union, Output, computed, gathered}
+use Rattle.cy_plans.specs.Plans.{Plan, unit, nodes, rels, join, outer, semi, lookup, filter, all_different, project, distinct, union, Output, computed, gathered}
 
 abbrev pub output_of : coded_output.Output → Output
 output_of (output.Cell e) = computed (expression_of e)
@@ -18,6 +18,7 @@ plan_step Operator-F.Nodes = nodes
 plan_step (Operator-F.Rels types orientation) = rels types.items orientation
 plan_step (Operator-F.Join left right keys) = join left.value right.value keys.items
 plan_step (Operator-F.Outer left right keys test) = outer left.value right.value keys.items (expression_of test)
+plan_step (Operator-F.Semi left right keys keeping) = semi left.value right.value keys.items keeping
 plan_step (Operator-F.Lookup p column attribute) = lookup p.value column attribute
 plan_step (Operator-F.Filter p test) = filter p.value (expression_of test)
 plan_step (Operator-F.AllDifferent p columns) = all_different p.value columns.items

@@ -36,6 +36,8 @@ IsWellFormed (plan.join left right keys) =
 IsWellFormed (plan.outer left right keys test) =
     IsWellFormed left × IsWellFormed right × All (IsKeyBetween (width left) (width right)) keys × (width left + width right ≤ greatest_width)
     × IsOver (width left + width right) test
+IsWellFormed (plan.semi left right keys keeping) =
+    IsWellFormed left × IsWellFormed right × All (IsKeyBetween (width left) (width right)) keys
 IsWellFormed (plan.lookup p column attribute) = IsWellFormed p × IsColumn (width p) column × (width p + 1 ≤ greatest_width)
 IsWellFormed (plan.filter p test) = IsWellFormed p × IsOver (width p) test
 IsWellFormed (plan.all_different p columns) = IsWellFormed p × All (IsColumn (width p)) columns

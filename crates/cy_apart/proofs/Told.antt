@@ -1,4 +1,4 @@
--- A projection that tells trails apart makes of different rows on one graph different ones.
+-- A projection that tells trails apart, or the pairs of a join, makes of different rows on one graph different ones.
 use Rattle.std.proofs.Common.{◌≡◌, ℕ, ◌+◌, ◌-◌, ◌==◌, ◌<◌, ◌≤◌, Bool, true, false, cond, List, [], ◌∷◌, ◌++◌, filter, length, refl, sym, ap, subst, ◌∙◌, inl, inr, arith, true≢false}
 use Rattle.std.specs.Prelude.{◌⊎◌, ◌&&◌, ◌||◌, nat_le}
 use Rattle.std.specs.List.{All, list_all, list_any, range_with_len}
@@ -22,7 +22,7 @@ use Rattle.cy_plans.specs.Meaning.{paired, rows_of}
 use Rattle.cy_plans.specs.WellFormed.{IsWellFormed}
 use Rattle.cy_plans.proofs.Counts.{count_cons, count_passing, identity, same}
 use Rattle.cy_plans.proofs.Widths.{all_made, wide_rows}
-use Rattle.cy_apart.specs.Trails.{TellsRowsApartOn, are_two, gathers_both, has_links, has_lists, is_alone, is_kept, is_key, is_told, tells_apart, tells_trails}
+use Rattle.cy_apart.specs.Trails.{TellsRowsApartOn, are_two, gathers_both, has_links, has_lists, is_alone, is_kept, is_key, is_paired, is_told, tells_apart, tells_joined, tells_trails}
 use Rattle.cy_apart.proofs.AnyOutput.{one_fails}
 use Rattle.cy_apart.proofs.Links.{HasEnds, IsLink, IsListed, alone_cell, links, lists, no_node, second_end, within}
 
@@ -347,11 +347,104 @@ module _ (graph : State) (is_graph : IsGraph graph) (left right : Plan) (keys : 
       (ap (projected outputs) (sym a.is) ∙ same_rows ∙ ap (projected outputs) b.is)
       ∙ sym b.is
 
+-- ---- joins of which only columns of the right row's key are left out
+
+record IsPair (wide others : ℕ) (keys : List KeyColumns) (row : List Cell) : Type 0 where
+  left : List Cell
+  right : List Cell
+  is : row ≡ left ++ right
+  long_left : length left ≡ wide
+  long_right : length right ≡ others
+  met : left_key keys left ≡ right_key keys right
+
+module _ (graph : Content) (left right : Plan) (keys : List KeyColumns) (left_good : IsWellFormed left) (right_good : IsWellFormed right) where
+  abbrev Pair : List Cell → Type 0
+  Pair = IsPair (width left) (width right) keys
+
+  met_rights : (row : List Cell) → All (λ r. (meet keys row r ≡ true) × (length r ≡ width right)) (filter (meet keys row) (rows_of graph right))
+  met_rights row =
+      both (λ r. meet keys row r ≡ true) (λ r. length r ≡ width right) (filter (meet keys row) (rows_of graph right)) (filter_passes (meet keys row) (rows_of graph right))
+      (All-filter (meet keys row) (λ r. length r ≡ width right) (rows_of graph right) (wide_rows graph right right_good))
+
+  pairs_of : (row : List Cell) → length row ≡ width left → All Pair (paired row (filter (meet keys row) (rows_of graph right)))
+  pairs_of row is =
+      All-map Pair (λ r. row ++ r) (filter (meet keys row) (rows_of graph right))
+      (All-weaker (λ r. (meet keys row r ≡ true) × (length r ≡ width right)) (λ r. Pair (row ++ r))
+      (λ r facts. record { left = row; right = r; is = refl; long_left = is; long_right = facts.1; met = met_keys keys row r facts.0 })
+      (filter (meet keys row) (rows_of graph right)) (met_rights row))
+
+  all_pairs : All Pair (rows_of graph (plan.join left right keys))
+  all_pairs =
+      all_made (λ row. length row ≡ width left) Pair (λ row. paired row (filter (meet keys row) (rows_of graph right))) pairs_of (rows_of graph left) (wide_rows graph left left_good)
+
+module _ (wide others : ℕ) (keys : List KeyColumns) (outputs : List Output) (row row_two : List Cell) (a : IsPair wide others keys row) (b : IsPair wide others keys row_two)
+    (told : list_all (is_paired wide keys outputs) (range_with_len 0 (wide + others)) ≡ true) (same_rows : projected outputs row ≡ projected outputs row_two) where
+  at_left : (pair : List Cell) → (p : IsPair wide others keys pair) → (k : ℕ) → k < wide → cell_at pair k ≡ cell_at p.left k
+  at_left pair p k less = ap (λ r. cell_at r k) p.is ∙ get_or_append_left p.left p.right null k (subst (λ n. k < n) (sym p.long_left) less)
+
+  at_right : (pair : List Cell) → (p : IsPair wide others keys pair) → (k : ℕ) → cell_at pair (wide + k) ≡ cell_at p.right k
+  at_right pair p k =
+      ap (λ r. cell_at r (wide + k)) p.is
+      ∙ (get_or-append_right p.left p.right wide (wide + k) null p.long_left (omega arith) ∙ ap (cell_at p.right) (let e : (wide + k) - wide ≡ k = omega arith in e))
+
+  kept_or_key : (k : ℕ) → k < wide + others → (is_kept outputs k ≡ true) ⊎ ((nat_le wide k && is_key keys (k - wide)) ≡ true)
+  kept_or_key k less = or_cases (is_kept outputs k) _ (each_told (is_paired wide keys outputs) (wide + others) told k less)
+
+  pair_left_cell : (k : ℕ) → k < length a.left → cell_at a.left k ≡ cell_at b.left k
+  pair_left_cell k less = by (kept_or_key k (omega (arith, within_left)))
+    where
+      within_left : k < wide
+      within_left = subst (λ n. k < n) a.long_left less
+
+      is_least : (m n : ℕ) → nat_le m n ≡ true → m ≤ n
+      is_least m n equal = grind (arith, nat_tests)
+
+      by : (is_kept outputs k ≡ true) ⊎ ((nat_le wide k && is_key keys (k - wide)) ≡ true) → cell_at a.left k ≡ cell_at b.left k
+      by (inl kept) = sym (at_left row a k within_left) ∙ same_kept outputs row row_two k kept same_rows ∙ at_left row_two b k within_left
+      by (inr is) = let least = is_least wide k ((and_parts (nat_le wide k) (is_key keys (k - wide)) is).0) in absurd (omega (arith, least, within_left))
+
+  pair_left : a.left ≡ b.left
+  pair_left = ext_get_or null a.left b.left (a.long_left ∙ sym b.long_left) pair_left_cell
+
+  pair_keys : right_key keys a.right ≡ right_key keys b.right
+  pair_keys = sym a.met ∙ ap (left_key keys) pair_left ∙ b.met
+
+  pair_right_cell : (k : ℕ) → k < length a.right → cell_at a.right k ≡ cell_at b.right k
+  pair_right_cell k less = by (kept_or_key (wide + k) (let long = a.long_right in omega (arith, less, long)))
+    where
+      by : (is_kept outputs (wide + k) ≡ true) ⊎ ((nat_le wide (wide + k) && is_key keys ((wide + k) - wide)) ≡ true) → cell_at a.right k ≡ cell_at b.right k
+      by (inl kept) = sym (at_right row a k) ∙ same_kept outputs row row_two (wide + k) kept same_rows ∙ at_right row_two b k
+      by (inr is) =
+          same_in_key keys k a.right b.right
+          (ap (is_key keys) (let e : k ≡ (wide + k) - wide = omega arith in e) ∙ (and_parts (nat_le wide (wide + k)) (is_key keys ((wide + k) - wide)) is).1) pair_keys
+
+  same_pairs : row ≡ row_two
+  same_pairs =
+      a.is ∙ ap (λ r. r ++ a.right) pair_left ∙ ap (λ r. b.left ++ r) (ext_get_or null a.right b.right (a.long_right ∙ sym b.long_right) pair_right_cell) ∙ sym b.is
+
+told_pairs : (graph : State) (left right : Plan) (keys : List KeyColumns) (outputs : List Output) → IsWellFormed left → IsWellFormed right
+    → list_all (is_paired (width left) keys outputs) (range_with_len 0 (width left + width right)) ≡ true → TellsRowsApartOn graph (plan.join left right keys) outputs
+told_pairs graph left right keys outputs left_good right_good told row other here there same_rows =
+    let rows = all_pairs graph.content left right keys left_good right_good in
+    same_pairs (width left) (width right) keys outputs row other
+    (of_counted (IsPair (width left) (width right) keys) (rows_of graph.content (plan.join left right keys)) rows row here)
+    (of_counted (IsPair (width left) (width right) keys) (rows_of graph.content (plan.join left right keys)) rows other there) told same_rows
+
+told_joined : (graph : State) → IsGraph graph → (left right : Plan) (keys : List KeyColumns) (outputs : List Output) → IsWellFormed left → IsWellFormed right
+    → tells_joined left right keys outputs ≡ true → TellsRowsApartOn graph (plan.join left right keys) outputs
+told_joined graph is left right keys outputs left_good right_good tells =
+    by (or_cases (list_all (is_paired (width left) keys outputs) (range_with_len 0 (width left + width right))) _ tells)
+  where
+    by : (list_all (is_paired (width left) keys outputs) (range_with_len 0 (width left + width right)) ≡ true) ⊎ (tells_trails left right keys outputs ≡ true)
+        → TellsRowsApartOn graph (plan.join left right keys) outputs
+    by (inl pairs) = told_pairs graph left right keys outputs left_good right_good pairs
+    by (inr trails) = told_trails graph is left right keys outputs left_good right_good trails
+
 -- what is found of the parts of a join
 pub joins_told : (p left right lent_left lent_right : Plan) (keys lent_keys : List KeyColumns) (outputs : List Output) → p ≡ plan.join left right keys → lent_left ≡ left → lent_right ≡ right
-    → lent_keys ≡ keys → tells_trails lent_left lent_right lent_keys outputs ≡ tells_apart p outputs
+    → lent_keys ≡ keys → tells_joined lent_left lent_right lent_keys outputs ≡ tells_apart p outputs
 joins_told p left right lent_left lent_right keys lent_keys outputs is same_left same_right same_keys =
-    ap (λ l. tells_trails l lent_right lent_keys outputs) same_left ∙ ap (λ r. tells_trails left r lent_keys outputs) same_right ∙ ap (λ ks. tells_trails left right ks outputs) same_keys
+    ap (λ l. tells_joined l lent_right lent_keys outputs) same_left ∙ ap (λ r. tells_joined left r lent_keys outputs) same_right ∙ ap (λ ks. tells_joined left right ks outputs) same_keys
     ∙ sym (ap (λ q. tells_apart q outputs) is)
 
 -- ---- all plans
@@ -360,7 +453,7 @@ pub told : (graph : State) → IsGraph graph → (p : Plan) (outputs : List Outp
 told graph is plan.unit outputs good tells = absurd (false≢true tells)
 told graph is plan.nodes outputs good tells = absurd (false≢true tells)
 told graph is (plan.rels types orientation) outputs good tells = absurd (false≢true tells)
-told graph is (plan.join left right keys) outputs good tells = told_trails graph is left right keys outputs good.0 good.1 tells
+told graph is (plan.join left right keys) outputs good tells = told_joined graph is left right keys outputs good.0 good.1 tells
 told graph is (plan.outer left right keys test) outputs good tells = absurd (false≢true tells)
 told graph is (plan.lookup p column attribute) outputs good tells = absurd (false≢true tells)
 told graph is (plan.filter p test) outputs good tells =

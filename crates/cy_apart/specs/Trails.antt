@@ -1,5 +1,6 @@
 -- Projections that gather a relationship and those of a trail after it into one list. They leave out columns, but where they keep enough of the
--- others, different rows give different ones on each graph: a relationship and one of its ends tell the other end. (own)
+-- others, different rows give different ones on each graph: a relationship and one of its ends tell the other end. So do those that leave out only
+-- columns of a join's right row in which the same stands as in its left row. (own)
 use Rattle.std.specs.Prelude.{◌≡◌, ℕ, ◌+◌, ◌-◌, ◌<◌, ◌==◌, Bool, false, true, ◌&&◌, ◌||◌, List, [], ◌∷◌, nat_le, slice_get}
 use Rattle.std.specs.List.{list_all, list_any, range_with_len}
 use Rattle.std.specs.Option.{option_map_or}
@@ -95,12 +96,20 @@ tells_trails left right keys outputs =
     has_links left && (has_lists right && (list_any (gathers_both 0 (width left)) outputs
     && list_all (is_told (width left) keys outputs) (range_with_len 0 (width left + width right))))
 
+-- what stands in a column of a join, whose left rows are so wide, is kept, or it stands in the right row's key and so in the left row too
+abbrev pub is_paired : ℕ → List KeyColumns → List Output → ℕ → Bool
+is_paired wide keys outputs column = is_kept outputs column || (nat_le wide column && is_key keys (column - wide))
+
+-- a join of whose rows each can be told: only columns of the right row's key are left out, or it is one of relationships and trails
+abbrev pub tells_joined : Plan → Plan → List KeyColumns → List Output → Bool
+tells_joined left right keys outputs = list_all (is_paired (width left) keys outputs) (range_with_len 0 (width left + width right)) || tells_trails left right keys outputs
+
 -- a projection tells apart the rows below it
 abbrev pub tells_apart : Plan → List Output → Bool
 tells_apart plan.unit outputs = false
 tells_apart plan.nodes outputs = false
 tells_apart (plan.rels types orientation) outputs = false
-tells_apart (plan.join left right keys) outputs = tells_trails left right keys outputs
+tells_apart (plan.join left right keys) outputs = tells_joined left right keys outputs
 tells_apart (plan.outer left right keys test) outputs = false
 tells_apart (plan.lookup p column attribute) outputs = false
 tells_apart (plan.filter p test) outputs = tells_apart p outputs

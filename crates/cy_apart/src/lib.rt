@@ -1,5 +1,5 @@
 //! Parts of a plan that have no row in common, since the lists of relationships in the rows of the one are longer than those in the rows
-//! of the other, and projections that make such lists and yet tell the rows below them apart.
+//! of the other, and projections that leave out columns and yet tell the rows below them apart.
 #![tactic(auto)]
 
 mod at_least;

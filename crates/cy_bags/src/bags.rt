@@ -7,7 +7,7 @@ ghost use Rattle.cy_bags.specs.internal.Counting.{counted_rows};
 use cy_values::{Duplicate, Fault, Row, row_order, row_order_laws};
 use std::alloc::Global;
 
-/// Rows, each once with its count, in canonical order. Fails only for want of memory.
+/// Rows, each once with its count, in canonical order. Fails only when out of memory.
 pub fn counted_in_order(alloc: Global, mut rows: Vec<Row>) -> Result<Vec<(Row, u64)>, Fault>
     ensures bag { IfOk result (λ pairs. IsBagOf rows.items pairs.items) }
     ensures canonical { IfOk result (λ pairs. IsCanonical pairs.items) }
@@ -40,14 +40,14 @@ fn counted(alloc: Global, mut rows: Vec<Row>) -> Result<Vec<(Row, u64)>, Fault>
     Ok(counted)
 }
 
-/// The same rows with their counts. Fails only for want of memory.
+/// A copy of rows with their counts. Fails only when out of memory.
 pub fn copied(alloc: Global, pairs: &[(Row, u64)]) -> Result<Vec<(Row, u64)>, Fault>
     ensures { IfOk result (λ copied. copied.items ≡ pairs.now) }
 {
     extended(alloc, Vec::with_capacity(alloc, pairs.len())?, pairs)
 }
 
-/// Rows with their counts, and copies of others after them. Fails only for want of memory.
+/// Rows with their counts, and copies of others after them. Fails only when out of memory.
 pub(crate) fn extended(
     alloc: Global,
     mut pairs: Vec<(Row, u64)>,

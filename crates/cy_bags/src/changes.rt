@@ -51,7 +51,7 @@ impl Duplicate for Entry {
     }
 }
 
-/// The difference of rows before and after, both with their counts, in canonical order. Fails only for want of memory.
+/// The difference of rows before and after, both with their counts, in canonical order. Fails only when out of memory.
 pub fn difference(
     alloc: Global,
     before: &[(Row, u64)],
@@ -68,7 +68,7 @@ pub fn difference(
     })
 }
 
-/// The surplus of the first rows over the second ones, both with their counts, in canonical order. Fails only for want of memory.
+/// The surplus of the first rows over the second ones, both with their counts, in canonical order. Fails only when out of memory.
 pub fn surplus(
     alloc: Global,
     more: &[(Row, u64)],
@@ -82,7 +82,7 @@ pub fn surplus(
     surplus_rows(alloc, more, less)
 }
 
-// Each row that counts more than among the others, with how much.
+// Each row that counts more than it does among the others, with by how much.
 fn surplus_rows(
     alloc: Global,
     more: &[(Row, u64)],

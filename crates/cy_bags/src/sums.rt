@@ -10,7 +10,7 @@ use cy_values::{Duplicate, Fault, Row, row_order, row_order_laws};
 use std::alloc::Global;
 use std::cmp::Ordering;
 
-/// The sum of two bags, both with their counts, in canonical order. Fails only for want of memory.
+/// The sum of two bags, both with their counts, in canonical order. Fails only when out of memory.
 pub fn sum(
     alloc: Global,
     left: &[(Row, u64)],

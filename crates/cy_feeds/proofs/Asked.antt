@@ -29,7 +29,7 @@ parted base tick es rising i j d le lt until =
     let order : (get_or es i d).tick ≤ (get_or es j d).tick = rises base es rising i j d le lt in
     grind (arith, nat_tests, order, until)
 
--- a tick that is told by tests
+-- a tick that tests find
 turned : (tick : ℕ) (e : Entry) → is_until tick e ≡ true → nat_lt tick e.tick ≡ false
 turned tick e h = grind (arith, nat_tests)
 

@@ -85,7 +85,7 @@ impl Feed {
         self.entries.push_back(entry).unwrap();
     }
 
-    /// Copies of all entries above a tick, where none of them is gone. Fails only for want of memory.
+    /// Copies of all entries above a tick, where none of them is gone. Fails only when out of memory.
     pub fn since(&self, tick: u64) -> Result<Answer, Fault>
         ensures { IfOk result (λ answer. answer ≡ answer_since tick self.now.history) }
     {

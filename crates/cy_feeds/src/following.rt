@@ -9,7 +9,7 @@ use cy_values::{Fault, Row};
 use std::alloc::Global;
 
 /// The rows of a follower once it has taken over an entry: less those that go, plus those that come, in canonical order, each once,
-/// none at count 0. Fails only for want of memory.
+/// none at count 0. Fails only when out of memory.
 pub fn apply(alloc: Global, rows: &[(Row, u64)], entry: &Entry) -> Result<Vec<(Row, u64)>, Fault>
     requires rows { IsCanonical rows.now }
     requires removed { IsCanonical entry.now.change.removed }

@@ -9,7 +9,7 @@ pub fn followers_go_on()
     ensures change { CopiesChange }
 {}
 
-/// What a feed tells of its view: a new one what the rows are at its tick; one to which the difference of the next tick is pushed
+/// What a feed says of its view: a new one what the rows are at its tick; one to which the difference of the next tick is pushed
 /// what they are then, also where the oldest entry went; and one to which nothing is pushed that the bag of rows stayed.
 pub fn feeds_tell()
     ensures new { NewFeedsTell }

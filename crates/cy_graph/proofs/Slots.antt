@@ -33,7 +33,7 @@ same_number m n e = grind (arith, nat_tests)
 pub same_tests : (m n : ℕ) → eqb m n ≡ is_eq (nat_cmp m n)
 same_tests m n = grind (arith, nat_tests)
 
--- what a test of a key tells
+-- what a test of a key says
 pub not_found : {X : Type 0} (found : Bool) (o : Option X) → found ≡ is_some o → (IsTrue (not found) → o ≡ None) × (o ≡ None → IsTrue (not found))
 not_found found None e = (λ _. refl, λ _. ap not e)
 not_found found (Some x) e = (λ t. let no : false ≡ true = sym (ap not e) ∙ t in cc, λ n. cc)

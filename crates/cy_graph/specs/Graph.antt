@@ -61,7 +61,7 @@ abbrev pub is_entity_in : Content → Entity → Bool
 is_entity_in content (entity.Node id) = is_some (node_in content id)
 is_entity_in content (entity.Rel id) = is_some (relationship_in content id)
 
--- the same in a graph
+-- the node under the number in a graph, if there is one
 abbrev pub node_at : NodeId → State → Option Node
 node_at id state = node_in state.content id
 

@@ -36,7 +36,7 @@ value_of (entity.Rel id) state = option_map (λ rel. inr rel) (rel_at id state)
 abbrev pub Differs : State → State → BeforeImage → Type 0
 Differs before now e = (e.1 ≡ value_of e.0 before) × (value_of e.0 before ≢ value_of e.0 now)
 
--- each entity is another than those after it
+-- each entity differs from those after it
 abbrev pub AreApart : List BeforeImage → Type 0
 AreApart [] = Unit {0}
 AreApart (e ∷ es) = AllByRecursion (λ (f : BeforeImage). e.0 ≢ f.0) es × AreApart es

@@ -62,7 +62,7 @@ impl Adjacency {
         }
     }
 
-    /// Makes room for one more relationship at a node. Fails only for want of memory.
+    /// Makes room for one more relationship at a node. Fails only when out of memory.
     pub(crate) fn reserve(&mut self, node: u64) -> Result<(), GraphFault>
         ensures ids { (m : ℕ) → ids_at m self.new.lists ≡ ids_at m self.old.lists }
         ensures steps { self.new.steps.items ≡ self.old.steps.items }
@@ -74,7 +74,7 @@ impl Adjacency {
         reserve_in(&mut self.lists, node)
     }
 
-    /// Makes room for one more step. Fails only for want of memory.
+    /// Makes room for one more step. Fails only when out of memory.
     pub(crate) fn reserve_step(&mut self) -> Result<(), GraphFault>
         ensures lists { self.new.lists ≡ self.old.lists }
         ensures steps { self.new.steps.items ≡ self.old.steps.items }
@@ -184,7 +184,7 @@ fn remove_in(lists: &mut IndexMap<u64, RelList>, node: u64)
     }
 }
 
-// Counts one less.
+// Counts one fewer as removed.
 fn restore_in(lists: &mut IndexMap<u64, RelList>, node: u64)
     ensures { (m : ℕ) → ids_at m lists.new ≡ ids_at m lists.old }
 {
@@ -193,7 +193,7 @@ fn restore_in(lists: &mut IndexMap<u64, RelList>, node: u64)
     }
 }
 
-// Drops the relationships at a node that are none any more, if they are more than half.
+// Drops the removed relationships from the list of a node, if they are more than half of it.
 fn compact_in(lists: &mut IndexMap<u64, RelList>, node: u64, rels: &Series<Rel>)
     ensures { (m : ℕ) → IsCompacted rels.now.now.entries (ids_at m lists.old) (ids_at m lists.new) }
 {
@@ -202,7 +202,7 @@ fn compact_in(lists: &mut IndexMap<u64, RelList>, node: u64, rels: &Series<Rel>)
     }
 }
 
-// Drops those in a list that are no relationships any more, if they are more than half.
+// Drops the removed relationships from a list, if they are more than half of it.
 fn compact(list: &mut RelList, rels: &Series<Rel>)
     ensures { IsCompacted rels.now.now.entries list.old.ids.items list.new.ids.items }
 {
@@ -212,7 +212,7 @@ fn compact(list: &mut RelList, rels: &Series<Rel>)
     }
 }
 
-// Drops those that are no relationships any more.
+// Drops the removed relationships.
 fn drop_removed(ids: &mut SmallVec<RelId, 2>, rels: &Series<Rel>)
     ensures { ids.new.items ≡ filter (is_live rels.now.now.entries) ids.old.items }
 {

@@ -56,7 +56,7 @@ impl<V: Drop> BeforeImages<V> {
         }
     }
 
-    /// Makes room for one more. Fails only for want of memory.
+    /// Makes room for one more. Fails only when out of memory.
     pub(crate) fn reserve(&mut self, alloc: Global) -> Result<(), GraphFault>
         ensures entries { self.new.entries ≡ self.old.entries }
         ensures ok { OnOk result (0 < self.new.spare) }
@@ -121,7 +121,7 @@ fn many<V>(map: &IndexMap<u64, V>) -> Iter<'_, V>
     Iter::new(Rest::Many(map.iter()))
 }
 
-// The value that may be kept, in a map with room for another. Fails only for want of memory, and then it stays.
+// The value that may be kept, in a map with room for another. Fails only when out of memory, and then it stays.
 fn spilled<V: Drop>(
     alloc: Global,
     one: &mut Option<(u64, V)>,

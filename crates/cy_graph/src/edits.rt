@@ -15,7 +15,7 @@ pub(crate) struct SetProp {
 }
 
 impl SetProp {
-    // Whether other properties would come of these.
+    // Whether these properties would change.
     fn changes_props(&self, props: &Props) -> bool
         ensures { IsTrue (not result) → set_or_removed self.now.key self.now.value props.now ≡ props.now }
     {

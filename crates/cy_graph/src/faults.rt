@@ -17,7 +17,7 @@ pub enum GraphFault {
     /// Each number of the series was given out.
     #[error("no number is left")]
     Full,
-    /// No memory was left.
+    /// Out of memory.
     #[error("no memory")]
     NoMemory,
 }

@@ -148,7 +148,7 @@ impl Graph {
     }
 
     /// Adds a node under the next number, which it gives. `Full` where number 2^40 was given out; else it fails
-    /// only for want of memory.
+    /// only when out of memory.
     pub fn add_node(&mut self, labels: Labels, props: Props) -> Result<NodeId, GraphFault>
         requires open { IsSome self.old.was }
         requires storable { IsStorable props }
@@ -162,7 +162,7 @@ impl Graph {
     }
 
     /// Adds a relationship under the next number, which it gives. `Full` where number 2^40 was given out; else it fails
-    /// only for want of memory.
+    /// only when out of memory.
     pub fn add_rel(
         &mut self,
         source: NodeId,
@@ -190,7 +190,7 @@ impl Graph {
         Ok(id)
     }
 
-    /// Sets the property of an entity at a key, or removes it where no value is given. Fails only for want of memory.
+    /// Sets the property of an entity at a key, or removes it where no value is given. Fails only when out of memory.
     pub fn set_prop(
         &mut self,
         entity: Entity,
@@ -211,7 +211,7 @@ impl Graph {
         }
     }
 
-    /// Adds a label to a node. Fails only for want of memory.
+    /// Adds a label to a node. Fails only when out of memory.
     pub fn add_label(&mut self, id: NodeId, label: Text) -> Result<(), GraphFault>
         requires open { IsSome self.old.was }
         requires there { IsSome (node_at id self.old.now) }
@@ -222,7 +222,7 @@ impl Graph {
         self.nodes.edit(id.0, AddLabel(label))
     }
 
-    /// Drops a label of a node, if it has it. Fails only for want of memory.
+    /// Drops a label of a node, if it has it. Fails only when out of memory.
     pub fn drop_label(&mut self, id: NodeId, label: &str) -> Result<(), GraphFault>
         requires open { IsSome self.old.was }
         requires there { IsSome (node_at id self.old.now) }
@@ -233,7 +233,7 @@ impl Graph {
         self.nodes.edit(id.0, DropLabel(label))
     }
 
-    /// Removes a relationship. Its number is not used again. Fails only for want of memory.
+    /// Removes a relationship. Its number is not used again. Fails only when out of memory.
     pub fn remove_rel(&mut self, id: RelId) -> Result<(), GraphFault>
         requires open { IsSome self.old.was }
         requires there { IsSome (rel_at id self.old.now) }
@@ -254,7 +254,7 @@ impl Graph {
     }
 
     /// Removes a node. Its number is not used again. `StillConnected` with the least relationship at it, where there is
-    /// one; else it fails only for want of memory.
+    /// one; else it fails only when out of memory.
     pub fn remove_node(&mut self, id: NodeId) -> Result<(), GraphFault>
         requires open { IsSome self.old.was }
         requires there { IsSome (node_at id self.old.now) }
@@ -282,8 +282,8 @@ impl Graph {
         }
     }
 
-    /// The entities whose value is another than when the change began, each once, with the value that they had. What
-    /// was changed and changed back, or made and removed, is not among them. Fails only for want of memory.
+    /// The entities whose value differs from when the change began, each once, with the value that they had. What
+    /// was changed and changed back, or made and removed, is not among them. Fails only when out of memory.
     pub fn touched(&self, alloc: Global) -> Result<Vec<Touched<'_>>, GraphFault>
         requires { IsSome self.now.was }
         ensures ok { IfOk result (λ touched. IfSome self.now.was (λ before. AreTouched before self.now.now (map before_image touched.items))) }

@@ -63,7 +63,7 @@ impl<V> TextMap<V> {
 }
 
 impl<V: Drop> TextMap<V> {
-    /// The map with the entries of an ordered map, in just the room that they need. Fails only for want of memory.
+    /// The map with the entries of an ordered map, in just the room that they need. Fails only when out of memory.
     #[tactic(auto, using(crate::proofs::Ordered::rises_in_order))]
     pub fn collected(alloc: Global, map: BTreeMap<Text, V>) -> Result<Self, Fault>
         ensures { IfOk result (λ collected. collected ≡ map.entries) }
@@ -75,7 +75,7 @@ impl<V: Drop> TextMap<V> {
         Ok(TextMap { entries })
     }
 
-    /// Sets the value at a key. Fails only for want of memory, and then the map is as before. A key that is there
+    /// Sets the value at a key. Fails only when out of memory, and then the map is as before. A key that is there
     /// takes no memory.
     pub fn insert(&mut self, key: Text, value: V) -> Result<(), Fault>
         ensures ok { OnOk result (self.new ≡ with_value key value self.old) }

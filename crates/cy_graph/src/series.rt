@@ -20,7 +20,7 @@ use smallvec::SmallVec;
 use std::alloc::Global;
 use std::marker::Model;
 
-/// Numbers whose value is another than when the change began, each with the value that it had. Mostly it is one, which then takes
+/// Numbers whose value differs from when the change began, each with the value that it had. Mostly there is one, which then takes
 /// no memory.
 pub(crate) type Differing<'a, V> = SmallVec<(u64, Option<&'a V>), 1>;
 
@@ -31,11 +31,11 @@ const NUMBER_END: u64 = (1 << 40) + 1;
 pub(crate) trait Edit<V>: Drop {
     ghost edited: { Self → V → V };
 
-    /// Whether the value would become another.
+    /// Whether the value would change.
     fn changes(&self, value: &V) -> bool
         ensures { IsTrue (not result) → edited self.now value.now ≡ value.now };
 
-    /// Makes it so. Fails only for want of memory, and then the value is as before.
+    /// Makes the change. Fails only when out of memory, and then the value is as before.
     fn apply(self, value: &mut V) -> Result<(), Fault>
         ensures ok { OnOk result (value.new ≡ edited self value.old) }
         ensures err { OnErr result (value.new ≡ value.old) };
@@ -179,7 +179,7 @@ impl<V: Duplicate + Drop> Series<V> {
     }
 
     /// Adds a value under the next number, which it gives. `Full` where number 2^40 was given out; else it fails only
-    /// for want of memory.
+    /// when out of memory.
     pub(crate) fn add(&mut self, value: V) -> Result<u64, GraphFault>
         ensures number { IfOk result (λ number. number ≡ self.old.now.next) }
         ensures added { OnOk result (self.new ≡ record self.old { now = with_last value self.old.now }) }
@@ -196,7 +196,7 @@ impl<V: Duplicate + Drop> Series<V> {
         Ok(number)
     }
 
-    // Whether the edit would make another of the value under a number.
+    // Whether the edit would change the value under a number.
     fn would_change<E: Edit<V>>(&self, number: u64, edit: &E) -> bool
         ensures { IsTrue (not result) → with_edited (E.edited edit.now) number self.now.now ≡ self.now.now }
     {
@@ -206,7 +206,7 @@ impl<V: Duplicate + Drop> Series<V> {
         }
     }
 
-    /// Changes the value under a number. One that would stay the same is let be. Fails only for want of memory.
+    /// Changes the value under a number. A value that would stay the same is left alone. Fails only when out of memory.
     pub(crate) fn edit<E: Edit<V>>(&mut self, number: u64, edit: E) -> Result<(), GraphFault>
         requires open { IsSome self.old.was }
         requires there { IsSome (value_under number self.old.now.entries) }
@@ -226,7 +226,7 @@ impl<V: Duplicate + Drop> Series<V> {
         done
     }
 
-    /// Removes the value under a number, which is not used again. Fails only for want of memory.
+    /// Removes the value under a number, which is not used again. Fails only when out of memory.
     pub(crate) fn remove(&mut self, number: u64) -> Result<(), GraphFault>
         requires open { IsSome self.old.was }
         requires there { IsSome (value_under number self.old.now.entries) }
@@ -271,8 +271,8 @@ impl<V: Duplicate + Drop> Series<V> {
 }
 
 impl<V: Duplicate + Eq + Drop> Series<V> {
-    /// The numbers whose value is another than when the change began, each once, with the value that they had. Fails
-    /// only for want of memory.
+    /// The numbers whose value differs from when the change began, each once, with the value that they had. Fails
+    /// only when out of memory.
     pub(crate) fn differing(&self, alloc: Global) -> Result<Differing<'_, V>, GraphFault>
         requires open { IsSome self.now.was }
         requires decides { (x y : V) → V.eq x y ≡ true → x ≡ y }
@@ -359,8 +359,8 @@ fn put_back<V: Drop>(slots: &mut IndexMap<u64, Option<V>>, mut before: BeforeIma
     }
 }
 
-// The slot of a number with its place, if there is one. As long as none before it was dropped it stands at the place that the number
-// tells, and isn't looked for by its hash.
+// The slot of a number with its place, if there is one. As long as none before it was dropped it stands at the place that its number
+// gives, and isn't looked up by its hash.
 fn slot_of<V>(slots: &IndexMap<u64, Option<V>>, number: u64) -> Option<(usize, &Option<V>)>
     ensures slot { option_map (λ found. found.1.now) result ≡ slot_at number slots.now.entries }
     ensures place { IfSome result (λ found. slice_get slots.now.entries found.0 ≡ Some (number, found.1.now)) }

@@ -9,7 +9,7 @@ use crate::faults::GraphFault;
 use crate::nodes::{Node, Rel};
 use cy_values::{Entity, NodeId, RelId};
 
-/// An entity whose value is another than before the change: made, changed or removed.
+/// An entity whose value differs from before the change: made, changed or removed.
 #[derive(Clone, Copy, Debug, Drop)]
 pub struct Touched<'a> {
     pub entity: Entity,

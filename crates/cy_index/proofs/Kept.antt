@@ -47,7 +47,7 @@ pub nodes_stay : {T : Type 0} (done : Result T GraphFault) (chosen : List Pair) 
 nodes_stay (Ok x) chosen graph after state kept indexed going matches is same = indexed_changed chosen graph after state kept kept indexed going ([], refl) is matches
 nodes_stay (Err e) chosen graph after state kept indexed going matches is same = subst (λ (v : Versions). IsIndexed chosen v kept) (sym same) indexed
 
--- the same, where one of the nodes changes
+-- a graph of which one node changes, with what is kept
 pub node_settled : {T : Type 0} (done : Result T GraphFault) (chosen : List Pair) (graph after : Versions) (state : State) (kept mid new : List (Version Key)) (mark : ℕ) (id : NodeId) (node : Option Node) (leaving coming : List Key) → IsIndexed chosen graph kept → IsSome graph.was → Goes kept mid → mark + 1 ≡ length kept
     → Replaces same_key leaving coming id.0 (latest kept) (latest mid) → ((m : ℕ) → node_at (record { 0 = m }) state ≡ cond (nat_eq m id.0) node (node_at (record { 0 = m }) graph.now)) → Turns chosen (node_at id graph.now) node leaving coming
     → OnOk done (after ≡ record graph { now = state }) → OnErr done (after ≡ graph) → OnOk done (new ≡ mid) → OnErr done (new ≡ drop (length mid - (mark + 1)) mid) → IsIndexed chosen after new

@@ -14,7 +14,7 @@ pub enum IndexFault {
     /// There is one for this label and this key.
     #[error("the index is there")]
     IndexThere,
-    /// No memory was left.
+    /// Out of memory.
     #[error("no memory")]
     NoMemory,
 }

@@ -36,7 +36,7 @@ pub(crate) enum Key {
 }
 
 /// Adds the keys under which a label stands, at a node with these properties: itself, and the values in the indexes of
-/// the label. Fails only for want of memory.
+/// the label. Fails only when out of memory.
 pub(crate) fn push_label_keys(
     alloc: Global,
     keys: &mut Vec<Key>,
@@ -120,7 +120,7 @@ pub(crate) fn label_keys(
     Ok(keys)
 }
 
-/// The keys under which a node with these labels and properties stands. Fails only for want of memory.
+/// The keys under which a node with these labels and properties stands. Fails only when out of memory.
 pub(crate) fn node_keys(
     alloc: Global,
     chosen: &[Pair],
@@ -136,7 +136,7 @@ pub(crate) fn node_keys(
     Ok(keys)
 }
 
-/// The keys under which the value of a property stands, at a node with these labels. Fails only for want of memory.
+/// The keys under which the value of a property stands, at a node with these labels. Fails only when out of memory.
 pub(crate) fn value_keys(
     alloc: Global,
     chosen: &[Pair],

@@ -62,8 +62,8 @@ impl PostingList {
         }
     }
 
-    /// The number comes, if it isn't present. Gives its entry from before, with which `restore` takes this back. Fails
-    /// only for want of memory.
+    /// Adds the number, if it isn't present. Gives its entry from before, with which `restore` takes this back. Fails
+    /// only when out of memory.
     #[tactic(auto, using(crate::proofs::Entries::put_adds, crate::proofs::Entries::put_restored))]
     pub(crate) fn add(&mut self, alloc: Global, number: u64) -> Result<Option<bool>, Fault>
         ensures ok { OnOk result (present self.new ≡ with_number number (present self.old)) }
@@ -73,7 +73,7 @@ impl PostingList {
         self.put(alloc, number)
     }
 
-    /// The number leaves, if it is present. Gives its entry from before, with which `restore` takes this back.
+    /// Removes the number, if it is present. Gives its entry from before, with which `restore` takes this back.
     #[tactic(auto, using(crate::proofs::Entries::set_leaves, crate::proofs::Entries::set_restored))]
     pub(crate) fn leave(&mut self, number: u64) -> Option<bool>
         ensures present { present self.new ≡ without_number number (present self.old) }
@@ -115,7 +115,7 @@ impl PostingList {
         }
     }
 
-    /// The nodes whose numbers are present. Fails only for want of memory.
+    /// The nodes whose numbers are present. Fails only when out of memory.
     pub(crate) fn ids(&self, alloc: Global) -> Result<Vec<NodeId>, Fault>
         ensures ids { IfOk result (λ ids. ids.items ≡ ids_of (present self.now)) }
         ensures rising { Rises 0 (present self.now) }
@@ -128,7 +128,7 @@ impl PostingList {
     }
 
     // Sets that a number is present, where there is an entry for it, or adds one. Gives the entry from before, which is found on the
-    // way. Fails only for want of memory.
+    // way. Fails only when out of memory.
     #[tactic(auto, using(crate::proofs::Entries::at_itself, crate::proofs::Entries::at_other, crate::proofs::Entries::put_here, crate::proofs::Entries::rises_in_order))]
     fn put(&mut self, alloc: Global, number: u64) -> Result<Option<bool>, Fault>
         ensures before { IfOk result (λ before. before ≡ lookup (is_at (nat_cmp number)) self.old) }

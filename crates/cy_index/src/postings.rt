@@ -63,7 +63,7 @@ impl<K: Eq + Hash + Drop> Postings<K> {
         }
     }
 
-    /// The nodes under a key, by rising number. Fails only for want of memory.
+    /// The nodes under a key, by rising number. Fails only when out of memory.
     pub(crate) fn ids(&self, alloc: Global, key: &K) -> Result<Vec<NodeId>, Fault>
         ensures ids { IfOk result (λ ids. ids.items ≡ ids_of (numbers_at K.eq key.now (latest self.now))) }
         ensures rising { Rises 0 (numbers_at K.eq key.now (latest self.now)) }
@@ -86,7 +86,7 @@ impl<K: Eq + Hash + Drop> Postings<K> {
         self.steps.len()
     }
 
-    /// The number comes under the key, if it isn't there. Fails only for want of memory.
+    /// Puts the number under the key, if it isn't there. Fails only when out of memory.
     pub(crate) fn add(&mut self, key: K, number: u64) -> Result<(), Fault>
         ensures ok { OnOk result (Puts K.eq (key ∷ []) number true (latest self.old) (latest self.new)) }
         ensures goes { Goes self.old self.new }
@@ -98,7 +98,7 @@ impl<K: Eq + Hash + Drop> Postings<K> {
         }
     }
 
-    // A new key comes, with one number.
+    // Adds a new key, with one number.
     fn make(&mut self, key: K, number: u64) -> Result<(), Fault>
         requires { IsNew K.eq key (latest self.old) }
         ensures ok { OnOk result (Makes key number self.old self.new) }
@@ -110,7 +110,7 @@ impl<K: Eq + Hash + Drop> Postings<K> {
         Ok(())
     }
 
-    // The number comes into its list, if it isn't there.
+    // Adds the number to its list, if it isn't there.
     fn add_in(&mut self, spot: Spot) -> Result<(), Fault>
         requires { spot.slot < length (latest self.old) }
         ensures ok { OnOk result (Writes spot.slot (with_number spot.number (list_at spot.slot (latest self.old))) self.old self.new) }
@@ -122,7 +122,7 @@ impl<K: Eq + Hash + Drop> Postings<K> {
         Ok(())
     }
 
-    /// The number goes from under the key, if it is there. Fails only for want of memory.
+    /// Takes the number away from the key, if it is there. Fails only when out of memory.
     pub(crate) fn remove(&mut self, key: &K, number: u64) -> Result<(), Fault>
         ensures ok { OnOk result (Puts K.eq (key.now ∷ []) number false (latest self.old) (latest self.new)) }
         ensures goes { Goes self.old self.new }
@@ -134,7 +134,7 @@ impl<K: Eq + Hash + Drop> Postings<K> {
         }
     }
 
-    // The number goes from its list, if it is there.
+    // Takes the number from its list, if it is there.
     fn remove_in(&mut self, spot: Spot) -> Result<(), Fault>
         requires { spot.slot < length (latest self.old) }
         ensures ok { OnOk result (Writes spot.slot (without_number spot.number (list_at spot.slot (latest self.old))) self.old self.new) }
@@ -147,7 +147,7 @@ impl<K: Eq + Hash + Drop> Postings<K> {
         Ok(())
     }
 
-    /// The number goes from under the leaving keys and comes under the coming ones. Fails only for want of memory, and
+    /// Takes the number away from the leaving keys and puts it under the coming ones. Fails only when out of memory, and
     /// then all is as before.
     pub(crate) fn replace(
         &mut self,
@@ -169,7 +169,7 @@ impl<K: Eq + Hash + Drop> Postings<K> {
         }
     }
 
-    // The same, but where it fails some steps are done.
+    // Moves the number as `replace` does, but where it fails some steps are done.
     fn replace_each(&mut self, leaving: &[K], coming: Vec<K>, number: u64) -> Result<(), Fault>
         ensures ok { OnOk result (Replaces K.eq leaving.now coming.items number (latest self.old) (latest self.new)) }
         ensures goes { Goes self.old self.new }
@@ -178,7 +178,7 @@ impl<K: Eq + Hash + Drop> Postings<K> {
         self.add_each(coming, number)
     }
 
-    // The number goes from under the keys one after the other.
+    // Takes the number away from the keys one after the other.
     fn remove_each(&mut self, keys: &[K], number: u64) -> Result<(), Fault>
         ensures ok { OnOk result (Puts K.eq keys.now number false (latest self.old) (latest self.new)) }
         ensures goes { Goes self.old self.new }
@@ -189,7 +189,7 @@ impl<K: Eq + Hash + Drop> Postings<K> {
         Ok(())
     }
 
-    // The number comes under the keys one after the other.
+    // Puts the number under the keys one after the other.
     fn add_each(&mut self, mut keys: Vec<K>, number: u64) -> Result<(), Fault>
         ensures ok { OnOk result (Puts K.eq keys.items number true (latest self.old) (latest self.new)) }
         ensures goes { Goes self.old self.new }
@@ -236,7 +236,7 @@ impl<K: Eq + Hash + Drop> Postings<K> {
     }
 }
 
-// Adds a number to its list, if it isn't there. Gives the step that takes it back. Fails only for want of memory.
+// Adds a number to its list, if it isn't there. Gives the step that takes it back. Fails only when out of memory.
 fn add_at<K: Eq + Hash>(lists: &mut IndexMap<K, PostingList>, spot: Spot) -> Result<Step, Fault>
     requires { spot.slot < length lists.old.entries }
     ensures ok { OnOk result (version_of lists.new.entries ≡ with_list spot.slot (with_number spot.number (list_at spot.slot (version_of lists.old.entries))) (version_of lists.old.entries)) }

@@ -23,7 +23,7 @@ use std::marker::Model;
 pub struct Store {
     graph: Graph,
     chosen: Vec<Pair>,
-    /// The nodes under each key. They are up to date at each point of a change, so what ends it has no growth to make.
+    /// The nodes under each key. They are up to date at each point of a change, so what ends it needs no more memory.
     postings: Postings<Key>,
 }
 
@@ -46,7 +46,7 @@ impl Store {
         Store::starting_at(alloc, 1, 1)
     }
 
-    /// The same, with these next numbers, each from 1 to 2^40 + 1.
+    /// A store like that of `new`, but with these next numbers, each from 1 to 2^40 + 1.
     pub fn starting_at(alloc: Global, node: u64, rel: u64) -> Self
         requires node_from { 1 ≤ node }
         requires node_to { node ≤ number_end }
@@ -135,7 +135,7 @@ impl Store {
         self.graph.begin();
     }
 
-    /// The entities whose value is another than when the change began, as `Graph::touched` gives them. Fails only for
+    /// The entities whose value differs from when the change began, as `Graph::touched` gives them. Fails only for
     /// want of memory.
     pub fn touched(&self, alloc: Global) -> Result<Vec<Touched<'_>>, GraphFault>
         requires { IsSome self.now.graph.was }

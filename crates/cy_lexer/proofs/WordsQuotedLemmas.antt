@@ -8,7 +8,7 @@ use Rattle.cy_lexer.specs.Tokens.{closes_at_once}
 use Rattle.cy_lexer.specs.Words.{doubled, escaped}
 use Rattle.cy_lexer.specs.internal.Reading.{offset}
 
--- so many characters were passed
+-- this many characters were passed
 passed : (m n : ℕ) → m ≡ n → ◌≡◌ {A = Result ℕ LexFault} (Ok m) (Ok n)
 passed m n e = ap (λ (x : ℕ). Ok x) e
 

@@ -16,7 +16,7 @@ code_of LineTooLong = 17
 code_of (NotUtf8 at) = 18
 code_of NoMemory = 90
 
--- the byte offset: the longest line's length for a line that is too long, and none for want of memory
+-- the byte offset: the longest line's length for a line that is too long, and none when out of memory
 abbrev pub at_of : LexFault → Option ℕ
 at_of (BadCharacter at) = Some at
 at_of (UnclosedText at) = Some at

@@ -1,4 +1,4 @@
--- The text of a line of bytes (own: this profile's choice, which stands in no standard).
+-- The text of a line of bytes (own: this profile's choice, not in any standard).
 use Rattle.std.specs.Prelude.{◌≡◌, ℕ, ◌<◌, ◌≤◌, List, length, Result, Ok, Err, IsUtf8}
 use Rattle.std.specs.Borrow.{Bor}
 use Rattle.std.specs.Str.{IsValidUpTo}

@@ -1,4 +1,4 @@
--- Numbers: decimal digits. They are ASCII (own: this profile's choice, which stands in no standard).
+-- Numbers: decimal digits. They are ASCII (own: this profile's choice, not in any standard).
 use Rattle.std.specs.Prelude.{ℕ, ◌+◌, ◌-◌, ◌*◌, Bool, false, ◌&&◌, ◌||◌, ◌==◌, List, [], ◌∷◌}
 use Rattle.std.specs.Char.{is_ascii_digit}
 use Rattle.unicode_ident.specs.Ident.{is_xid_continue}

@@ -6,7 +6,7 @@ use Rattle.cy_lexer.specs.declared.faults.LexFault.{LexFault}
 use Rattle.cy_lexer.specs.declared.faults.LexFault.TheVariants.{BadEscape}
 use Rattle.cy_lexer.specs.Characters.{begins_with}
 
--- the number that so many hexadecimal digits at the front write, after digits that write `high`; none where one is missing
+-- the number that this many hexadecimal digits at the front write, after digits that write `high`; none where one is missing
 abbrev pub hexadecimal : ℕ → ℕ → List ℕ → Option ℕ
 hexadecimal high zero cs = Some high
 hexadecimal high (suc n) [] = None
@@ -26,7 +26,7 @@ plain_escape c =
     if c == 114 then Some 13 else
     if c == 116 then Some 9 else None
 
--- the character whose code so many hexadecimal digits give, and how many characters that takes
+-- the character whose code this many hexadecimal digits give, and how many characters that takes
 abbrev pub coded_escape : ℕ → List ℕ → Option (ℕ × ℕ)
 coded_escape digits cs = option_and_then (λ code. if is_character code then Some (code, digits) else None) (hexadecimal 0 digits cs)
 

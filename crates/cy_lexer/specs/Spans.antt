@@ -1,4 +1,4 @@
--- Spans: where the tokens of a line stand in it, by byte offsets (own: this profile's choice, which stands in no standard).
+-- Spans: where the tokens of a line stand in it, by byte offsets (own: this profile's choice, not in any standard).
 use Rattle.std.specs.Prelude.{ℕ, ◌<◌, ◌≤◌, List, [], ◌∷◌, slice_range, IsCharBoundary}
 use Rattle.cy_lexer.specs.declared.tokens.Token.{Token}
 

@@ -1,5 +1,5 @@
 -- The tokens of a text (openCypher 9, lexical rules, narrowed to this profile; the faults and their
--- offsets are own, which means that they are this profile's choice and stand in no standard).
+-- offsets are own, which means that they are this profile's choice, not in any standard).
 -- A text is the list of its characters. Places in it are byte offsets.
 use Rattle.std.specs.Prelude.{ℕ, zero, suc, Bool, false, ◌&&◌, ◌||◌, ◌==◌, if◌then◌else◌, nat_lt, List, [], ◌∷◌, drop, length, take_while, Option, Some, None, option_map, Result, Ok, Err, chars, encode_utf8_all}
 use Rattle.std.specs.Char.{is_whitespace, is_ascii_digit}

@@ -1,4 +1,4 @@
--- Words: tokens that are written in one way each (own: this profile's choice, which stands in no standard). 39 is the
+-- Words: tokens that are written in one way each (own: this profile's choice, not in any standard). 39 is the
 -- single quote, 92 the backslash and 96 the backtick.
 use Rattle.std.specs.Prelude.{ℕ, ◌||◌, ◌==◌, if◌then◌else◌, List, [], ◌∷◌, codes}
 use Rattle.cy_lexer.specs.declared.keywords.Keyword.{Keyword}

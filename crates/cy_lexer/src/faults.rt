@@ -8,7 +8,7 @@ use crate::line::LONGEST_LINE;
 use std::alloc::{AllocError, AllocFailed};
 use thiserror::Error;
 
-/// Why a line has no tokens (own: this profile's choice, which stands in no standard). The number in a variant is a
+/// Why a line has no tokens (own: this profile's choice, not in any standard). The number in a variant is a
 /// byte offset in the line.
 #[derive(Clone, Copy, Debug, PartialEq, Eq, Error)]
 pub enum LexFault {
@@ -39,7 +39,7 @@ pub enum LexFault {
     /// Bytes that aren't UTF-8, by the length of their longest beginning that is.
     #[error("no UTF-8 from byte {0} on")]
     NotUtf8(usize),
-    /// No memory was left.
+    /// Out of memory.
     #[error("no memory")]
     NoMemory,
 }
@@ -63,7 +63,7 @@ impl LexFault {
         }
     }
 
-    /// The byte offset that the fault points at; want of memory has none.
+    /// The byte offset that the fault points at; `NoMemory` has none.
     pub fn at(&self) -> Option<usize>
         ensures { result ≡ at_of self.now }
     {

@@ -23,7 +23,7 @@ fn plain_escape(c: char) -> Option<char>
     }
 }
 
-/// The character whose code so many hexadecimal digits at the front of the text give, and what follows them.
+/// The character whose code this many hexadecimal digits at the front of the text give, and what follows them.
 fn coded_escape(digits: u32, text: &str) -> Option<(char, &str)>
     requires { digits ≤ 8 }
     ensures value { option_map seen result
@@ -77,7 +77,7 @@ fn character(quote: char, first: char, after: &str) -> Option<(char, &str)>
 }
 
 /// What follows the quote that closes what the quote before the text opened. Fails with `BadEscape`, by its offset in a
-/// line of so many bytes that the text ends, and with `unclosed` where the text ends before the quote.
+/// line of this many bytes that the text ends, and with `unclosed` where the text ends before the quote.
 pub(crate) fn after_quoted(
     total: usize,
     quote: char,
@@ -103,7 +103,7 @@ pub(crate) fn after_quoted(
 }
 
 /// The characters between the quote at the front of the text and the one that closes it, each escape and each doubled
-/// backtick as what it stands for. Fails only for want of memory.
+/// backtick as what it stands for. Fails only when out of memory.
 pub(crate) fn between_quotes(alloc: Global, text: &str) -> Result<String, LexFault>
     ensures value { IfOk result (λ s. string_bytes s ≡ encode_utf8_all (between_quotes (chars text.now))) }
     ensures memory { IfErr result (λ e. e ≡ LexFault.NoMemory) }

@@ -74,7 +74,7 @@ impl Token {
 
     /// What the token denotes: a quoted name without its backticks, a doubled one standing for one, a text without its
     /// quotes and with its escapes replaced, any other token as it is written. Of a line in which the token has no
-    /// place it is empty. Fails only for want of memory.
+    /// place it is empty. Fails only when out of memory.
     pub fn denoted(&self, alloc: Global, line: &str) -> Result<String, LexFault>
         ensures value { IsSpanOf line.now self.now → IfOk result
             (λ s. string_bytes s ≡ encode_utf8_all (denoted self.now.kind (chars (slice_of line.now self.now)))) }

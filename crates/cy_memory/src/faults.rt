@@ -14,7 +14,7 @@ pub enum MemoryFault {
     /// A row would count more than 2^62 - 1.
     #[error("too many rows")]
     TooManyRows,
-    /// No memory was left.
+    /// Out of memory.
     #[error("no memory")]
     NoMemory,
 }

@@ -11,7 +11,7 @@ use cy_values::{Fault, Text};
 use std::alloc::Global;
 
 /// The text of a statement (own): with single spaces, keywords in capitals, names in backticks,
-/// texts in single quotes, each item with its column, and brackets around each operator. Fails only for want of memory.
+/// texts in single quotes, each item with its column, and brackets around each operator. Fails only when out of memory.
 #[tactic(auto, using(crate::proofs::ShowLemmas::clauses_fused), unfolding(crate::specs::Show::show))]
 pub fn show(alloc: Global, statement: &Statement) -> Result<Text, Fault>
     ensures { MatchResult result (λ text. text ≡ shown.show (statement_of statement.now)) (λ fault. fault ≡ NoMemory) }

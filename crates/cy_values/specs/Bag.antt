@@ -27,7 +27,7 @@ IsCanonical [] = Unit {0}
 IsCanonical (p ∷ []) = 0 < p.1
 IsCanonical (p ∷ q ∷ pairs) = (0 < p.1) × (row_cmp p.0 q.0 ≡ Less) × IsCanonical (q ∷ pairs)
 
--- The surplus of a bag over another one: each row counts by how much more it counts in the first, and no row else is there.
+-- The surplus of a bag over another one: each row counts by how much more it counts in the first, and no other row is there.
 -- Subtraction ends at 0.
 pub record IsSurplus (more less : List (List Cell)) (pairs : List (List Cell × ℕ)) : Type 0 where
   pub counts : (row : List Cell) → weight_of row pairs ≡ count_of row more - count_of row less

@@ -36,7 +36,7 @@ value_kind (value.Bool b) = 5
 value_kind (value.Int n) = 6
 value_kind value.Null = 7
 
--- two values of one kind: lists element by element, a beginning first
+-- two values of one kind: lists element by element, a prefix first
 abbrev pub within_values : Value → Value → Ordering
 within_values (value.List xs) (value.List ys) = slice_cmp scalar_order xs ys
 within_values (value.Text s) (value.Text t) = slice_cmp nat_cmp s t
@@ -64,6 +64,6 @@ within_cells _ _ = Equal
 abbrev pub cell_order : Cell → Cell → Ordering
 cell_order x y = ordering_then (nat_cmp (cell_kind x) (cell_kind y)) (within_cells x y)
 
--- rows go cell by cell from the left, a beginning first
+-- rows go cell by cell from the left, a prefix first
 abbrev pub row_cmp : List Cell → List Cell → Ordering
 row_cmp = slice_cmp cell_order

@@ -23,7 +23,7 @@ both a b = ranked (min (rank a) (rank b))
 abbrev pub one_at_least : Truth → Truth → Truth
 one_at_least a b = ranked (max (rank a) (rank b))
 
--- NOT turns the order round
+-- NOT reverses the order
 abbrev pub opposite : Truth → Truth
 opposite a = ranked (2 - rank a)
 

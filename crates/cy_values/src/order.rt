@@ -9,7 +9,7 @@ ghost use Rattle.cy_values.specs.declared.rows.Cell.{Cell};
 use crate::rows::Row;
 use std::cmp::Ordering;
 
-/// The canonical order of two rows: cell by cell from the left, a beginning first. Cells go nodes,
+/// The canonical order of two rows: cell by cell from the left, a prefix first. Cells go nodes,
 /// relationships, lists of relationships, lists, texts, booleans, integers, null; nodes and relationships
 /// by number, lists element by element, texts by bytes, false before true, integers by value. (own)
 pub fn row_order(left: &Row, right: &Row) -> Ordering

@@ -10,7 +10,7 @@ use std::marker::Model;
 
 /// A value that can be copied, if there is memory for it.
 pub trait Duplicate: Drop {
-    /// The same value again. Fails only for want of memory.
+    /// A copy of this value. Fails only when out of memory.
     fn copy(&self, alloc: Global) -> Result<Self, Fault>
         ensures { IfOk result (λ twin. twin ≡ self.now) };
 }

@@ -29,7 +29,7 @@ impl Text {
         Text { string }
     }
 
-    /// A copy of a text. Fails only for want of memory.
+    /// A copy of a text. Fails only when out of memory.
     pub fn from_str(alloc: Global, text: &str) -> Result<Self, Fault>
         ensures { IfOk result (λ t. t ≡ text.now) }
     {

@@ -7,7 +7,7 @@ ghost use Rattle.cy_values.specs.Truth.{both, one_at_least, one_alone, opposite,
 #[derive(Clone, Copy, Debug, PartialEq, Eq, PartialOrd, Ord)]
 pub enum Truth {
     No,
-    /// Null: it can't be said.
+    /// Null: it isn't known.
     Unknown,
     Yes,
 }
@@ -46,7 +46,7 @@ impl Truth {
         }
     }
 
-    /// NOT, which turns the order round.
+    /// NOT, which reverses the order.
     pub fn not(self) -> Truth
         ensures { result ≡ opposite self }
     {

@@ -16,7 +16,7 @@ module _ {V : Type 0} where
   abbrev pub IsDifference : Numbered V → Numbered V → ℕ × Option V → Type 0
   IsDifference before now e = (e.1 ≡ value_under e.0 before.entries) × (value_under e.0 before.entries ≢ value_under e.0 now.entries)
 
-  -- each number is another than those after it
+  -- each number differs from those after it
   abbrev pub AreNumbersApart : List (ℕ × Option V) → Type 0
   AreNumbersApart [] = Unit {0}
   AreNumbersApart (e ∷ es) = AllByRecursion (λ (f : ℕ × Option V). e.0 ≢ f.0) es × AreNumbersApart es

@@ -48,7 +48,7 @@ module _ {V : Type 0} where
     pub entries : (new.before.entries ≡ old.before.entries) ⊎ ((slot < old.slots) × (new.before.entries ≡ old.before.entries ++ (number, value) ∷ []))
     pub known : slot < old.slots → IsSome (value_under number new.before.entries)
 
-  -- the value under a number is changed, or goes, in its slot, and was kept before if it had to be
+  -- the value under a number is changed, or removed, in its slot, and was kept before if it had to be
   pub record Changes (number : ℕ) (change : V → Option V) (slots after : List (ℕ × Option V)) (old new : Start V) : Type 0 where
     pub slot : ℕ
     pub value : V

@@ -48,11 +48,11 @@ module _ {K : Type 0} where
   abbrev pub Goes : List (Version K) → List (Version K) → Type 0
   Goes old new = (later : List (Version K)) × (new ≡ later ++ old)
 
-  -- one list is another one now
+  -- one list was replaced by another
   abbrev pub Writes : ℕ → List ℕ → List (Version K) → List (Version K) → Type 0
   Writes slot xs old new = Goes old new × (latest new ≡ with_list slot xs (latest old))
 
-  -- a key came last, with one number
+  -- a key was added last, with one number
   abbrev pub Makes : K → ℕ → List (Version K) → List (Version K) → Type 0
   Makes key n old new = Goes old new × (latest new ≡ latest old ++ (key, n ∷ []) ∷ [])
 
@@ -80,6 +80,6 @@ module _ {K : Type 0} where
     abbrev pub Puts : List K → ℕ → Bool → Version K → Version K → Type 0
     Puts keys n here old new = (key : K) (m : ℕ) → stands key m new ≡ cond (list_any (eq key) keys && nat_eq m n) here (stands key m old)
 
-    -- the number goes from under the leaving keys, comes under the coming ones, and all else is as it was
+    -- the number leaves the leaving keys, is put under the coming ones, and all else is as it was
     abbrev pub Replaces : List K → List K → ℕ → Version K → Version K → Type 0
     Replaces leaving coming n old new = (key : K) (m : ℕ) → stands key m new ≡ cond (list_any (eq key) coming && nat_eq m n) true (cond (list_any (eq key) leaving && nat_eq m n) false (stands key m old))

@@ -16,7 +16,7 @@ use cy_values::{Entity, Fault, NodeId, RelId, Text, Value};
 
 impl Store {
     /// Adds a node under the next number, which it gives. `Full` where number 2^40 was given out; else it fails only
-    /// for want of memory.
+    /// when out of memory.
     pub fn add_node(&mut self, labels: Labels, props: Props) -> Result<NodeId, GraphFault>
         requires open { IsSome self.old.graph.was }
         requires storable { IsStorable props }
@@ -37,7 +37,7 @@ impl Store {
     }
 
     /// Adds a relationship under the next number, which it gives. `Full` where number 2^40 was given out; else it fails
-    /// only for want of memory.
+    /// only when out of memory.
     pub fn add_rel(
         &mut self,
         source: NodeId,
@@ -58,7 +58,7 @@ impl Store {
         self.graph.add_rel(source, target, kind, props)
     }
 
-    /// Sets the property of an entity at a key, or removes it where no value is given. Fails only for want of memory.
+    /// Sets the property of an entity at a key, or removes it where no value is given. Fails only when out of memory.
     pub fn set_prop(
         &mut self,
         entity: Entity,
@@ -103,7 +103,7 @@ impl Store {
         done
     }
 
-    /// Adds a label to a node. Fails only for want of memory.
+    /// Adds a label to a node. Fails only when out of memory.
     pub fn add_label(&mut self, id: NodeId, label: Text) -> Result<(), GraphFault>
         requires open { IsSome self.old.graph.was }
         requires there { IsSome (node_at id self.old.graph.now) }
@@ -119,7 +119,7 @@ impl Store {
         done
     }
 
-    /// Drops a label of a node, if it has it. Fails only for want of memory.
+    /// Drops a label of a node, if it has it. Fails only when out of memory.
     pub fn drop_label(&mut self, id: NodeId, label: &str) -> Result<(), GraphFault>
         requires open { IsSome self.old.graph.was }
         requires there { IsSome (node_at id self.old.graph.now) }
@@ -136,7 +136,7 @@ impl Store {
         done
     }
 
-    /// Removes a relationship. Its number is not used again. Fails only for want of memory.
+    /// Removes a relationship. Its number is not used again. Fails only when out of memory.
     pub fn remove_rel(&mut self, id: RelId) -> Result<(), GraphFault>
         requires open { IsSome self.old.graph.was }
         requires there { IsSome (rel_at id self.old.graph.now) }
@@ -148,7 +148,7 @@ impl Store {
     }
 
     /// Removes a node. Its number is not used again. `StillConnected` with the least relationship at it, where there is
-    /// one; else it fails only for want of memory.
+    /// one; else it fails only when out of memory.
     pub fn remove_node(&mut self, id: NodeId) -> Result<(), GraphFault>
         requires open { IsSome self.old.graph.was }
         requires there { IsSome (node_at id self.old.graph.now) }

@@ -16,7 +16,7 @@ use cy_graph::{Graph, Node};
 use cy_values::{Duplicate, Fault, Text, Value};
 
 impl Store {
-    /// Adds an index for a label and a key. `IndexThere` where there is one; else it fails only for want of memory.
+    /// Adds an index for a label and a key. `IndexThere` where there is one; else it fails only when out of memory.
     pub fn add_index(&mut self, label: Text, key: Text) -> Result<(), IndexFault>
         requires { IsNone self.old.graph.was }
         ensures ok { OnOk result (self.new ≡ record self.old { chosen = self.old.chosen ++ (record { label = label; key = key }) ∷ [] }) }
@@ -39,7 +39,7 @@ impl Store {
     }
 }
 
-// Puts the nodes of a graph into the new index at this place. Fails only for want of memory, and then some are in it.
+// Puts the nodes of a graph into the new index at this place. Fails only when out of memory, and then some are in it.
 fn fill(graph: &Graph, postings: &mut Postings<Key>, place: usize, pair: &Pair) -> Result<(), Fault>
     ensures ok { OnOk result (Fills place pair.now graph.now.now.content.nodes (latest postings.old) (latest postings.new)) }
     ensures goes { Goes postings.old postings.new }

@@ -14,7 +14,7 @@ use cy_values::{Duplicate, Fault, NodeId, Text, Truth, Value, equal3};
 use std::alloc::Global;
 
 impl Store {
-    /// The nodes with a label, by rising number. Fails only for want of memory.
+    /// The nodes with a label, by rising number. Fails only when out of memory.
     pub fn labelled(&self, alloc: Global, label: &str) -> Result<Vec<NodeId>, Fault>
         ensures { IfOk result (λ nodes. nodes.items ≡ labelled_nodes label.now self.now.graph.now.content) }
     {
@@ -22,7 +22,7 @@ impl Store {
     }
 
     /// The nodes with a label whose property at a key is equal to a value, by rising number, whether or not there is an
-    /// index for them. Fails only for want of memory.
+    /// index for them. Fails only when out of memory.
     pub fn find(
         &self,
         alloc: Global,

@@ -8,7 +8,7 @@ use Rattle.cy_lexer.specs.declared.tokens.TokenKind.{TokenKind}
 use Rattle.cy_lexer.specs.Characters.{begins_with}
 use Rattle.cy_lexer.specs.Keywords.{spelling}
 
--- where the characters that are left begin, in a line of so many bytes: the code counts from the line's end
+-- where the characters that are left begin, in a line of this many bytes: the code counts from the line's end
 abbrev pub offset : ℕ → List ℕ → ℕ
 offset total left = total - length (encode_utf8_all left)
 
@@ -20,7 +20,7 @@ seen p = (p.0, chars p.1.now)
 abbrev pub taken : {A : Type 0} → List ℕ → A × ℕ → A × List ℕ
 taken cs p = (p.0, drop p.1 cs)
 
--- the same of a gap, and of a token of a kind, where the code has what is left alone
+-- what was read of a gap, and of a token of a kind, where the code has only what is left
 abbrev pub seen_gap : Bor (List ℕ) → Option TokenKind × List ℕ
 seen_gap left = (None, chars left.now)
 

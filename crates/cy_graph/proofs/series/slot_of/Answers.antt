@@ -4,7 +4,7 @@ use Rattle.cy_graph.specs.internal.Slots.{slot_at}
 use Rattle.cy_graph.proofs.Slots.{same_look_up, slot_found}
 use Rattle.cy_graph.proofs.series.slot_of.Goals as goal
 
--- the slot at the place that the number tells is its own
+-- the slot at the place that the number gives is its own
 pub returns-clause-slot : goal.returns-clause-slot
 returns-clause-slot g c =
     let slots = c.args.slots.now.entries in

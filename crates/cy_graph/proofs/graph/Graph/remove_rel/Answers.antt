@@ -42,7 +42,7 @@ invariant_of-self-in_err-remove c =
     (joined_reserved (λ rel. rel.source.0) inside.rels inside.outgoing c.reserve_step.new.self c.self.invariant.out_joined (λ m. ap (λ lists. ids_at m lists) out.lists) out.steps)
     (joined_reserved (λ rel. rel.target.0) inside.rels inside.incoming c.reserve_step-2.new.self c.self.invariant.in_joined (λ m. ap (λ lists. ids_at m lists) into.lists) into.steps))
 
--- the relationship is none of its ends' any more
+-- the relationship no longer stands at its ends
 pub invariant_of-self-2 : goal.invariant_of-self-2
 invariant_of-self-2 c =
     let inside = c.self.inside in

@@ -55,8 +55,8 @@ impl Feed {
         }
     }
 
-    /// Makes room for one more entry, so that `push` can't fail. The room of a feed is never above its history. Fails only for
-    /// want of memory, and leaves the feed as it was.
+    /// Makes room for one more entry, so that `push` can't fail. The room of a feed is never above its history. Fails only when
+    /// out of memory, and leaves the feed as it was.
     pub fn reserve(&mut self) -> Result<(), Fault>
         ensures same { self.new ≡ record self.old { room = self.new.room } }
         ensures reserved { OnOk result (IsReserved self.new) }

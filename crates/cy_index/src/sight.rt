@@ -33,8 +33,8 @@ impl<'a> Sight<'a> {
         Sight { store, reads: 0 }
     }
 
-    /// The entities whose value is another than when the change began, as `Graph::touched` gives them. Fails only for
-    /// want of memory.
+    /// The entities whose value is another than when the change began, as `Graph::touched` gives them. Fails only when
+    /// out of memory.
     pub fn touched(&self, alloc: Global) -> Result<Vec<Touched<'a>>, GraphFault>
         requires { IsSome self.now.graph.was }
         ensures ok { IfOk result (λ touched. IfSome self.now.graph.was (λ before. AreTouched before self.now.graph.now (map before_image touched.items))) }

@@ -135,8 +135,8 @@ impl Store {
         self.graph.begin();
     }
 
-    /// The entities whose value differs from when the change began, as `Graph::touched` gives them. Fails only for
-    /// want of memory.
+    /// The entities whose value differs from when the change began, as `Graph::touched` gives them. Fails only when
+    /// out of memory.
     pub fn touched(&self, alloc: Global) -> Result<Vec<Touched<'_>>, GraphFault>
         requires { IsSome self.now.graph.was }
         ensures ok { IfOk result (λ touched. IfSome self.now.graph.was (λ before. AreTouched before self.now.graph.now (map before_image touched.items))) }

@@ -77,7 +77,7 @@ most_named (plan.union left right) column = greater (most_named left column) (mo
 
 -- ---- parts of a plan
 
--- so many at least are more than so many at most
+-- this many at least are more than this many at most
 abbrev pub is_above : ℕ → Option ℕ → Bool
 is_above least None = false
 is_above least (Some most) = nat_lt most least

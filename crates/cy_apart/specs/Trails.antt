@@ -84,8 +84,8 @@ has_lists (plan.union left right) = has_lists left && has_lists right
 abbrev pub is_key : List KeyColumns → ℕ → Bool
 is_key keys column = list_any (λ (k : KeyColumns). k.right == column) keys
 
--- what stands in a column of a relationship, so wide, with a trail after it, can be told: the relationship and the list are gathered, the second end
--- comes of the first one, and what stands in the trail's key is known from the relationship
+-- what stands in a column of a relationship, this wide, with a trail after it, can be told: the relationship and the list are gathered, the second end
+-- comes from the first one, and what stands in the trail's key is known from the relationship
 abbrev pub is_told : ℕ → List KeyColumns → List Output → ℕ → Bool
 is_told wide keys outputs column =
     column == 0 || (column == 2 || (column == wide || (is_kept outputs column || (nat_le wide column && is_key keys (column - wide)))))

@@ -9,7 +9,7 @@ ghost use Rattle.cy_apart.specs.Lists as lists;
 use crate::columns::variable_column;
 use cy_plans::{Operator, Output};
 
-/// How many relationships the cell in a column of a part's rows names at least, counted up to so many.
+/// How many relationships the cell in a column of a part's rows names at least, counted up to this many.
 #[cycle(at_least)]
 pub(crate) fn least_named(part: &Operator, column: usize, enough: usize) -> usize
     requires { IsWellFormed (plan_of part.now) }
@@ -48,7 +48,7 @@ pub(crate) fn least_named(part: &Operator, column: usize, enough: usize) -> usiz
     }
 }
 
-/// The same of the cell in a column that a projection makes.
+/// How many relationships the cell in a column that a projection makes names at least.
 #[cycle(at_least)]
 fn least_in(below: &Operator, outputs: &[Output], column: usize, enough: usize) -> usize
     requires { IsWellFormed (plan_of below.now) }
@@ -60,7 +60,7 @@ fn least_in(below: &Operator, outputs: &[Output], column: usize, enough: usize) 
     }
 }
 
-/// The same of a cell that a projection makes.
+/// How many relationships a cell that a projection makes names at least.
 #[cycle(at_least)]
 fn least_made(below: &Operator, output: &Output, enough: usize) -> usize
     requires { IsWellFormed (plan_of below.now) }
@@ -75,7 +75,7 @@ fn least_made(below: &Operator, output: &Output, enough: usize) -> usize
     }
 }
 
-/// The same of a list of what is named in some columns.
+/// How many relationships a list of what is named in some columns has at least.
 #[cycle(at_least)]
 fn least_of_all(below: &Operator, columns: &[usize], enough: usize) -> usize
     requires { IsWellFormed (plan_of below.now) }

@@ -44,7 +44,7 @@ pub(crate) fn most_named(part: &Operator, column: usize) -> Option<u16>
     }
 }
 
-/// The same of the cell in a column that a projection makes.
+/// How many relationships the cell in a column that a projection makes names at most.
 #[cycle(at_most)]
 fn most_in(below: &Operator, outputs: &[Output], column: usize) -> Option<u16>
     requires { IsWellFormed (plan_of below.now) }
@@ -56,7 +56,7 @@ fn most_in(below: &Operator, outputs: &[Output], column: usize) -> Option<u16>
     }
 }
 
-/// The same of a cell that a projection makes.
+/// How many relationships a cell that a projection makes names at most.
 #[cycle(at_most)]
 fn most_made(below: &Operator, output: &Output) -> Option<u16>
     requires { IsWellFormed (plan_of below.now) }
@@ -71,7 +71,7 @@ fn most_made(below: &Operator, output: &Output) -> Option<u16>
     }
 }
 
-/// The same of a list of what is named in some columns.
+/// How many relationships a list of what is named in some columns has at most.
 #[cycle(at_most)]
 fn most_of_all(below: &Operator, columns: &[usize]) -> Option<u16>
     requires { IsWellFormed (plan_of below.now) }

@@ -17,7 +17,7 @@ pub(crate) enum Step<'a> {
     AddRel(u64, u64, &'a str),
     /// A number is set at a key of a node, or what is there is removed.
     SetNode(u64, &'a str, Option<i64>),
-    /// The same of a relationship.
+    /// A number is set at a key of a relationship, or what is there is removed.
     SetRel(u64, &'a str, Option<i64>),
     AddLabel(u64, &'a str),
     DropLabel(u64, &'a str),

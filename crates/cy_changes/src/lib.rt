@@ -1,4 +1,4 @@
-//! Changes of graphs and of stores, worked out by hand. There is nothing here but tests.
+//! Changes of graphs and of stores, worked out by hand. Only tests stand here.
 #![tactic(auto)]
 
 #[cfg(test)]

@@ -108,7 +108,7 @@ fn keep(store: &mut Store) -> Result<(), GraphFault>
     prepared
 }
 
-// Ends the change: what it did goes.
+// Ends the change: what it did is undone.
 fn roll_back(store: &mut Store)
     requires { IsSome store.old.graph.was }
     ensures { IsNone store.new.graph.was }
@@ -262,7 +262,7 @@ fn expect_new(rt: &impl Abort, alloc: Global, case: &Case<'_>, chosen: Chosen) -
     expect(rt, alloc, &mut store, case, chosen)
 }
 
-// The same answers come with an index and without one.
+// A store gives the same answers with an index and without one.
 fn expect_each(rt: &impl Abort, alloc: Global, case: &Case<'_>) -> Result<(), Fail> {
     for chosen in [Chosen::Never, Chosen::First, Chosen::Later] {
         expect_new(rt, alloc, case, chosen)?;

@@ -17,7 +17,7 @@ use cy_values::{Fault, row_order_laws};
 use std::alloc::Global;
 
 /// The rows of a projection without aggregates and without order, which stand in no query of a view (openCypher 9, WITH and RETURN).
-/// Fails only for want of memory.
+/// Fails only when out of memory.
 pub fn project_rows(alloc: Global, below: Plan, projection: &Projection) -> Result<Plan, Fault>
     requires read { AreReadOver (plan_of below) (spec.expressions_in (projection_of projection.now).items) }
     requires plain { spec.IsPlain (projection_of projection.now) }
@@ -32,7 +32,7 @@ pub fn project_rows(alloc: Global, below: Plan, projection: &Projection) -> Resu
 }
 
 /// The rows of WITH, with its WHERE (openCypher 9, WITH and WHERE), where its projection is without aggregates and without order. Fails
-/// only for want of memory.
+/// only when out of memory.
 pub fn with_rows(
     alloc: Global,
     below: Plan,

@@ -9,7 +9,7 @@ ghost use Rattle.cy_columns.specs.internal.Collected as spec;
 use cy_trees::{Arm, Expr, Link};
 use std::alloc::{AllocError, Global};
 
-/// The columns that an expression reads, in the order of the text; one that it reads twice stands twice. Fails only for want of
+/// The columns that an expression reads, in the order of the text; one that it reads twice stands twice. Fails only when out of
 /// memory.
 pub fn columns_read(alloc: Global, expression: &Expr) -> Result<Vec<usize>, AllocError>
     ensures { IfOk result (λ columns. columns.items ≡ meant.columns_read (expression_of expression.now)) }

@@ -52,7 +52,7 @@ IsBounded s = (s.before ≤ greatest_count) × (s.after ≤ greatest_count)
 abbrev pub HaveColumns : List ℕ → Counts → Counts → Type 0
 HaveColumns columns before after = (row : List Cell) → 0 < before row + after row → All (λ column. column < length row) columns
 
--- each row that counts before or after has so many columns
+-- each row that counts before or after has this many columns
 abbrev pub AreWide : ℕ → Counts → Counts → Type 0
 AreWide width before after = (row : List Cell) → 0 < before row + after row → length row ≡ width
 
@@ -60,6 +60,6 @@ AreWide width before after = (row : List Cell) → 0 < before row + after row �
 abbrev pub pair_count : List KeyColumns → Counts → Counts → List Cell → List Cell → ℕ
 pair_count keys left right row other = if meet keys row other then left row * right other else 0
 
--- how often a row counts that begins with a row of the one counts, which is so wide, and goes on with a row of the others that it meets
+-- how often a row counts that begins with a row of the one counts, which is this wide, and goes on with a row of the others that it meets
 abbrev pub pair_counts : List KeyColumns → ℕ → Counts → Counts → Counts
 pair_counts keys width left right row = pair_count keys left right (take width row) (drop width row)

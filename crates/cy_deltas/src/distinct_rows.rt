@@ -10,8 +10,8 @@ use crate::shifts::{Shift, add_shift};
 use cy_values::Fault;
 use std::alloc::Global;
 
-/// What changes of the rows, each once, where the rows change: a row comes with its first and goes with its last. Fails only for
-/// want of memory.
+/// What changes of the rows, each once, where the rows change: a row comes with its first and goes with its last. Fails only when
+/// out of memory.
 pub fn distinct(alloc: Global, shifts: Vec<Shift>) -> Result<Vec<Shift>, Fault>
     ensures once { IfOk result (λ changed. (before after : List (List Cell)) → IsDelta (counts before) (counts after) shifts.items
         → IsDelta (counts (each_once before)) (counts (each_once after)) changed.items) }

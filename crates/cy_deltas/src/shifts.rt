@@ -13,7 +13,7 @@ pub struct Shift {
     pub after: u64,
 }
 
-/// Adds the shift of a row with these counts, if they differ. Fails only for want of memory.
+/// Adds the shift of a row with these counts, if they differ. Fails only when out of memory.
 pub fn add_shift(shifts: &mut Vec<Shift>, row: Row, before: u64, after: u64) -> Result<(), Fault>
     ensures { OnOk result (shifts.new.items ≡ shifts.old.items ++ shift_between row before after) }
 {

@@ -8,7 +8,7 @@ use Rattle.cy_effects.specs.declared.faults.UpdateFault.{UpdateFault}
 use Rattle.cy_effects.specs.declared.faults.UpdateFault.TheVariants.{NoMemory}
 use Rattle.cy_effects.specs.Faults.{◌>>=◌, each_in_turn}
 
--- want of memory is what it is, and else the one thing follows from the other
+-- out of memory is what it is, and else the one thing follows from the other
 pub or_wants : {P Q : Type 0} (why : UpdateFault) → (P → Q) → (why ≡ NoMemory) ⊎ P → (why ≡ NoMemory) ⊎ Q
 or_wants why leads (inl wants) = inl wants
 or_wants why leads (inr stops) = inr (leads stops)

@@ -2,7 +2,7 @@
 --
 -- The places of a pattern answer with their faults in the order of the text. A node place whose variable is bound is that node; any
 -- other place is a new node or relationship, under the next number of its series. A relationship is made once the node after it is
--- there. The two series are apart, so this is the graph that comes of making all new nodes of a path before its relationships.
+-- there. The two series are apart, so this is the graph that results from making all new nodes of a path before its relationships.
 use Rattle.std.specs.Prelude.{ℕ, ◌==◌, if◌then◌else◌, List, [], ◌∷◌, ◌++◌, slice_get, slice_index_or, Option, None, Some, Result, Ok, Err}
 use Rattle.std.specs.Option.{option_and_then, option_map_or}
 use Rattle.cy_values.specs.declared.numbers.NodeId.{NodeId}

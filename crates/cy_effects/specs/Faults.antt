@@ -16,7 +16,7 @@ code_of NotStorable = 52
 code_of Full = 53
 code_of NoMemory = 90
 
--- want of memory is one fault, whoever wants it
+-- out of memory is one fault, whatever needed it
 abbrev pub of_evaluation : EvalFault → UpdateFault
 of_evaluation eval.NoMemory = NoMemory
 of_evaluation fault = Eval fault

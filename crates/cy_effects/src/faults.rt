@@ -16,7 +16,7 @@ pub enum UpdateFault {
     /// An expression has no value.
     #[error("{0}")]
     Eval(EvalFault),
-    /// A node that is to go has relationships that remain; this is the one with the least number.
+    /// A node that is to be deleted has relationships that remain; this is the one with the least number.
     #[error("a relationship is still there")]
     StillConnected(RelId),
     /// An end of a relationship that is to be made is null.
@@ -28,7 +28,7 @@ pub enum UpdateFault {
     /// All 2^40 numbers of nodes or of relationships were given out.
     #[error("no number is left")]
     Full,
-    /// No memory was left.
+    /// Out of memory.
     #[error("no memory")]
     NoMemory,
 }

@@ -119,7 +119,7 @@ seven_counts_twice = refl
 null_where_none : rows_of keys (graph_of ((record { 0 = 1 }, bare) ∷ []) 2).content ≡ (cell.Value value.Null ∷ []) ∷ []
 null_where_none = refl
 
--- what a statement without RETURN leaves that made so many nodes
+-- what a statement without RETURN leaves that made this many nodes
 abbrev left : State → ℕ → Outcome
 left graph made = record { graph = graph; counts = record { made_nodes = made; gone_nodes = 0; made_rels = 0; gone_rels = 0 }; columns = []; rows = [] }
 

@@ -145,7 +145,7 @@ module _ (p : Plan) (serves : Serves p keys) (within : (before after : State) �
   one_bounded : (v : Value) (r : List Cell) → count_of r ((cell.Value v ∷ []) ∷ []) ≤ last_count
   one_bounded v r = omega (arith, count_by-le-length (eq_by_cmp row_cmp r) ((cell.Value v ∷ []) ∷ []))
 
-  -- what a statement is answered that made and removed so many nodes
+  -- what a statement is answered that made and removed this many nodes
   abbrev statement : ℕ → ℕ → Answer
   statement made gone = Ok (reply.Statement (record { nodes_made = made; nodes_gone = gone; rels_made = 0; rels_gone = 0 }) [] [])
 

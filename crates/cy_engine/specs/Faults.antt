@@ -47,7 +47,7 @@ offset_of (Lex fault) = lexer.at_of fault
 offset_of (Parse fault) = parser.at_of fault
 offset_of _ = None
 
--- want of memory is one fault, whoever wants it
+-- out of memory is one fault, whatever needed it
 abbrev pub of_lexer : LexFault → Fault
 of_lexer lex.NoMemory = NoMemory
 of_lexer fault = Lex fault

@@ -34,7 +34,7 @@ pub record Runs (old new : Machine) (lines : List (List ℕ)) (answers : List An
 
 -- ---- what is free
 
--- a refusal that may come whatever a line asks: memory is wanting, or the views have too many rows
+-- a refusal that may come whatever a line asks: it is out of memory, or the views have too many rows
 abbrev pub is_want : Answer → Bool
 is_want (Err fault.NoMemory) = true
 is_want (Err fault.TooManyRows) = true
@@ -50,8 +50,8 @@ abbrev pub seen_answer : Answer → Answer
 seen_answer (Ok (reply.Steps steps)) = Ok (reply.Steps (map (λ s. (s.0, 0)) steps))
 seen_answer answer = answer
 
--- This is all that is free in the answer to a line: whether memory is wanting, or a view has too many rows; where the parser refuses it, with which
--- of its faults; and the numbers of steps. An answer is bound where nothing is wanting; and two answers agree where they differ in a choice or in
+-- This is all that is free in the answer to a line: whether it is out of memory, or a view has too many rows; where the parser refuses it, with which
+-- of its faults; and the numbers of steps. An answer is bound where it is neither; and two answers agree where they differ in a choice or in
 -- these numbers alone.
 abbrev pub IsBound : Answer → Type 0
 IsBound answer = is_want answer ≡ false

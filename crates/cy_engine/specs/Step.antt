@@ -144,7 +144,7 @@ Tells name tick (Ok view) old = Follows name view (answer_since tick view.feed) 
 Tells name tick (Err why) old = IsRefused why old
 
 -- the parser may refuse tokens with this fault: they spell no statement, and it points at one of them or at the line's end. No
--- tokens at all are unexpected there; and want of memory is none of its faults
+-- tokens at all are unexpected there; and out of memory is none of its faults
 pub record IsUnspelt (line : List ℕ) (tokens : List Token) (why : ParseFault) : Type 0 where
   pub unspelt : (tree : Statement) → SpellsStatement line tree tokens → ⊥
   pub place : PointsAtPlace tokens (length line) why

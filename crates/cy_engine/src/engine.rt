@@ -99,8 +99,8 @@ impl Engine {
     /// change the content of the graph and the tick is the last. A view is, in this order, `Parse`, `Scope`, `View`,
     /// `ViewNameTaken`, `TooManyViews`, `Full` where the last tick was given out, or `PlanTooLarge` where its query weighs too much. Rows,
     /// what changed since a tick and the end of a view are refused as `NoSuchView`, a tick above the current one then as `FutureTick`,
-    /// an index as `IndexThere`. `TooManyRows` may come of a statement or a view that else is executed, where a part of a plan has a row
-    /// that counts more than 2^62 - 1, and `NoMemory` of any line that has tokens and isn't too long.
+    /// an index as `IndexThere`. `TooManyRows` may refuse a statement or a view that is otherwise executed, where a part of a plan has a row
+    /// that counts more than 2^62 - 1, and `NoMemory` any line that has tokens and isn't too long.
     pub fn line(&mut self, line: &str) -> Result<Reply, Fault>
         ensures { Step (state_of self.old) line.now result self.new.entries (state_of self.new) }
     {
@@ -118,7 +118,7 @@ impl Engine {
     }
 
     /// The rows of a view with their counts: what its query means on the graph, each row once, in canonical order.
-    /// `NoSuchView` where there is no view of this name; else it fails only for want of memory.
+    /// `NoSuchView` where there is no view of this name; else it fails only when out of memory.
     pub fn rows(&self, view: &str) -> Result<Vec<(Row, u64)>, Fault>
         ensures rows { IfOk result (λ rows. (found : View) × (rows_verdict view.now (state_of self.now) ≡ Ok found) × AreRows (state_of self.now) found rows.items) }
         ensures refused { IfErr result (λ fault. (rows_verdict view.now (state_of self.now) ≡ Err fault) ⊎ ((fault ≡ Fault.NoMemory) × IsOk (rows_verdict view.now (state_of self.now)))) }
@@ -368,7 +368,7 @@ fn effect_of(
     Ok(effect)
 }
 
-// The same, while the store isn't prepared.
+// What the open change does to the views and the tick, while the store isn't prepared.
 fn view_effect(
     alloc: Global,
     store: &Store,

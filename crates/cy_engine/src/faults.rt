@@ -55,13 +55,13 @@ pub enum Fault {
     /// There is an index for this label and this key.
     #[error("the index is there")]
     IndexThere,
-    /// An argument of a command is missing, wrong or one too many.
+    /// An argument of a command is missing or wrong, or there is one too many.
     #[error("bad argument")]
     BadArgument,
     /// The tick of `:since` is above the current one.
     #[error("the tick is above the current one")]
     FutureTick,
-    /// No memory was left.
+    /// Out of memory.
     #[error("no memory")]
     NoMemory,
 }

@@ -9,7 +9,7 @@ use cy_parser::trees_and_texts;
 use cy_queries::laws::view_queries;
 use cy_values::row_order_laws;
 
-/// What becomes of a line is determined, but for what is free: want of memory, too many rows in a part of a plan, the parser's choice among
+/// What becomes of a line is determined, but for what is free: whether memory runs out, too many rows in a part of a plan, the parser's choice among
 /// its faults, and how views are kept up: their plans and the numbers of steps.
 pub fn determined()
     ensures { IsDetermined }

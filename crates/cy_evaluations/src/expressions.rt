@@ -399,7 +399,7 @@ fn given(
     }
 }
 
-// The same, as a cell.
+// The cell that an expression gives on a row.
 fn given_once(
     alloc: Global,
     store: &Store,

@@ -1,4 +1,4 @@
-//! Expressions, evaluated on stores. There is nothing here but tests, the cells as text that they are compared by, and worked examples of the
+//! Expressions, evaluated on stores. Only tests stand here, the cells as text that they are compared by, and worked examples of the
 //! definitions (`proofs/`).
 #![tactic(auto)]
 

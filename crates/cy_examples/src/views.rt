@@ -55,7 +55,7 @@ fn first_difference<'a>(
     differing_line(alloc, &mut engine, session, views)
 }
 
-// Sends the lines. The engine is lent, since the proof of each way out of a function that owns one takes minutes.
+// Sends the lines. The engine is borrowed, since the proof of each exit of a function that owns one takes minutes.
 fn differing_line<'a>(
     alloc: Global,
     engine: &mut Engine,

@@ -61,7 +61,7 @@ abbrev mutual
   else_reads_columns nothing = true
   else_reads_columns (otherwise e) = reads_columns e
 
--- whether an expression reads only the first so many columns of its row
+-- whether an expression reads only the first this many columns of its row
 abbrev mutual
   pub reads_below : ℕ → Expression → Bool
   reads_below width null = true

@@ -61,8 +61,8 @@ pub fn eval_truth<G: Lookups>(
     truth_of(cell.value()?)
 }
 
-/// The cell of an expression that reads columns alone and has no fault, which is the same on every graph. Fails only for
-/// want of memory.
+/// The cell of an expression that reads columns alone and has no fault, which is the same on every graph. Fails only when
+/// out of memory.
 pub fn eval_sure(alloc: Global, expression: &Expr, row: &Row) -> Result<Cell, Fault>
     requires columns { IsTrue (reads_columns (expression_of expression.now)) }
     requires sure { (graph : graphs.Lookups) → IsOk (cell_of graph row.now (expression_of expression.now)) }

@@ -36,7 +36,7 @@ pub(crate) fn unequal(left: CellView<'_>, right: CellView<'_>) -> Truth
     equal(left, right).not()
 }
 
-/// `<=`: whether the left value is less or equal, unknown between different types. `>=` is this turned round. (own)
+/// `<=`: whether the left value is less or equal, unknown between different types. `>=` is this with its sides exchanged. (own)
 pub(crate) fn less_or_equal(left: ValueRef<'_>, right: ValueRef<'_>) -> Truth
     ensures { result ≡ spec.less_or_equal (lent left.entry) (lent right.entry) }
 {

@@ -46,7 +46,7 @@ pub(crate) fn evaluate<'a, G: Lookups>(
     }
 }
 
-/// The same by the expression's parts.
+/// The cell of an expression, by the expression's parts.
 #[cycle(evaluation)]
 #[tactic(auto, using(crate::proofs::Rules::case_steps))]
 fn evaluate_whole<'a, G: Lookups>(
@@ -260,7 +260,7 @@ fn evaluate_existence<'a, G: Lookups>(
     evaluate_presence(alloc, &arguments[0], row, graph)
 }
 
-/// The same for one argument.
+/// Whether the property that one argument asks for is there.
 #[cycle(evaluation)]
 #[tactic(auto, using(crate::proofs::Rules::property_asked))]
 fn evaluate_presence<'a, G: Lookups>(

@@ -26,7 +26,7 @@ pub enum EvalFault {
     /// A list as an element of a list.
     #[error("nested list")]
     NestedList,
-    /// No memory was left.
+    /// Out of memory.
     #[error("no memory")]
     NoMemory,
 }

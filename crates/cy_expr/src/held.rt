@@ -18,7 +18,7 @@ pub(crate) enum Held<'a> {
     Made(Value),
 }
 
-/// By one call from each of the many places where an operand is given up.
+/// Called from each of the many places where an operand is dropped.
 impl Drop for Held<'_> {
     fn drop(self) {
         match self {

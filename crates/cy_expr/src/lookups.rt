@@ -29,7 +29,7 @@ pub trait Lookups {
     fn has_label(&self, node: NodeId, label: &str) -> bool
         ensures { result ≡ list_any (bytes_eq label.now) ((lookups self.now).labels_of node) };
 
-    /// The labels of a node by rising bytes, each once, as the elements of a list. Fails only for want of memory.
+    /// The labels of a node by rising bytes, each once, as the elements of a list. Fails only when out of memory.
     fn labels(&self, alloc: Global, node: NodeId) -> Result<Vec<Scalar>, Fault>
         ensures rising { IsTrue (spec.names_rise ((lookups self.now).labels_of node)) }
         ensures all { IfOk result (λ labels. labels.items ≡ map (λ l. scalar.Text l) ((lookups self.now).labels_of node)) };

@@ -78,7 +78,7 @@ pub(crate) fn compare(
     }
 }
 
-// The same of two integers, which are compared without looking at their kinds again.
+// A comparison of two integers, which are compared without looking at their kinds again.
 fn compare_integers(comparator: Comparator, left: i64, right: i64) -> Truth
     ensures { spec.compared comparator (cell.Value (value.Int left)) (cell.Value (value.Int right)) ≡ Ok result }
 {
@@ -92,7 +92,7 @@ fn compare_integers(comparator: Comparator, left: i64, right: i64) -> Truth
     }
 }
 
-// The same of two values.
+// A comparison of two values.
 fn compare_values(comparator: Comparator, left: ValueRef<'_>, right: ValueRef<'_>) -> Truth
     ensures { spec.compared comparator (cell.Value (lent left.entry)) (cell.Value (lent right.entry)) ≡ Ok result }
 {

@@ -31,7 +31,7 @@ use Rattle.cy_grammar.proofs.LabelsComplete.{labels_read, labels_shorten}
 use Rattle.cy_grammar.proofs.Chains.{Reading, Chaining, chain_of_one, chain_of_two, chain_whole}
 
 module _ (line : List ℕ) where
-  -- what reads inside of one more level, where so many may be open, the present one counted
+  -- what reads inside of one more level, where this many may be open, the present one counted
   abbrev inner_at : ℕ → Nested → Reader Expression
   inner_at zero place = refuse
   inner_at (suc n) place = nesting line n place

@@ -683,7 +683,7 @@ module _ (line : List ℕ) (n : ℕ) (inner : Nested → Reader Expression) (ins
   level-sound : Inside line (suc n) (level line n inner)
   level-sound = record { whole_is = disjunction-sound; negation_is = negation-sound; sign_is = signed-sound }
 
--- what is read with so many levels is spelt with so many
+-- what is read with this many levels is spelt with this many
 nesting-sound : (line : List ℕ) (n : ℕ) → Inside line n (nesting line n)
 unfolding nesting
 nesting-sound line zero = record { whole_is = λ ts. refused _; negation_is = λ ts. refused _; sign_is = λ ts. refused _ }

@@ -27,7 +27,7 @@ pub fn is_word(kind: TokenKind) -> bool
 }
 
 /// The text that the token of the line denotes: that of a quoted name and of a text without their quotes, and any other token as
-/// it is written; nothing, where it has no place in the line. Fails only for want of memory.
+/// it is written; nothing, where it has no place in the line. Fails only when out of memory.
 #[tactic(auto, unfolding(crate::specs::Words::denotes))]
 pub fn denoted_text(alloc: Global, line: &str, token: &Token) -> Result<Text, Fault>
     ensures { IfOk result (λ text. text ≡ spec.denotes line.now token.now) }

@@ -189,7 +189,7 @@ fn check_arms(front: &Scope, back: &Scope, arms: &[Arm]) -> Result<OperandKinds,
     Ok(OperandKinds { taken, flags })
 }
 
-/// The same of what stands after ELSE, if anything.
+/// The first fault of what stands after ELSE, if anything; whether it is a value, and a flag.
 #[cycle(checking)]
 fn check_otherwise(
     front: &Scope,

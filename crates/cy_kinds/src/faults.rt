@@ -23,25 +23,25 @@ pub enum ScopeFault {
     /// An item of WITH that is no variable and has no AS.
     #[error("missing alias")]
     MissingAlias,
-    /// A second column of one name.
+    /// A second column with the same name.
     #[error("duplicate column")]
     DuplicateColumn,
     /// An aggregate that is no whole item.
     #[error("aggregate here")]
     AggregateHere,
-    /// A function that isn't there.
+    /// An unknown function.
     #[error("unknown function")]
     UnknownFunction,
     /// A call whose arguments don't fit its function.
     #[error("wrong arguments")]
     WrongArguments,
-    /// A second relationship place of one name.
+    /// A second relationship with the same name.
     #[error("repeated relationship")]
     RepeatedRelationship,
     /// A relationship to create without one direction or one type, or with a length.
     #[error("bad create")]
     BadCreate,
-    /// No memory was left.
+    /// Out of memory.
     #[error("no memory")]
     NoMemory,
 }
@@ -85,7 +85,7 @@ impl From<AllocError> for ScopeFault {
 /// Why a statement is no query of a view (own).
 #[derive(Clone, Copy, Debug, PartialEq, Eq, Error)]
 pub enum ViewFault {
-    /// It doesn't end with RETURN, or it has an updating clause.
+    /// It doesn't end with RETURN, or it updates the graph.
     #[error("not a reading")]
     NotAReading,
     /// It has UNWIND, or an expression that may fault.
@@ -100,7 +100,7 @@ pub enum ViewFault {
     /// It has ORDER BY, SKIP or LIMIT.
     #[error("order in a view")]
     OrderInView,
-    /// No memory was left.
+    /// Out of memory.
     #[error("no memory")]
     NoMemory,
 }

@@ -1,5 +1,5 @@
-//! Expressions over columns alone: what they ask of the graph is read from columns that look-ups have added. Each call fails only for
-//! want of memory.
+//! Expressions over columns alone: what they ask of the graph is read from columns that look-ups have added. Each call fails only when
+//! out of memory.
 
 ghost use Rattle.std.specs.Prelude.{◌≡◌, ◌+◌, ◌≤◌, ℕ, List, IfOk, length, map, false};
 ghost use Rattle.std.specs.Option.{option_map_or};

@@ -1,4 +1,4 @@
-//! Look-ups that are wanted, each once. Each call fails only for want of memory.
+//! Look-ups that are wanted, each once. Each call fails only when out of memory.
 
 ghost use Rattle.std.specs.Prelude.{◌≡◌, ◌+◌, ◌++◌, ◌≤◌, [], IfOk, OnOk, OnErr, if◌then◌else◌, is_some, length, not};
 ghost use Rattle.std.specs.BTreeMap.{insert_entry};

@@ -1,4 +1,4 @@
-//! The calls of memories, one after another, over both kinds. There is nothing here but tests.
+//! The calls of memories, one after another, over both kinds. Only tests stand here.
 #![tactic(auto)]
 
 #[cfg(test)]

@@ -9,7 +9,7 @@ use Rattle.cy_plans.specs.Expressions.{projected}
 use Rattle.cy_deltas.specs.declared.shifts.Shift.{Shift}
 use Rattle.cy_deltas.specs.Deltas.{IsDelta, counts}
 
--- all columns of a row that is so wide, in their order
+-- all columns of a row that is this wide, in their order
 abbrev pub all_columns : ℕ → List ℕ
 all_columns width = range_with_len 0 width
 
@@ -26,7 +26,7 @@ pub record IsProjectChange (outputs : List Output) (was : Counts) (shifts : List
   pub delta : IsDelta (counts before) (counts after) shifts
   pub held : was ≡ counts (map (projected outputs) before)
 
--- of two rows that are so wide and differ a projection makes rows that differ
+-- of two rows that are this wide and differ a projection makes rows that differ
 abbrev pub IsOneToOne : ℕ → List Output → Type 0
 IsOneToOne width outputs = (row other : List Cell) → length row ≡ width → length other ≡ width → projected outputs row ≡ projected outputs other → row ≡ other
 

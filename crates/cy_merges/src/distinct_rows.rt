@@ -14,7 +14,7 @@ use cy_values::Row;
 use indexmap::IndexSet;
 use std::alloc::Global;
 
-/// The rows of some shifts, each once. Fails only for want of memory.
+/// The rows of some shifts, each once. Fails only when out of memory.
 pub(crate) fn distinct_rows(alloc: Global, shifts: Vec<Shift>) -> Result<IndexSet<Row>, MemoryFault>
     ensures once { IfOk result (λ rows. (row : List Cell) → count_of row rows.keys ≡ (if is_changed row shifts.items then 1 else 0)) }
     ensures memory { IfErr result (λ fault. fault ≡ NoMemory) }
@@ -28,7 +28,7 @@ pub(crate) fn distinct_rows(alloc: Global, shifts: Vec<Shift>) -> Result<IndexSe
     Ok(rows)
 }
 
-/// The same where there are few: each is compared with the others, and none is hashed. Fails only for want of memory.
+/// The rows of a few shifts, each once: each is compared with the others, and none is hashed. Fails only when out of memory.
 pub(crate) fn few_distinct_rows(alloc: Global, shifts: Vec<Shift>) -> Result<Vec<Row>, MemoryFault>
     ensures once { IfOk result (λ rows. (row : List Cell) → count_of row rows.items ≡ (if is_changed row shifts.items then 1 else 0)) }
     ensures memory { IfErr result (λ fault. fault ≡ NoMemory) }
@@ -41,7 +41,7 @@ pub(crate) fn few_distinct_rows(alloc: Global, shifts: Vec<Shift>) -> Result<Vec
     Ok(rows)
 }
 
-// Adds a row, unless it stands among the rows. Fails only for want of memory.
+// Adds a row, unless it stands among the rows. Fails only when out of memory.
 fn add_new(rows: &mut Vec<Row>, row: Row) -> Result<(), MemoryFault>
     ensures added { OnOk result (rows.new.items ≡ (if list_any (is_row row) rows.old.items then rows.old.items else rows.old.items ++ row ∷ [])) }
     ensures memory { IfErr result (λ fault. fault ≡ NoMemory) }

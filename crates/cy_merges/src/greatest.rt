@@ -12,7 +12,7 @@ use cy_values::{Fault, Row};
 use indexmap::IndexMap;
 use std::alloc::Global;
 
-/// What changes from the greatest count of each row before to the greatest one after. Fails only for want of memory.
+/// What changes from the greatest count of each row before to the greatest one after. Fails only when out of memory.
 pub(crate) fn together(alloc: Global, shifts: Vec<Shift>) -> Result<Vec<Shift>, Fault>
     ensures { IfOk result (λ made. IsDelta (most_before shifts.items) (most_after shifts.items) made.items) }
 {
@@ -31,7 +31,7 @@ fn greatest_counts(alloc: Global, shifts: Vec<Shift>) -> Result<IndexMap<Row, (u
     Ok(counts)
 }
 
-// The counts of a shift come to those of its row.
+// Adds the counts of a shift to those of its row.
 fn add_counts(counts: &mut IndexMap<Row, (u64, u64)>, shift: Shift) -> Result<(), Fault>
     ensures { OnOk result ((row : List Cell) → counts_at row counts.new.entries
         ≡ (if is_row shift.row row then (max (counts_at row counts.old.entries).0 shift.before, max (counts_at row counts.old.entries).1 shift.after) else counts_at row counts.old.entries)) }

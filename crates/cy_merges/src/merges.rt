@@ -16,12 +16,12 @@ use cy_memory::{Memory, MemoryFault, Record};
 use cy_values::{Fault, Row};
 use std::alloc::Global;
 
-/// The rows of so many changes are compared with one another; those of more are hashed.
+/// The rows of this many changes are compared with one another; those of more are hashed.
 const FEW_CHANGES: usize = 24;
 
 /// Adds some changes of counts to those of a memory whose key is the whole row, and gives what changes there: of each row whose
 /// count differs, both counts. One row may stand in several changes. `TooManyRows` where a row counts too often after all of them;
-/// otherwise it fails only for want of memory, and never where nothing changes. After a refusal a part may be staged.
+/// otherwise it fails only when out of memory, and never where nothing changes. After a refusal a part may be staged.
 pub(crate) fn merge<M: Memory>(
     alloc: Global,
     memory: &mut M,
@@ -136,7 +136,7 @@ fn add_change<M: Memory>(
     Ok(())
 }
 
-// Adds what changes of the row of a record, if there is one. Fails only for want of memory.
+// Adds what changes of the row of a record, if there is one. Fails only when out of memory.
 fn add_found(made: &mut Vec<Shift>, found: Option<Record>) -> Result<(), Fault>
     ensures { OnOk result (made.new.items ≡ made.old.items ++ shift_in found) }
 {

@@ -24,7 +24,7 @@ use std::alloc::Global;
 
 /// What changes of the rows of a projection, where the rows below it change. The memory holds the projection's rows as they were;
 /// its key is the whole row. What it counts after the change is staged. `TooManyRows` where a row of the projection counts too
-/// often after the change; otherwise it fails only for want of memory, and never where nothing changes. After a refusal a part may
+/// often after the change; otherwise it fails only when out of memory, and never where nothing changes. After a refusal a part may
 /// be staged.
 pub fn project<M: Memory>(
     alloc: Global,
@@ -57,7 +57,7 @@ pub fn project<M: Memory>(
 }
 
 /// What changes of the rows of a projection that makes different rows of different ones: each row that it makes counts as often as the
-/// one row of which it makes it, so no memory is needed. Fails only for want of memory, and never where nothing changes.
+/// one row of which it makes it, so no memory is needed. Fails only when out of memory, and never where nothing changes.
 pub fn rearrange(alloc: Global, outputs: &[Output], shifts: Vec<Shift>) -> Result<Vec<Shift>, Fault>
     requires sure { All (λ s. HasCells (map output_of outputs.now) s.row) shifts.items }
     requires numbered { All (λ s. All IsNumbered s.row) shifts.items }
@@ -71,7 +71,7 @@ pub fn rearrange(alloc: Global, outputs: &[Output], shifts: Vec<Shift>) -> Resul
 }
 
 /// What changes of the rows of a projection that makes different rows of different ones of those before, and of those after: a row that comes may give
-/// what one gave that goes, so the two are taken together, and no memory is needed that outlasts the change. Fails only for want of memory, and never
+/// what one gave that goes, so the two are taken together, and no memory is needed that outlasts the change. Fails only when out of memory, and never
 /// where nothing changes.
 pub fn gather(alloc: Global, outputs: &[Output], shifts: Vec<Shift>) -> Result<Vec<Shift>, Fault>
     requires sure { All (λ s. HasCells (map output_of outputs.now) s.row) shifts.items }
@@ -103,7 +103,7 @@ fn none_go(shifts: &[Shift]) -> bool
     shifts.iter().all(|shift| 0 < shift.after)
 }
 
-// The shifts with the rows that the projection makes of theirs. Fails only for want of memory, and never where there are none.
+// The shifts with the rows that the projection makes of theirs. Fails only when out of memory, and never where there are none.
 fn images_of(alloc: Global, outputs: &[Output], shifts: Vec<Shift>) -> Result<Vec<Shift>, Fault>
     requires sure { All (λ s. HasCells (map output_of outputs.now) s.row) shifts.items }
     requires numbered { All (λ s. All IsNumbered s.row) shifts.items }

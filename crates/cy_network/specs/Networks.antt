@@ -41,7 +41,7 @@ abbrev pub next_counts : Option (Vec (List Cell × ℕ) Global) → List (List C
 next_counts None = []
 next_counts (Some next) = next.items
 
--- the same network as the code holds it, by what its memories say of themselves
+-- a network as the code holds it, by what its memories say of themselves
 abbrev pub state_of : {M C : Type 0} → (M → List ℕ) → (M → Counts) → (M → Counts) → (M → ℕ) → Network M C → NetworkState
 state_of key_columns was staged step_count n = record {
   plan = plan_of n.plan;

@@ -26,7 +26,7 @@ pub(crate) fn nothing(alloc: Global) -> Change
     }
 }
 
-/// What rows change, as a change. Fails only for want of memory.
+/// What rows change, as a change. Fails only when out of memory.
 pub(crate) fn pending_change(alloc: Global, shifts: &[Shift]) -> Result<Change, Fault>
     requires { (before : List (List Cell)) × ((after : List (List Cell)) × IsDelta (counts before) (counts after) shifts.now) }
     ensures { IfOk result (λ change. (before after : List (List Cell)) → IsDelta (counts before) (counts after) shifts.now → IsDifference before after change) }
@@ -39,7 +39,7 @@ pub(crate) fn pending_change(alloc: Global, shifts: &[Shift]) -> Result<Change, 
     })
 }
 
-// The rows that count less, with by how much. Fails only for want of memory.
+// The rows that count less, with by how much. Fails only when out of memory.
 fn losses(alloc: Global, shifts: &[Shift]) -> Result<Vec<(Row, u64)>, Fault>
     ensures { IfOk result (λ pairs. pairs.items ≡ flat_map (excess (λ s. s.before) (λ s. s.after)) shifts.now) }
 {
@@ -52,7 +52,7 @@ fn losses(alloc: Global, shifts: &[Shift]) -> Result<Vec<(Row, u64)>, Fault>
     Ok(pairs)
 }
 
-// The rows that count more, with by how much. Fails only for want of memory.
+// The rows that count more, with by how much. Fails only when out of memory.
 fn gains(alloc: Global, shifts: &[Shift]) -> Result<Vec<(Row, u64)>, Fault>
     ensures { IfOk result (λ pairs. pairs.items ≡ flat_map (excess (λ s. s.after) (λ s. s.before)) shifts.now) }
 {
@@ -65,7 +65,7 @@ fn gains(alloc: Global, shifts: &[Shift]) -> Result<Vec<(Row, u64)>, Fault>
     Ok(pairs)
 }
 
-/// The rows that change with their counts after it. Fails only for want of memory.
+/// The rows that change with their counts after it. Fails only when out of memory.
 pub(crate) fn counts_after(alloc: Global, shifts: Vec<Shift>) -> Result<Vec<(Row, u64)>, Fault>
     ensures { IfOk result (λ next. next.items ≡ map (λ s. (s.row, s.after)) shifts.items) }
 {
@@ -76,7 +76,7 @@ pub(crate) fn counts_after(alloc: Global, shifts: Vec<Shift>) -> Result<Vec<(Row
     Ok(next)
 }
 
-/// Rows with their counts, where there were none before. Fails only for want of memory.
+/// Rows with their counts, where there were none before. Fails only when out of memory.
 pub(crate) fn rows_from(alloc: Global, shifts: Vec<Shift>) -> Result<IndexMap<Row, u64>, Fault>
     ensures counts { IfOk result (λ rows. (after : List (List Cell)) → IsDelta (counts []) (counts after) shifts.items → counted rows.entries ≡ counts after) }
     ensures positive { IfOk result (λ rows. ArePositive rows.entries) }
@@ -87,7 +87,7 @@ pub(crate) fn rows_from(alloc: Global, shifts: Vec<Shift>) -> Result<IndexMap<Ro
     Ok(rows)
 }
 
-/// The rows that change with their counts after it, for which there is room then, and what they change. Fails only for want of memory.
+/// The rows that change with their counts after it, for which there is room then, and what they change. Fails only when out of memory.
 pub(crate) fn prepared(
     alloc: Global,
     shifts: Vec<Shift>,

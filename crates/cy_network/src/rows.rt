@@ -26,7 +26,7 @@ pub(crate) fn write_counts(rows: &mut IndexMap<Row, u64>, next: Vec<(Row, u64)>)
     }
 }
 
-/// Copies of the rows with their counts, in canonical order. Fails only for want of memory.
+/// Copies of the rows with their counts, in canonical order. Fails only when out of memory.
 pub(crate) fn sorted_rows(
     alloc: Global,
     rows: &IndexMap<Row, u64>,
@@ -39,7 +39,7 @@ pub(crate) fn sorted_rows(
     sorted(copied(alloc, rows)?)
 }
 
-// Copies of the rows with their counts. Fails only for want of memory.
+// Copies of the rows with their counts. Fails only when out of memory.
 fn copied(alloc: Global, rows: &IndexMap<Row, u64>) -> Result<Vec<(Row, u64)>, Fault>
     ensures pairs { IfOk result (λ pairs. pairs.items ≡ rows.now.entries) }
     ensures unique { IfOk result (λ _. IsUnique is_row rows.now) }
@@ -52,7 +52,7 @@ fn copied(alloc: Global, rows: &IndexMap<Row, u64>) -> Result<Vec<(Row, u64)>, F
     Ok(pairs)
 }
 
-// Writes the count of a row, for which there is room if it is new. One that counts 0 goes.
+// Writes the count of a row, for which there is room if it is new. A row that counts 0 is removed.
 fn write_count(rows: &mut IndexMap<Row, u64>, row: Row, count: u64)
     requires room { 0 < spare rows.old }
     requires positive { ArePositive rows.old.entries }
@@ -68,7 +68,7 @@ fn write_count(rows: &mut IndexMap<Row, u64>, row: Row, count: u64)
     }
 }
 
-/// Rows with their counts, in canonical order. Fails only for want of memory.
+/// Rows with their counts, in canonical order. Fails only when out of memory.
 pub(crate) fn sorted(mut pairs: Vec<(Row, u64)>) -> Result<Vec<(Row, u64)>, Fault>
     requires once { AreOnce pairs.items }
     requires positive { All (λ p. 0 < p.1) pairs.items }

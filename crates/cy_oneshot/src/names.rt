@@ -10,7 +10,7 @@ use cy_trees::{Item, Path, Step, Variable};
 use cy_values::{Duplicate, Fault, Text};
 use std::alloc::Global;
 
-/// The columns of the items of WITH or RETURN. Fails only for want of memory.
+/// The columns of the items of WITH or RETURN. Fails only when out of memory.
 pub fn names_of(alloc: Global, items: &[Item]) -> Result<Vec<Text>, Fault>
     ensures { IfOk result (λ names. names.items ≡ map (λ i. i.column) (map item_of items.now)) }
 {
@@ -21,7 +21,7 @@ pub fn names_of(alloc: Global, items: &[Item]) -> Result<Vec<Text>, Fault>
     Ok(names)
 }
 
-/// Adds the names of a pattern's new variables to those of the columns, in the order of the text. Fails only for want of memory; some of the
+/// Adds the names of a pattern's new variables to those of the columns, in the order of the text. Fails only when out of memory; some of the
 /// names may then have been added, and the columns are to be dropped.
 pub fn add_names(alloc: Global, columns: &mut Vec<Text>, paths: &[Path]) -> Result<(), Fault>
     ensures { OnOk result (columns.new.items ≡ with_new_names columns.old.items (places (map path_of paths.now))) }

@@ -1,4 +1,4 @@
-//! What the layers of a plan stand on. Each call fails only for want of memory.
+//! What the layers of a plan stand on. Each call fails only when out of memory.
 
 ghost use Rattle.std.specs.Prelude.{◌≤◌, IfOk};
 ghost use Rattle.cy_plans.specs.declared.operators.Operator.{size-Operator};

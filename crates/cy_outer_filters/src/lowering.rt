@@ -1,4 +1,4 @@
-//! Plans whose outer joins ask little in their predicates. Each call fails only for want of memory.
+//! Plans whose outer joins ask little in their predicates. Each call fails only when out of memory.
 
 ghost use Rattle.std.specs.Prelude.{IfOk};
 ghost use Rattle.cy_plans.specs.Views.{plan_of};
@@ -29,7 +29,7 @@ fn lowered(alloc: Global, part: Operator) -> Result<Plan, Fault>
 }
 
 /// A plan in place of another one: what the predicate of an outer join asks of the right rows alone, and what has a truth whatever stands
-/// there, is asked of the right part before it is joined, as far down as it can be. Fails only for want of memory.
+/// there, is asked of the right part before it is joined, as far down as it can be. Fails only when out of memory.
 pub fn with_low_predicates(alloc: Global, plan: Plan) -> Result<Plan, Fault>
     ensures { IfOk result (λ p. StandsFor (plan_of plan) (plan_of p)) }
 {

@@ -51,7 +51,7 @@ fn split_one(alloc: Global, before: usize, right: Plan, test: Expr) -> Result<Sp
 }
 
 /// Each of the conditions that AND joins is put on the right part, if it reads that alone and has a truth whatever stands there. Fails only
-/// for want of memory.
+/// when out of memory.
 pub(crate) fn taken_apart(
     alloc: Global,
     before: usize,

@@ -1,4 +1,4 @@
-//! Expressions made of their parts, none too deep. Each fails for that, or for want of memory.
+//! Expressions made of their parts, none too deep. Each fails for that, or when out of memory.
 
 ghost use Rattle.std.specs.Prelude.{◌≡◌, ◌≢◌, ◌≤◌, ◌++◌, ◌∷◌, [], suc, MatchResult, OnOk, IfErr};
 ghost use Rattle.cy_parser.specs.declared.refusals.Refusal.TheVariants.{NoMemory};

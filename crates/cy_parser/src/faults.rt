@@ -26,7 +26,7 @@ pub enum ParseFault {
     /// A length whose bounds are out of order or above 65,535, by the last bound.
     #[error("bad range at byte {0}")]
     BadRange(usize),
-    /// No memory was left.
+    /// Out of memory.
     #[error("no memory")]
     NoMemory,
 }
@@ -46,7 +46,7 @@ impl ParseFault {
         }
     }
 
-    /// The byte offset that the fault points at; want of memory has none.
+    /// The byte offset that the fault points at; `NoMemory` has none.
     pub fn at(&self) -> Option<usize>
         ensures { result ≡ at_of self.now }
     {

@@ -201,7 +201,7 @@ impl<'l, F: Fn(Global, &str, &mut Cursor<'_>, usize, Nested) -> Result<Operand, 
         self.predicate_after(tokens, sum)
     }
 
-    /// The same, where an operator may be missing.
+    /// What arithmetic and predicates make of a first operand, where an operator may be missing.
     #[tactic(auto, using(cy_grammar::proofs::Continues::predicate_stops))]
     fn predicate_from(&self, tokens: &mut Cursor<'_>, first: Operand) -> Result<Operand, Refusal>
         requires { Nests self.now.levels (F.pre self.now.inner) (F.post self.now.inner) }

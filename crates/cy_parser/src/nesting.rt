@@ -11,7 +11,7 @@ use crate::refusals::Refusal;
 use cy_grammar::Nested;
 use std::alloc::Global;
 
-/// An expression with so many levels, its own counted, open at most.
+/// An expression with this many levels, its own counted, open at most.
 pub(crate) fn nesting(
     alloc: Global,
     line: &str,

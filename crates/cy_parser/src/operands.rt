@@ -24,7 +24,7 @@ impl Operand {
     }
 }
 
-/// By one call from each of the many places where an operand is given up.
+/// Called from each of the many places where an operand is dropped.
 impl Drop for Operand {
     fn drop(self) {
         let Operand { tree: _, depth: _ } = self;

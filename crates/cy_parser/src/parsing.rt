@@ -23,7 +23,7 @@ use cy_lexer::Token;
 use cy_trees::Statement;
 use std::alloc::Global;
 
-/// Where the token begins that so many are left from, or the length of the line.
+/// Where the token begins that this many are left from, or the length of the line.
 fn offset_of(tokens: &[Token], line: &str, left: usize) -> usize
     ensures { IsPlace tokens.now (length line.now) result }
 {
@@ -50,7 +50,7 @@ fn fault_of(tokens: &[Token], line: &str, refusal: Refusal) -> ParseFault
 }
 
 /// The statement that the tokens of a line spell (openCypher 9, grammar, narrowed to this profile); there is no other one.
-/// Fails if the tokens spell none, with a fault that points at a token's first byte or at the line's end, or for want of
+/// Fails if the tokens spell none, with a fault that points at a token's first byte or at the line's end, or when out of
 /// memory. Where there are no tokens, the line's end is unexpected.
 pub fn parse(alloc: Global, tokens: &[Token], line: &str) -> Result<Statement, ParseFault>
     ensures spelt { IfOk result (λ statement. SpellsStatement line.now (statement_of statement) tokens.now) }

@@ -20,7 +20,7 @@ pub(crate) enum Refusal {
     ClauseOrder(usize),
     /// A range whose bounds are out of order or too large.
     BadRange(usize),
-    /// No memory was left.
+    /// Out of memory.
     NoMemory,
 }
 

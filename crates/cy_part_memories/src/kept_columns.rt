@@ -13,10 +13,10 @@ use cy_scans::kept_at;
 use cy_values::Fault;
 use std::alloc::Global;
 
-/// So many columns are looked for one by one, which allocates nothing.
+/// Up to this many columns are looked for one by one, which allocates nothing.
 const FEW_COLUMNS: usize = 16;
 
-/// Whether each of the first columns, so many, stands alone among those that a projection makes. Fails only for want of memory.
+/// Whether each of the first columns, this many, stands alone among those that a projection makes. Fails only when out of memory.
 pub(crate) fn keeps_all(alloc: Global, outputs: &[Output], number: usize) -> Result<bool, Fault>
     ensures { IfOk result (λ all. all ≡ spec.keeps_all number (map output_of outputs.now)) }
 {
@@ -30,7 +30,7 @@ pub(crate) fn keeps_all(alloc: Global, outputs: &[Output], number: usize) -> Res
     Ok(are_all_set(&flags))
 }
 
-// The same, where each of the columns is looked for among the outputs.
+// Whether each of the first columns stands alone, where each is looked for among the outputs.
 fn keeps_each(outputs: &[Output], number: usize) -> bool
     ensures { result ≡ spec.keeps_all number (map output_of outputs.now) }
 {
@@ -44,7 +44,7 @@ fn are_all_set(flags: &[bool]) -> bool
     flags.iter().all(|flag| *flag)
 }
 
-// Of each of the first columns, so many, whether it stands alone among those that a projection makes. Fails only for want of memory.
+// Of each of the first columns, this many, whether it stands alone among those that a projection makes. Fails only when out of memory.
 fn flags_of(alloc: Global, outputs: &[Output], number: usize) -> Result<Vec<bool>, Fault>
     ensures { IfOk result (λ flags. flags.items ≡ kept_flags number (map output_of outputs.now)) }
 {

@@ -1,4 +1,4 @@
--- What the parts with one part below them are asked, and what comes of it.
+-- What the parts with one part below them are asked, and what they give.
 use Rattle.std.proofs.Common.{◌≡◌, ℕ, ◌≤◌, false, List, [], ◌∷◌, Option, Some, None, IfSome, filter, length, map, sym, ap, subst, ◌∙◌}
 use Rattle.std.specs.List.{All}
 use Rattle.std.proofs.lemmas.List.Elements.{All-nil, All-tail}

@@ -22,7 +22,7 @@ use cy_values::{Fault, Sequence};
 use std::alloc::Global;
 
 /// What changes of the rows of a scan, with its parts from the top down, or of the empty row, where the graph changes: from nothing, where
-/// there was no graph before. Fails only for want of memory.
+/// there was no graph before. Fails only when out of memory.
 pub fn lowest_shifts<'a>(
     alloc: Global,
     part: &Operator,
@@ -45,7 +45,7 @@ pub fn lowest_shifts<'a>(
     scan(alloc, scanned, change, sight)
 }
 
-// The empty row is there as soon as there is a graph. Fails only for want of memory.
+// The empty row is there as soon as there is a graph. Fails only when out of memory.
 fn unit_shifts(alloc: Global, from_nothing: bool) -> Result<Vec<Shift>, Fault>
     ensures { IfOk result (λ shifts. shifts.items ≡ shift_between [] (if from_nothing then 0 else 1) 1) }
 {

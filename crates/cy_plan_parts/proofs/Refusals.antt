@@ -1,4 +1,4 @@
--- Want of memory is no refusal for too many rows.
+-- Being out of memory is no refusal for too many rows.
 use Rattle.std.proofs.Common.{◌≡◌, ◌∙◌, arith, ap, sym}
 use Rattle.std.specs.Prelude.{Result, Ok, Err, IfErr}
 use Rattle.std.specs.Result.{IsErrAnd}

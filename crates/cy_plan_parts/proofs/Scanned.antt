@@ -1,4 +1,4 @@
--- Scans: they keep no memories, their rows are few, and what changes of them comes of the touched entities alone.
+-- Scans: they keep no memories, their rows are few, and what changes of them comes from the touched entities alone.
 use Rattle.std.proofs.Common.{◌≡◌, ◌≢◌, ℕ, ◌<◌, ◌≤◌, ◌||◌, Bool, true, false, List, [], ◌∷◌, ◌++◌, Option, Some, None, IsSome, ◌⊎◌, inl, inr, filter, length, map, refl, sym, ap, subst, ◌∙◌, arith, true≢false}
 use Rattle.std.specs.Prelude.{is_some}
 use Rattle.std.specs.List.{All}
@@ -60,7 +60,7 @@ no_scan_above p one other = by (is_scan p) refl
     by false is = is
     by true is = absurd (true≢false (sym (scan_below p one is) ∙ other))
 
--- in which column a part's rows name their entity comes of that of the part below it
+-- in which column a part's rows name their entity comes from that of the part below it
 pub column_above : (p : Plan) → below_count p ≡ 1 → scan_column p ≡ column_over p (scan_column (first_below p))
 column_above plan.unit one = absurd (omega (arith, one))
 column_above plan.nodes one = absurd (omega (arith, one))

@@ -1,4 +1,4 @@
--- What is asked of a part of a plan, and what comes of it, put together of what is so of the parts below it.
+-- What is asked of a part of a plan, and what it gives, put together from what is so of the parts below it.
 use Rattle.std.proofs.Common.{◌≡◌, ℕ, ◌+◌, ◌<◌, ◌≤◌, Bool, List, [], ◌++◌, Option, Some, None, IfSome, length, map, refl, sym, ap, subst, ◌∙◌, arith}
 use Rattle.std.specs.Prelude.{sum_by}
 use Rattle.std.specs.List.{All, Any}

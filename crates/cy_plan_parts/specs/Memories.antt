@@ -14,11 +14,11 @@ use Rattle.cy_merges.specs.Merges.{AreBounded, all_columns}
 use Rattle.cy_scans.specs.Scans.{kept_at, scan_column}
 use Rattle.cy_outer.specs.Outer.{numbers_of_partners}
 
--- a part is a scan: what changes of its rows comes of the touched entities alone
+-- a part is a scan: what changes of its rows comes from the touched entities alone
 abbrev pub is_scan : Plan → Bool
 is_scan p = is_some (scan_column p)
 
--- each of the first columns, so many, stands alone among those that a projection makes
+-- each of the first columns, this many, stands alone among those that a projection makes
 abbrev pub keeps_all : ℕ → List Output → Bool
 keeps_all number outputs = list_all (λ column. is_some (kept_at column outputs)) (all_columns number)
 

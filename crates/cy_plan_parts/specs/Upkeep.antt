@@ -1,4 +1,4 @@
--- How a change of a graph goes through one part of a plan: what is asked of the part and its memories, and what comes of it. (own)
+-- How a change of a graph goes through one part of a plan: what is asked of the part and its memories, and what it gives. (own)
 use Rattle.std.specs.Prelude.{◌≡◌, ℕ, ◌<◌, List, Option, Some, None}
 use Rattle.std.specs.Option.{option_map}
 use Rattle.std.specs.List.{All}
@@ -49,14 +49,14 @@ pub record IsFed (old : Option State) (now : State) (touches : Touches) (p : Pla
   pub own : IsOwnBegun old p columns was staged
   pub below : IsDeltaOf old now (first_below p) shifts
 
--- the same of a part over two others, and what changes of these
+-- a part over two others over the change, its own memories before it, and what changes of these two
 pub record IsFedByTwo (old : Option State) (now : State) (touches : Touches) (p : Plan) (columns : List (List ℕ)) (was staged : List Counts) (left_shifts right_shifts : List Shift) : Type 0 where
   pub step : IsStep old now touches p
   pub own : IsOwnBegun old p columns was staged
   pub left : IsDeltaOf old now (first_below p) left_shifts
   pub right : IsDeltaOf old now (second_below p) right_shifts
 
--- what comes of it: what changes of the rows of the part, and its own memories staged for the second graph
+-- what it gives: what changes of the rows of the part, and its own memories staged for the second graph
 pub record IsOwnDone (old : Option State) (now : State) (p : Plan) (staged : List Counts) (shifts : List Shift) : Type 0 where
   pub change : IsDeltaOf old now p shifts
   pub holds : staged ≡ own_contents (rows_at (Some now.content)) p

@@ -11,7 +11,7 @@ use std::alloc::{AllocError, Global};
 use std::fmt::Write;
 use std::io;
 
-/// A query of so many items and one place weighs three more. 512 is the most.
+/// A query of this many items and one place weighs three more. 512 is the most.
 const ITEMS: [u16; 3] = [508, 509, 510];
 
 fn main(rt: HostRuntime) -> io::Result<()> {
@@ -49,7 +49,7 @@ fn print_plan<R: Print + AllocGlobal>(rt: &R, line: &str) -> io::Result<()> {
     }
 }
 
-// A query with one place and so many items.
+// A query with one place and this many items.
 fn items_query(alloc: Global, count: u16) -> Result<String, AllocError> {
     let mut line = String::from_str(alloc, "MATCH (a) RETURN 1 AS c1")?;
     for number in 2..=count {
@@ -58,7 +58,7 @@ fn items_query(alloc: Global, count: u16) -> Result<String, AllocError> {
     Ok(line)
 }
 
-// Prints whether a query with so many items has a plan, or else the number of its fault.
+// Prints whether a query with this many items has a plan, or else the number of its fault.
 fn print_fault<R: Print + AllocGlobal>(rt: &R, count: u16) -> io::Result<()> {
     let line = items_query(rt.alloc(), count)?;
     let Some(query) = view_query(rt.alloc(), line.as_str()) else {

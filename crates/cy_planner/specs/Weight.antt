@@ -9,7 +9,7 @@ use Rattle.cy_trees.specs.Trees.{Expression, MapEntry, NodePattern, Relationship
 abbrev pub greatest_weight : ℕ
 greatest_weight = 512
 
--- the sum of so many numbers, from the first on
+-- the sum of this many numbers, from the first on
 abbrev pub sum_from : ℕ → ℕ → ℕ
 sum_from first zero = 0
 sum_from first (suc count) = first + sum_from (first + 1) count

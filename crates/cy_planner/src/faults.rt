@@ -14,7 +14,7 @@ pub enum PlanFault {
     /// The query weighs more than 512.
     #[error("the plan is too large")]
     PlanTooLarge,
-    /// No memory was left.
+    /// Out of memory.
     #[error("no memory")]
     NoMemory,
 }

@@ -27,7 +27,7 @@ fn meant(plan: &Plan)
     let _root = plan.root();
 }
 
-/// The plan of the clauses of a view's query, one after another. Fails only for want of memory.
+/// The plan of the clauses of a view's query, one after another. Fails only when out of memory.
 fn query_rows(alloc: Global, clauses: &[Clause]) -> Result<Plan, Fault>
     requires { IsViewQuery (record { clauses = map clause_of clauses.now }) }
     ensures { IfOk result (λ p. Serves (plan_of p) (record { clauses = map clause_of clauses.now })) }

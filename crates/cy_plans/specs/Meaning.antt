@@ -37,7 +37,7 @@ has_type (t ∷ ts) rel = list_any (λ u. bytes_eq u rel.kind) (t ∷ ts)
 abbrev pub forwards : RelId × Rel → List Cell
 forwards r = cell.Rel r.0 ∷ cell.Node r.1.source ∷ cell.Node r.1.target ∷ cell.Value (value.Text r.1.kind) ∷ []
 
--- the same with its ends exchanged
+-- a relationship, its ends exchanged, and its type
 abbrev pub backwards : RelId × Rel → List Cell
 backwards r = cell.Rel r.0 ∷ cell.Node r.1.target ∷ cell.Node r.1.source ∷ cell.Value (value.Text r.1.kind) ∷ []
 

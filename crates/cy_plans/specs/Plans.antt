@@ -23,7 +23,7 @@ pub data Plan : Type 0 where
   rels : List Name → Orientation → Plan
   -- the rows of the left part, each with each row of the right one that has the same key
   join : Plan → Plan → List KeyColumns → Plan
-  -- the same where a predicate is true; a row of the left part that finds none stands with nulls
+  -- those of these rows for which a predicate is true; a row of the left part that finds none stands with nulls
   outer : Plan → Plan → List KeyColumns → Expression → Plan
   -- the rows of the left part for which the right one has a row with the same key, or those for which it has none
   semi : Plan → Plan → List KeyColumns → Keeping → Plan

@@ -11,11 +11,11 @@ use Rattle.cy_plans.specs.Plans.{Plan, Output, computed, gathered, width}
 abbrev pub greatest_width : ℕ
 greatest_width = 4294967295
 
--- a column of a row with so many columns
+-- a column of a row with this many columns
 abbrev pub IsColumn : ℕ → ℕ → Type 0
 IsColumn count column = column < count
 
--- an expression over a row with so many columns: it reads them alone, and nothing of the graph
+-- an expression over a row with this many columns: it reads them alone, and nothing of the graph
 abbrev pub IsOver : ℕ → Expression → Type 0
 IsOver count e = IsTrue (reads_columns e) × IsTrue (reads_below count e)
 

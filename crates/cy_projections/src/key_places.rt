@@ -15,10 +15,10 @@ use std::collections::BTreeMap;
 /// The places of items by the words of their trees; of items with the same words the first.
 pub(crate) type Places = BTreeMap<Vec<u64>, usize>;
 
-/// For so few keys each item is looked at.
+/// With no more keys than this, each item is looked at.
 const FEW_KEYS: usize = 8;
 
-/// The places of a projection's items, where it has many keys. Fails only for want of memory.
+/// The places of a projection's items, where it has many keys. Fails only when out of memory.
 pub(crate) fn item_places(
     alloc: Global,
     projection: &Projection,
@@ -46,7 +46,7 @@ fn first_places(alloc: Global, items: &[Item]) -> Result<Places, AllocError>
     Ok(places)
 }
 
-/// The place of the first item whose tree is that of an expression. Fails only for want of memory.
+/// The place of the first item whose tree is that of an expression. Fails only when out of memory.
 pub(crate) fn place_of_key(
     alloc: Global,
     places: &Option<Places>,
@@ -62,7 +62,7 @@ pub(crate) fn place_of_key(
     }
 }
 
-// The same by the words of trees. It isn't proved that different trees have different words, so the two trees are compared, and if
+// The place of the first such item, found by the words of trees. It isn't proved that different trees have different words, so the two trees are compared, and if
 // they differ, each item is looked at.
 fn place_by_words(
     alloc: Global,

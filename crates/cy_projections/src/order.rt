@@ -84,7 +84,7 @@ fn compare_keys(descending: &[bool], left: &[Cell], right: &[Cell]) -> Ordering
     Ordering::Equal
 }
 
-// The order of two cells of a key, turned round where it is descending.
+// The order of two cells of a key, reversed where it is descending.
 fn compare_at(descending: bool, left: &Cell, right: &Cell) -> Ordering
     ensures { result ≡ (if descending then ordering_reverse (values.cell_order left.now right.now) else values.cell_order left.now right.now) }
 {

@@ -56,7 +56,7 @@ pub fn projection_rows(
     Ok(cut(alloc, projection, keyed)?)
 }
 
-/// The same rows as a bag. They are put in order only where a key, SKIP or LIMIT asks for it.
+/// The rows of WITH or RETURN as a bag. They are put in order only where a key, SKIP or LIMIT asks for it.
 pub fn unordered_rows(
     alloc: Global,
     store: &Store,
@@ -112,7 +112,7 @@ fn descending_keys(alloc: Global, keys: &[Key]) -> Result<Vec<bool>, Fault>
 }
 
 /// The keys of a projection, each with the place of the item that it repeats: a key whose tree is that of an item is that item's
-/// column, and no other cell is read for it. Fails only for want of memory. (openCypher 9, ORDER BY)
+/// column, and no other cell is read for it. Fails only when out of memory. (openCypher 9, ORDER BY)
 pub fn sort_keys(alloc: Global, projection: &Projection) -> Result<Vec<SortKey<'_>>, Fault>
     ensures { IfOk result (λ keys. map sort_key_of keys.items ≡ map (λ k. (spec.item_of_key (map item_of projection.now.items.items) k, k)) (map key_of projection.now.order.items)) }
 {
@@ -120,7 +120,7 @@ pub fn sort_keys(alloc: Global, projection: &Projection) -> Result<Vec<SortKey<'
     placed_keys(alloc, projection, &places)
 }
 
-// The same, where the places of the items are given.
+// The keys of a projection, where the places of the items are given.
 fn placed_keys<'a>(
     alloc: Global,
     projection: &'a Projection,
@@ -341,7 +341,7 @@ fn limited(limit: Option<u64>, mut rows: Vec<Row>) -> Vec<Row>
     }
 }
 
-// The rows after so many.
+// The rows after this many.
 fn rows_from(alloc: Global, count: u64, keyed: Vec<Keyed>) -> Result<Vec<Row>, Fault>
     ensures { IfOk result (λ rows. rows.items ≡ drop count (map (λ k. k.row) keyed.items)) }
 {

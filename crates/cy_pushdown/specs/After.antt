@@ -11,7 +11,7 @@ use Rattle.cy_plans.specs.Sure.{IsSureOn}
 use Rattle.cy_plans.specs.Within.{IsWithin}
 use Rattle.cy_row_plans.specs.Rows.{keeps}
 
--- Of the rows of a plan those with which a condition is true, whatever so many columns before them hold. No part counts a row more often
+-- Of the rows of a plan those with which a condition is true, whatever this many columns before them hold. No part counts a row more often
 -- than some row of the parts below.
 pub record IsKept (before : ℕ) (below : Plan) (test : Expression) (p : Plan) : Type 0 where
   pub as_wide : width p ≡ width below

@@ -227,7 +227,7 @@ fn column_on_right(
 }
 
 /// Columns of the left part in which there stands what stands in columns of a join, if there are such ones, and each once. Fails only
-/// for want of memory.
+/// when out of memory.
 pub(crate) fn columns_on_left(
     alloc: Global,
     left: &Operator,
@@ -252,7 +252,7 @@ pub(crate) fn columns_on_left(
     Ok(Some(found))
 }
 
-/// The same of the right part. Fails only for want of memory.
+/// Columns of the right part in which there stands what stands in columns of a join, if there are such ones, and each once. Fails only when out of memory.
 pub(crate) fn columns_on_right(
     alloc: Global,
     left: &Operator,
@@ -277,7 +277,7 @@ pub(crate) fn columns_on_right(
     Ok(Some(found))
 }
 
-/// The columns that a projection takes over, if it takes over all of them, and each once. Fails only for want of memory.
+/// The columns that a projection takes over, if it takes over all of them, and each once. Fails only when out of memory.
 pub(crate) fn columns_of(
     alloc: Global,
     outputs: &[Output],

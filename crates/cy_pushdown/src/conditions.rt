@@ -147,7 +147,7 @@ fn reading_of(
 }
 
 /// The variables that a condition reads, if there are some, and each has a column of its own after the first ones, whose kind the plan
-/// shows. Fails only for want of memory.
+/// shows. Fails only when out of memory.
 pub(crate) fn find_reading(
     alloc: Global,
     part: &Operator,
@@ -259,7 +259,7 @@ fn arms_ask_of(scope: &Scope, columns: &[usize], arms: &[Arm]) -> bool
 }
 
 /// The condition on the cells of the variables alone, if it reads no other ones, and has a truth for whatever stands there, by the kinds.
-/// Fails only for want of memory.
+/// Fails only when out of memory.
 pub(crate) fn cells_test(
     alloc: Global,
     reading: &Reading,

@@ -85,7 +85,7 @@ fn filter_one(alloc: Global, below: Plan, test: &Expr) -> Result<Plan, Fault>
 }
 
 /// The rows of a plan for which a condition is true (openCypher 9, WHERE), as `filter_where` gives them: each of the conditions that AND
-/// joins is put as far down as all that it reads stands together. Fails only for want of memory.
+/// joins is put as far down as all that it reads stands together. Fails only when out of memory.
 pub fn filter_low(alloc: Global, below: Plan, test: &Expr) -> Result<Plan, Fault>
     requires { spec.IsReadOver (plan_of below) (expression_of test.now) }
     ensures { IfOk result (λ p. spec.IsFiltered (plan_of below) (expression_of test.now) (plan_of p)) }
@@ -106,8 +106,8 @@ pub struct Kept {
     pub is_kept: bool,
 }
 
-/// The rows of a plan for which a condition is true that has them after other columns, so many, if it reads these rows alone and has a
-/// truth whatever stands there, as far as the plan shows; else the plan as it is. Fails only for want of memory.
+/// The rows of a plan for which a condition is true that has them after other columns, this many, if it reads these rows alone and has a
+/// truth whatever stands there, as far as the plan shows; else the plan as it is. Fails only when out of memory.
 pub fn keep_after(alloc: Global, before: usize, below: Plan, test: &Expr) -> Result<Kept, Fault>
     ensures { IfOk result (λ k. IsKeptIf before (plan_of below) (expression_of test.now) k.is_kept (plan_of k.plan)) }
 {

@@ -1,4 +1,4 @@
-//! Plans put together again of their parts. Each call fails only for want of memory.
+//! Plans put together again from their parts. Each call fails only when out of memory.
 
 ghost use Rattle.std.specs.Prelude.{◌≡◌, IfOk};
 ghost use Rattle.cy_plans.specs.Views.{plan_of};

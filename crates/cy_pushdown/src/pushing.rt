@@ -1,4 +1,4 @@
-//! A condition on what stands in some columns, put on the parts that this comes from. Each call fails only for want of memory.
+//! A condition on what stands in some columns, put on the parts that this comes from. Each call fails only when out of memory.
 
 ghost use Rattle.std.specs.Prelude.{◌≡◌, IfOk, map, nat_lt, true};
 ghost use Rattle.std.specs.List.{list_all};

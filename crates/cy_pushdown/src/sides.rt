@@ -127,7 +127,7 @@ fn goes_left(left: &Operator, right: &Operator, keys: &[KeyColumns], columns: &[
     }
 }
 
-/// The same of the right side.
+/// Whether a condition on these columns of a join goes to the right side, if it can.
 fn goes_right(left: &Operator, right: &Operator, keys: &[KeyColumns], columns: &[usize]) -> bool
     requires left { IsWellFormed (plan_of left.now) }
     requires right { IsWellFormed (plan_of right.now) }
@@ -192,7 +192,7 @@ fn both_ways(on_left: Option<Vec<usize>>, on_right: Option<Vec<usize>>) -> Way
     }
 }
 
-/// The way of a condition on columns of a join. Fails only for want of memory.
+/// The way of a condition on columns of a join. Fails only when out of memory.
 pub(crate) fn way_from(
     alloc: Global,
     left: &Operator,

@@ -123,7 +123,7 @@ each_permuted P (and_then p q) each = each_permuted P p (each_permuted P q each)
 whole : (n : ℕ) (row : List Cell) → length row ≡ n → row ≡ take n row
 whole n row long = sym (take_all n row (let le : length row ≤ n = omega arith in le))
 
--- rows of so many cells
+-- rows of this many cells
 pub alone : (n : ℕ) (rows : List (List Cell)) → AllByRecursion (λ row. length row ≡ n) rows → map with_columns_alone rows ≡ map (projected_of n) rows
 alone n [] each = refl
 alone n (row ∷ rows) each = λ i. record { row = whole n row each.0 i; seen = row } ∷ alone n rows each.1 i

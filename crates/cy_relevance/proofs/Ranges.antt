@@ -32,7 +32,7 @@ module _ {K V R : Type 0} (number : K → ℕ) (key : ℕ → K) (forth : (n : �
   abbrev found : List (K × V) → ℕ → Option V
   found es n = entries.find order (key n) es
 
-  -- what a range of so many numbers makes
+  -- what a range of this many numbers makes
   abbrev spans : ℕ → ℕ → (ℕ → Option V) → List R
   spans a zero at = []
   spans a (suc m) at = made a (at a) ++ spans (a + 1) m at

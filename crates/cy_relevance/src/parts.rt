@@ -20,7 +20,7 @@ use cy_trees::Expr;
 use cy_values::Text;
 
 /// Whether the rows of a part, and of the parts below it that a scan doesn't take together, are the same before and after, as far as
-/// they come of the entity. Where it says no, they may be so too. Of one that is there before and after it is asked first whether what they
+/// they come from the entity. Where it says no, they may be so too. Of one that is there before and after it is asked first whether what they
 /// read of it is the same, which takes less.
 pub(crate) fn is_unchanged(part: &Operator, entity: &Entity<'_>) -> bool
     ensures { result ≡ true → IsUnchanged entity.now (plan_of part.now) }
@@ -28,7 +28,7 @@ pub(crate) fn is_unchanged(part: &Operator, entity: &Entity<'_>) -> bool
     reads_the_same(part, entity) || is_kept(part, entity, false)
 }
 
-// The same, by what the parts make of the entity. Whether the scan below makes nothing of it is asked at the uppermost of the look-ups that
+// Whether the rows are the same, by what the parts make of the entity. Whether the scan below makes nothing of it is asked at the uppermost of the look-ups that
 // stand over one another, and not once more at those below it: so each part is gone through twice at most.
 fn is_kept(part: &Operator, entity: &Entity<'_>, asked: bool) -> bool
     ensures { result ≡ true → IsUnchanged entity.now (plan_of part.now) }

@@ -1,4 +1,4 @@
-//! The layers of a plan, from the uppermost part down: parts with one part below them. Each call fails only for want of memory.
+//! The layers of a plan, from the uppermost part down: parts with one part below them. Each call fails only when out of memory.
 
 ghost use Rattle.std.specs.Prelude.{◌≡◌, ◌<◌, ◌≤◌, ◌++◌, ◌∷◌, [], IfOk, IsTrue, OnOk, map};
 ghost use Rattle.std.specs.List.{AllByRecursion};
@@ -22,7 +22,7 @@ use cy_trees::Expr;
 use cy_values::Fault;
 use std::alloc::Global;
 
-/// Over so many conditions and tests a projection goes up at most.
+/// A projection goes up over at most this many conditions and tests.
 const MOST_PASSED: usize = 64;
 
 /// A part that has one part below it, without that one.
@@ -120,7 +120,7 @@ fn add_second(
     }
 }
 
-/// Puts a projection that takes over columns below all: it goes up over conditions and tests, but over so many at most.
+/// Puts a projection that takes over columns below all: it goes up over conditions and tests, but over this many at most.
 fn add_columns(
     alloc: Global,
     layers: &mut Vec<Layer>,

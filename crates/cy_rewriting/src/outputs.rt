@@ -114,7 +114,7 @@ fn renumber_outputs(
     Ok(made)
 }
 
-/// One projection in place of two, if the inner one takes over columns alone. Fails only for want of memory.
+/// One projection in place of two, if the inner one takes over columns alone. Fails only when out of memory.
 pub(crate) fn merged(
     alloc: Global,
     outer: &[Output],

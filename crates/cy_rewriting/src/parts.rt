@@ -1,4 +1,4 @@
-//! Layers put on plans. Each call fails only for want of memory.
+//! Layers put on plans. Each call fails only when out of memory.
 
 ghost use Rattle.std.specs.Prelude.{IfOk, map};
 ghost use Rattle.cy_plans.specs.Plans as plan;
@@ -41,7 +41,7 @@ fn with_layer(alloc: Global, below: Plan, layer: Layer) -> Result<Plan, Fault>
     }
 }
 
-/// Layers over a plan, the uppermost first. Fails only for want of memory.
+/// Layers over a plan, the uppermost first. Fails only when out of memory.
 pub fn layered(alloc: Global, base: Plan, layers: Vec<Layer>) -> Result<Plan, Fault>
     requires { IsWellFormed (spec.layered layers.items (plan_of base)) }
     ensures { IfOk result (λ p. IsRewritten (spec.layered layers.items (plan_of base)) (plan_of p)) }

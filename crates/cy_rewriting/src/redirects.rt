@@ -15,7 +15,7 @@ use cy_plans::{KeyColumns, Operator};
 use cy_values::Fault;
 use std::alloc::Global;
 
-/// So far down it is looked whether a column is one of a table.
+/// This far down it is looked whether a column is one of a table.
 const MOST_PARTS: usize = 256;
 
 /// A column, and another one in which the same stands.
@@ -103,7 +103,7 @@ fn add_redirect(
     }
 }
 
-/// The columns of a join in which the same stands as in others, where it is better to look it up. Fails only for want of memory.
+/// The columns of a join in which the same stands as in others, where it is better to look it up. Fails only when out of memory.
 pub(crate) fn redirects(
     alloc: Global,
     left: &Operator,
@@ -135,7 +135,7 @@ fn redirected_column(redirects: &[Redirect], column: usize) -> usize
     column
 }
 
-/// The look-ups in the columns where it is better to look them up. Fails only for want of memory.
+/// The look-ups in the columns where it is better to look them up. Fails only when out of memory.
 pub(crate) fn redirected(
     alloc: Global,
     redirects: &[Redirect],

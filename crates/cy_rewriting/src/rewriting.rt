@@ -1,4 +1,4 @@
-//! Plans in place of others. Each call fails only for want of memory.
+//! Plans in place of others. Each call fails only when out of memory.
 
 ghost use Rattle.std.specs.Prelude.{IfOk};
 ghost use Rattle.cy_plans.specs.Views.{plan_of};
@@ -37,7 +37,7 @@ fn rewritten_part(alloc: Global, part: Operator, lookups: Vec<Wanted>) -> Result
 /// A plan that can stand in place of another one, and costs less to keep up. A join with the empty row, a projection to all columns
 /// in their order and a test that no relationship stands twice in no column go. A projection that takes over columns alone goes up
 /// over conditions and tests, and is one with a projection over it. What is looked up of an entity is looked up where the entity comes
-/// from, below the joins. Fails only for want of memory.
+/// from, below the joins. Fails only when out of memory.
 pub fn rewritten(alloc: Global, plan: Plan) -> Result<Plan, Fault>
     ensures { IfOk result (λ p. IsRewritten (plan_of plan) (plan_of p)) }
 {

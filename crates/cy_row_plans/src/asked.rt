@@ -1,5 +1,5 @@
 //! What expressions ask of the graph: attributes of what stands in columns of the row. Each call adds it to what is wanted, each look-up
-//! once, and fails only for want of memory; some of it may then have been added.
+//! once, and fails only when out of memory; some of it may then have been added.
 
 ghost use Rattle.std.specs.Prelude.{◌≡◌, OnOk, map};
 ghost use Rattle.cy_trees.specs.Views.{arm_of, arms_from, expression_of, expressions_from, link_of, links_from};

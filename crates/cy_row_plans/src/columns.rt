@@ -22,7 +22,7 @@ pub fn column_output(alloc: Global, column: usize) -> Output
     }))
 }
 
-/// What a projection to these columns makes. Fails only for want of memory.
+/// What a projection to these columns makes. Fails only when out of memory.
 pub fn column_outputs(alloc: Global, columns: &[usize]) -> Result<Vec<Output>, Fault>
     ensures { IfOk result (λ outputs. map output_of outputs.items ≡ map shape.column_output columns.now) }
 {
@@ -43,7 +43,7 @@ fn first_columns(alloc: Global, count: usize) -> Result<Vec<Output>, Fault>
     Ok(outputs)
 }
 
-/// The rows of a plan, each with its first columns alone. Fails only for want of memory.
+/// The rows of a plan, each with its first columns alone. Fails only when out of memory.
 pub(crate) fn narrowed(alloc: Global, plan: Plan, count: usize) -> Result<Plan, Fault>
     requires { count ≤ width (plan_of plan) }
     ensures { IfOk result (λ p. plan_of p ≡ spec.narrowed count (plan_of plan)) }

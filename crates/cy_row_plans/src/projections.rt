@@ -47,7 +47,7 @@ fn item_outputs(
 }
 
 /// Of each row of a plan the cells of the items of WITH or RETURN (openCypher 9, WITH and RETURN): what they ask of the graph is looked
-/// up before. Fails only for want of memory.
+/// up before. Fails only when out of memory.
 pub fn project_items(alloc: Global, below: Plan, items: &[Item]) -> Result<Plan, Fault>
     requires { spec.AreReadOver (plan_of below) (map (λ i. expression_of i.expression) items.now) }
     ensures { IfOk result (λ p. spec.IsProjected (plan_of below) (map (λ i. expression_of i.expression) items.now) (plan_of p)) }

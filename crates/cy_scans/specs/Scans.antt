@@ -1,6 +1,6 @@
 -- Scans: the parts of a plan whose rows come of one entity each, and name it. Such a part stands over `nodes` or `rels` alone; it looks up
 -- attributes of this entity, leaves out rows, and makes of a row one that still names it. So what changes of its rows where the graph changes
--- comes of the touched entities alone. (own)
+-- comes from the touched entities alone. (own)
 use Rattle.std.specs.Prelude.{◌≡◌, ℕ, suc, ◌==◌, Bool, false, List, [], ◌∷◌, Option, None, Some, IsSome, if◌then◌else◌, length}
 use Rattle.std.specs.Option.{option_map}
 use Rattle.cy_trees.specs.Trees.{variable}
@@ -26,7 +26,7 @@ abbrev pub kept_at : ℕ → List Output → Option ℕ
 kept_at column [] = None
 kept_at column (o ∷ os) = if is_column column o then Some 0 else option_map suc (kept_at column os)
 
--- the same of a column, if there is one
+-- where a column, if there is one, stands among those that a projection makes
 abbrev pub kept : Option ℕ → List Output → Option ℕ
 kept None outputs = None
 kept (Some column) outputs = kept_at column outputs

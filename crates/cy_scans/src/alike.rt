@@ -28,7 +28,7 @@ pub(crate) fn are_alike_nodes(parts: &[&Operator], old: Option<&Node>, new: Opti
     }
 }
 
-/// The same of a relationship.
+/// Whether a relationship that had one value and has another makes the same rows. Where it says no, it may do so too.
 pub(crate) fn are_alike_rels(parts: &[&Operator], old: Option<&Rel>, new: Option<&Rel>) -> bool
     ensures { result ≡ true → (types : List Name) (orientation : Orientation) (number : ℕ)
         → rel_made types orientation (map (λ part. plan_of part.now) parts.now) number (option_copied old.entry) ≡ rel_made types orientation (map (λ part. plan_of part.now) parts.now) number (option_copied new.entry) }

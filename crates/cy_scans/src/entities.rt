@@ -22,7 +22,7 @@ pub(crate) enum EntityValue<'a> {
     Rel(&'a Rel),
 }
 
-/// The row of a node in a scan with these parts, if it is there and has one. Fails only for want of memory.
+/// The row of a node in a scan with these parts, if it is there and has one. Fails only when out of memory.
 pub(crate) fn row_at_node(
     alloc: Global,
     parts: &[&Operator],
@@ -46,7 +46,7 @@ pub(crate) fn row_at_node(
     )
 }
 
-/// The rows of a relationship in a scan with these parts, if it is there. Fails only for want of memory.
+/// The rows of a relationship in a scan with these parts, if it is there. Fails only when out of memory.
 pub(crate) fn rows_at_rel(
     alloc: Global,
     parts: &[&Operator],

@@ -14,7 +14,7 @@ use cy_deltas::{Shift, add_shift};
 use cy_values::{Fault, Row, row_order};
 use std::cmp::Ordering;
 
-/// Adds a shift of each row that counts otherwise among the new rows than among the old ones. Fails only for want of memory.
+/// Adds a shift of each row that counts otherwise among the new rows than among the old ones. Fails only when out of memory.
 pub(crate) fn add_recounted(
     shifts: &mut Vec<Shift>,
     old: Vec<Row>,
@@ -30,7 +30,7 @@ pub(crate) fn add_recounted(
     add_come(shifts, new)
 }
 
-/// Adds the shifts of a row that goes and of one that comes in its place, if there are such. Fails only for want of memory.
+/// Adds the shifts of a row that goes and of one that comes in its place, if there are such. Fails only when out of memory.
 pub(crate) fn add_replaced(
     shifts: &mut Vec<Shift>,
     old: Option<Row>,
@@ -98,7 +98,7 @@ fn add_come(shifts: &mut Vec<Shift>, new: Vec<Row>) -> Result<(), Fault>
     Ok(())
 }
 
-// Takes a row from among others, as often as it stands there.
+// Takes a row out of others, as often as it stands there.
 fn take_same(rows: &mut Vec<Row>, row: &Row) -> u64
     ensures taken { result ≡ count_of row.now rows.old.items }
     ensures left { rows.new.items ≡ std.filter (λ other. not (is_row row.now other)) rows.old.items }

@@ -49,7 +49,7 @@ pub fn kept_at(outputs: &[Output], column: usize) -> Option<usize>
     None
 }
 
-// The same of a column, if there is one.
+// Where a column, if there is one, stands among those that a projection makes.
 fn kept(outputs: &[Output], column: Option<usize>) -> Option<usize>
     ensures { result ≡ scans.kept column (map output_of outputs.now) }
 {

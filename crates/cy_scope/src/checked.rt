@@ -1,4 +1,4 @@
-//! Statements and queries that were found good.
+//! Statements and queries that were found to have no fault.
 
 ghost use Rattle.std.specs.Prelude.{◌≡◌};
 ghost use Rattle.std.specs.Coded.{codes};
@@ -10,7 +10,7 @@ ghost use Rattle.cy_scope.specs.Checked.{IsChecked, IsViewQuery};
 use cy_trees::Statement;
 use std::marker::Model;
 
-/// A statement without a fault, each of its variables with its column. What holds of it says `checked_statements`.
+/// A statement without a fault, each of its variables with its column. `checked_statements` says what holds of it.
 #[derive(Drop)]
 pub struct Checked {
     pub(crate) statement: Statement,

@@ -23,7 +23,7 @@ fn see_name(before: &Scope, fresh: &mut Scope, kind: Kind, name: &str) -> Result
     Ok(())
 }
 
-/// The same of a variable, if there is one.
+/// Adds a variable, if there is one, to the second scope, if its name is new in both.
 fn see(
     before: &Scope,
     fresh: &mut Scope,

@@ -23,7 +23,7 @@ fn resolved(alloc: Global, statement: Statement) -> Result<Statement, AllocError
 }
 
 /// The statement with the column of each variable set, and nothing else changed. Where a place of it is faulty, the fault of
-/// the first such place in the order of the text; the statement is dropped. `NoMemory` where memory is wanting.
+/// the first such place in the order of the text; the statement is dropped. `NoMemory` when out of memory.
 pub fn check(alloc: Global, statement: Statement) -> Result<Checked, ScopeFault>
     ensures { let s = statement_of statement in MatchResult result (λ checked. (statement_fault s ≡ None) × (statement_of checked ≡ resolved_statement s)) (λ fault. (fault ≡ NoMemory) ⊎ (statement_fault s ≡ Some fault)) }
 {

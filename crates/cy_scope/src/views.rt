@@ -164,8 +164,8 @@ fn any_unbounded(clauses: &[Clause]) -> bool
 /// A checked statement as the query of a view. `NotAReading` where it doesn't end with RETURN or has an updating clause, then
 /// `OrderInView` where it has ORDER BY, SKIP or LIMIT, `AggregateInView` where it has an aggregate, `Unbounded` where it has a
 /// length without an upper bound or with one above 5, `MayFail` where it has UNWIND, an expression that isn't sure, or a
-/// WHERE that is no sure flag: each is asked of the whole statement before the next (own). `NoMemory` where memory is
-/// wanting for the last of these; the others take none.
+/// WHERE that is no sure flag: each is asked of the whole statement before the next (own). `NoMemory` when out of
+/// memory at the last of these; the others take none.
 pub fn check_view(alloc: Global, checked: Checked) -> Result<ViewQuery, ViewFault>
     ensures query { IfOk result (λ query. query ≡ checked) }
     ensures verdict { MatchResult result (λ _. spec.view_fault (statement_of checked) ≡ None) (λ fault. (fault ≡ NoMemory) ⊎ (spec.view_fault (statement_of checked) ≡ Some fault)) }

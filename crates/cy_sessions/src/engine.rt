@@ -26,8 +26,8 @@ const LINES: [&str; 6] = [
     "CREATE (:A {k: 7})",
 ];
 
-// The lines are answered, but for the fourth, and the view has the rows that they leave. (An engine is lent to whoever may fail:
-// the proof of each way out of a function that owns one takes minutes.)
+// The lines are answered, but for the fourth, and the view has the rows that they leave. (An engine is borrowed by what may fail:
+// the proof of each exit of a function that owns one takes minutes.)
 fn expect_answers(rt: &impl Abort, alloc: Global, engine: &mut Engine) -> Result<(), Fail> {
     let answers = answer_all(alloc, engine, &LINES).ok().ok_or("answers")?;
     assert!(rt; answers.len() == 6);

@@ -178,7 +178,7 @@ fn expect_followed(
     Ok(())
 }
 
-// The same with an engine of their own.
+// The four send their lines in this order to an engine of their own.
 fn follow(rt: &impl Abort, alloc: Global, history: usize, order: u32) -> Result<(), Fail>
     requires from { 1 ≤ history }
     requires to { history ≤ 4096 }

@@ -1,5 +1,5 @@
 //! What no transcript holds of sessions: calls of the engine, bags and feeds, invalid UTF-8, very long lines, options, and streams
-//! that fail. There is nothing here but tests.
+//! that fail. Only tests stand here.
 #![tactic(auto)]
 
 #[cfg(test)]

@@ -53,7 +53,7 @@ fn answers_inputs(rt: HostRuntime) -> Result<(), Fail> {
     Ok(())
 }
 
-// A line may have 65,536 bytes, its last three after so many, and not one more; the next line is answered.
+// A line may have 65,536 bytes, its last three after this many, and not one more; the next line is answered.
 #[test]
 fn answers_long_lines(rt: HostRuntime) -> Result<(), Fail> {
     let table = [
@@ -92,7 +92,7 @@ const AFTER_ALL_ANSWERS: &str = r#"{"at":null,"code":68,"error":"TooManyViews"}
 {"rows":[[[null],1]],"tick":257,"view":"v256"}
 "#;
 
-// There may be 256 views, and the lines after one more find all as it was.
+// There may be 256 views, and the lines after one more find everything as it was.
 #[test]
 fn counts_views(rt: HostRuntime) -> Result<(), Fail> {
     let mut input = String::new(rt.alloc());

@@ -42,7 +42,7 @@ const SESSION: [(&[u8], &[u8]); 7] = [
     ),
 ];
 
-// The input is read by so many calls, and written for by so many: the run ends so, once this is written.
+// The input is read by this many calls, and written for by this many: the run ends so, once this is written.
 fn expect_run(
     rt: &impl Abort,
     alloc: Global,

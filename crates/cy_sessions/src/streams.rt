@@ -1,4 +1,4 @@
-//! A reader and a writer that move a byte at a time, and fail after so many calls.
+//! A reader and a writer that move a byte at a time, and fail after this many calls.
 
 use std::io::{self, Error, ErrorKind};
 

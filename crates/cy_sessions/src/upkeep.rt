@@ -6,7 +6,7 @@ use std::fmt::Write;
 use std::process::Abort;
 use std::test::Fail;
 
-// A view of so many items.
+// A view of this many items.
 fn view_of_items(alloc: Global, items: u16) -> Result<String, Fail> {
     let mut line = String::new(alloc);
     write!(line, ":view v{items} MATCH (a) RETURN 1 AS c1")?;
@@ -43,7 +43,7 @@ fn count_of_row(engine: &Engine, view: &str) -> Option<u64> {
     }
 }
 
-// With so many nodes the row counts the eighth power of their number; one more would be above 2^62 - 1. The refused line leaves all.
+// With this many nodes the row counts the eighth power of their number; one more would be above 2^62 - 1. The refused line changes nothing.
 fn expect_counts(rt: &impl Abort, engine: &mut Engine) -> Result<(), Fail> {
     assert!(rt; engine.line(EIGHT).is_ok());
     for _ in 0..215 {

@@ -40,7 +40,7 @@ nothing_fed false = refl
 no_feed : (feed : Bool) (result : Result Reply Fault) (text : List ℕ) → IsAnswerText result text → IsLineText feed result [] text
 no_feed feed result text answered = record { answer = text; entry_texts = []; is = sym (append-nil text); answered = answered; feeds = nothing_fed feed }
 
--- want of memory may refuse it, unless it has no tokens
+-- being out of memory may refuse it, unless it has no tokens
 left_answer : (state : Serving) (line : List ℕ) → length line ≤ line_limit → IsUtf8 line → HasAnswer state line
 left_answer state line short utf8 = from (tokens_of line) refl
   where

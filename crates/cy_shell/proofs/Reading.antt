@@ -9,7 +9,7 @@ use Rattle.cy_shell.specs.Streams.{Extends, TakesFront}
 use Rattle.cy_shell.proofs.Chains.{no_lines, more_lines}
 use Rattle.cy_shell.proofs.Cuts.{ended-append, begun-append}
 
--- so many bytes of the input are read, and the lines that have ended in them are answered
+-- this many bytes of the input are read, and the lines that have ended in them are answered
 pub record Reads (input : List ℕ) (total : ℕ) (start : Serving) (left line : Option (List ℕ)) (engine : Serving) (before after : Option (List ℕ)) : Type 0 where
   pub within : total ≤ length input
   pub unread : left ≡ Some (drop total input)

@@ -57,7 +57,7 @@ pub record AreBad (words : List Text) : Type 0 where
   pub is : IsAmong kind (objections words)
   pub no_help : kind ≢ DisplayHelp
 
--- what the words ask for; want of memory may stand for all of it
+-- what the words ask for; out of memory may stand for all of it
 abbrev pub IsInvocation : List Text → Result Invocation ArgFault → Type 0
 IsInvocation words (Ok (Run settings)) = HasSettings words settings
 IsInvocation words (Ok (Help text)) = IsAmong DisplayHelp (objections words)

@@ -14,7 +14,7 @@ use Rattle.cy_shell.specs.Replies.{reply_json, entry_json, fault_json}
 abbrev pub printed_line : Data → List ℕ
 printed_line json = compact_text json ++ line_feed ∷ []
 
--- the text of want of memory, 90, which stands in for that of any fault
+-- the text of out of memory, 90, which stands in for that of any fault
 abbrev pub no_memory_text : List ℕ
 no_memory_text = printed_line (fault_json None (code_of NoMemory))
 
@@ -26,7 +26,7 @@ reply_lost_code = 91
 abbrev pub reply_lost_text : List ℕ
 reply_lost_text = printed_line (fault_json None reply_lost_code)
 
--- the text of a fault with this offset and number, or that of want of memory
+-- the text of a fault with this offset and number, or that of out of memory
 abbrev pub IsFaultText : Option ℕ → ℕ → List ℕ → Type 0
 IsFaultText at code text = (text ≡ printed_line (fault_json at code)) ⊎ (text ≡ no_memory_text)
 

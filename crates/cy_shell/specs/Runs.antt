@@ -14,7 +14,7 @@ use Rattle.cy_shell.specs.Lines.{line_limit, whole_lines, lines_of, lines_after}
 use Rattle.cy_shell.specs.Printed.{IsFaultText, IsLineText}
 use Rattle.cy_shell.specs.Streams.{Extends, appended}
 
--- the text of a fault of the lexer, or that of want of memory
+-- the text of a fault of the lexer, or that of out of memory
 abbrev pub IsLexFaultText : LexFault → List ℕ → Type 0
 IsLexFaultText fault text = IsFaultText (at_of fault) (code_of fault) text
 

@@ -26,7 +26,7 @@ impl Model for LineBuffer {
 }
 
 impl LineBuffer {
-    /// An empty line. Fails only for want of memory.
+    /// An empty line. Fails only when out of memory.
     pub(crate) fn new(alloc: Global) -> Result<Self, AllocError>
         ensures { IfOk result (λ buffer. buffer ≡ buffered []) }
     {

@@ -15,7 +15,7 @@ pub(crate) trait WriteJson {
 
     ghost json: { Self → Data };
 
-    /// Writes the JSON of the value. Fails only for want of memory: then some of it may have been written.
+    /// Writes the JSON of the value. Fails only when out of memory: then some of it may have been written.
     fn write_json(&self, out: &mut Writer) -> Result<(), AllocError>
         ensures tokens { OnOk result (out.new.tokens ≡ out.old.tokens ++ tokens_of (json self.now)) }
         ensures before { out.new.before ≡ out.old.before };

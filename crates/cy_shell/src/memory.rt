@@ -1,4 +1,4 @@
-//! Sources and sinks over memory, which tell their bytes.
+//! Sources and sinks over memory, whose bytes are known.
 
 ghost use Rattle.std.specs.Prelude.{◌≡◌, ◌-◌, ◌≤◌, ◌<◌, [], IfOk, OnErr, OnOk, IsOk, Some, true, false, length, min, take};
 ghost use Rattle.cy_shell.specs.Streams.{Extends, TakesFront, appended};
@@ -84,7 +84,7 @@ impl Model for MemorySink {
 }
 
 impl MemorySink {
-    /// A sink with room for so many bytes. Fails only for want of memory.
+    /// A sink with room for this many bytes. Fails only when out of memory.
     pub fn new(alloc: Global, room: usize) -> Result<Self, AllocError>
         ensures { IfOk result (λ sink. sink ≡ record { written = []; room = room; has_failed = false }) }
     {

@@ -29,7 +29,7 @@ pub enum ArgFault {
     /// An argument is no option, an option is there twice, or a history is missing or no number from 1 to 4096.
     #[error("bad arguments")]
     Bad,
-    /// There was no memory to read the arguments.
+    /// Out of memory for reading the arguments.
     #[error("no memory for the arguments")]
     Memory,
 }
@@ -72,7 +72,7 @@ impl From<AllocError> for ArgFault {
 /// printed after its reply. Where there is no such option, the history has 64 entries, and no entry is printed. `--help`
 /// asks for the help text, unless a bad argument comes before it.
 ///
-/// Fails with `Bad` at any other words, and with `Memory` where there is no memory.
+/// Fails with `Bad` at any other words, and with `Memory` when out of memory.
 pub fn settings(alloc: Global, words: &[String]) -> Result<Invocation, ArgFault>
     ensures asked { IsInvocation (map string_bytes words.now) result }
     ensures plain { length words.now ≤ 1 → IfOk result (λ asked. asked ≡ Invocation.Run (record { history = 64; feed = false })) }

@@ -13,7 +13,7 @@ use json::Writer;
 use std::alloc::{AllocError, Global};
 use std::mem;
 
-// The texts that are printed where there is no memory to make another.
+// The texts that are printed when out of memory for another.
 const NO_MEMORY: &str = "{\"at\":null,\"code\":90,\"error\":\"NoMemory\"}\n";
 
 const REPLY_LOST: &str = "{\"at\":null,\"code\":91,\"error\":\"ReplyLost\"}\n";
@@ -27,9 +27,9 @@ pub(crate) enum Printed {
     Nothing,
     /// What the room has.
     Text,
-    /// No memory was left for the line, or for the text of its fault.
+    /// Out of memory for the line, or for the text of its fault.
     NoMemory,
-    /// No memory was left for the text of its reply.
+    /// Out of memory for the text of its reply.
     ReplyLost,
 }
 
@@ -70,7 +70,7 @@ pub(crate) fn print_entry(alloc: Global, room: &mut Vec<u8>, entry: &(Text, Entr
     }
 }
 
-/// What is printed for a fault. Want of memory is reported without taking any.
+/// What is printed for a fault. Being out of memory is reported without taking any.
 pub(crate) fn print_fault(
     alloc: Global,
     room: &mut Vec<u8>,

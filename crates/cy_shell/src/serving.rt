@@ -36,7 +36,7 @@ pub enum RunFault {
     /// A write or a flush failed.
     #[error("the output cannot be written on")]
     Write,
-    /// There was no memory at the start.
+    /// Out of memory at the start.
     #[error("no memory to begin with")]
     Memory,
 }
@@ -76,7 +76,7 @@ impl From<AllocError> for RunFault {
 /// reply. All memory for reading is taken at the start.
 ///
 /// Fails with `Read` where a read fails, or once 2^62 bytes were read: the lines that had ended by then are answered.
-/// Fails with `Write` where a write or a flush fails, and with `Memory` where there is no memory at the start: nothing is
+/// Fails with `Write` where a write or a flush fails, and with `Memory` when out of memory at the start: nothing is
 /// read or written then. Nothing that failed is tried again.
 pub fn run<R: Source, W: Sink>(
     alloc: Global,
@@ -118,7 +118,7 @@ pub fn run<R: Source, W: Sink>(
     serve(&mut session, piece.as_mut_slice(), source, sink)
 }
 
-// The room for a piece of the input. Fails only for want of memory.
+// The room for a piece of the input. Fails only when out of memory.
 fn new_piece(alloc: Global) -> Result<Vec<u8>, AllocError>
     ensures { IfOk result (λ piece. length piece.items ≡ 65536) }
 {

@@ -30,7 +30,7 @@ pub(crate) struct Session {
 }
 
 impl Session {
-    /// An engine that is empty, and no line begun. Fails only for want of memory.
+    /// An engine that is empty, and no line begun. Fails only when out of memory.
     pub(crate) fn new(alloc: Global, history: usize, feed: bool) -> Result<Self, AllocError>
         requires from { 1 ≤ history }
         requires to { history ≤ 4096 }

@@ -1,4 +1,4 @@
-//! What bytes come from and go to.
+//! Where bytes come from and go to.
 
 ghost use Rattle.std.specs.Prelude.{◌≡◌, ◌≤◌, ◌<◌, ℕ, List, Bool, true, false, length, take, Option, IfOk, IfSome, OnOk, OnErr};
 ghost use Rattle.cy_shell.specs.Streams.{Extends, TakesFront, appended};
@@ -10,7 +10,7 @@ use thiserror::Error;
 #[error("a read, a write or a flush failed")]
 pub struct Failed;
 
-/// What bytes are read from.
+/// Where bytes are read from.
 pub trait Source {
     /// The bytes that are left to read, where they are known.
     ghost remaining: { Self → Option (List ℕ) };
@@ -33,7 +33,7 @@ pub trait Source {
         ensures fails { OnErr result (has_failed self.new ≡ true) };
 }
 
-/// What bytes are written to.
+/// Where bytes are written to.
 pub trait Sink {
     /// The bytes that were written, where they are known.
     ghost written: { Self → Option (List ℕ) };

@@ -86,7 +86,7 @@ const LEAVES: [(&str, usize); 16] = [
     ("NOT -f(x)", 253),
 ];
 
-/// What stands before and after an expression in its clause, and in more of the expression, so many times.
+/// What stands before and after an expression in its clause, and in more of the expression, this many times.
 #[derive(Clone, Copy)]
 struct Around {
     clause: (&'static str, &'static str),

@@ -1,5 +1,5 @@
 //! What no transcript holds of texts: tokens, trees and their depths, and what scope refuses; and values beside one another.
-//! There is nothing here but tests.
+//! Only tests stand here.
 #![tactic(auto)]
 
 #[cfg(test)]

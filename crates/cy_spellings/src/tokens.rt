@@ -176,7 +176,7 @@ fn answer(alloc: Global, line: &str) -> Result<String, Fail> {
     }
 }
 
-/// Pieces, each so many times in a line, with how many tokens this has and where the last one ends.
+/// Pieces, each this many times in a line, with how many tokens this has and where the last one ends.
 const LONG_LINES: [(&str, usize, Result<(usize, usize), LexFault>); 13] = [
     ("x", 65535, Ok((1, 65535))),
     ("x", 65536, Ok((1, 65536))),

@@ -104,7 +104,7 @@ fn add_tables(
     Ok(())
 }
 
-// The same as a text.
+// What the three clauses of a query give, as a text.
 fn tables(alloc: Global, store: &Store, line: &str) -> Result<String, Fail> {
     let query = query_of(alloc, line)?;
     let mut text = String::new(alloc);
@@ -112,7 +112,7 @@ fn tables(alloc: Global, store: &Store, line: &str) -> Result<String, Fail> {
     Ok(text)
 }
 
-// The store is lent, since the proof of each way out of a function that owns one takes long.
+// The store is borrowed, since the proof of each exit of a function that owns one takes long.
 fn expect_tables(rt: &impl Abort, alloc: Global, store: &mut Store) -> Result<(), Fail>
     requires { IsNone store.old.graph.was }
 {

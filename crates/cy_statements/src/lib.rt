@@ -1,4 +1,4 @@
-//! Queries and statements, executed on stores. There is nothing here but tests.
+//! Queries and statements, executed on stores. Only tests stand here.
 #![tactic(auto)]
 
 #[cfg(test)]

@@ -130,7 +130,7 @@ pub(crate) fn answered(alloc: Global, store: &Store, line: &str) -> Result<Strin
     }
 }
 
-// The store is lent, since the proof of each way out of a function that owns one takes long.
+// The store is borrowed, since the proof of each exit of a function that owns one takes long.
 fn expect_readings(rt: &impl Abort, alloc: Global, store: &Store) -> Result<(), Fail> {
     for case in READINGS.lines() {
         let (line, wanted) = case.split_once(" => ").ok_or("no rows")?;

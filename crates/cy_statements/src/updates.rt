@@ -242,7 +242,7 @@ fn executed(alloc: Global, store: &mut Store, lines: &str) -> Result<String, Fai
     Ok(answer)
 }
 
-// The same from an empty store, by its next numbers.
+// What the last of the statements answers, and the graph after it, from an empty store with these next numbers.
 fn session(alloc: Global, numbers: &str, lines: &str) -> Result<String, Fail> {
     let mut store = store_at(alloc, numbers)?;
     executed(alloc, &mut store, lines)

@@ -18,7 +18,7 @@ use cy_plans::Attribute;
 use cy_values::{Cell, Duplicate, Fault, NodeId, RelId, Row, Scalar, Sequence, Text, Value};
 use std::alloc::Global;
 
-/// The value that an attribute of an entity has, and the one that it had, where that is another.
+/// The value that an attribute of an entity has, and the one that it had, where that differs.
 #[derive(Debug, Drop)]
 pub(crate) struct Attributes {
     pub(crate) value: Value,
@@ -71,7 +71,7 @@ impl Duplicate for Attributes {
     }
 }
 
-/// An attribute of the entity in a column of a row. It reads one entity at most. Fails only for want of memory.
+/// An attribute of the entity in a column of a row. It reads one entity at most. Fails only when out of memory.
 pub(crate) fn attributes_at<'a>(
     alloc: Global,
     change: &GraphChange<'a>,
@@ -96,7 +96,7 @@ pub(crate) fn attributes_at<'a>(
     Ok(Attributes::null())
 }
 
-/// An attribute of a node. It reads the node. Fails only for want of memory.
+/// An attribute of a node. It reads the node. Fails only when out of memory.
 pub(crate) fn node_attributes<'a>(
     alloc: Global,
     change: &GraphChange<'a>,
@@ -116,7 +116,7 @@ pub(crate) fn node_attributes<'a>(
     }
 }
 
-/// An attribute of a relationship. It reads the relationship. Fails only for want of memory.
+/// An attribute of a relationship. It reads the relationship. Fails only when out of memory.
 pub(crate) fn rel_attributes<'a>(
     alloc: Global,
     change: &GraphChange<'a>,
@@ -136,7 +136,7 @@ pub(crate) fn rel_attributes<'a>(
     }
 }
 
-/// The value of an attribute of a node, if it is there. Fails only for want of memory.
+/// The value of an attribute of a node, if it is there. Fails only when out of memory.
 pub fn node_value(alloc: Global, attribute: &Attribute, node: Option<&Node>) -> Result<Value, Fault>
     ensures { IfOk result (λ v. v ≡ node_attribute attribute.now (option_copied node.entry)) }
 {
@@ -148,7 +148,7 @@ pub fn node_value(alloc: Global, attribute: &Attribute, node: Option<&Node>) -> 
     }
 }
 
-/// The value of an attribute of a relationship, if it is there. Fails only for want of memory.
+/// The value of an attribute of a relationship, if it is there. Fails only when out of memory.
 pub fn rel_value(alloc: Global, attribute: &Attribute, rel: Option<&Rel>) -> Result<Value, Fault>
     ensures { IfOk result (λ v. v ≡ rel_attribute attribute.now (option_copied rel.entry)) }
 {

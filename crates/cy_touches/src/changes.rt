@@ -16,7 +16,7 @@ use indexmap::{IndexMap, map};
 use std::alloc::Global;
 use std::marker::Model;
 
-/// The entities whose value is another than when the open change began, each under its number with the value that it had, if it was
+/// The entities whose value differs from when the open change began, each under its number with the value that it had, if it was
 /// there. It is made once for all parts of a plan. It lends from the store and not from the sight, which can be read on beside it.
 #[derive(Drop)]
 pub struct GraphChange<'a> {
@@ -35,7 +35,7 @@ impl<'a> Model for GraphChange<'a> {
 }
 
 impl<'a> GraphChange<'a> {
-    /// What the open change touched. Fails only for want of memory.
+    /// What the open change touched. Fails only when out of memory.
     pub fn new(alloc: Global, sight: &Sight<'a>) -> Result<Self, Fault>
         requires { IsSome sight.now.graph.was }
         ensures change { IfOk result (λ change. IsChange (before_change sight.now.graph) sight.now.graph.now change) }
@@ -51,7 +51,7 @@ impl<'a> GraphChange<'a> {
         Ok(change)
     }
 
-    /// What leads from a graph without anything to that of a store: each entity is touched, and none was there. Fails only for want
+    /// What leads from a graph without anything to that of a store: each entity is touched, and none was there. Fails only when out
     /// of memory.
     pub fn of_all(alloc: Global, store: &'a Store) -> Result<Self, Fault>
         ensures { IfOk result (λ change. IsChange (empty_state 1 1) store.now.graph.now change) }
@@ -75,7 +75,7 @@ impl<'a> GraphChange<'a> {
         }
     }
 
-    // One more entity is touched. Fails only for want of memory.
+    // One more entity is touched. Fails only when out of memory.
     fn add(&mut self, touched: Touched<'a>) -> Result<(), Fault>
         ensures nodes { OnOk result ((number : ℕ) → image_at number self.new.nodes ≡ node_noted number (before_image touched.entry) (image_at number self.old.nodes)) }
         ensures rels { OnOk result ((number : ℕ) → image_at number self.new.rels ≡ rel_noted number (before_image touched.entry) (image_at number self.old.rels)) }
@@ -128,7 +128,7 @@ impl<'a> GraphChange<'a> {
     }
 }
 
-// All nodes of a store, none of which was there. Fails only for want of memory.
+// All nodes of a store, none of which was there. Fails only when out of memory.
 fn nodes_of<'a>(alloc: Global, store: &'a Store) -> Result<IndexMap<u64, Option<&'a Node>>, Fault>
     ensures nodes { IfOk result (λ nodes. (number : ℕ) → image_at number nodes.entries ≡ come (λ k. k.0) number store.now.graph.now.content.nodes None) }
     ensures graph { OnOk result (IsGraph store.now.graph.now) }
@@ -140,7 +140,7 @@ fn nodes_of<'a>(alloc: Global, store: &'a Store) -> Result<IndexMap<u64, Option<
     Ok(nodes)
 }
 
-// All relationships of a store, none of which was there. Fails only for want of memory.
+// All relationships of a store, none of which was there. Fails only when out of memory.
 fn rels_of<'a>(alloc: Global, store: &'a Store) -> Result<IndexMap<u64, Option<&'a Rel>>, Fault>
     ensures rels { IfOk result (λ rels. (number : ℕ) → image_at number rels.entries ≡ come (λ k. k.0) number store.now.graph.now.content.rels None) }
 {

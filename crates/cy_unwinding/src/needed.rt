@@ -23,7 +23,7 @@ use cy_values::{Cell, Fault, Row};
 use std::alloc::Global;
 use std::cmp::Ordering;
 
-/// At most so many clauses after an UNWIND are looked at.
+/// At most this many clauses after an UNWIND are looked at.
 const CLAUSES_AHEAD: usize = 64;
 
 /// Whether the cell at a place is needed; past the end of what is known each is.
@@ -36,8 +36,8 @@ pub(crate) fn is_needed(needed: &[bool], place: usize) -> bool
     }
 }
 
-/// Which of so many columns the clauses after a clause need, where these rows stand before it. After anything but UNWIND the list is
-/// empty, and all are needed. Fails only for want of memory.
+/// Which of this many columns the clauses after a clause need, where these rows stand before it. After anything but UNWIND the list is
+/// empty, and all are needed. Fails only when out of memory.
 pub fn needed_after(
     alloc: Global,
     clause: &Clause,
@@ -61,7 +61,7 @@ pub fn needed_after(
     }
 }
 
-// Which of so many columns clauses need, where these rows stand before UNWIND. A clause that updates takes rows in their order, so
+// Which of this many columns clauses need, where these rows stand before UNWIND. A clause that updates takes rows in their order, so
 // before one that does what tells rows apart is needed too.
 fn needed_by(
     alloc: Global,
@@ -338,7 +338,7 @@ fn mark_items(alloc: Global, needed: &mut Vec<bool>, items: &[Item]) -> Result<(
     Ok(())
 }
 
-// Marks the columns that keys read of the row before, which stand after those of so many items.
+// Marks the columns that keys read of the row before, which stand after those of this many items.
 fn mark_keys(
     alloc: Global,
     needed: &mut Vec<bool>,
@@ -354,7 +354,7 @@ fn mark_keys(
     Ok(())
 }
 
-// The same for one key. If it repeats an item, it is that item's column and reads nothing of the row before.
+// Marks the columns that one key reads of the row before. If it repeats an item, it is that item's column and reads nothing of that row.
 fn mark_key(
     alloc: Global,
     needed: &mut Vec<bool>,
@@ -372,7 +372,7 @@ fn mark_key(
     Ok(())
 }
 
-// Marks those of the columns that stand after so many, counted from there.
+// Marks those of the columns that stand after this many, counted from there.
 fn mark_seen(needed: &mut Vec<bool>, count: usize, columns: &[usize])
     ensures read { AreSeen needed.new.items count columns.now }
     ensures still { StillNeeded needed.old.items needed.new.items }
@@ -382,7 +382,7 @@ fn mark_seen(needed: &mut Vec<bool>, count: usize, columns: &[usize])
     }
 }
 
-// Marks a column that stands after so many, counted from there.
+// Marks a column that stands after this many, counted from there.
 fn mark_if_after(needed: &mut Vec<bool>, count: usize, column: usize)
     ensures read { IsSeen needed.new.items count column }
     ensures still { StillNeeded needed.old.items needed.new.items }

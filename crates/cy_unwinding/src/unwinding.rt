@@ -39,7 +39,7 @@ pub fn unwound(
     unwound.finish()
 }
 
-// A row with each element of its list; null has none, and what else is no list faults.
+// A row with each element of its list; null has none, and anything else that is no list is a fault.
 fn unwound_row(
     alloc: Global,
     store: &Store,

@@ -266,7 +266,7 @@ fn expect_line<M: Memory>(
     Ok(())
 }
 
-// The store and the network are lent, since the proof of each way out of a function that owns one takes long.
+// The store and the network are borrowed, since the proof of each exit of a function that owns one takes long.
 fn expect_lines<M: Memory>(
     rt: &impl Abort,
     alloc: Global,

@@ -1,4 +1,4 @@
-//! Views kept by networks, over both kinds of memory. There is nothing here but tests.
+//! Views kept by networks, over both kinds of memory. Only tests stand here.
 #![tactic(auto)]
 
 #[cfg(test)]

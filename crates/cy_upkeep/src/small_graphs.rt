@@ -14,7 +14,7 @@ MATCH (a) CREATE (a)-[:T]->(b:B {k: 2})-[:U {k: 1}]->(a), (b)-[:T]->(b), (:A:B)
 MATCH (n) DETACH DELETE n
 ";
 
-// So many graphs have two nodes, of two kinds of second ones, and two relationships, between any of them and the second one of two types.
+// This many graphs have two nodes, of two kinds of second ones, and two relationships, between any of them and the second one of two types.
 const SMALL_GRAPHS: u64 = 64;
 
 const QUERIES: &str = "\

@@ -27,7 +27,7 @@ abbrev pub All : (Registered → Type 0) → Registry → Type 0
 All P entries = AllByRecursion (λ (e : String Global × Registered). P e.1) entries
 
 module _ (R : Registered → Registered → Type 0) where
-  -- the first so many are related to what they were, and the others are as they were
+  -- the first this many are related to what they were, and the others are as they were
   abbrev pub FirstDone : ℕ → Registry → Registry → Type 0
   FirstDone n [] now = now ≡ []
   FirstDone zero (e ∷ entries) now = now ≡ e ∷ entries

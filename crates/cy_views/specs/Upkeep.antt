@@ -84,7 +84,7 @@ new_held name query plan made history = record { name = name; query = query; pla
 
 -- ---- what upkeep may cost, and why it may be refused
 
--- so many steps are at most 16 times what the upkeep of a plan's rows costs from one graph to another
+-- this many steps are at most 16 times what the upkeep of a plan's rows costs from one graph to another
 pub record IsWithinCost (before after : State) (plan : Plan) (steps : ℕ) : Type 0 where
   pub touches : Touches
   pub change : IsChange before after touches
@@ -101,19 +101,19 @@ abbrev pub SomeHasTooManyRows : Content → List Upkeep → Type 0
 SomeHasTooManyRows graph [] = ⊥
 SomeHasTooManyRows graph (u ∷ upkeep) = HasTooManyRows graph u.plan ⊎ SomeHasTooManyRows graph upkeep
 
--- a query has no rows that are kept: it weighs too much; or a plan that serves it has a part with too many rows; or memory is wanting
+-- a query has no rows that are kept: it weighs too much; or a plan that serves it has a part with too many rows; or it is out of memory
 abbrev pub IsUnkept : Statement → Content → UpkeepFault → Type 0
 IsUnkept query graph PlanTooLarge = greatest_weight < weight query
 IsUnkept query graph TooManyRows = (weight query ≤ greatest_weight) × ((plan : Plan) × Serves plan query × HasTooManyRows graph plan)
 IsUnkept query graph NoMemory = ⊤
 
--- a view can't follow to a graph by its plan: this has too many rows there, or memory is wanting
+-- a view can't follow to a graph by its plan: this has too many rows there, or it is out of memory
 abbrev pub CannotFollowBy : Plan → Content → UpkeepFault → Type 0
 CannotFollowBy plan graph PlanTooLarge = ⊥
 CannotFollowBy plan graph TooManyRows = HasTooManyRows graph plan
 CannotFollowBy plan graph NoMemory = ⊤
 
--- views can't follow to a graph: some plan has too many rows there, or memory is wanting
+-- views can't follow to a graph: some plan has too many rows there, or it is out of memory
 abbrev pub CannotFollow : List Upkeep → Content → UpkeepFault → Type 0
 CannotFollow upkeep graph PlanTooLarge = ⊥
 CannotFollow upkeep graph TooManyRows = SomeHasTooManyRows graph upkeep

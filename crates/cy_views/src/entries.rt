@@ -10,7 +10,7 @@ use indexmap::IndexMap;
 use std::alloc::Global;
 
 /// The entries of the views whose rows the open change, for which they are prepared, makes another bag: with their names, in the
-/// order in which the views were made. Fails only for want of memory.
+/// order in which the views were made. Fails only when out of memory.
 pub(crate) fn entries_of(
     alloc: Global,
     registry: &IndexMap<String, Registered>,

@@ -19,7 +19,7 @@ pub enum UpkeepFault {
     /// A row would count more than 2^62 - 1.
     #[error("too many rows")]
     TooManyRows,
-    /// No memory was left.
+    /// Out of memory.
     #[error("no memory")]
     NoMemory,
 }

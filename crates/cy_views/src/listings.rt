@@ -18,7 +18,7 @@ pub struct ViewListing {
     pub name: Text,
 }
 
-/// The columns of a view's query, which are those of the RETURN at its end. Fails only for want of memory.
+/// The columns of a view's query, which are those of the RETURN at its end. Fails only when out of memory.
 pub fn columns_of(alloc: Global, query: &ViewQuery) -> Result<Vec<Text>, Fault>
     ensures { IfOk result (λ columns. columns.items ≡ query_columns (statement_of query.now)) }
 {
@@ -32,7 +32,7 @@ pub fn columns_of(alloc: Global, query: &ViewQuery) -> Result<Vec<Text>, Fault>
     }
 }
 
-// The columns of the items of a RETURN. Fails only for want of memory.
+// The columns of the items of a RETURN. Fails only when out of memory.
 fn names_of(alloc: Global, items: &[Item]) -> Result<Vec<Text>, Fault>
     ensures { IfOk result (λ names. names.items ≡ map (λ i. i.column) (map item_of items.now)) }
 {

@@ -96,7 +96,7 @@ impl QueryRows {
         self.network.abandon();
     }
 
-    /// The rows with their counts, in canonical order. Fails only for want of memory.
+    /// The rows with their counts, in canonical order. Fails only when out of memory.
     pub(crate) fn counted(&self, alloc: Global) -> Result<Vec<(Row, u64)>, Fault>
         requires { (graph : Content) × StandsFor self.now graph }
         ensures { IfOk result (λ rows. (graph : Content) → StandsFor self.now graph → AreRowsOf (statement_of self.now.query) graph rows.items) }

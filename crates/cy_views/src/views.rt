@@ -111,7 +111,7 @@ impl Views {
     }
 
     /// The rows of the view of a name with their counts: what its query means on the graph, each row once, in canonical order. It
-    /// fails only for want of memory, where there is the view.
+    /// fails only when out of memory, where there is the view.
     pub fn rows(&self, name: &str) -> Result<Option<Vec<(Row, u64)>>, Fault>
         requires { (graph : Content) × ((tick : ℕ) × StandFor self.now graph tick) }
         ensures rows { IfOk result (λ rows. (graph : Content) (tick : ℕ) → StandFor self.now graph tick → AreShown (view_among name.now (views_in self.now)) graph (option_map (λ r. r.items) rows)) }
@@ -123,7 +123,7 @@ impl Views {
         }
     }
 
-    /// What changed in the view of a name since a tick, as its feed says. It fails only for want of memory.
+    /// What changed in the view of a name since a tick, as its feed says. It fails only when out of memory.
     pub fn since(&self, name: &str, tick: u64) -> Result<Option<Answer>, Fault>
         ensures { IfOk result (λ answer. answer ≡ option_map (λ view. answer_since tick view.feed) (view_among name.now (views_in self.now))) }
     {
@@ -133,7 +133,7 @@ impl Views {
         }
     }
 
-    /// The views as a list of them shows them. It fails only for want of memory.
+    /// The views as a list of them shows them. It fails only when out of memory.
     pub fn listings(&self) -> Result<Vec<ViewListing>, Fault>
         ensures { IfOk result (λ listings. listings.items ≡ map listed (views_in self.now)) }
     {
@@ -149,7 +149,7 @@ impl Views {
     }
 
     /// The name of each view, and how many steps its upkeep took for the last line that changed the graph while the view stood, 0 where
-    /// there was none. It fails only for want of memory.
+    /// there was none. It fails only when out of memory.
     pub fn steps(&self) -> Result<Vec<(Text, u64)>, Fault>
         ensures { IfOk result (λ steps. steps.items ≡ map (λ u. (u.name, u.steps)) (upkeep_in self.now)) }
     {
@@ -188,7 +188,7 @@ impl Views {
         }
     }
 
-    // The same, but after a refusal the views are to be abandoned.
+    // Makes the views ready for the end of the open change; after a refusal they are to be abandoned.
     fn make_ready(
         &mut self,
         store: &Store,

@@ -144,7 +144,7 @@ module _ (before : List Cell) (s : Step) (c now : Creation) (is : now ≡ with_r
         (ap (λ (n : Creation). new_relationship before s.relationship (node_at_place s.node n) n) (sym is) ∙ ap (λ o. new_relationship before s.relationship o now) (sym at) ∙ related)
         (ap (with_node_place before s.node) (sym is) ∙ placed)
 
--- so the relationship is refused for want of memory alone
+-- so the relationship is refused only when out of memory
 pub never_full : (next : ℕ) → (next == number_end) ≡ false → next ≢ number_end
 never_full next left = λ full. grind (arith, nat_tests)
 

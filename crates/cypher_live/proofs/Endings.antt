@@ -15,7 +15,7 @@ module _ {X : Type 0} (P Q : X → Type 0) (W : Type 0) where
   second None so holds = holds
   second (Some x) so holds = inr (so, holds)
 
-  -- a run that didn't end for want of memory ended at a source or at a sink
+  -- a run that didn't end out of memory ended at a source or at a sink
   pub at_stream : (known : Option X) (fault : RunFault) → (status_of fault ≡ 4 → ⊥) → (fault ≡ Read → IfSome known P) → (fault ≡ Write → W) → (fault ≡ Write → IfSome known Q)
       → IfSome known (λ x. P x ⊎ (W × Q x))
   at_stream known Read other read failed write = first known (read refl)

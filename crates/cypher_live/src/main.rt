@@ -53,7 +53,7 @@ fn request<R: Env + AllocGlobal>(rt: &R) -> Result<Invocation, ArgFault>
 }
 
 // Answers the lines of a source on a sink, and says how the program ends: with 0 where all were answered, with 3 where a stream failed or
-// 2^62 bytes were read, and with 4 where there was no memory at the start.
+// 2^62 bytes were read, and with 4 when out of memory at the start.
 fn serve<R: Source, W: Sink>(
     alloc: Global,
     source: &mut R,

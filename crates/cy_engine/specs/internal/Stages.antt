@@ -50,13 +50,13 @@ abbrev pub Gives : {X A : Type 0} → (X → A) → (Statement → Result A Faul
 Gives see verdict line tokens (Ok x) = HasTree line tokens (λ tree. verdict tree ≡ Ok (see x))
 Gives see verdict line tokens (Err why) = Fails verdict line tokens why
 
--- a line that asks for this is answered, or refused for want of memory or for too many rows
+-- a line that asks for this is answered, or refused when out of memory or for too many rows
 abbrev pub AnswersOrWants : List ℕ → Request → EngineState → Answer → Entries → EngineState → Type 0
 AnswersOrWants line asked old answer entries new =
     IsRefused fault.NoMemory old answer entries new
     ⊎ ((HasTooMany line asked old × IsRefused fault.TooManyRows old answer entries new) ⊎ Answers line asked old answer entries new)
 
--- what is answered to `:index`, or want of memory
+-- what is answered to `:index`, or out of memory
 abbrev pub AddsIndex : List ℕ → List ℕ → EngineState → Answer → Entries → EngineState → Type 0
 AddsIndex label key old answer entries new =
     IsRefused fault.NoMemory old answer entries new
@@ -77,7 +77,7 @@ abbrev pub HasEffect : Views → Views → State → State → ℕ → Option Ef
 HasEffect views ready before after tick None = (same_content before.content after.content ≡ true) × (ready ≡ views)
 HasEffect views ready before after tick (Some effect) = IsEffect views ready before after tick effect
 
--- why it is refused: memory is wanting, the tick is the last, or the views have too many rows
+-- why it is refused: it is out of memory, the tick is the last, or the views have too many rows
 abbrev pub HasNoEffect : List Upkeep → State → State → ℕ → Fault → Type 0
 HasNoEffect upkeep before after tick why =
     (why ≡ fault.NoMemory)

@@ -25,6 +25,6 @@ held_cell (held.Made v) = cell.Value v
 abbrev pub Gives : Result Held EvalFault → Result Cell EvalFault → Type 0
 Gives answer outcome = MatchResult answer (λ h. outcome ≡ Ok (held_cell h)) (λ fault. outcome ≡ Err fault)
 
--- the same, or want of memory
+-- an answer with this cell or this fault, or out of memory
 abbrev pub GivesOrWants : Result Held EvalFault → Result Cell EvalFault → Type 0
 GivesOrWants answer outcome = MatchResult answer (λ h. outcome ≡ Ok (held_cell h)) (λ fault. (outcome ≡ Err fault) ⊎ (fault ≡ NoMemory))

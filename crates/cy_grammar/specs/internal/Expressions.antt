@@ -79,7 +79,7 @@ chain_after operators operand left = λ ts. chain_from operators operand (length
 abbrev pub chain : (TokenKind → Option BinaryOperator) → Reader Expression → Reader Expression
 chain operators operand = operand >>= chain_after operators operand
 
--- one more level opens, where so many may still open
+-- one more level opens, where this many may still open
 unfoldable pub opened : ℕ → Reader (Unit {0})
 opened zero = refuse
 opened (suc n) = pure tt
@@ -233,7 +233,7 @@ module _ (line : List ℕ) where
     unfoldable pub plus : Reader Expression
     plus = inner nested.Sign >>= (λ e. checked (unary unary_operator.Plus e))
 
-  -- `inner` reads what stands inside of one more level, and so many may still open
+  -- `inner` reads what stands inside of one more level, and this many may still open
   module _ (levels : ℕ) (inner : Nested → Reader Expression) where
     unfoldable pub named : Reader Expression
     named = do
@@ -349,7 +349,7 @@ module _ (line : List ℕ) where
     level nested.Negation = negation
     level nested.Sign = signed
 
-  -- an expression with so many levels, its own counted, open at most
+  -- an expression with this many levels, its own counted, open at most
   unfoldable pub nesting : ℕ → Nested → Reader Expression
   nesting zero place = refuse
   nesting (suc n) place = level n (nesting n) place

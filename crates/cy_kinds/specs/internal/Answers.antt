@@ -8,10 +8,10 @@ use Rattle.cy_kinds.specs.Scopes.{Scope}
 abbrev pub Fault : Option ScopeFault → Result (Unit {0}) ScopeFault → Type 0
 Fault fault result = MatchResult result (λ _. fault ≡ None) (λ f. fault ≡ Some f)
 
--- the fault, or want of memory; without one, the scope is as it has to be
+-- the fault, or out of memory; without one, the scope is as it has to be
 abbrev pub GoesOn : Option ScopeFault → Scope → Scope → Result (Unit {0}) ScopeFault → Type 0
 GoesOn fault after scope result = MatchResult result (λ _. (fault ≡ None) × (scope ≡ after)) (λ f. (f ≡ NoMemory) ⊎ (fault ≡ Some f))
 
--- the fault that there is, or want of memory
+-- the fault that there is, or out of memory
 abbrev pub MayFault : Option ScopeFault → Result (Unit {0}) ScopeFault → Type 0
 MayFault fault result = MatchResult result (λ _. fault ≡ None) (λ f. (f ≡ NoMemory) ⊎ (fault ≡ Some f))

@@ -1,4 +1,4 @@
--- A function value that reads expressions with so many levels open.
+-- A function value that reads expressions with this many levels open.
 use Rattle.std.specs.Prelude.{ℕ, List, Result}
 use Rattle.std.specs.Borrow.{Bor}
 use Rattle.std.specs.declared.alloc.Global.{Global}

@@ -4,6 +4,6 @@ use Rattle.cy_merges.specs.Merges.{all_columns}
 use Rattle.cy_plans.specs.Plans.{Output}
 use Rattle.cy_scans.specs.Scans.{kept_at}
 
--- of each of the first columns, so many, whether it stands alone among those that a projection makes
+-- of each of the first columns, this many, whether it stands alone among those that a projection makes
 abbrev pub kept_flags : ℕ → List Output → List Bool
 kept_flags number outputs = map (λ column. is_some (kept_at column outputs)) (all_columns number)

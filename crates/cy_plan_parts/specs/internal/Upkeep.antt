@@ -24,14 +24,14 @@ pub record IsBegun (from_nothing : Bool) (old : Option State) (now : State) (tou
   pub step : IsStep old now touches p
   pub held : AreHeld (content_of old) p columns was staged
 
--- what comes of it: what changes of the rows of the part, and all these memories staged for the second graph
+-- what it gives: what changes of the rows of the part, and all these memories staged for the second graph
 pub record IsDone (old : Option State) (now : State) (p : Plan) (staged : List Counts) (shifts : List Shift) : Type 0 where
   pub change : IsDeltaOf old now p shifts
   pub holds : staged ≡ contents (rows_at (Some now.content)) p
   pub within : AreWithin (Some now.content) p
 
 -- A change that went through a part in the chain of a plan and not yet through the parts above that one: their memories hold what they mean on the
--- first graph, and those of the part and of the parts below it, so many, are staged for the second.
+-- first graph, and those of the part and of the parts below it, this many, are staged for the second.
 pub record IsPartway (old : Option State) (now : State) (touches : Touches) (p : Plan) (above : List Plan) (q : Plan) (place : ℕ) (columns : List (List ℕ)) (was staged : List Counts) (shifts : List Shift) : Type 0 where
   pub step : IsStep old now touches p
   pub linked : chain p ≡ above ++ chain q

@@ -11,7 +11,7 @@ use Rattle.cy_queries.specs.Order.{Keyed}
 use Rattle.cy_patterns.specs.Outcomes.{gathered}
 use Rattle.cy_queries.specs.Projection.{Projected, key_cell}
 
--- a row with the cells that its keys see after it; it has so many cells itself
+-- a row with the cells that its keys see after it; it has this many cells itself
 abbrev pub projected_of : ℕ → List Cell → Projected
 projected_of width seen = record { row = take width seen; seen = seen }
 

@@ -1,4 +1,4 @@
--- What becomes of the rows of a plan's parts, as far as they come of one entity, where it has another value.
+-- What becomes of the rows of a plan's parts, as far as they come from one entity, where it has another value.
 use Rattle.std.specs.Prelude.{◌≡◌, ◌⊎◌, ⊤, ℕ, true, List, [], Option, Some, is_some}
 use Rattle.std.specs.Option.{option_copied}
 use Rattle.cy_trees.specs.Trees.{Name}
@@ -24,7 +24,7 @@ NodeAbsent old new p = leaf_of p ≡ plan.nodes → (number : ℕ) → (node_mad
 abbrev pub NodeKeeps : Option Node → Option Node → Attribute → Type 0
 NodeKeeps old new attribute = node_attribute attribute old ≡ node_attribute attribute new
 
--- the same of a relationship
+-- a relationship makes the same rows of a scan with either value, and none with either one; an attribute of it is the same
 abbrev pub RelKept : Option Rel → Option Rel → Plan → Type 0
 RelKept old new p = (types : List Name) (orientation : Orientation) → leaf_of p ≡ plan.rels types orientation
     → (number : ℕ) → rel_made types orientation (scan_parts p) number old ≡ rel_made types orientation (scan_parts p) number new
@@ -36,7 +36,7 @@ RelAbsent old new p = (types : List Name) (orientation : Orientation) → leaf_o
 abbrev pub RelKeeps : Option Rel → Option Rel → Attribute → Type 0
 RelKeeps old new attribute = rel_attribute attribute old ≡ rel_attribute attribute new
 
--- the same of an entity
+-- an entity makes the same rows of a scan with either value, and none with either one; an attribute of it is the same
 abbrev pub KeepsRows : Entity → Plan → Type 0
 KeepsRows (entity.Node old new) = NodeKept (option_copied old) (option_copied new)
 KeepsRows (entity.Rel old new) = RelKept (option_copied old) (option_copied new)
@@ -49,7 +49,7 @@ abbrev pub KeepsValue : Entity → Attribute → Type 0
 KeepsValue (entity.Node old new) = NodeKeeps (option_copied old) (option_copied new)
 KeepsValue (entity.Rel old new) = RelKeeps (option_copied old) (option_copied new)
 
--- no row of a part comes of an entity; the part is a scan that names its entities in the first column
+-- no row of a part comes from an entity; the part is a scan that names its entities in the first column
 abbrev pub IsAbsent : Entity → Plan → Type 0
 IsAbsent e p = (scan_column p ≡ Some 0) × NoRows e p
 

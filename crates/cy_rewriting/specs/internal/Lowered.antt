@@ -17,7 +17,7 @@ lookup_at attribute column = record { column = column; attribute = attribute }
 abbrev pub moved : List Output → Wanted → Option Wanted
 moved outputs w = option_map (lookup_at w.attribute) (option_and_then taken_column (slice_get outputs w.column))
 
--- the outputs of a projection, and after them so many columns
+-- the outputs of a projection, and after them this many columns
 abbrev pub with_columns : List Output → ℕ → ℕ → List Output
 with_columns outputs first count = outputs ++ map column_output (range_with_len first count)
 
@@ -38,7 +38,7 @@ abbrev pub places : ℕ → ℕ → ℕ → List Wanted → List ℕ
 places width left right [] = []
 places width left right (w ∷ ws) = if is_left width w then left ∷ places width (left + 1) right ws else right ∷ places width left (right + 1) ws
 
--- the columns of both parts, where so many look-ups stand on the left one
+-- the columns of both parts, where this many look-ups stand on the left one
 abbrev pub both_columns : ℕ → ℕ → ℕ → List ℕ
 both_columns left right count = range_with_len 0 left ++ range_with_len (left + count) right
 

@@ -36,7 +36,7 @@ abbrev pub IsSplit : Plan → List Wanted → Split → Type 0
 IsSplit base ws (split.Leaf p) = plan_of p ≡ over base ws
 IsSplit base ws (split.Both j l r) = AreSides base ws j l r
 
--- the sides are less deep than so many levels
+-- the sides are less deep than this many levels
 abbrev pub AreLessDeep : ℕ → Split → Type 0
 AreLessDeep depth (split.Leaf p) = ⊤
 AreLessDeep depth (split.Both j l r) = (size-Operator l.part < depth) × (size-Operator r.part < depth)

@@ -44,12 +44,12 @@ front (c ∷ d ∷ cells) = c ∷ front (d ∷ cells)
 abbrev pub shift_at : Counts → Counts → List Cell → Shift
 shift_at was staged row = record { row = row; before = was row; after = staged row }
 
--- Those shifts of a row that come of another one without its last cell, where this has the key and didn't change.
+-- Those shifts of a row that come from another one without its last cell, where this has the key and didn't change.
 abbrev pub still_shifts : List ℕ → Counts → Counts → List Cell → Attributes → List Cell → List Shift
 still_shifts columns was staged key values row =
     if is_row key (key_of columns (front row)) && (was (front row) == staged (front row)) then shifts_of row (valued values (shift_at was staged (front row))) else []
 
--- the same of a row with an attribute, where the key is the cell in a column
+-- those shifts of a row with an attribute, where the key is the cell in a column
 abbrev pub still : Content → Content → ℕ → Attribute → Counts → Counts → Cell → List Cell → List Shift
 still old new column attribute was staged entity row =
     if is_row (entity ∷ []) (key_of (column ∷ []) (front row)) && (was (front row) == staged (front row))

@@ -66,12 +66,12 @@ pub record LeadsTo (before : State) (columns : List Name) (rows : List (List Cel
   pub within : length needed ≤ length columns
   pub step : (some : Counts) → (more : Counts) × IsSameResult (Ok (progress graph left more)) (carried_after clause needed (after_clause clause (progress before rows some)))
 
--- so does the code, or it stops at the clause's fault, or no memory was left
+-- so does the code, or it stops at the clause's fault, or it is out of memory
 abbrev pub IsNext : Result Updated UpdateFault → State → List Name → List (List Cell) → Clause → List Clause → State → Type 0
 IsNext result before columns rows clause others graph =
     MatchResult result (λ after. LeadsTo before columns rows clause others graph after.table.rows.items) (λ why. (why ≡ NoMemory) ⊎ ((some : Counts) → after_clause clause (progress before rows some) ≡ Err why))
 
--- the same with the rows in their order
+-- the code goes on to this graph with the rows in their order, or it stops at the fault, or it is out of memory
 abbrev pub IsNextInOrder : Result Updated UpdateFault → State → (Counts → Result Progress UpdateFault) → Type 0
 IsNextInOrder result graph meant =
     MatchResult result (λ after. (some : Counts) → (more : Counts) × (meant some ≡ Ok (progress graph after.table.rows.items more))) (λ why. Unit {0})

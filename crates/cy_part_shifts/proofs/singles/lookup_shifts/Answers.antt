@@ -50,7 +50,7 @@ fed_lookup key_columns was staged d own p column attribute old now touches shift
       begun_as key_columns was staged old p (plan.lookup (first_below p) column attribute) own (get_or own 0 d ∷ []) is one fed.own,
     )
 
--- what comes of a look-up, told of the memories that the part has
+-- what a look-up gives, by the memories that the part has
 module _ {M : Type 0} (key_columns : M → List ℕ) (was staged : M → Counts) (step_count : M → ℕ) (d : M) (own : List M) (p : Plan) (column : ℕ) (attribute : Attribute) (shifts : List Shift)
     (is : p ≡ plan.lookup (first_below p) column attribute) (kept : is_scan p ≡ false) (new : M) (old : Option State) (now : State) (touches : Touches)
     (fed : IsFed old now touches p (map key_columns own) (map was own) (map staged own) shifts) where

@@ -138,7 +138,7 @@ project-requires-clause-held g c =
     let f = fed_project g.M.Memory.key_columns g.M.Memory.was g.M.Memory.staged d c.args.own.now p outputs old now touches c.args.shifts.items c.requires.is c.requires.kept fed in
     (rows_at (content_of old) (first_below p), (rows_at (Some now.content) (first_below p), project_change old now touches (first_below p) outputs c.args.shifts.items (g.M.Memory.key_columns m) (g.M.Memory.was m) (g.M.Memory.staged m) c.requires.kept f.1 f.2 fed.below))
 
--- what comes of a projection, told of the memories that the part has
+-- what a projection gives, by the memories that the part has
 module _ {M : Type 0} (key_columns : M → List ℕ) (was staged : M → Counts) (step_count : M → ℕ) (d : M) (own : List M) (p : Plan) (outputs : List Output) (shifts : List Shift)
     (is : p ≡ plan.project (first_below p) outputs) (kept : is_row_by_row (first_below p) outputs ≡ false) (new : M) (old : Option State) (now : State) (touches : Touches)
     (fed : IsFed old now touches p (map key_columns own) (map was own) (map staged own) shifts) where

@@ -1,4 +1,4 @@
--- So many clauses are looked at.
+-- This many clauses are looked at.
 use Rattle.cy_unwinding.proofs.needed.+needed_ahead.Given as goal
 
 abbrev pub decreases-needed_ahead : goal.decreases-needed_ahead

@@ -1,4 +1,4 @@
--- The columns so far that stand after so many are marked.
+-- The columns so far that stand after this many are marked.
 use Rattle.std.proofs.Common.{take}
 use Rattle.cy_unwinding.specs.Carried.{AreSeen}
 use Rattle.cy_unwinding.specs.internal.Carried.{StillNeeded}

@@ -14,7 +14,7 @@ use Rattle.cy_writes.proofs.DeletedSets.{nodes_none, nodes_one, one_less}
 use Rattle.cy_effects.proofs.Graphs.{node_number}
 use Rattle.cy_writes.proofs.deleting.remove_node.Goals as goal
 
--- the removal is refused for want of memory alone
+-- the removal is refused only when out of memory
 memory_only : (refused : GraphFault) → ((rel : RelId) × (refused ≡ refusal.StillConnected rel)) ⊎ (refused ≡ refusal.NoMemory) → ((rel : RelId) → refused ≡ refusal.StillConnected rel → ⊥) → of_graph refused ≡ NoMemory
 memory_only refused (inl still) never = absurd (never still.0 still.1)
 memory_only refused (inr memory) never = ap of_graph memory

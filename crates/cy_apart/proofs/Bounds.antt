@@ -222,6 +222,7 @@ bounds graph (plan.outer left right keys test) good column =
     one_of (nat_lt column (width left)) (least_named left column) 0 (most_named left column) None column (rows_of graph (plan.outer left right keys test))
     (λ is. made_left (least_named left column) (most_named left column) column (width left) others (rows_of graph left) (wide_rows graph left good.0) (bounds graph left good.0 column) (below_it column (width left) is))
     (λ is. any_rows column (rows_of graph (plan.outer left right keys test)))
+bounds graph (plan.semi left right keys keeping) good column = All-filter _ (λ row. IsBetween (least_named left column) (most_named left column) (named column row)) (rows_of graph left) (bounds graph left good.0 column)
 bounds graph (plan.lookup p c attribute) good column =
     one_of (nat_lt column (width p)) (least_named p column) 0 (most_named p column) None column (rows_of graph (plan.lookup p c attribute))
     (λ is. looked_up (least_named p column) (most_named p column) column (width p) _ (rows_of graph p) (wide_rows graph p good.0) (bounds graph p good.0 column) (below_it column (width p) is))

@@ -224,6 +224,7 @@ links graph is (plan.rels types orientation) has =
     (each_there graph.content.rels is.rels_rising)
 links graph is (plan.join left right keys) has = absurd (false≢true has)
 links graph is (plan.outer left right keys test) has = absurd (false≢true has)
+links graph is (plan.semi left right keys keeping) has = All-filter _ (IsLink graph.content) (rows_of graph.content left) (links graph is left has)
 links graph is (plan.lookup p column attribute) has =
     All-map (IsLink graph.content) (with_attribute graph.content column attribute) (rows_of graph.content p)
     (All-weaker (IsLink graph.content) (λ row. IsLink graph.content (with_attribute graph.content column attribute row)) (λ row link. longer_link graph.content row _ link) (rows_of graph.content p)
@@ -256,6 +257,7 @@ lists graph plan.nodes has = absurd (false≢true has)
 lists graph (plan.rels types orientation) has = absurd (false≢true has)
 lists graph (plan.join left right keys) has = absurd (false≢true has)
 lists graph (plan.outer left right keys test) has = absurd (false≢true has)
+lists graph (plan.semi left right keys keeping) has = All-filter _ IsListed (rows_of graph left) (lists graph left has)
 lists graph (plan.lookup p column attribute) has =
     All-map IsListed (with_attribute graph column attribute) (rows_of graph p)
     (All-weaker IsListed (λ row. IsListed (with_attribute graph column attribute row))

@@ -35,6 +35,7 @@ least_named plan.nodes column = 0
 least_named (plan.rels types orientation) column = if column == 0 then 1 else 0
 least_named (plan.join left right keys) column = if nat_lt column (width left) then least_named left column else least_named right (column - width left)
 least_named (plan.outer left right keys test) column = if nat_lt column (width left) then least_named left column else 0
+least_named (plan.semi left right keys keeping) column = least_named left column
 least_named (plan.lookup p c attribute) column = if nat_lt column (width p) then least_named p column else 0
 least_named (plan.filter p test) column = least_named p column
 least_named (plan.all_different p columns) column = least_named p column
@@ -68,6 +69,7 @@ most_named plan.nodes column = None
 most_named (plan.rels types orientation) column = if column == 0 then Some 1 else None
 most_named (plan.join left right keys) column = if nat_lt column (width left) then most_named left column else most_named right (column - width left)
 most_named (plan.outer left right keys test) column = if nat_lt column (width left) then most_named left column else None
+most_named (plan.semi left right keys keeping) column = most_named left column
 most_named (plan.lookup p c attribute) column = if nat_lt column (width p) then most_named p column else None
 most_named (plan.filter p test) column = most_named p column
 most_named (plan.all_different p columns) column = most_named p column

@@ -39,6 +39,7 @@ pub(crate) fn least_named(part: &Operator, column: usize, enough: usize) -> usiz
         Operator::Filter(below, _) | Operator::AllDifferent(below, _) => {
             least_named(below, column, enough)
         }
+        Operator::Semi(left, _, _, _) => least_named(left, column, enough),
         Operator::Distinct(below) => least_named(below, column, enough),
         Operator::Project(below, outputs) => least_in(below, outputs, column, enough),
         Operator::Union(left, right) => {

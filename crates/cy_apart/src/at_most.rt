@@ -36,6 +36,7 @@ pub(crate) fn most_named(part: &Operator, column: usize) -> Option<u16>
         Operator::Filter(below, _) | Operator::AllDifferent(below, _) => {
             most_named(below, column)
         }
+        Operator::Semi(left, _, _, _) => most_named(left, column),
         Operator::Distinct(below) => most_named(below, column),
         Operator::Project(below, outputs) => most_in(below, outputs, column),
         Operator::Union(left, right) => {

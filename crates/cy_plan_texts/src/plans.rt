@@ -1,7 +1,7 @@
 //! The text of plans: a line for each part, with the parts below it further to the right.
 
 use crate::expressions::{write_column, write_columns, write_expression};
-use cy_plans::{Attribute, KeyColumns, Operator, Orientation, Output, Plan};
+use cy_plans::{Attribute, Keeping, KeyColumns, Operator, Orientation, Output, Plan};
 use cy_trees::Expr;
 use cy_values::Text;
 use std::fmt;
@@ -44,6 +44,19 @@ fn write_keys<W: Write>(f: &mut Formatter<W>, keys: &[KeyColumns]) -> fmt::Resul
         write_column(f, key.right)?;
     }
     Ok(())
+}
+
+/// Writes whether a semi join keeps the rows with a partner or those without one, and its keys.
+fn write_semi<W: Write>(
+    f: &mut Formatter<W>,
+    keys: &[KeyColumns],
+    keeping: Keeping,
+) -> fmt::Result {
+    f.write_str(match keeping {
+        Keeping::Matched => "Semi",
+        Keeping::Unmatched => "Anti",
+    })?;
+    write_keys(f, keys)
 }
 
 /// Writes what is looked up of the entity in a column.
@@ -110,6 +123,7 @@ fn write_line<W: Write>(f: &mut Formatter<W>, part: &Operator) -> fmt::Result {
             write_keys(f, keys)?;
             write_with(f, " where ", test)
         }
+        Operator::Semi(_, _, keys, keeping) => write_semi(f, keys, *keeping),
         Operator::Lookup(_, column, attribute) => write_lookup(f, *column, attribute),
         Operator::Filter(_, test) => write_with(f, "Filter ", test),
         Operator::AllDifferent(_, columns) => write_over(f, "AllDifferent ", columns),
@@ -131,6 +145,7 @@ fn write_part<W: Write>(f: &mut Formatter<W>, part: &Operator, depth: u16) -> fm
         Operator::Unit | Operator::Nodes | Operator::Rels(_, _) => Ok(()),
         Operator::Join(left, right, _)
         | Operator::Outer(left, right, _, _)
+        | Operator::Semi(left, right, _, _)
         | Operator::Union(left, right) => {
             write_part(f, left, deeper)?;
             write_part(f, right, deeper)

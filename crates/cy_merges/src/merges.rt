@@ -40,6 +40,7 @@ pub(crate) fn merge<M: Memory>(
     ensures columns { M.key_columns memory.new ≡ M.key_columns memory.old }
     ensures too_many { IfErr result (λ fault. fault ≡ TooManyRows → (row : List Cell) × (greatest_count + lost row changes.items < M.was memory.old row + gained row changes.items)) }
     ensures steps { M.EXACT ≡ true → M.step_count memory.new ≤ M.step_count memory.old + 2 * length changes.items }
+    ensures grows { M.step_count memory.old ≤ M.step_count memory.new }
     ensures nothing { IfErr result (λ _. 0 < length changes.items) }
 {
     if changes.is_empty() {
@@ -63,6 +64,7 @@ fn shifts_of_changes<M: Memory>(
     ensures staged { M.staged memory.new ≡ M.staged memory.old }
     ensures columns { M.key_columns memory.new ≡ M.key_columns memory.old }
     ensures steps { M.EXACT ≡ true → M.step_count memory.new ≤ M.step_count memory.old + 2 * length changes.items }
+    ensures grows { M.step_count memory.old ≤ M.step_count memory.new }
 {
     if changes.len() == 1 {
         return shift_of_change(alloc, memory, changes);
@@ -88,6 +90,7 @@ fn shift_of_change<M: Memory>(
     ensures staged { M.staged memory.new ≡ M.staged memory.old }
     ensures columns { M.key_columns memory.new ≡ M.key_columns memory.old }
     ensures steps { M.EXACT ≡ true → M.step_count memory.new ≤ M.step_count memory.old + 2 }
+    ensures grows { M.step_count memory.old ≤ M.step_count memory.new }
 {
     let Some(change) = changes.pop() else {
         return Ok(changes);
@@ -108,6 +111,7 @@ fn shifts_of<M: Memory>(
     ensures staged { M.staged memory.new ≡ M.staged memory.old }
     ensures columns { M.key_columns memory.new ≡ M.key_columns memory.old }
     ensures steps { M.EXACT ≡ true → M.step_count memory.new ≤ M.step_count memory.old + 2 * length rows.now }
+    ensures grows { M.step_count memory.old ≤ M.step_count memory.new }
 {
     let mut made = Vec::new(alloc);
     for row in rows {
@@ -129,6 +133,7 @@ fn add_change<M: Memory>(
     ensures staged { M.staged memory.new ≡ M.staged memory.old }
     ensures columns { M.key_columns memory.new ≡ M.key_columns memory.old }
     ensures steps { M.EXACT ≡ true → M.step_count memory.new ≤ M.step_count memory.old + 2 }
+    ensures grows { M.step_count memory.old ≤ M.step_count memory.new }
 {
     let mut cursor = memory.look(alloc, row)?;
     let found = memory.take(alloc, &mut cursor)?;

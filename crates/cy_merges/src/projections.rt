@@ -50,6 +50,7 @@ pub fn project<M: Memory>(
     ensures too_many { IfErr result (λ fault. fault ≡ TooManyRows → (before after : List (List Cell)) → IsProjectChange (map output_of outputs.now) (M.was memory.old) shifts.items before after
         → (row : List Cell) × (greatest_count < counts (map (expressions.projected (map output_of outputs.now)) after) row)) }
     ensures steps { M.EXACT ≡ true → M.step_count memory.new ≤ M.step_count memory.old + 2 * length shifts.items }
+    ensures grows { M.step_count memory.old ≤ M.step_count memory.new }
     ensures nothing { IfErr result (λ _. 0 < length shifts.items) }
 {
     let images = images_of(alloc, outputs, shifts)?;

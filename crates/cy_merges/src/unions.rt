@@ -38,6 +38,7 @@ pub fn union<M: Memory>(
     ensures too_many { IfErr result (λ fault. fault ≡ TooManyRows → (before after : Sides) → IsUnionChange (M.key_columns memory.old) (M.was memory.old) left.items right.items before after
         → (row : List Cell) × (greatest_count < counts (after.left ++ after.right) row)) }
     ensures steps { M.EXACT ≡ true → M.step_count memory.new ≤ M.step_count memory.old + 2 * (length left.items + length right.items) }
+    ensures grows { M.step_count memory.old ≤ M.step_count memory.new }
     ensures nothing { IfErr result (λ _. 0 < length left.items + length right.items) }
 {
     let mut changes = left;

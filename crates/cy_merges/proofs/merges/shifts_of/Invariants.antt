@@ -11,4 +11,5 @@ invariant-loop-row g l =
       staged : g.M.Memory.staged l.memory ≡ g.M.Memory.staged l.initial.memory;
       columns : g.M.Memory.key_columns l.memory ≡ g.M.Memory.key_columns l.initial.memory;
       steps : g.M.Memory.EXACT ≡ true → g.M.Memory.step_count l.memory ≤ g.M.Memory.step_count l.initial.memory + 2 * l.row-index;
+      grows : g.M.Memory.step_count l.initial.memory ≤ g.M.Memory.step_count l.memory;
     }

@@ -13,4 +13,5 @@ invariant-loop-change g l =
       was : g.M.Memory.was l.memory ≡ g.M.Memory.was l.initial.memory;
       columns : g.M.Memory.key_columns l.memory ≡ g.M.Memory.key_columns l.initial.memory;
       steps : g.M.Memory.EXACT ≡ true → g.M.Memory.step_count l.memory ≤ g.M.Memory.step_count l.initial.memory;
+      grows : g.M.Memory.step_count l.initial.memory ≤ g.M.Memory.step_count l.memory;
     }

@@ -1,4 +1,5 @@
 use Rattle.std.proofs.Common.{ℕ, Option, [], ◌∷◌, ◌++◌, map, sym, ap, ◌∙◌}
+use Rattle.std.proofs.Math.Nat.{le_trans}
 use Rattle.std.specs.Option.{option_copied}
 use Rattle.std.specs.Prelude.{flat_map}
 use Rattle.std.proofs.lemmas.List.{append-nil}
@@ -29,6 +30,7 @@ loop-touched-preserved g c =
           ∙ so_far.made before column change keys row);
       was = c.add_at_node.ensures.was ∙ so_far.was;
       staged = c.add_at_node.ensures.staged ∙ so_far.staged;
+      grows = le_trans so_far.grows c.add_at_node.ensures.grows;
       columns = c.add_at_node.ensures.columns ∙ so_far.columns;
       graph = c.add_at_node.ensures.graph ∙ so_far.graph;
       reads = one_less c.loop-touched.touched-iterator c.next.new.self _ c.args.sight.now.reads c.loop-touched.sight.reads c.add_at_node.new.sight.reads _ c.in-Some.ensures.steps so_far.reads c.add_at_node.ensures.reads;

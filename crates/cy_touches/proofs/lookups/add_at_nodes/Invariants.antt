@@ -21,6 +21,7 @@ invariant-loop-touched g l = record {
       ++ flat_map (λ (e : ℕ × Option Node). still before.content l.initial.sight.graph.now.content column l.attribute (g.M.Memory.was l.initial.memory) (g.M.Memory.staged l.initial.memory) (cell.Node (record { 0 = e.0 })) row) l.change.nodes;
   was : g.M.Memory.was l.memory ≡ g.M.Memory.was l.initial.memory;
   staged : g.M.Memory.staged l.memory ≡ g.M.Memory.staged l.initial.memory;
+  grows : g.M.Memory.step_count l.initial.memory ≤ g.M.Memory.step_count l.memory;
   columns : g.M.Memory.key_columns l.memory ≡ g.M.Memory.key_columns l.initial.memory;
   graph : l.sight.graph ≡ l.initial.sight.graph;
   reads : l.sight.reads + length l.touched-iterator ≤ l.initial.sight.reads + length l.change.nodes;

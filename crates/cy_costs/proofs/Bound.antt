@@ -31,6 +31,7 @@ over_parts own plan.nodes = alone own plan.nodes
 over_parts own (plan.rels types orientation) = alone own (plan.rels types orientation)
 over_parts own (plan.join left right keys) = two_more own (plan.join left right keys) (parts left) (parts right) _ _ (over_parts own left) (over_parts own right)
 over_parts own (plan.outer left right keys test) = two_more own (plan.outer left right keys test) (parts left) (parts right) _ _ (over_parts own left) (over_parts own right)
+over_parts own (plan.semi left right keys keeping) = two_more own (plan.semi left right keys keeping) (parts left) (parts right) _ _ (over_parts own left) (over_parts own right)
 over_parts own (plan.lookup p column attribute) = one_more own (plan.lookup p column attribute) (parts p) _ (over_parts own p)
 over_parts own (plan.filter p test) = one_more own (plan.filter p test) (parts p) _ (over_parts own p)
 over_parts own (plan.all_different p columns) = one_more own (plan.all_different p columns) (parts p) _ (over_parts own p)
@@ -115,6 +116,7 @@ module _ (touches : Touches) (before after : Content) where
   part_within (plan.rels types orientation) = rel_reads (length touches.nodes) (length touches.rels)
   part_within (plan.join left right keys) = joins (few left) (few right) (pairs left right keys)
   part_within (plan.outer left right keys test) = outers (few left) (few right) (pairs left right keys)
+  part_within (plan.semi left right keys keeping) = outers (few left) (few right) (pairs left right keys)
   part_within (plan.lookup p column attribute) = lookups (length touches.nodes) (length touches.rels) (naming_rows touches column (rows_of before p) (rows_of after p)) (few p)
   part_within (plan.filter p test) = nothing (few p)
   part_within (plan.all_different p columns) = nothing (few p)
@@ -133,6 +135,8 @@ module _ (touches : Touches) (before after : Content) where
       asked_both (touched_entities touches) costs (looks_at_graph left) (looks_at_graph right) (plan.join left right keys) (parts left) (parts right) (asked_within left) (asked_within right)
   asked_within (plan.outer left right keys test) =
       asked_both (touched_entities touches) costs (looks_at_graph left) (looks_at_graph right) (plan.outer left right keys test) (parts left) (parts right) (asked_within left) (asked_within right)
+  asked_within (plan.semi left right keys keeping) =
+      asked_both (touched_entities touches) costs (looks_at_graph left) (looks_at_graph right) (plan.semi left right keys keeping) (parts left) (parts right) (asked_within left) (asked_within right)
   asked_within (plan.lookup p column attribute) =
       asked_here (touched_entities touches) costs (plan.lookup p column attribute) (parts p)
       (lookup_reads (touched_entities touches) (few p) (naming_rows touches column (rows_of before p) (rows_of after p)))

@@ -42,6 +42,7 @@ module _ (before after : State) (touches others : Touches) (first : IsChange bef
   part_alike (plan.rels types orientation) = as_many
   part_alike (plan.join left right keys) = refl
   part_alike (plan.outer left right keys test) = refl
+  part_alike (plan.semi left right keys keeping) = refl
   part_alike (plan.lookup p column attribute) =
       let named : naming_rows touches column (rows_of before.content p) (rows_of after.content p) ≡ naming_rows others column (rows_of before.content p) (rows_of after.content p) =
       same_naming before after touches others first second column (rows_of before.content p) (rows_of after.content p) in
@@ -138,6 +139,7 @@ module _ (graph : State) (touches : Touches) (change : IsChange graph graph touc
   part_none (plan.rels types orientation) = no_entities
   part_none (plan.join left right keys) = joining_none left right keys
   part_none (plan.outer left right keys test) = joining_none left right keys
+  part_none (plan.semi left right keys keeping) = joining_none left right keys
   part_none (plan.lookup p column attribute) = three no_entities (stay p) (none_named column (rows_of graph.content p))
   part_none (plan.filter p test) = stay p
   part_none (plan.all_different p columns) = stay p

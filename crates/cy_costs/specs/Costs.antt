@@ -34,6 +34,7 @@ module _ (touches : Touches) (before after : Content) where
   part_cost (plan.rels types orientation) = touched_entities touches
   part_cost (plan.join left right keys) = joining before after left right keys
   part_cost (plan.outer left right keys test) = joining before after left right keys
+  part_cost (plan.semi left right keys keeping) = joining before after left right keys
   part_cost (plan.lookup p column attribute) = touched_entities touches + changed before after p + naming_rows touches column (rows_of before p) (rows_of after p)
   part_cost (plan.filter p test) = changed before after p
   part_cost (plan.all_different p columns) = changed before after p

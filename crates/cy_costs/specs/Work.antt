@@ -16,6 +16,8 @@ own_steps rows rows_now touches (plan.join left right keys) =
     changed_rows (rows left) (rows_now left) + changed_rows (rows right) (rows_now right) + 2 * changed_pairs keys (rows left) (rows_now left) (rows right) (rows_now right)
 own_steps rows rows_now touches (plan.outer left right keys test) =
     5 * (changed_rows (rows left) (rows_now left) + changed_rows (rows right) (rows_now right) + changed_pairs keys (rows left) (rows_now left) (rows right) (rows_now right))
+own_steps rows rows_now touches (plan.semi left right keys keeping) =
+    5 * (changed_rows (rows left) (rows_now left) + changed_rows (rows right) (rows_now right) + changed_pairs keys (rows left) (rows_now left) (rows right) (rows_now right))
 own_steps rows rows_now touches (plan.lookup p column attribute) = length touches.nodes + length touches.rels + naming_rows touches column (rows p) (rows_now p)
 own_steps rows rows_now touches (plan.filter p test) = 0
 own_steps rows rows_now touches (plan.all_different p columns) = 0
@@ -30,6 +32,7 @@ own_reads rows rows_now touches plan.nodes = length touches.nodes
 own_reads rows rows_now touches (plan.rels types orientation) = length touches.rels
 own_reads rows rows_now touches (plan.join left right keys) = 0
 own_reads rows rows_now touches (plan.outer left right keys test) = 0
+own_reads rows rows_now touches (plan.semi left right keys keeping) = 0
 own_reads rows rows_now touches (plan.lookup p column attribute) = changed_rows (rows p) (rows_now p) + length touches.nodes + length touches.rels
 own_reads rows rows_now touches (plan.filter p test) = 0
 own_reads rows rows_now touches (plan.all_different p columns) = 0
@@ -44,6 +47,7 @@ in_all own plan.nodes = own plan.nodes
 in_all own (plan.rels types orientation) = own (plan.rels types orientation)
 in_all own (plan.join left right keys) = in_all own left + in_all own right + own (plan.join left right keys)
 in_all own (plan.outer left right keys test) = in_all own left + in_all own right + own (plan.outer left right keys test)
+in_all own (plan.semi left right keys keeping) = in_all own left + in_all own right + own (plan.semi left right keys keeping)
 in_all own (plan.lookup p column attribute) = in_all own p + own (plan.lookup p column attribute)
 in_all own (plan.filter p test) = in_all own p + own (plan.filter p test)
 in_all own (plan.all_different p columns) = in_all own p + own (plan.all_different p columns)
@@ -66,6 +70,7 @@ looks_at_graph plan.nodes = true
 looks_at_graph (plan.rels types orientation) = true
 looks_at_graph (plan.join left right keys) = looks_at_graph left || looks_at_graph right
 looks_at_graph (plan.outer left right keys test) = looks_at_graph left || looks_at_graph right
+looks_at_graph (plan.semi left right keys keeping) = looks_at_graph left || looks_at_graph right
 looks_at_graph (plan.lookup p column attribute) = true
 looks_at_graph (plan.filter p test) = looks_at_graph p
 looks_at_graph (plan.all_different p columns) = looks_at_graph p

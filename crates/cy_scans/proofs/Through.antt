@@ -206,6 +206,7 @@ module _ {X : Type 0} (own : X → Cell) (value_of : X → Attribute → Value) 
   named (plan.rels types orientation) c is e = subst (λ k. AllByRecursion (λ row. cell_at row k ≡ own e) (leaf e)) (some_same 0 c is) (first e)
   named (plan.join left right keys) c is e = none_some c is
   named (plan.outer left right keys test) c is e = none_some c is
+  named (plan.semi left right keys keeping) c is e = none_some c is
   named (plan.lookup p column attribute) c is e =
       each_mapped (λ row. cell_at row c ≡ own e) (λ row. row ++ cell.Value (value_of e attribute) ∷ []) (made p e)
       (each_weaker (λ row. cell_at row c ≡ own e) (λ row. cell_at (row ++ cell.Value (value_of e attribute) ∷ []) c ≡ own e)
@@ -240,6 +241,7 @@ module _ {X : Type 0} (own : X → Cell) (value_of : X → Attribute → Value) 
     rows_by_entity (plan.rels types orientation) c over is = ap (rows_of graph) over ∙ read
     rows_by_entity (plan.join left right keys) c over is = none_some c is
     rows_by_entity (plan.outer left right keys test) c over is = none_some c is
+    rows_by_entity (plan.semi left right keys keeping) c over is = none_some c is
     rows_by_entity (plan.lookup p column a) c over is =
         let below = if_this_is column (scan_column p) c is in
         ap (map (with_attribute graph column a)) (rows_by_entity p c over below.0)
@@ -267,6 +269,7 @@ module _ {X : Type 0} (own : X → Cell) (value_of : X → Attribute → Value) 
     fit_entities numbered (plan.rels types orientation) c over is sure = each_one (λ e. AreFit (value_of e) (plan.rels types orientation ∷ []) (leaf e)) (λ e. (tt, tt)) es
     fit_entities numbered (plan.join left right keys) c over is sure = none_some c is
     fit_entities numbered (plan.outer left right keys test) c over is sure = none_some c is
+    fit_entities numbered (plan.semi left right keys keeping) c over is sure = none_some c is
     fit_entities numbered (plan.lookup p column a) c over is sure =
         each_weaker (λ e. AreFit (value_of e) (scan_parts p) (leaf e)) (λ e. AreFit (value_of e) (plan.lookup p column a ∷ scan_parts p) (leaf e)) (λ e fit. (tt, fit)) es
         (fit_entities numbered p c over (if_this_is column (scan_column p) c is).0 sure)

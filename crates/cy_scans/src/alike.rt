@@ -74,6 +74,7 @@ fn is_alike(part: &Operator, old: EntityValue<'_>, new: EntityValue<'_>) -> bool
         | Operator::Rels(_, _)
         | Operator::Join(_, _, _)
         | Operator::Outer(_, _, _, _)
+        | Operator::Semi(_, _, _, _)
         | Operator::Filter(_, _)
         | Operator::AllDifferent(_, _)
         | Operator::Project(_, _)

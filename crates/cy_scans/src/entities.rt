@@ -153,6 +153,7 @@ fn row_by(
         | Operator::Rels(_, _)
         | Operator::Join(_, _, _)
         | Operator::Outer(_, _, _, _)
+        | Operator::Semi(_, _, _, _)
         | Operator::Distinct(_)
         | Operator::Union(_, _) => Ok(Some(row)),
     }

@@ -22,6 +22,7 @@ pub fn column_over(part: &Operator, below: Option<usize>) -> Option<usize>
         Operator::Unit
         | Operator::Join(_, _, _)
         | Operator::Outer(_, _, _, _)
+        | Operator::Semi(_, _, _, _)
         | Operator::Distinct(_)
         | Operator::Union(_, _) => None,
     }

@@ -67,6 +67,7 @@ module _ (before now : State) (graph_before : IsGraph before) (graph_now : IsGra
       by (plan.rels types orientation) over reads = same_rels types orientation p named.0 over named.1 rels
       by (plan.join left right keys) over reads = none_some reads
       by (plan.outer left right keys test) over reads = none_some reads
+      by (plan.semi left right keys keeping) over reads = none_some reads
       by (plan.lookup q column attribute) over reads = none_some reads
       by (plan.filter q test) over reads = none_some reads
       by (plan.all_different q columns) over reads = none_some reads
@@ -87,6 +88,7 @@ module _ (Rows : Plan → Type 0) (Value : Attribute → Type 0)
   kept_scan (plan.rels types orientation) scans kept = kept
   kept_scan (plan.join left right keys) scans kept = none_some scans
   kept_scan (plan.outer left right keys test) scans kept = none_some scans
+  kept_scan (plan.semi left right keys keeping) scans kept = none_some scans
   kept_scan (plan.lookup p column attribute) scans (inl whole) = whole.1
   kept_scan (plan.lookup p column attribute) scans (inr kept) = over_lookup p column attribute (kept_scan p (lookup_below p column attribute scans) kept.0) kept.1
   kept_scan (plan.filter p test) scans (inl whole) = whole.1

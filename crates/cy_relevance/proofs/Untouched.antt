@@ -12,7 +12,7 @@ use Rattle.cy_graph.specs.declared.nodes.Rel.{Rel}
 use Rattle.cy_graph.specs.Graph.{Content, State}
 use Rattle.cy_plans.specs.declared.operators.Attribute.{Attribute}
 use Rattle.cy_plans.specs.Expressions.{cell_at, holds, projected, relationships_at}
-use Rattle.cy_plans.specs.Meaning.{are_different, attribute_of, each_once, joined, outer_joined, rows_of}
+use Rattle.cy_plans.specs.Meaning.{are_different, attribute_of, each_once, joined, outer_joined, rows_of, semi_joined}
 use Rattle.cy_plans.specs.Plans as plan
 use Rattle.cy_plans.specs.Plans.{Output, Plan, width}
 use Rattle.cy_touches.specs.Changes.{IsChange, IsImage, Touches}
@@ -36,6 +36,8 @@ same_rows before now (plan.join left right keys) untouched =
     let lefts = same_rows before now left untouched.0 in let rights = same_rows before now right untouched.1 in λ i. joined keys (lefts i) (rights i)
 same_rows before now (plan.outer left right keys test) untouched =
     let lefts = same_rows before now left untouched.0 in let rights = same_rows before now right untouched.1 in λ i. outer_joined keys test (width right) (lefts i) (rights i)
+same_rows before now (plan.semi left right keys keeping) untouched =
+    let lefts = same_rows before now left untouched.0 in let rights = same_rows before now right untouched.1 in λ i. semi_joined keys keeping (lefts i) (rights i)
 same_rows before now (plan.lookup p column attribute) untouched = untouched.0
 same_rows before now (plan.filter p test) untouched = untouched.0
 same_rows before now (plan.all_different p columns) untouched = untouched.0
@@ -52,6 +54,7 @@ module _ (Rows : Plan → Type 0) (Value : Attribute → Type 0) (rows : (p : Pl
   itself (plan.rels types orientation) = rows (plan.rels types orientation)
   itself (plan.join left right keys) = (itself left, itself right)
   itself (plan.outer left right keys test) = (itself left, itself right)
+  itself (plan.semi left right keys keeping) = (itself left, itself right)
   itself (plan.lookup p column attribute) = inr (itself p, value attribute)
   itself (plan.filter p test) = inr (itself p)
   itself (plan.all_different p columns) = itself p
@@ -141,6 +144,7 @@ module _ (before now : State) (touches : Touches) (change : IsChange before now 
   all_untouched (plan.rels types orientation) nodes rels = scanned (plan.rels types orientation) refl nodes rels
   all_untouched (plan.join left right keys) nodes rels = (all_untouched left (λ n. (nodes n).0) (λ n. (rels n).0), all_untouched right (λ n. (nodes n).1) (λ n. (rels n).1))
   all_untouched (plan.outer left right keys test) nodes rels = (all_untouched left (λ n. (nodes n).0) (λ n. (rels n).0), all_untouched right (λ n. (nodes n).1) (λ n. (rels n).1))
+  all_untouched (plan.semi left right keys keeping) nodes rels = (all_untouched left (λ n. (nodes n).0) (λ n. (rels n).0), all_untouched right (λ n. (nodes n).1) (λ n. (rels n).1))
   all_untouched (plan.lookup p column a) nodes rels =
       elim (scan_or_none (is_some (scan_column (plan.lookup p column a)))) [
         | inl is ↦ (scanned (plan.lookup p column a) is nodes rels, inl is)

@@ -21,6 +21,7 @@ IsUntouched before after plan.nodes = HasSameRows before after plan.nodes
 IsUntouched before after (plan.rels types orientation) = HasSameRows before after (plan.rels types orientation)
 IsUntouched before after (plan.join left right keys) = IsUntouched before after left × IsUntouched before after right
 IsUntouched before after (plan.outer left right keys test) = IsUntouched before after left × IsUntouched before after right
+IsUntouched before after (plan.semi left right keys keeping) = IsUntouched before after left × IsUntouched before after right
 IsUntouched before after (plan.lookup p column attribute) =
     HasSameRows before after (plan.lookup p column attribute) × IsScanOr (plan.lookup p column attribute) (IsUntouched before after p)
 IsUntouched before after (plan.filter p test) = HasSameRows before after (plan.filter p test) × IsScanOr (plan.filter p test) (IsUntouched before after p)

@@ -51,7 +51,9 @@ fn is_kept(part: &Operator, entity: &Entity<'_>, asked: bool) -> bool
             is_kept(below, entity, asked && keeps_first(outputs))
         }
         Operator::Distinct(below) => is_kept(below, entity, false),
-        Operator::Join(left, right, _) | Operator::Outer(left, right, _, _) => {
+        Operator::Join(left, right, _)
+        | Operator::Outer(left, right, _, _)
+        | Operator::Semi(left, right, _, _) => {
             is_kept(left, entity, false) && is_kept(right, entity, false)
         }
         Operator::Union(left, right) => {
@@ -82,6 +84,7 @@ fn makes_nothing(part: &Operator, entity: &Entity<'_>) -> bool
         Operator::Unit
         | Operator::Join(_, _, _)
         | Operator::Outer(_, _, _, _)
+        | Operator::Semi(_, _, _, _)
         | Operator::AllDifferent(_, _)
         | Operator::Distinct(_)
         | Operator::Union(_, _) => false,

@@ -43,9 +43,9 @@ fn looks_at_graph(part: &Operator) -> bool
         Operator::Filter(below, _) | Operator::AllDifferent(below, _) => looks_at_graph(below),
         Operator::Project(below, _) => looks_at_graph(below),
         Operator::Distinct(below) => looks_at_graph(below),
-        Operator::Join(left, right, _) | Operator::Outer(left, right, _, _) => {
-            looks_at_graph(left) || looks_at_graph(right)
-        }
+        Operator::Join(left, right, _)
+        | Operator::Outer(left, right, _, _)
+        | Operator::Semi(left, right, _, _) => looks_at_graph(left) || looks_at_graph(right),
         Operator::Union(left, right) => looks_at_graph(left) || looks_at_graph(right),
     }
 }

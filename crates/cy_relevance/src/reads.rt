@@ -58,7 +58,9 @@ fn labels_matter(part: &Operator, entity: &Entity<'_>) -> Option<bool>
         }
         Operator::Project(below, _) => labels_matter(below, entity),
         Operator::Distinct(below) => labels_matter(below, entity),
-        Operator::Join(left, right, _) | Operator::Outer(left, right, _, _) => {
+        Operator::Join(left, right, _)
+        | Operator::Outer(left, right, _, _)
+        | Operator::Semi(left, right, _, _) => {
             let left = labels_matter(left, entity)?;
             let right = labels_matter(right, entity)?;
             Some(left || right)

@@ -61,6 +61,7 @@ AreKept Rows Value plan.nodes = Rows plan.nodes
 AreKept Rows Value (plan.rels types orientation) = Rows (plan.rels types orientation)
 AreKept Rows Value (plan.join left right keys) = AreKept Rows Value left × AreKept Rows Value right
 AreKept Rows Value (plan.outer left right keys test) = AreKept Rows Value left × AreKept Rows Value right
+AreKept Rows Value (plan.semi left right keys keeping) = AreKept Rows Value left × AreKept Rows Value right
 AreKept Rows Value (plan.lookup p column attribute) =
     ((is_some (scan_column (plan.lookup p column attribute)) ≡ true) × Rows (plan.lookup p column attribute)) ⊎ (AreKept Rows Value p × Value attribute)
 AreKept Rows Value (plan.filter p test) = ((is_some (scan_column (plan.filter p test)) ≡ true) × Rows (plan.filter p test)) ⊎ AreKept Rows Value p

@@ -17,7 +17,7 @@ pub record Carries (graph : Content) (clause : Clause) (others : List Clause) (c
   pub within : length needed ≤ length columns
   pub same : IsSameOutcome (Ok made) (carried_by clause needed (rows_after graph clause rows))
 
--- a call answers such rows, or the clause's fault, or no memory was left
+-- a call answers such rows, or the clause's fault, or it is out of memory
 abbrev pub IsAnswerFor : {A : Type 0} → Result A EvalFault → (A → List (List Cell)) → Content → Clause → List Clause → List Name → List (List Cell) → Type 0
 IsAnswerFor result view graph clause others columns rows =
     MatchResult result (λ x. Carries graph clause others columns rows (view x)) (λ fault. (rows_after graph clause rows ≡ Err fault) ⊎ (fault ≡ NoMemory))

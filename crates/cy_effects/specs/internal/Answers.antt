@@ -6,7 +6,7 @@ use Rattle.cy_effects.specs.declared.faults.UpdateFault.{UpdateFault}
 use Rattle.cy_effects.specs.declared.faults.UpdateFault.TheVariants.{NoMemory}
 use Rattle.cy_effects.specs.Statements.{GraphTable}
 
--- a call answers what is meant, or its fault, or no memory was left
+-- a call answers what is meant, or its fault, or it is out of memory
 abbrev pub IsAnswer : {A B : Type 0} → Result A UpdateFault → (A → B) → Result B UpdateFault → Type 0
 IsAnswer result view meant = MatchResult result (λ x. meant ≡ Ok (view x)) (λ why. (why ≡ NoMemory) ⊎ (meant ≡ Err why))
 

@@ -7,11 +7,12 @@ use Rattle.cy_values.specs.Bag.{count_of}
 use Rattle.cy_trees.specs.Trees.{Expression}
 use Rattle.cy_graph.specs.Graph.{Content}
 use Rattle.cy_plans.specs.declared.operators.Attribute.{Attribute}
+use Rattle.cy_plans.specs.declared.operators.Keeping.{Keeping}
 use Rattle.cy_plans.specs.declared.operators.KeyColumns.{KeyColumns}
 use Rattle.cy_plans.specs.Plans as plan
 use Rattle.cy_plans.specs.Plans.{Plan, Output, width}
 use Rattle.cy_plans.specs.Expressions.{holds, projected, relationships_at}
-use Rattle.cy_plans.specs.Meaning.{are_different, each_once, joined, outer_joined, rows_of, with_attribute}
+use Rattle.cy_plans.specs.Meaning.{are_different, each_once, joined, outer_joined, rows_of, semi_joined, with_attribute}
 use Rattle.cy_plans.specs.Parts.{parts}
 use Rattle.cy_plans.specs.Sure.{HasCells, HasTruth}
 use Rattle.cy_plans.specs.WellFormed.{IsColumn, IsKeyBetween, IsOutputOver, IsOver, greatest_width}
@@ -154,6 +155,18 @@ module _ (left right other_left other_right : Plan) (here : IsRewritten left oth
     rows = outer_rows keys test;
     sure = λ graph sure. (here.sure graph sure.0, there.sure graph sure.1, subst (λ rows. All (HasTruth test) rows) (sym (joined_rows keys graph)) sure.2);
     bounded = λ graph tables each. two_below (plan.outer left right keys test) (plan.outer other_left other_right keys test) graph tables (outer_rows keys test graph) each;
+  }
+
+  semi_rows : (keys : List KeyColumns) (keeping : Keeping) (graph : Content) → rows_of graph (plan.semi other_left other_right keys keeping) ≡ rows_of graph (plan.semi left right keys keeping)
+  semi_rows keys keeping graph = λ i. semi_joined keys keeping (here.rows graph i) (there.rows graph i)
+
+  pub over_semi : (keys : List KeyColumns) (keeping : Keeping) → IsRewritten (plan.semi left right keys keeping) (plan.semi other_left other_right keys keeping)
+  over_semi keys keeping = record {
+    as_wide = here.as_wide;
+    well_formed = λ well. (here.well_formed well.0, there.well_formed well.1, keys_between keys well.2);
+    rows = semi_rows keys keeping;
+    sure = λ graph sure. (here.sure graph sure.0, there.sure graph sure.1);
+    bounded = λ graph tables each. two_below (plan.semi left right keys keeping) (plan.semi other_left other_right keys keeping) graph tables (semi_rows keys keeping graph) each;
   }
 
   union_rows : (graph : Content) → rows_of graph (plan.union other_left other_right) ≡ rows_of graph (plan.union left right)

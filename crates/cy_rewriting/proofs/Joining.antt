@@ -86,19 +86,19 @@ below_projection total graph tables p outputs within row =
 
 -- ---- keys and tests on longer rows
 
-keys_longer : (row others : List Cell) (columns : List ℕ) → All (λ c. c < length row) columns → map (cell_at (row ++ others)) columns ≡ map (cell_at row) columns
+pub keys_longer : (row others : List Cell) (columns : List ℕ) → All (λ c. c < length row) columns → map (cell_at (row ++ others)) columns ≡ map (cell_at row) columns
 keys_longer row others [] each = refl
 keys_longer row others (c ∷ columns) each =
     λ i. get_or_append_left row others expressions.null c (All-head (λ d. d < length row) c columns each) i ∷ keys_longer row others columns (All-tail (λ d. d < length row) c columns each) i
 
-all_of : (left right : ℕ) (keys : List KeyColumns) → All (IsKeyBetween left right) keys → All (λ c. c < left) (map (λ k. k.left) keys) × All (λ c. c < right) (map (λ k. k.right) keys)
+pub all_of : (left right : ℕ) (keys : List KeyColumns) → All (IsKeyBetween left right) keys → All (λ c. c < left) (map (λ k. k.left) keys) × All (λ c. c < right) (map (λ k. k.right) keys)
 all_of left right [] each = (All-nil (λ c. c < left), All-nil (λ c. c < right))
 all_of left right (k ∷ keys) each =
     let first = All-head (IsKeyBetween left right) k keys each in
     let rest = all_of left right keys (All-tail (IsKeyBetween left right) k keys each) in
     (All-cons (λ c. c < left) k.left (map (λ j. j.left) keys) first.0 rest.0, All-cons (λ c. c < right) k.right (map (λ j. j.right) keys) first.1 rest.1)
 
-keys_wider : (left right more others : ℕ) (keys : List KeyColumns) → All (IsKeyBetween left right) keys → All (IsKeyBetween (left + more) (right + others)) keys
+pub keys_wider : (left right more others : ℕ) (keys : List KeyColumns) → All (IsKeyBetween left right) keys → All (IsKeyBetween (left + more) (right + others)) keys
 keys_wider left right more others keys each = All-weaker (IsKeyBetween left right) (IsKeyBetween (left + more) (right + others)) (λ k is. (let one = is.0 in omega (arith, one), let two = is.1 in omega (arith, two))) keys each
 
 mapped_flat : {A B C : Type 0} (f : B → C) (g : A → List B) (xs : List A) → map f (flat_map g xs) ≡ flat_map (λ x. map f (g x)) xs

@@ -6,6 +6,7 @@ pub mod Wider
 pub mod Passing
 pub mod Sides
 pub mod Joining
+pub mod SemiJoins
 pub mod Rising
 pub mod Stacking
 pub mod Redirecting

@@ -61,7 +61,7 @@ well_looked_up [] p well = well
 well_looked_up (w ∷ ws) p well = (well_looked_up ws (plan.lookup p w.column w.attribute) well).0
 
 -- a step of several
-first_step : (w : Wanted) (ws : List Wanted) (p q r : Plan) → IsWellFormed (over p (w ∷ ws)) → (IsWellFormed (plan.lookup p w.column w.attribute) → IsRewritten (plan.lookup p w.column w.attribute) q)
+pub first_step : (w : Wanted) (ws : List Wanted) (p q r : Plan) → IsWellFormed (over p (w ∷ ws)) → (IsWellFormed (plan.lookup p w.column w.attribute) → IsRewritten (plan.lookup p w.column w.attribute) q)
     → (IsWellFormed (over q ws) → IsRewritten (over q ws) r) → IsRewritten (over p (w ∷ ws)) r
 first_step w ws p q r well step rest =
     let up : Plan = plan.lookup p w.column w.attribute in
@@ -77,7 +77,7 @@ module _ (p : Plan) (column : ℕ) (a : Attribute) where
   abbrev longer : Content → List Cell → List Cell
   longer graph row = with_attribute graph column a row
 
-  own_within : (graph : Content) (tables : List (List (List Cell))) → IsWellFormed up → All (IsWithin graph tables) (parts p) → IsWithin graph tables up
+  pub own_within : (graph : Content) (tables : List (List (List Cell))) → IsWellFormed up → All (IsWithin graph tables) (parts p) → IsWithin graph tables up
   own_within graph tables well each =
       within_over graph tables p (record { column = column; attribute = a } ∷ []) well.0 (well.1, tt) well.2 (own_part (IsWithin graph tables) p each)
 

@@ -91,6 +91,9 @@ pub fn open_part(part: Operator) -> Opened
         Operator::Outer(left, right, keys, test) => {
             Opened::Base(Operator::Outer(left, right, keys, test))
         }
+        Operator::Semi(left, right, keys, keeping) => {
+            Opened::Base(Operator::Semi(left, right, keys, keeping))
+        }
         Operator::Union(left, right) => Opened::Base(Operator::Union(left, right)),
     }
 }
@@ -277,7 +280,7 @@ fn settle_unless(
     }
 }
 
-/// Whether a join is what the layers of a plan stand on.
+/// Whether a join of some kind is what the layers of a plan stand on.
 fn joins_below(part: &Operator) -> bool {
     let mut part = part;
     loop {
@@ -288,7 +291,7 @@ fn joins_below(part: &Operator) -> bool {
                 }
                 part = right;
             }
-            Operator::Outer(_, _, _, _) => return true,
+            Operator::Outer(_, _, _, _) | Operator::Semi(_, _, _, _) => return true,
             Operator::Lookup(below, _, _)
             | Operator::Filter(below, _)
             | Operator::AllDifferent(below, _)

@@ -65,7 +65,9 @@ fn is_own(part: &Operator, column: usize, most: usize) -> bool
             Some(column) => is_own(below, column, most - 1),
             None => false,
         },
-        Operator::Outer(left, _, _, _) => is_own(left, column, most - 1),
+        Operator::Outer(left, _, _, _) | Operator::Semi(left, _, _, _) => {
+            is_own(left, column, most - 1)
+        }
         Operator::Unit | Operator::Distinct(_) | Operator::Union(_, _) => false,
     }
 }

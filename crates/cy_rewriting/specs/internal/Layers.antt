@@ -42,6 +42,7 @@ IsBase plan.nodes = ⊤
 IsBase (plan.rels types orientation) = ⊤
 IsBase (plan.join left right keys) = ⊤
 IsBase (plan.outer left right keys test) = ⊤
+IsBase (plan.semi left right keys keeping) = ⊤
 IsBase (plan.lookup p column attribute) = ⊥
 IsBase (plan.filter p test) = ⊥
 IsBase (plan.all_different p columns) = ⊥

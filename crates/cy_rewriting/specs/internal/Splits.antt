@@ -20,6 +20,7 @@ use Rattle.cy_rewriting.specs.declared.splits.Split.TheVariants as split
 abbrev pub together : Joint → Plan → Plan → Plan
 together (joint.Join keys outputs) p q = over_outputs outputs (plan.join p q keys.items)
 together (joint.Outer keys test outputs) p q = over_outputs outputs (plan.outer p q keys.items (expression_of test))
+together (joint.Semi keys keeping) p q = plan.semi p q keys.items keeping
 together (joint.Union lookups) p q = over (plan.union p q) lookups.items
 
 -- a part with look-ups on it

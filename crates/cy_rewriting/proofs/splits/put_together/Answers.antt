@@ -40,6 +40,12 @@ outer-requires-clause-test c =
     let q : Plan = plan_of c.args.right in
     (well_joined c.in-Outer.outputs (plan.outer p q c.in-Outer.keys.items (expression_of c.in-Outer.test)) (subst (λ j. IsWellFormed (together j p q)) c.in-Outer.is (well_below c.args.layers.items (together c.args.joint p q) c.requires))).4
 
+pub semi-requires : goal.semi-requires
+semi-requires c =
+    let p : Plan = plan_of c.args.left in
+    let q : Plan = plan_of c.args.right in
+    (subst (λ j. IsWellFormed (together j p q)) c.in-Semi.is (well_below c.args.layers.items (together c.args.joint p q) c.requires)).2
+
 pub union-requires : goal.union-requires
 union-requires c =
     let p : Plan = plan_of c.args.left in

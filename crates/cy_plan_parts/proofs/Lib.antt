@@ -2,6 +2,7 @@ pub mod Slices
 pub mod PlanParts
 pub mod Steps
 pub mod Lent
+pub mod Taken
 pub mod Outcomes
 pub mod Refusals
 pub mod Chains

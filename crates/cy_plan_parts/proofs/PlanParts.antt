@@ -29,6 +29,7 @@ over_one plan.nodes h = absurd (omega (arith, h))
 over_one (plan.rels types orientation) h = absurd (omega (arith, h))
 over_one (plan.join left right ks) h = absurd (omega (arith, h))
 over_one (plan.outer left right ks test) h = absurd (omega (arith, h))
+over_one (plan.semi left right ks keeping) h = absurd (omega (arith, h))
 over_one (plan.union left right) h = absurd (omega (arith, h))
 over_one (plan.lookup p column attribute) h =
     record { of_keys = refl; of_contents = λ rows. refl; of_parts = refl; well_formed = λ good. good.0; sure = λ sure graph is. sure graph is; sums = λ own. refl }
@@ -81,6 +82,16 @@ over_two (plan.outer left right ks test) h = record {
   sure_second = λ sure graph is. (sure graph is).1;
   sums = λ own. refl;
 }
+over_two (plan.semi left right ks keeping) h = record {
+  of_keys = refl;
+  of_contents = λ rows. refl;
+  of_parts = refl;
+  well_formed_first = λ good. good.0;
+  well_formed_second = λ good. good.1;
+  sure_first = λ sure graph is. (sure graph is).0;
+  sure_second = λ sure graph is. (sure graph is).1;
+  sums = λ own. refl;
+}
 over_two (plan.union left right) h = record {
   of_keys = refl;
   of_contents = λ rows. refl;
@@ -109,6 +120,7 @@ own_long rows plan.nodes = refl
 own_long rows (plan.rels types orientation) = refl
 own_long rows (plan.join left right ks) = refl
 own_long rows (plan.outer left right ks test) = refl
+own_long rows (plan.semi left right ks keeping) = refl
 own_long rows (plan.lookup p column attribute) = unless_long (is_scan (plan.lookup p column attribute)) (counts (rows p)) (column ∷ [])
 own_long rows (plan.filter p test) = refl
 own_long rows (plan.all_different p columns) = refl
@@ -130,6 +142,7 @@ all_long rows plan.nodes = refl
 all_long rows (plan.rels types orientation) = refl
 all_long rows (plan.join left right ks) = two (contents rows left) (contents rows right) (own_contents rows (plan.join left right ks)) (keys left) (keys right) (own_keys (plan.join left right ks)) (all_long rows left) (all_long rows right) refl
 all_long rows (plan.outer left right ks test) = two (contents rows left) (contents rows right) (own_contents rows (plan.outer left right ks test)) (keys left) (keys right) (own_keys (plan.outer left right ks test)) (all_long rows left) (all_long rows right) refl
+all_long rows (plan.semi left right ks keeping) = two (contents rows left) (contents rows right) (own_contents rows (plan.semi left right ks keeping)) (keys left) (keys right) (own_keys (plan.semi left right ks keeping)) (all_long rows left) (all_long rows right) refl
 all_long rows (plan.lookup p column attribute) = one (contents rows p) (own_contents rows (plan.lookup p column attribute)) (keys p) (own_keys (plan.lookup p column attribute)) (all_long rows p) (own_long rows (plan.lookup p column attribute))
 all_long rows (plan.filter p test) = all_long rows p
 all_long rows (plan.all_different p columns) = all_long rows p
@@ -144,6 +157,7 @@ few_below plan.nodes = omega arith
 few_below (plan.rels types orientation) = omega arith
 few_below (plan.join left right ks) = omega arith
 few_below (plan.outer left right ks test) = omega arith
+few_below (plan.semi left right ks keeping) = omega arith
 few_below (plan.lookup p column attribute) = omega arith
 few_below (plan.filter p test) = omega arith
 few_below (plan.all_different p columns) = omega arith
@@ -161,6 +175,7 @@ fewer_first plan.nodes h = absurd (omega (arith, h))
 fewer_first (plan.rels types orientation) h = absurd (omega (arith, h))
 fewer_first (plan.join left right ks) h = let n = length-append (parts left) (parts right) in let m = one_more (plan.join left right ks) (parts left ++ parts right) in omega (arith, n, m)
 fewer_first (plan.outer left right ks test) h = let n = length-append (parts left) (parts right) in let m = one_more (plan.outer left right ks test) (parts left ++ parts right) in omega (arith, n, m)
+fewer_first (plan.semi left right ks keeping) h = let n = length-append (parts left) (parts right) in let m = one_more (plan.semi left right ks keeping) (parts left ++ parts right) in omega (arith, n, m)
 fewer_first (plan.lookup p column attribute) h = let m = one_more (plan.lookup p column attribute) (parts p) in omega (arith, m)
 fewer_first (plan.filter p test) h = let m = one_more (plan.filter p test) (parts p) in omega (arith, m)
 fewer_first (plan.all_different p columns) h = let m = one_more (plan.all_different p columns) (parts p) in omega (arith, m)
@@ -183,6 +198,7 @@ own_few plan.nodes = omega arith
 own_few (plan.rels types orientation) = omega arith
 own_few (plan.join left right ks) = let n = length-append (keys left ++ keys right) (own_keys (plan.join left right ks)) in omega (arith, n)
 own_few (plan.outer left right ks test) = let n = length-append (keys left ++ keys right) (own_keys (plan.outer left right ks test)) in omega (arith, n)
+own_few (plan.semi left right ks keeping) = let n = length-append (keys left ++ keys right) (own_keys (plan.semi left right ks keeping)) in omega (arith, n)
 own_few (plan.lookup p column attribute) = let n = length-append (keys p) (own_keys (plan.lookup p column attribute)) in omega (arith, n)
 own_few (plan.filter p test) = omega arith
 own_few (plan.all_different p columns) = omega arith
@@ -205,6 +221,7 @@ two_below plan.nodes h = absurd (omega (arith, h))
 two_below (plan.rels types orientation) h = absurd (omega (arith, h))
 two_below (plan.join left right ks) h = refl
 two_below (plan.outer left right ks test) h = refl
+two_below (plan.semi left right ks keeping) h = refl
 two_below (plan.lookup p column attribute) h = absurd (omega (arith, h))
 two_below (plan.filter p test) h = absurd (omega (arith, h))
 two_below (plan.all_different p columns) h = absurd (omega (arith, h))

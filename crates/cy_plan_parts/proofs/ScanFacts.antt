@@ -172,6 +172,7 @@ scan_few state p is scans row = by (leaf_of p) refl (leaf_reads p scans)
     by (plan.rels types orientation) over reads = rels_few types orientation p found.0 over found.1 state is row
     by (plan.join left right keys) over reads = absurd (false≢true reads)
     by (plan.outer left right keys test) over reads = absurd (false≢true reads)
+    by (plan.semi left right keys keeping) over reads = absurd (false≢true reads)
     by (plan.lookup q column attribute) over reads = absurd (false≢true reads)
     by (plan.filter q test) over reads = absurd (false≢true reads)
     by (plan.all_different q columns) over reads = absurd (false≢true reads)

@@ -46,6 +46,7 @@ own_within graph plan.nodes within = All-head (Within graph) plan.nodes [] withi
 own_within graph (plan.rels types orientation) within = All-head (Within graph) (plan.rels types orientation) [] within
 own_within graph (plan.join left right ks) within = All-head (Within graph) (plan.join left right ks) (parts left ++ parts right) within
 own_within graph (plan.outer left right ks test) within = All-head (Within graph) (plan.outer left right ks test) (parts left ++ parts right) within
+own_within graph (plan.semi left right ks keeping) within = All-head (Within graph) (plan.semi left right ks keeping) (parts left ++ parts right) within
 own_within graph (plan.lookup p column attribute) within = All-head (Within graph) (plan.lookup p column attribute) (parts p) within
 own_within graph (plan.filter p test) within = All-head (Within graph) (plan.filter p test) (parts p) within
 own_within graph (plan.all_different p columns) within = All-head (Within graph) (plan.all_different p columns) (parts p) within
@@ -63,6 +64,7 @@ own_too_many now plan.nodes found = any_first (Overfull now.content) plan.nodes 
 own_too_many now (plan.rels types orientation) found = any_first (Overfull now.content) (plan.rels types orientation) [] found
 own_too_many now (plan.join left right ks) found = any_first (Overfull now.content) (plan.join left right ks) (parts left ++ parts right) found
 own_too_many now (plan.outer left right ks test) found = any_first (Overfull now.content) (plan.outer left right ks test) (parts left ++ parts right) found
+own_too_many now (plan.semi left right ks keeping) found = any_first (Overfull now.content) (plan.semi left right ks keeping) (parts left ++ parts right) found
 own_too_many now (plan.lookup p column attribute) found = any_first (Overfull now.content) (plan.lookup p column attribute) (parts p) found
 own_too_many now (plan.filter p test) found = any_first (Overfull now.content) (plan.filter p test) (parts p) found
 own_too_many now (plan.all_different p columns) found = any_first (Overfull now.content) (plan.all_different p columns) (parts p) found
@@ -106,6 +108,7 @@ done_leaf from_nothing old now touches p columns was staged made leaf begun chan
         record { change = change; holds = settled; within = All-cons (Within (Some now.content)) (plan.rels types orientation) [] (now_within old now (plan.rels types orientation) made within change) (All-nil (Within (Some now.content))) }
     by (plan.join left right ks) leaf settled within change = absurd (omega (arith, leaf))
     by (plan.outer left right ks test) leaf settled within change = absurd (omega (arith, leaf))
+    by (plan.semi left right ks keeping) leaf settled within change = absurd (omega (arith, leaf))
     by (plan.lookup p column attribute) leaf settled within change = absurd (omega (arith, leaf))
     by (plan.filter p test) leaf settled within change = absurd (omega (arith, leaf))
     by (plan.all_different p columns) leaf settled within change = absurd (omega (arith, leaf))

@@ -3,5 +3,6 @@ pub mod Counted
 pub mod Limits
 pub mod Memories
 pub mod Parts
+pub mod Taken
 pub mod Upkeep
 pub mod internal

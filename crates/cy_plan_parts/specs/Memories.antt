@@ -13,6 +13,7 @@ use Rattle.cy_deltas.specs.Deltas.{counts, rows_at}
 use Rattle.cy_merges.specs.Merges.{AreBounded, all_columns}
 use Rattle.cy_scans.specs.Scans.{kept_at, scan_column}
 use Rattle.cy_outer.specs.Outer.{numbers_of_partners}
+use Rattle.cy_network_semi.specs.Semi.{numbers_of_keys}
 
 -- a part is a scan: what changes of its rows comes from the touched entities alone
 abbrev pub is_scan : Plan → Bool
@@ -35,7 +36,8 @@ abbrev pub none_where : {X : Type 0} → Bool → List X → List X
 none_where so xs = if so then [] else xs
 
 -- the key columns of the memories that a part has itself: a join keeps the rows of both sides by their keys, an outer join these and the number of
--- partners of each row of its left side, a look-up the rows below it by its column, and what adds counts keeps its own rows. A scan
+-- partners of each row of its left side, a semi join the rows of its left side by their keys and the number of different rows of its right side
+-- with each key, a look-up the rows below it by its column, and what adds counts keeps its own rows. A scan
 -- keeps nothing, nor does a projection that is gone through row by row, or a union of parts that are apart.
 abbrev pub own_keys : Plan → List (List ℕ)
 own_keys plan.unit = []
@@ -43,6 +45,7 @@ own_keys plan.nodes = []
 own_keys (plan.rels types orientation) = []
 own_keys (plan.join left right keys) = map (λ k. k.left) keys ∷ map (λ k. k.right) keys ∷ []
 own_keys (plan.outer left right keys test) = map (λ k. k.left) keys ∷ map (λ k. k.right) keys ∷ all_columns (width left) ∷ []
+own_keys (plan.semi left right keys keeping) = map (λ k. k.left) keys ∷ all_columns (length keys) ∷ []
 own_keys (plan.lookup p column attribute) = none_where (is_scan (plan.lookup p column attribute)) ((column ∷ []) ∷ [])
 own_keys (plan.filter p test) = []
 own_keys (plan.all_different p columns) = []
@@ -57,6 +60,7 @@ keys plan.nodes = []
 keys (plan.rels types orientation) = []
 keys (plan.join left right ks) = (keys left ++ keys right) ++ own_keys (plan.join left right ks)
 keys (plan.outer left right ks test) = (keys left ++ keys right) ++ own_keys (plan.outer left right ks test)
+keys (plan.semi left right ks keeping) = (keys left ++ keys right) ++ own_keys (plan.semi left right ks keeping)
 keys (plan.lookup p column attribute) = keys p ++ own_keys (plan.lookup p column attribute)
 keys (plan.filter p test) = keys p
 keys (plan.all_different p columns) = keys p
@@ -71,6 +75,7 @@ own_contents rows plan.nodes = []
 own_contents rows (plan.rels types orientation) = []
 own_contents rows (plan.join left right ks) = counts (rows left) ∷ counts (rows right) ∷ []
 own_contents rows (plan.outer left right ks test) = counts (rows left) ∷ counts (rows right) ∷ numbers_of_partners ks test (rows left) (rows right) ∷ []
+own_contents rows (plan.semi left right ks keeping) = counts (rows left) ∷ numbers_of_keys ks (rows right) ∷ []
 own_contents rows (plan.lookup p column attribute) = none_where (is_scan (plan.lookup p column attribute)) (counts (rows p) ∷ [])
 own_contents rows (plan.filter p test) = []
 own_contents rows (plan.all_different p columns) = []
@@ -85,6 +90,7 @@ contents rows plan.nodes = []
 contents rows (plan.rels types orientation) = []
 contents rows (plan.join left right ks) = (contents rows left ++ contents rows right) ++ own_contents rows (plan.join left right ks)
 contents rows (plan.outer left right ks test) = (contents rows left ++ contents rows right) ++ own_contents rows (plan.outer left right ks test)
+contents rows (plan.semi left right ks keeping) = (contents rows left ++ contents rows right) ++ own_contents rows (plan.semi left right ks keeping)
 contents rows (plan.lookup p column attribute) = contents rows p ++ own_contents rows (plan.lookup p column attribute)
 contents rows (plan.filter p test) = contents rows p
 contents rows (plan.all_different p columns) = contents rows p

@@ -2,3 +2,4 @@ pub mod Shifted
 pub mod OwnSingles
 pub mod OwnPairs
 pub mod OwnOuter
+pub mod OwnSemi

@@ -25,6 +25,7 @@ use Rattle.cy_part_shifts.proofs.OwnSingles.{lookup_counted, lookup_done, lookup
 use Rattle.cy_plan_parts.proofs.Refusals.{if_memory}
 use Rattle.cy_part_shifts.proofs.Shifted.{shifts_long}
 use Rattle.cy_plan_parts.proofs.Slices.{one_only, set_one}
+use Rattle.cy_plan_parts.proofs.Taken.{grown_of_one}
 use Rattle.cy_part_shifts.proofs.singles.lookup_shifts.Goals as goal
 
 -- what is no scan is none told by its form
@@ -175,6 +176,12 @@ returns-clause-columns g c =
     let long : length own ≡ 1 = one_kept g.M.Memory.key_columns own (plan_of c.args.part.now) c.args.column c.args.attribute.now c.requires.is c.requires.kept c.requires.begun.1.own.keyed in
     ap (map g.M.Memory.key_columns) (set_one c.lookup.new.memory own long) ∙ ap (λ n. n ∷ []) c.lookup.ensures.columns ∙ sym (ap (map g.M.Memory.key_columns) (one_only c.index-own-0.result own long))
 
+pub returns-clause-grows : goal.returns-clause-grows
+returns-clause-grows g c =
+    let own = c.args.own.now in
+    let long : length own ≡ 1 = one_kept g.M.Memory.key_columns own (plan_of c.args.part.now) c.args.column c.args.attribute.now c.requires.is c.requires.kept c.requires.begun.1.own.keyed in
+    grown_of_one g.M.Memory.step_count own (set own 0 c.lookup.new.memory) (get_or own 0 c.index-own-0.result) c.lookup.new.memory (one_only c.index-own-0.result own long) (set_one c.lookup.new.memory own long) c.lookup.ensures.grows
+
 pub returns-clause-graph : goal.returns-clause-graph
 returns-clause-graph g c = c.lookup.ensures.graph
 
@@ -189,6 +196,12 @@ returns-in_err-made-clause-columns g c =
     let own = c.args.own.now in
     let long : length own ≡ 1 = one_kept g.M.Memory.key_columns own (plan_of c.args.part.now) c.args.column c.args.attribute.now c.requires.is c.requires.kept c.requires.begun.1.own.keyed in
     ap (map g.M.Memory.key_columns) (set_one c.lookup.new.memory own long) ∙ ap (λ n. n ∷ []) c.lookup.ensures.columns ∙ sym (ap (map g.M.Memory.key_columns) (one_only c.index-own-0.result own long))
+
+pub returns-in_err-made-clause-grows : goal.returns-in_err-made-clause-grows
+returns-in_err-made-clause-grows g c =
+    let own = c.args.own.now in
+    let long : length own ≡ 1 = one_kept g.M.Memory.key_columns own (plan_of c.args.part.now) c.args.column c.args.attribute.now c.requires.is c.requires.kept c.requires.begun.1.own.keyed in
+    grown_of_one g.M.Memory.step_count own (set own 0 c.lookup.new.memory) (get_or own 0 c.index-own-0.result) c.lookup.new.memory (one_only c.index-own-0.result own long) (set_one c.lookup.new.memory own long) c.lookup.ensures.grows
 
 pub returns-in_err-made-clause-graph : goal.returns-in_err-made-clause-graph
 returns-in_err-made-clause-graph g c = c.lookup.ensures.graph

@@ -23,6 +23,7 @@ use Rattle.cy_plan_parts.proofs.Outcomes.{if_err_more, if_ok_from, if_ok_three}
 use Rattle.cy_part_shifts.proofs.OwnSingles.{project_change, project_done, project_keyed, project_settled, project_sure, project_within}
 use Rattle.cy_part_shifts.proofs.Shifted.{shift_numbers, shifts_long}
 use Rattle.cy_plan_parts.proofs.Slices.{one_only, set_one}
+use Rattle.cy_plan_parts.proofs.Taken.{grown_of_one}
 use Rattle.cy_part_shifts.proofs.singles.project_shifts.Goals as goal
 
 -- a projection that isn't gone through row by row has one memory
@@ -209,6 +210,12 @@ returns-clause-columns g c =
     let own = c.args.own.now in
     let long : length own ≡ 1 = one_kept g.M.Memory.key_columns own (plan_of c.args.part.now) (map output_of c.args.outputs.now) c.requires.is c.requires.kept c.requires.begun.1.own.keyed in
     ap (map g.M.Memory.key_columns) (set_one c.project.new.memory own long) ∙ ap (λ n. n ∷ []) c.project.ensures.columns ∙ sym (ap (map g.M.Memory.key_columns) (one_only c.index-own-0.result own long))
+
+pub returns-clause-grows : goal.returns-clause-grows
+returns-clause-grows g c =
+    let own = c.args.own.now in
+    let long : length own ≡ 1 = one_kept g.M.Memory.key_columns own (plan_of c.args.part.now) (map output_of c.args.outputs.now) c.requires.is c.requires.kept c.requires.begun.1.own.keyed in
+    grown_of_one g.M.Memory.step_count own (set own 0 c.project.new.memory) (get_or own 0 c.index-own-0.result) c.project.new.memory (one_only c.index-own-0.result own long) (set_one c.project.new.memory own long) c.project.ensures.grows
 
 pub returns-clause-graph : goal.returns-clause-graph
 returns-clause-graph g c = refl

@@ -158,6 +158,7 @@ inside (plan.join left right keys) column k good is =
     inside_both (width left) (width right) column (kind_at left column) (kind_at right (column - width left)) k (λ at. inside right (column - width left) k good.1 at) is
 inside (plan.outer left right keys test) column k good is =
     inside_both (width left) (width right) column (kind_at left column) (kind_at right (column - width left)) k (λ at. inside right (column - width left) k good.1 at) is
+inside (plan.semi left right keys keeping) column k good is = inside left column k good.0 is
 inside (plan.lookup p c attribute) column k good is = inside_lookup (width p) column (kind_at p column) k is
 inside (plan.filter p test) column k good is = inside p column k good.0 is
 inside (plan.all_different p columns) column k good is = inside p column k good.0 is
@@ -351,6 +352,7 @@ module _ (graph : Content) where
       (λ at. have_kind left column k good.0 at)
       (λ at l. or_nulls_have k (width right) (column - width left) (filter (is_partner keys test l) (rows_of graph right))
       (each_sifted (HasKindAt (column - width left) k) (is_partner keys test l) (rows_of graph right) (have_kind right (column - width left) k good.1 at))) is
+  have_kind (plan.semi left right keys keeping) column k good is = each_sifted (HasKindAt column k) _ (rows_of graph left) (have_kind left column k good.0 is)
   have_kind (plan.lookup p c attribute) column k good is = lookup_has p c column attribute k good.0 (λ at. have_kind p column k good.0 at) is
   have_kind (plan.filter p test) column k good is = each_sifted (HasKindAt column k) _ (rows_of graph p) (have_kind p column k good.0 is)
   have_kind (plan.all_different p columns) column k good is = each_sifted (HasKindAt column k) _ (rows_of graph p) (have_kind p column k good.0 is)

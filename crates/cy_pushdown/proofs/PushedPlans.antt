@@ -8,12 +8,13 @@ use Rattle.cy_values.specs.Bag.{count_of}
 use Rattle.cy_trees.specs.Trees.{Expression}
 use Rattle.cy_graph.specs.Graph.{Content, State, IsGraph}
 use Rattle.cy_plans.specs.declared.operators.Attribute.{Attribute}
+use Rattle.cy_plans.specs.declared.operators.Keeping.{Keeping}
 use Rattle.cy_plans.specs.declared.operators.KeyColumns.{KeyColumns}
 use Rattle.cy_plans.specs.Plans as plan
 use Rattle.cy_plans.specs.Plans.{Plan, Output, width}
 use Rattle.cy_plans.specs.Expressions.{holds, projected, relationships_at}
 use Rattle.cy_plans.specs.Keys.{meet}
-use Rattle.cy_plans.specs.Meaning.{are_different, each_once, is_partner, or_nulls, paired, rows_of, with_attribute}
+use Rattle.cy_plans.specs.Meaning.{are_different, each_once, has_partner, is_partner, or_nulls, paired, rows_of, stays, with_attribute}
 use Rattle.cy_plans.specs.Parts.{parts}
 use Rattle.cy_plans.specs.Sure.{HasCells, HasTruth, IsSureOn}
 use Rattle.cy_plans.specs.WellFormed.{IsWellFormed}
@@ -236,6 +237,25 @@ module _ (test : Expression) where
           with_parts other right (plan.outer other right keys predicate) graph.content tables
           (sifted_within graph.content tables (kept graph.content columns) (plan.outer left right keys predicate) (plan.outer other right keys predicate) (outer_rows keys predicate graph is)
           (own_part (IsWithin graph.content tables) (plan.outer left right keys predicate) each))
+          (pushed.bounded graph tables is both.0) both.1;
+    }
+
+  module _ (left right other : Plan) (columns : List ℕ) (pushed : IsPushed left columns test other) (keys : List KeyColumns) (keeping : Keeping) where
+    semi_rows : (graph : State) → IsGraph graph → rows_of graph.content (plan.semi other right keys keeping) ≡ filter (kept graph.content columns) (rows_of graph.content (plan.semi left right keys keeping))
+    semi_rows graph is =
+        ap (filter (λ l. stays keeping (has_partner keys (rows_of graph.content right) l))) (pushed.rows graph is)
+        ∙ sifted_twice (λ l. stays keeping (has_partner keys (rows_of graph.content right) l)) (kept graph.content columns) (rows_of graph.content left)
+
+    pub pushed_semi : IsPushed (plan.semi left right keys keeping) columns test (plan.semi other right keys keeping)
+    pushed_semi = record {
+      as_wide = pushed.as_wide;
+      rows = semi_rows;
+      sure = λ graph is sure. (pushed.sure graph is sure.0, sure.1);
+      bounded = λ graph tables is each.
+          let both = two_parts left right (plan.semi left right keys keeping) graph.content tables each in
+          with_parts other right (plan.semi other right keys keeping) graph.content tables
+          (sifted_within graph.content tables (kept graph.content columns) (plan.semi left right keys keeping) (plan.semi other right keys keeping) (semi_rows graph is)
+          (own_part (IsWithin graph.content tables) (plan.semi left right keys keeping) each))
           (pushed.bounded graph tables is both.0) both.1;
     }
 

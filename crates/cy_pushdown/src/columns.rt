@@ -130,6 +130,7 @@ pub(crate) fn kind_at(part: &Operator, column: usize) -> Option<Kind>
             }
         }
         Operator::Filter(below, _) | Operator::AllDifferent(below, _) => kind_at(below, column),
+        Operator::Semi(left, _, _, _) => kind_at(left, column),
         Operator::Distinct(below) => kind_at(below, column),
         Operator::Project(below, outputs) => match column_of(outputs, column) {
             Some(column) => kind_at(below, column),

@@ -26,6 +26,7 @@ fn left_after(part: &Operator, count: usize) -> Option<usize> {
         Operator::Unit | Operator::Nodes | Operator::Rels(_, _) => Some(rest),
         Operator::Join(left, right, _)
         | Operator::Outer(left, right, _, _)
+        | Operator::Semi(left, right, _, _)
         | Operator::Union(left, right) => left_after(right, left_after(left, rest)?),
         Operator::Lookup(below, _, _)
         | Operator::Filter(below, _)

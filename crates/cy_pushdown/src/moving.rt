@@ -27,6 +27,11 @@ pub(crate) fn plan_over(alloc: Global, part: Operator) -> Result<Plan, Fault>
             let right = plan_over(alloc, Box::into_inner(right))?;
             Plan::outer(alloc, left, right, keys, test)
         }
+        Operator::Semi(left, right, keys, keeping) => {
+            let left = plan_over(alloc, Box::into_inner(left))?;
+            let right = plan_over(alloc, Box::into_inner(right))?;
+            Plan::semi(alloc, left, right, keys, keeping)
+        }
         Operator::Lookup(below, column, attribute) => {
             plan_over(alloc, Box::into_inner(below))?.lookup(alloc, column, attribute)
         }

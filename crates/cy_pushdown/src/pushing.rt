@@ -122,6 +122,11 @@ pub(crate) fn push(
             let joined = Plan::outer(alloc, left, right, keys, predicate)?;
             filter_columns(alloc, joined, columns, test)
         }
+        Operator::Semi(left, right, keys, keeping) => {
+            let left = push(alloc, Box::into_inner(left), columns, test)?;
+            let right = plan_over(alloc, Box::into_inner(right))?;
+            Plan::semi(alloc, left, right, keys, keeping)
+        }
         Operator::Lookup(below, at, attribute) => {
             let below = Box::into_inner(below);
             if are_below(columns, below.width()) {

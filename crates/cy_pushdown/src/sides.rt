@@ -65,6 +65,7 @@ fn is_of_nodes_or_trails(part: &Operator, column: usize) -> bool
             on_left || on_right
         }
         Operator::Outer(below, _, _, _)
+        | Operator::Semi(below, _, _, _)
         | Operator::Lookup(below, _, _)
         | Operator::Filter(below, _)
         | Operator::AllDifferent(below, _)

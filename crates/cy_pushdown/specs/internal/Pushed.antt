@@ -64,6 +64,7 @@ kind_at plan.nodes column = kind_of_nodes column
 kind_at (plan.rels types orientation) column = kind_of_rels column
 kind_at (plan.join left right keys) column = if nat_lt column (width left) then kind_at left column else kind_at right (column - width left)
 kind_at (plan.outer left right keys test) column = if nat_lt column (width left) then kind_at left column else kind_at right (column - width left)
+kind_at (plan.semi left right keys keeping) column = kind_at left column
 kind_at (plan.lookup p c attribute) column = if nat_lt column (width p) then kind_at p column else if column == width p then Some kind.Value else None
 kind_at (plan.filter p test) column = kind_at p column
 kind_at (plan.all_different p columns) column = kind_at p column

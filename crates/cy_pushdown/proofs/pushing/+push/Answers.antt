@@ -6,10 +6,11 @@ use Rattle.std.proofs.lemmas.List.{length-map}
 use Rattle.cy_trees.specs.Trees.{Expression}
 use Rattle.cy_trees.specs.Views.{expression_of}
 use Rattle.cy_plans.specs.declared.operators.Attribute.{Attribute}
+use Rattle.cy_plans.specs.declared.operators.Keeping.{Keeping}
 use Rattle.cy_plans.specs.declared.operators.KeyColumns.{KeyColumns}
 use Rattle.cy_plans.specs.declared.operators.Operator.TheFolds.{fold-roll-Operator}
 use Rattle.cy_plans.specs.declared.operators.Operator.TheOpen.{Operator-F}
-use Rattle.cy_plans.specs.declared.operators.Operator.TheVariants.{rolls-AllDifferent, rolls-Distinct, rolls-Filter, rolls-Join, rolls-Lookup, rolls-Outer, rolls-Project, rolls-Union}
+use Rattle.cy_plans.specs.declared.operators.Operator.TheVariants.{rolls-AllDifferent, rolls-Distinct, rolls-Filter, rolls-Join, rolls-Lookup, rolls-Outer, rolls-Project, rolls-Semi, rolls-Union}
 use Rattle.cy_plans.specs.Plans as plan
 use Rattle.cy_plans.specs.Plans.{Output, Plan, width}
 use Rattle.cy_plans.specs.Views.{output_of, plan_of, plan_step}
@@ -18,7 +19,7 @@ use Rattle.cy_row_plans.proofs.Filtered.{if_ok_map}
 use Rattle.cy_pushdown.specs.internal.Pushed.{AreMoved, IsPushed, IsTakenOver}
 use Rattle.cy_pushdown.specs.internal.Ways.{IsWay}
 use Rattle.cy_pushdown.proofs.Moves.{cells_left, cells_right}
-use Rattle.cy_pushdown.proofs.PushedPlans.{pushed_different, pushed_distinct, pushed_filter, pushed_join_both, pushed_join_left, pushed_join_right, pushed_lookup, pushed_outer, pushed_project, pushed_union}
+use Rattle.cy_pushdown.proofs.PushedPlans.{pushed_different, pushed_distinct, pushed_filter, pushed_join_both, pushed_join_left, pushed_join_right, pushed_lookup, pushed_outer, pushed_project, pushed_semi, pushed_union}
 use Rattle.cy_pushdown.proofs.pushing.+push.Goals as goal
 
 pub project-requires-clause-room : goal.project-requires-clause-room
@@ -148,6 +149,25 @@ returns-then-are_below t c =
     (pushed_outer test left right other columns well.0 less pushed keys predicate)))
     c.outer.result c.outer.ensures
 
+pub returns-in_ok-right-in-Semi : goal.returns-in_ok-right-in-Semi
+returns-in_ok-right-in-Semi t c =
+    let columns : List ℕ = c.args.columns.now in
+    let test : Expression = expression_of c.args.test.now in
+    let left : Plan = plan_of c.in-Semi.left.value in
+    let right : Plan = plan_of c.in-Semi.right.value in
+    let keys : List KeyColumns = c.in-Semi.keys.items in
+    let keeping : Keeping = c.in-Semi.keeping in
+    let part : plan_of c.args.part ≡ plan.semi left right keys keeping = ap plan_of c.in-Semi.is ∙ ap plan_of (sym (rolls-Semi c.in-Semi.left c.in-Semi.right c.in-Semi.keys c.in-Semi.keeping)) ∙ fold-roll-Operator Plan plan_step (Operator-F.Semi c.in-Semi.left c.in-Semi.right c.in-Semi.keys c.in-Semi.keeping) in
+    let other : Plan = plan_of c.in_ok-left-in-Semi.left in
+    let pushed : IsPushed left columns test other = subst (λ q. IsPushed (plan_of q) columns test other) c.into_inner.ensures c.in_ok-left-in-Semi.ensures in
+    let same : plan_of c.in_ok-right-in-Semi.right ≡ right = c.in_ok-right-in-Semi.ensures ∙ ap plan_of c.into_inner-in-Semi.ensures in
+    if_ok_map (λ p. plan_of p ≡ plan.semi other (plan_of c.in_ok-right-in-Semi.right) keys keeping) (λ p. IsPushed (plan_of c.args.part) columns test (plan_of p))
+    (λ p is.
+    subst (λ (q : Plan). IsPushed q columns test (plan_of p)) (sym part)
+    (subst (λ (q : Plan). IsPushed (plan.semi left right keys keeping) columns test q) (sym (is ∙ ap (λ (q : Plan). plan.semi other q keys keeping) same))
+    (pushed_semi test left right other columns pushed keys keeping)))
+    c.semi.result c.semi.ensures
+
 pub returns-then-are_below-2 : goal.returns-then-are_below-2
 returns-then-are_below-2 t c =
     let columns : List ℕ = c.args.columns.now in
@@ -176,7 +196,7 @@ returns-in_ok-push-in-Filter t c =
     let part : plan_of c.args.part ≡ plan.filter below condition = ap plan_of c.in-Filter.is ∙ ap plan_of (sym (rolls-Filter c.in-Filter.below c.in-Filter.condition)) ∙ fold-roll-Operator Plan plan_step (Operator-F.Filter c.in-Filter.below c.in-Filter.condition) in
     let well : IsWellFormed (plan.filter below condition) = subst IsWellFormed part c.requires.good in
     let other : Plan = plan_of c.in_ok-push-in-Filter.field-0 in
-    let pushed : IsPushed below columns test other = subst (λ q. IsPushed (plan_of q) columns test other) c.into_inner.ensures c.in_ok-push-in-Filter.ensures in
+    let pushed : IsPushed below columns test other = subst (λ q. IsPushed (plan_of q) columns test other) c.into_inner-in-Filter.ensures c.in_ok-push-in-Filter.ensures in
     if_ok_map (λ p. plan_of p ≡ plan.filter other condition) (λ p. IsPushed (plan_of c.args.part) columns test (plan_of p))
     (λ p is.
     subst (λ (q : Plan). IsPushed q columns test (plan_of p)) (sym part)

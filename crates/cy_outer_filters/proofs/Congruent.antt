@@ -6,11 +6,12 @@ use Rattle.cy_values.specs.declared.rows.Cell.{Cell}
 use Rattle.cy_trees.specs.Trees.{Expression}
 use Rattle.cy_graph.specs.Graph.{State, IsGraph}
 use Rattle.cy_plans.specs.declared.operators.Attribute.{Attribute}
+use Rattle.cy_plans.specs.declared.operators.Keeping.{Keeping}
 use Rattle.cy_plans.specs.declared.operators.KeyColumns.{KeyColumns}
 use Rattle.cy_plans.specs.Plans as plan
 use Rattle.cy_plans.specs.Plans.{Plan, Output, width}
 use Rattle.cy_plans.specs.Expressions.{holds, projected, relationships_at}
-use Rattle.cy_plans.specs.Meaning.{are_different, each_once, joined, outer_joined, rows_of, with_attribute}
+use Rattle.cy_plans.specs.Meaning.{are_different, each_once, joined, outer_joined, rows_of, semi_joined, with_attribute}
 use Rattle.cy_plans.specs.Parts.{parts}
 use Rattle.cy_plans.specs.Sure.{HasCells, HasTruth}
 use Rattle.cy_plans.specs.WellFormed.{IsColumn, IsKeyBetween, IsOutputOver, IsOver, greatest_width}
@@ -125,6 +126,9 @@ module _ (left right other_left other_right : Plan) (here : StandsFor left other
     outer_rows : (keys : List KeyColumns) (test : Expression) → rows_of graph.content (plan.outer other_left other_right keys test) ≡ rows_of graph.content (plan.outer left right keys test)
     outer_rows keys test = λ i. outer_joined keys test (there.as_wide i) (here.rows graph good i) (there.rows graph good i)
 
+    semi_rows : (keys : List KeyColumns) (keeping : Keeping) → rows_of graph.content (plan.semi other_left other_right keys keeping) ≡ rows_of graph.content (plan.semi left right keys keeping)
+    semi_rows keys keeping = λ i. semi_joined keys keeping (here.rows graph good i) (there.rows graph good i)
+
     union_rows : rows_of graph.content (plan.union other_left other_right) ≡ rows_of graph.content (plan.union left right)
     union_rows = λ i. here.rows graph good i ++ there.rows graph good i
 
@@ -157,6 +161,15 @@ module _ (left right other_left other_right : Plan) (here : StandsFor left other
     rows = λ graph good. outer_rows graph good keys test;
     sure = λ graph good sure. (here.sure graph good sure.0, there.sure graph good sure.1, subst (λ rows. All (HasTruth test) rows) (sym (joined_rows graph good keys)) sure.2);
     bounded = λ graph tables good each. two_below graph good tables (plan.outer left right keys test) (plan.outer other_left other_right keys test) (outer_rows graph good keys test) each;
+  }
+
+  pub over_semi : (keys : List KeyColumns) (keeping : Keeping) → StandsFor (plan.semi left right keys keeping) (plan.semi other_left other_right keys keeping)
+  over_semi keys keeping = record {
+    as_wide = here.as_wide;
+    well_formed = λ well. (here.well_formed well.0, there.well_formed well.1, keys_between keys well.2);
+    rows = λ graph good. semi_rows graph good keys keeping;
+    sure = λ graph good sure. (here.sure graph good sure.0, there.sure graph good sure.1);
+    bounded = λ graph tables good each. two_below graph good tables (plan.semi left right keys keeping) (plan.semi other_left other_right keys keeping) (semi_rows graph good keys keeping) each;
   }
 
   pub over_union : StandsFor (plan.union left right) (plan.union other_left other_right)

@@ -13,7 +13,7 @@ use Rattle.cy_outer_filters.specs.Standing.{StandsFor}
 use Rattle.cy_outer_filters.specs.declared.bases.Joint.{Joint}
 use Rattle.cy_outer_filters.specs.declared.bases.Joint.TheVariants as joint
 use Rattle.cy_outer_filters.specs.internal.Bases.{together}
-use Rattle.cy_outer_filters.proofs.Congruent.{on_graphs, over_different, over_distinct, over_filter, over_join, over_lookup, over_outer, over_project, over_union, stands_again}
+use Rattle.cy_outer_filters.proofs.Congruent.{on_graphs, over_different, over_distinct, over_filter, over_join, over_lookup, over_outer, over_project, over_semi, over_union, stands_again}
 
 over_any : (l : Layer) (p q : Plan) → StandsFor p q → StandsFor (over_layer l p) (over_layer l q)
 over_any (layer.Lookup column attribute) p q is = over_lookup p q is column attribute
@@ -29,11 +29,13 @@ over_all (l ∷ ls) p q is = over_any l (layered ls p) (layered ls q) (over_all 
 pub well_sides : (j : Joint) (p q : Plan) → IsWellFormed (together j p q) → IsWellFormed p × IsWellFormed q
 well_sides (joint.Join keys) p q well = (well.0, well.1)
 well_sides (joint.Outer keys test) p q well = (well.0, well.1)
+well_sides (joint.Semi keys keeping) p q well = (well.0, well.1)
 well_sides joint.Union p q well = (well.0, well.1)
 
 pub over_both : (j : Joint) (p q other_p other_q : Plan) → StandsFor p other_p → StandsFor q other_q → StandsFor (together j p q) (together j other_p other_q)
 over_both (joint.Join keys) p q other_p other_q here there = over_join p q other_p other_q here there keys.items
 over_both (joint.Outer keys test) p q other_p other_q here there = over_outer p q other_p other_q here there keys.items (expression_of test)
+over_both (joint.Semi keys keeping) p q other_p other_q here there = over_semi p q other_p other_q here there keys.items keeping
 over_both joint.Union p q other_p other_q here there = over_union p q other_p other_q here there
 
 -- a layer more is taken off the plan

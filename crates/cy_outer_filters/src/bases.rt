@@ -10,7 +10,7 @@ ghost use Rattle.cy_outer_filters.specs.Standing.{StandsFor};
 ghost use Rattle.cy_outer_filters.specs.internal.Bases as spec;
 
 use crate::outers::outer;
-use cy_plans::{KeyColumns, Operator, Plan};
+use cy_plans::{Keeping, KeyColumns, Operator, Plan};
 use cy_rewriting::{Layer, Opened, open_part};
 use cy_trees::Expr;
 use cy_values::Fault;
@@ -28,6 +28,7 @@ pub(crate) struct Layers {
 pub(crate) enum Joint {
     Join(Vec<KeyColumns>),
     Outer(Vec<KeyColumns>, Expr),
+    Semi(Vec<KeyColumns>, Keeping),
     Union,
 }
 
@@ -86,6 +87,13 @@ pub(crate) fn open_base(base: Operator) -> Base
                 Box::into_inner(right),
             )
         }
+        Operator::Semi(left, right, keys, keeping) => {
+            Base::Both(
+                Joint::Semi(keys, keeping),
+                Box::into_inner(left),
+                Box::into_inner(right),
+            )
+        }
         Operator::Union(left, right) => {
             Base::Both(Joint::Union, Box::into_inner(left), Box::into_inner(right))
         }
@@ -110,6 +118,7 @@ pub(crate) fn put_together(
     match joint {
         Joint::Join(keys) => Plan::join(alloc, left, right, keys),
         Joint::Outer(keys, test) => outer(alloc, left, right, keys, test),
+        Joint::Semi(keys, keeping) => Plan::semi(alloc, left, right, keys, keeping),
         Joint::Union => Plan::union(alloc, left, right),
     }
 }

@@ -15,6 +15,7 @@ use Rattle.cy_outer_filters.specs.declared.bases.Joint.TheVariants as joint
 abbrev pub together : Joint → Plan → Plan → Plan
 together (joint.Join keys) p q = plan.join p q keys.items
 together (joint.Outer keys test) p q = plan.outer p q keys.items (expression_of test)
+together (joint.Semi keys keeping) p q = plan.semi p q keys.items keeping
 together joint.Union p q = plan.union p q
 
 -- a base is a plan with no part below it, or two parts together

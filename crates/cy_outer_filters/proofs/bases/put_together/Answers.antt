@@ -12,6 +12,12 @@ returns-in-Join c =
     let right : Plan = plan_of c.args.right in
     IfOk-weaker c.join.result _ _ (λ p is. equal_plans (together c.args.joint left right) (plan_of p) (ap (λ j. together j left right) c.in-Join.is ∙ sym is)) c.join.ensures
 
+pub returns-in-Semi : goal.returns-in-Semi
+returns-in-Semi c =
+    let left : Plan = plan_of c.args.left in
+    let right : Plan = plan_of c.args.right in
+    IfOk-weaker c.semi.result _ _ (λ p is. equal_plans (together c.args.joint left right) (plan_of p) (ap (λ j. together j left right) c.in-Semi.is ∙ sym is)) c.semi.ensures
+
 pub returns-in-Union : goal.returns-in-Union
 returns-in-Union c =
     let left : Plan = plan_of c.args.left in

@@ -1,0 +1,112 @@
+"""Reads, writes and growths that fail: faults.c, which makes them fail, is laid between the program and the C library."""
+import errno
+import os
+import shutil
+import subprocess
+import tempfile
+from contextlib import contextmanager
+from pathlib import Path
+from typing import Dict, Iterator, List
+
+from checks.program import TOP, Ended, Failure, NotRun, expect, run
+
+SOURCE = Path(__file__).resolve().parent / "faults.c"
+# What the program does in the place of each answer.
+ENDLESS = 1000000
+
+
+def compilers() -> List[List[List[str]]]:
+    """The ways to make a library of faults.c, each a list of commands: the toolchain's own compiler, and the system's."""
+    ways = []
+    rt = shutil.which("rt")
+    if rt is not None:
+        tools = Path(rt).resolve().parent.parent / "toolchain" / "bin"
+        compile_it = [str(tools / "clang"), "--target=x86_64-unknown-linux-gnu", "--no-default-config", "-O1", "-fPIC", "-c"]
+        link_it = [str(tools / "ld.lld"), "-m", "elf_x86_64", "-shared", "-o", "faults.so", "faults.o"]
+        ways.append([[*compile_it, "-o", "faults.o", str(SOURCE)], link_it])
+    if shutil.which("cc"):
+        ways.append([["cc", "-O1", "-fPIC", "-shared", "-o", "faults.so", str(SOURCE)]])
+    return ways
+
+
+@contextmanager
+def library() -> Iterator[Path]:
+    """The library of faults, for as long as it is used."""
+    with tempfile.TemporaryDirectory(prefix="faults-") as folder:
+        for way in compilers():
+            how = {"cwd": folder, "stdout": subprocess.DEVNULL, "stderr": subprocess.DEVNULL}
+            try:
+                if all(subprocess.run(words, **how).returncode == 0 for words in way):
+                    yield Path(folder) / "faults.so"
+                    return
+            except OSError:
+                continue
+        raise NotRun("there is no C compiler: neither the toolchain's, by rt in the PATH, nor cc")
+
+
+def run_with(faults: Path, program: Path, given: bytes, words: List[str], **settings: str) -> Ended:
+    """Runs the program with faults."""
+    return run(program, words, given, settings={"LD_PRELOAD": str(faults), **settings})
+
+
+def count(faults: Path, program: Path, given: bytes, words: List[str]) -> Dict[str, int]:
+    """How many reads, writes and growths an undisturbed run has."""
+    counts = faults.parent / "counts"
+    run_with(faults, program, given, words, FAULT_COUNTS=str(counts))
+    numbers = counts.read_text().split()
+    return dict(zip(("reads", "writes", "growths"), map(int, numbers)))
+
+
+def session() -> bytes:
+    """The lines of a session that is answered with many entries."""
+    lines = (TOP / "examples" / "start.session").read_bytes().splitlines(True)
+    return b"".join(it for it in lines if not it.startswith(b"{"))
+
+
+def test_short_moves(program: Path) -> str:
+    """One byte a read, and one byte a write."""
+    given = session()
+    wanted = run(program, ["--feed"], given)
+    with library() as faults:
+        expect(run_with(faults, program, given, ["--feed"], FAULT_SHORT="1"), wanted, "one byte a read and a write")
+    return "one byte a read and one a write: the same output"
+
+
+def test_failing_moves(program: Path) -> str:
+    """Each read fails in turn, and each write: what was written is a beginning, and nothing is tried again."""
+    given = session()
+    wanted = run(program, ["--feed"], given)
+    tried = 0
+    with library() as faults:
+        for name, error in ("READ", errno.EIO), ("WRITE", errno.ENOSPC), ("WRITE", errno.EPIPE), ("READ", errno.EAGAIN):
+            total = count(faults, program, given, ["--feed"])[f"{name.lower()}s"]
+            for number in range(1, total + 1):
+                settings = {f"FAULT_{name}": f"{number} 1 {error}"}
+                ended = run_with(faults, program, given, ["--feed"], **settings)
+                tried += 1
+                if ended.status != 3 or ended.errors or not wanted.output.startswith(ended.output):
+                    raise Failure(f"{name.lower()} {number} fails by {errno.errorcode[error]}: {ended.words()}")
+                if name == "WRITE" and ended.output == wanted.output:
+                    raise Failure(f"write {number} fails by {errno.errorcode[error]}, and was tried again")
+    return f"{tried} runs in which a read or a write fails: status 3 after a beginning of the output"
+
+
+def test_interrupted_moves(program: Path) -> str:
+    """A read or a write that was interrupted is asked for once more, and not for ever."""
+    given = session()
+    wanted = run(program, ["--feed"], given)
+    with library() as faults:
+        first = run_with(faults, program, given, ["--feed"], FAULT_READ=f"1 1 {errno.EINTR}")
+        if first == Ended(3, b"", b""):
+            raise NotRun("this program takes an interrupted read for a failed one, and ends with status 3")
+        totals = count(faults, program, given, ["--feed"])
+        tried = 0
+        for name in "READ", "WRITE":
+            for number in range(1, totals[f"{name.lower()}s"] + 1):
+                settings = {f"FAULT_{name}": f"{number} 1 {errno.EINTR}"}
+                expect(run_with(faults, program, given, ["--feed"], **settings), wanted, f"{name.lower()} {number} is interrupted")
+                tried += 1
+            settings = {f"FAULT_{name}": f"1 {ENDLESS * 1000} {errno.EINTR}"}
+            ended = run_with(faults, program, given, ["--feed"], **settings)
+            expect(ended, Ended(3, b"", b""), f"each {name.lower()} is interrupted, without an end")
+    return f"{tried} runs in which a read or a write is interrupted: the same output"

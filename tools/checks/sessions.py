@@ -1,0 +1,92 @@
+"""The sessions of examples/: what each line of them is answered."""
+from dataclasses import dataclass, field
+from pathlib import Path
+from typing import Iterator, List
+
+from checks.program import TOP, Failure, run, shown
+
+# How many entries of a view are kept in a file's sessions, where it isn't as many as without the option.
+HISTORY = {"history.session": 2}
+# How an entry and a fault begin.
+ENTRY = '{"added"'
+FAULT = '{"at"'
+
+
+@dataclass
+class Exchange:
+    """A line that is sent, with its number in the file and what is answered: the reply, and then the entries that it makes."""
+
+    place: int
+    line: str
+    answers: List[str] = field(default_factory=list)
+
+    def is_refused(self) -> bool:
+        return bool(self.answers) and self.answers[0].startswith(FAULT)
+
+    def without_entries(self) -> "Exchange":
+        return Exchange(self.place, self.line, [it for it in self.answers if not it.startswith(ENTRY)])
+
+
+def read_sessions(file: Path) -> Iterator[List[Exchange]]:
+    """The sessions of a file. A line that begins with a brace is an answer, each other one is sent, and an empty line ends a session."""
+    session: List[Exchange] = []
+    # (split at line feeds alone: a line may hold other characters that end a line elsewhere)
+    for place, line in enumerate(file.read_bytes().decode().split("\n"), 1):
+        if line.startswith("{"):
+            if not session:
+                raise Failure(f"{file.name}, line {place}: an answer to no line")
+            session[-1].answers.append(line)
+        elif line:
+            session.append(Exchange(place, line))
+        elif session:
+            yield session
+            session = []
+    if session:
+        yield session
+
+
+def differs(found: List[str], session: List[Exchange]) -> str:
+    """Where what was written differs from a session, in words, or nothing."""
+    at = 0
+    for exchange in session:
+        part = found[at : at + len(exchange.answers)]
+        at += len(exchange.answers)
+        if part != exchange.answers:
+            wanted, got = " ".join(exchange.answers).encode(), " ".join(part).encode()
+            return f"line {exchange.place}, {shown(exchange.line.encode())}: answered {shown(got)}, and not {shown(wanted)}"
+    return f"after the last answer comes {found[at][:200]!r}" if found[at:] else ""
+
+
+def try_session(program: Path, words: List[str], session: List[Exchange], what: str) -> None:
+    """Sends a session to a fresh program, and fails where what it writes is something else."""
+    sent = "".join(f"{it.line}\n" for it in session).encode()
+    ended = run(program, words, sent)
+    found = ended.output.decode(errors="backslashreplace").split("\n")
+    difference = differs(found[:-1], session)
+    if difference or found[-1]:
+        raise Failure(f"{what}, {difference or 'the last line of the output has no end'}")
+    if ended.status != 0 or ended.errors:
+        raise Failure(f"{what}: {ended.words()}")
+
+
+def try_file(program: Path, file: Path) -> int:
+    """Tries the sessions of a file, each as it stands, without its refused lines, and without entries."""
+    options = [f"--history={HISTORY[file.name]}"] if file.name in HISTORY else []
+    sessions = list(read_sessions(file))
+    feed = ["--feed"] if any(it.startswith(ENTRY) for session in sessions for one in session for it in one.answers) else []
+    for session in sessions:
+        try_session(program, options + feed, session, f"{file.name}, as it stands")
+        others = [it for it in session if not it.is_refused()]
+        try_session(program, options + feed, others, f"{file.name}, without its refused lines")
+        if feed:
+            plain = [it.without_entries() for it in session]
+            try_session(program, options, plain, f"{file.name}, without --feed")
+    return len(sessions)
+
+
+def test_sessions(program: Path) -> str:
+    files = sorted((TOP / "examples").glob("*.session"))
+    if not files:
+        raise Failure("examples/ has no sessions")
+    count = sum(try_file(program, file) for file in files)
+    return f"{count} sessions of {len(files)} files as they stand, without their refused lines and without entries"

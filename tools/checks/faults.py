@@ -11,8 +11,8 @@ from typing import Dict, Iterator, List
 from checks.program import TOP, Ended, Failure, NotRun, expect, run
 
 SOURCE = Path(__file__).resolve().parent / "faults.c"
-# What the program does in the place of each answer.
-ENDLESS = 1000000
+# As many calls as come without an end.
+ENDLESS = 1 << 40
 
 
 def compilers() -> List[List[List[str]]]:
@@ -106,7 +106,23 @@ def test_interrupted_moves(program: Path) -> str:
                 settings = {f"FAULT_{name}": f"{number} 1 {errno.EINTR}"}
                 expect(run_with(faults, program, given, ["--feed"], **settings), wanted, f"{name.lower()} {number} is interrupted")
                 tried += 1
-            settings = {f"FAULT_{name}": f"1 {ENDLESS * 1000} {errno.EINTR}"}
+            settings = {f"FAULT_{name}": f"1 {ENDLESS} {errno.EINTR}"}
             ended = run_with(faults, program, given, ["--feed"], **settings)
             expect(ended, Ended(3, b"", b""), f"each {name.lower()} is interrupted, without an end")
     return f"{tried} runs in which a read or a write is interrupted: the same output"
+
+
+def test_no_memory(program: Path) -> str:
+    """Where a growth at the start is refused nothing is written, and the status is 4; after a refusal later it is 0."""
+    given = session()
+    with library() as faults:
+        total = count(faults, program, given, [])["growths"]
+        at_start = 0
+        for number in range(1, total + 1):
+            ended = run_with(faults, program, given, [], FAULT_GROWTH=str(number))
+            at_start += ended == Ended(4, b"", b"")
+            if ended.status not in (0, 4) or ended.status == 4 and ended.output or ended.errors:
+                raise Failure(f"growth {number} of {total} refused: {ended.words()}")
+    if at_start == 0:
+        raise Failure("no growth is needed at the start")
+    return f"each of {total} growths refused: {at_start} at the start, with status 4 and no output, all others with status 0"

@@ -9,4 +9,4 @@ mod weight;
 
 pub use faults::PlanFault;
 pub use plans::plan;
-pub use weight::is_too_large;
+pub use weight::{is_too_large, weight_of};

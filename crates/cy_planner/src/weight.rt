@@ -14,10 +14,17 @@ const GREATEST_WEIGHT: u64 = 512;
 pub fn is_too_large(query: &ViewQuery) -> bool
     ensures { IsTrue result ↔ spec.greatest_weight < spec.weight (statement_of query.now) }
 {
-    weight(query.checked().statement().clauses.as_slice()) > GREATEST_WEIGHT
+    weight_of(query) > GREATEST_WEIGHT
 }
 
-fn weight(clauses: &[Clause]) -> u64
+/// The weight of a query.
+pub fn weight_of(query: &ViewQuery) -> u64
+    ensures { result ≡ min (spec.weight (statement_of query.now)) u64.MAX }
+{
+    clauses_weight(query.checked().statement().clauses.as_slice())
+}
+
+fn clauses_weight(clauses: &[Clause]) -> u64
     ensures { result ≡ min (sum_by spec.clause_weight (map clause_of clauses.now)) u64.MAX }
 {
     let mut total: u64 = 0;

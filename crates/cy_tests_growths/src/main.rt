@@ -1,5 +1,5 @@
-//! Sends an engine a script, each line that is answered with want of memory once more at once, and prints the other answers. So each
-//! growth can be refused in turn, and what is printed has to stay the same.
+//! Sends an engine a script, and a line that is answered with out of memory once more at once, and prints the other answers. So growths
+//! can be refused one by one, and what is printed has to stay the same.
 #![tactic(auto)]
 
 mod script;

@@ -14,11 +14,14 @@ use thiserror::Error;
 pub(crate) enum Explained {
     /// A line without tokens asks for nothing.
     Nothing,
-    /// The plan of the query, and what the query weighs.
-    Plan { weight: u64, plan: Plan },
+    /// The line has the query of a view: what it weighs, and its plan.
+    Query {
+        weight: u64,
+        plan: Result<Plan, PlanFault>,
+    },
 }
 
-/// Why a line has no plan.
+/// Why a line has no query of a view.
 #[derive(Debug, Drop, Error)]
 pub(crate) enum ExplainFault {
     /// The line is too long or no UTF-8, or has something that begins no token.
@@ -33,9 +36,6 @@ pub(crate) enum ExplainFault {
     /// The statement can't be a view's query.
     #[error("{0}")]
     View(ViewFault),
-    /// The query weighs too much, or there was no memory.
-    #[error("{0}")]
-    Plan(PlanFault),
 }
 
 impl ExplainFault {
@@ -46,12 +46,11 @@ impl ExplainFault {
             ExplainFault::Parsing(fault) => fault.code(),
             ExplainFault::Scope(fault) => fault.code(),
             ExplainFault::View(fault) => fault.code(),
-            ExplainFault::Plan(fault) => fault.code(),
         }
     }
 }
 
-/// The plan of the query of a view that stands on a line, with its weight.
+/// The query of a view that stands on a line, with its weight and its plan.
 pub(crate) fn explained(alloc: Global, bytes: &[u8]) -> Result<Explained, ExplainFault> {
     let line = text_of(bytes).map_err(ExplainFault::Lexing)?;
     let tokens = lex(alloc, line).map_err(ExplainFault::Lexing)?;
@@ -61,7 +60,8 @@ pub(crate) fn explained(alloc: Global, bytes: &[u8]) -> Result<Explained, Explai
     let statement = parse(alloc, tokens.as_slice(), line).map_err(ExplainFault::Parsing)?;
     let checked = check(alloc, statement).map_err(ExplainFault::Scope)?;
     let query = check_view(alloc, checked).map_err(ExplainFault::View)?;
-    let weight = weight_of(&query);
-    let plan = plan(alloc, &query).map_err(ExplainFault::Plan)?;
-    Ok(Explained::Plan { weight, plan })
+    Ok(Explained::Query {
+        weight: weight_of(&query),
+        plan: plan(alloc, &query),
+    })
 }

@@ -6,7 +6,8 @@ mod explaining;
 
 use crate::explaining::{Explained, explained};
 use cy_plan_texts::PlanText;
-use std::io::{self, BufReader};
+use std::fmt::Display;
+use std::io::{self, BufRead, BufReader};
 
 fn main(rt: HostRuntime) -> io::Result<()> {
     let input = BufReader::new(rt.alloc(), rt.reader())?;
@@ -21,12 +22,17 @@ fn main(rt: HostRuntime) -> io::Result<()> {
 fn print_answer<R: Print + AllocGlobal>(rt: &R, line: &[u8]) -> io::Result<()> {
     match explained(rt.alloc(), line) {
         Ok(Explained::Nothing) => Ok(()),
-        Ok(Explained::Plan { weight, plan }) => {
-            println!(rt; "weight {weight}\n{}", PlanText(&plan))
+        Ok(Explained::Query { weight, plan }) => {
+            println!(rt; "weight {weight}")?;
+            match plan {
+                Ok(plan) => println!(rt; "{}", PlanText(&plan)),
+                Err(fault) => print_fault(rt, fault.code(), fault),
+            }
         }
-        Err(fault) => {
-            let code = fault.code();
-            println!(rt; "fault {code}: {fault}\n")
-        }
+        Err(fault) => print_fault(rt, fault.code(), fault),
     }
+}
+
+fn print_fault<R: Print, F: Display>(rt: &R, code: u16, fault: F) -> io::Result<()> {
+    println!(rt; "fault {code}: {fault}\n")
 }

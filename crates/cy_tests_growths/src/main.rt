@@ -40,10 +40,10 @@ fn main(rt: HostRuntime) -> io::Result<()> {
     let mut source = InputSource::new(ScriptReader::new(&LINES, &again));
     let mut sink = OutputSink::new(AnswerWriter::new(io::writer(&rt), room(rt.alloc())?, &again));
     // Where a growth is refused at the start, nothing is read or written, and the run begins once more.
-    let mut ended = run(rt.alloc(), &mut source, &mut sink, SETTINGS);
-    if ended == Err(RunFault::Memory) {
-        ended = run(rt.alloc(), &mut source, &mut sink, SETTINGS);
-    }
+    let ended = match run(rt.alloc(), &mut source, &mut sink, SETTINGS) {
+        Err(RunFault::Memory) => run(rt.alloc(), &mut source, &mut sink, SETTINGS),
+        ended => ended,
+    };
     match ended {
         Ok(()) => Ok(()),
         Err(fault) => println!(rt; "the run ends: {fault}"),

@@ -1,12 +1,16 @@
 """The sessions of examples/: what each line of them is answered."""
+import re
 from dataclasses import dataclass, field
 from pathlib import Path
-from typing import Iterator, List
+from typing import Iterator, List, Tuple
 
 from checks.program import TOP, Failure, run, shown
 
 # How many entries of a view are kept in a file's sessions, where it isn't as many as without the option.
 HISTORY = {"history.session": 2}
+# The pages with sessions, and the options with which these may be run.
+PAGES = ["README.md", "docs/COMMANDS.md"]
+OPTIONS = [[], ["--feed"], ["--history=2"]]
 # How an entry and a fault begin.
 ENTRY = '{"added"'
 FAULT = '{"at"'
@@ -27,14 +31,15 @@ class Exchange:
         return Exchange(self.place, self.line, [it for it in self.answers if not it.startswith(ENTRY)])
 
 
-def read_sessions(file: Path) -> Iterator[List[Exchange]]:
-    """The sessions of a file. A line that begins with a brace is an answer, each other one is sent, and an empty line ends a session."""
+def read_sessions(name: str, text: str, first: int = 1) -> Iterator[List[Exchange]]:
+    """The sessions of a text, whose first line has a number. A line that begins with a brace is an answer, each other one is sent, and an
+    empty line ends a session."""
     session: List[Exchange] = []
     # (split at line feeds alone: a line may hold other characters that end a line elsewhere)
-    for place, line in enumerate(file.read_bytes().decode().split("\n"), 1):
+    for place, line in enumerate(text.split("\n"), first):
         if line.startswith("{"):
             if not session:
-                raise Failure(f"{file.name}, line {place}: an answer to no line")
+                raise Failure(f"{name}, line {place}: an answer to no line")
             session[-1].answers.append(line)
         elif line:
             session.append(Exchange(place, line))
@@ -72,7 +77,7 @@ def try_session(program: Path, words: List[str], session: List[Exchange], what: 
 def try_file(program: Path, file: Path) -> int:
     """Tries the sessions of a file, each as it stands, without its refused lines, and without entries."""
     options = [f"--history={HISTORY[file.name]}"] if file.name in HISTORY else []
-    sessions = list(read_sessions(file))
+    sessions = list(read_sessions(file.name, file.read_bytes().decode()))
     feed = ["--feed"] if any(it.startswith(ENTRY) for session in sessions for one in session for it in one.answers) else []
     for session in sessions:
         try_session(program, options + feed, session, f"{file.name}, as it stands")
@@ -90,3 +95,29 @@ def test_sessions(program: Path) -> str:
         raise Failure("examples/ has no sessions")
     count = sum(try_file(program, file) for file in files)
     return f"{count} sessions of {len(files)} files as they stand, without their refused lines and without entries"
+
+
+def page_sessions() -> Iterator[Tuple[str, List[Exchange]]]:
+    """The sessions in the pages: each block that begins with a line that is sent, and in which an answer stands."""
+    for page in PAGES:
+        text = (TOP / page).read_text(encoding="utf-8")
+        for block in re.finditer(r"^```(\w*)\n(.*?)^```$", text, re.M | re.S):
+            word, lines = block.groups()
+            if not word and not lines.startswith("{") and "\n{" in lines:
+                for session in read_sessions(page, lines, text[: block.start(2)].count("\n") + 1):
+                    yield page, session
+
+
+def test_pages(program: Path) -> str:
+    count = 0
+    for page, session in page_sessions():
+        failures = []
+        for words in OPTIONS:
+            try:
+                try_session(program, words, session, page)
+            except Failure as why:
+                failures.append(why)
+        if len(failures) == len(OPTIONS):
+            raise failures[0]
+        count += 1
+    return f"{count} sessions of {' and '.join(PAGES)}"

@@ -17,6 +17,8 @@ NOTHING = Ended(0, b"", b"")
 FAILED = Ended(3, b"", b"")
 LONGEST = 65536
 TOO_LONG = b'{"at":65536,"code":17,"error":"LineTooLong"}\n'
+# What the system says of a process that was stopped (os.CLD_STOPPED, which Python 3.8 lacks).
+STOPPED = 5
 # As many lines as have answers that fill a pipe several times over.
 MANY = 20000
 
@@ -184,7 +186,9 @@ def test_non_blocking(program: Path) -> str:
 def stop_and_go_on(process: "subprocess.Popen[bytes]") -> None:
     """Stops the program, and lets it go on once it is seen to have stopped."""
     process.send_signal(signal.SIGSTOP)
-    os.waitid(os.P_PID, process.pid, os.WSTOPPED)
+    found = os.waitid(os.P_PID, process.pid, os.WSTOPPED | os.WEXITED | os.WNOWAIT)
+    if found is None or found.si_code != STOPPED:
+        raise Failure("it ends, and doesn't stop, at SIGSTOP")
     process.send_signal(signal.SIGCONT)
 
 

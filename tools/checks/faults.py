@@ -1,6 +1,5 @@
 """Reads, writes and growths that fail: faults.c, which makes them fail, is laid between the program and the C library."""
 import errno
-import os
 import shutil
 import subprocess
 import tempfile

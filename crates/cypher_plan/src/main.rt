@@ -26,13 +26,13 @@ fn print_answer<R: Print + AllocGlobal>(rt: &R, line: &[u8]) -> io::Result<()> {
             println!(rt; "weight {weight}")?;
             match plan {
                 Ok(plan) => println!(rt; "{}", PlanText(&plan)),
-                Err(fault) => print_fault(rt, fault.code(), fault),
+                Err(fault) => print_fault(rt, fault.code(), &fault),
             }
         }
-        Err(fault) => print_fault(rt, fault.code(), fault),
+        Err(fault) => print_fault(rt, fault.code(), &fault),
     }
 }
 
-fn print_fault<R: Print, F: Display>(rt: &R, code: u16, fault: F) -> io::Result<()> {
+fn print_fault<R: Print, F: Display>(rt: &R, code: u16, fault: &F) -> io::Result<()> {
     println!(rt; "fault {code}: {fault}\n")
 }

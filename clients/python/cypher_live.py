@@ -8,11 +8,11 @@ import socket
 import subprocess
 import threading
 import time
-from collections import Counter, deque
-from contextlib import AbstractContextManager, suppress
+from collections import deque
+from contextlib import suppress
 from itertools import islice
 from pathlib import Path
-from typing import Any, Deque, Dict, Iterable, Iterator, List, NamedTuple, Optional, Tuple, Union
+from typing import Any, ContextManager, Counter, Deque, Dict, Iterable, Iterator, List, NamedTuple, Optional, Tuple, Union
 
 Reply = Dict[str, Any]
 ESCAPES = {**{code: f"\\u{code:04X}" for code in range(32)}, 39: "\\'", 92: "\\\\"}
@@ -31,20 +31,20 @@ class Fault(Exception):
         self.line, self.at, self.code, self.error = line, at, code, error
 
 
-class Copy(Counter):
+class Copy(Counter[str]):
     """A view's rows at a tick, by their JSON texts, since Python takes True and 1 for the same, with their counts."""
     tick = 0
 
 
 class Entry(NamedTuple):
     """What changed in a view's rows; where the copy lagged, how it differs from all rows, which were asked for."""
-    added: "Counter[str]"
-    removed: "Counter[str]"
+    added: Counter[str]
+    removed: Counter[str]
     tick: int
     lagged: bool
 
 
-def counted(rows: List[List[Any]]) -> "Counter[str]":
+def counted(rows: List[List[Any]]) -> Counter[str]:
     return Counter({json.dumps(row, ensure_ascii=False): count for row, count in rows})
 
 
@@ -77,13 +77,14 @@ def has_reply(line: str) -> bool:
 def find_program(program: Optional[str] = None) -> str:
     """The program of this name, else of CYPHER_LIVE, else at the top of the repository, else in PATH."""
     name, top = program or os.environ.get("CYPHER_LIVE"), Path(__file__).resolve().parents[2] / "cypher_live"
-    for found in filter(None, map(shutil.which, [name] if name else [str(top), "cypher_live"])):
+    found = shutil.which(name or str(top)) or shutil.which(name or "cypher_live")
+    if found:
         return found
     raise FileNotFoundError(f"there is no program {name or top}: tools/build makes it, or CYPHER_LIVE names it")
 
 
-class Live(AbstractContextManager):
-    """A program or a connection to serve.py, for one thread. No answer in `timeout` seconds is a TimeoutError."""
+class Live(ContextManager["Live"]):
+    """A program, or serve.py by the path of its socket or its host and port; for one thread. `timeout` is in seconds."""
 
     def __init__(self, channel: socket.socket, process: Optional[Any], timeout: Optional[float]) -> None:
         self._channel, self._process, self._timeout = channel, process, timeout
@@ -97,12 +98,11 @@ class Live(AbstractContextManager):
     def start(cls, program: Optional[str] = None, history: int = 64, timeout: Optional[float] = None) -> "Live":
         ours, its = socket.socketpair()
         with its:
-            process = subprocess.Popen([find_program(program), f"--history={history}"], stdin=its, stdout=its)
-        return cls(ours, process, timeout)
+            words = [find_program(program), f"--history={history}"]
+            return cls(ours, subprocess.Popen(words, stdin=its.fileno(), stdout=its.fileno()), timeout)
 
     @classmethod
     def connect(cls, address: Union[str, Tuple[str, int]], timeout: Optional[float] = None) -> "Live":
-        """Connects to serve.py: to a Unix socket by its path, or to a host and port."""
         channel = socket.socket(socket.AF_UNIX if isinstance(address, str) else socket.AF_INET)
         channel.connect(address)
         return cls(channel, None, timeout)
@@ -187,7 +187,7 @@ class Live(AbstractContextManager):
                 self._owed -= 1
                 return Fault(line, **reply) if "code" in reply else reply
             self._answers.put(None)
-            raise Ended(f"the program's status is {self._process.wait(10)}" if self._process else "the connection ended")
+            raise Ended(f"the program ended with status {self._process.wait(10)}" if self._process else "the connection ended")
         raise TimeoutError(f"no answer in {self._timeout} seconds: {line:.200}")
 
     def _read(self) -> None:

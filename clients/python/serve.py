@@ -450,7 +450,7 @@ class Server:
             client.frame = lambda answer: http_head("200 OK", "application/json", len(answer)) + answer
             await self.execute(client, b":views")
         elif where.path == "/follow" and asked.get("view"):
-            client.writer.write(http_head("200 OK", "text/event-stream", None))
+            client.writer.write(http_head("200 OK", "text/event-stream", None) + b"retry: 1000\n\n")
             await self.execute(client, b":follow " + quote_name(asked["view"][0]).encode())
             while any(client in clients for clients in self.followers.values()) and await reader.read(LINE_LIMIT):
                 pass

@@ -96,9 +96,9 @@ class Live(ContextManager["Live"]):
 
     @classmethod
     def start(cls, program: Optional[str] = None, history: int = 64, timeout: Optional[float] = None) -> "Live":
+        words = [find_program(program), f"--history={history}"]
         ours, its = socket.socketpair()
         with its:
-            words = [find_program(program), f"--history={history}"]
             return cls(ours, subprocess.Popen(words, stdin=its.fileno(), stdout=its.fileno()), timeout)
 
     @classmethod

@@ -143,13 +143,13 @@ class Engine:
 
     async def replies(self, lines: List[bytes]) -> List[bytes]:
         """Sends lines that are answered, and returns the reply of each."""
-        self.stdin.write(b"".join(line + b"\n" for line in lines))
+        self.stdin.write(b"".join(line + b"\n" for line in [*lines, b":"]))
         replies: List[bytes] = []
-        while len(replies) < len(lines):
+        while len(replies) <= len(lines):
             answer = await self.read()
             if not answer.startswith(b'{"added":'):
                 replies.append(answer)
-        return replies
+        return replies[:-1]
 
     async def end(self) -> str:
         """Waits for the end of the program and says how it ended."""

@@ -49,9 +49,11 @@ LINES_ONLY = fault(103, "LinesOnly")
 FOLLOW = re.compile(rb"\s*:\s*follow(?:\s+(.*))?", re.IGNORECASE | re.DOTALL)
 UNFOLLOW = re.compile(rb"\s*:\s*unfollow\s*;?\s*", re.IGNORECASE)
 HTTP = re.compile(rb"[A-Z]+ \S+ HTTP/[0-9.]+\r?")
-# Texts, quoted names, comments, and words that are names after a colon or a point; or else a word that changes the graph.
+# Texts, quoted names, comments, and words that are names after a colon or a point; or else a word that changes the graph. What isn't
+# closed goes to the end: such a line is refused.
 WORDS = re.compile(
-    r"'(?:[^'\\]|\\.)*'|\"(?:[^\"\\]|\\.)*\"|`[^`]*`|//.*|/\*.*?\*/|[:.]\s*\w+|\b(create|set|remove|delete)\b",
+    r"'(?:[^'\\]|\\.?)*(?:'|\Z)|\"(?:[^\"\\]|\\.?)*(?:\"|\Z)|`[^`]*(?:`|\Z)|//.*|/\*.*?(?:\*/|\Z)"
+    r"|[:.]\s*\w+|\b(create|set|remove|delete)\b",
     re.IGNORECASE | re.DOTALL,
 )
 CHANGES = re.compile(r"(?:view|drop|index)\b", re.IGNORECASE)
@@ -322,6 +324,10 @@ class Server:
                 await self.execute_next(client, line)
             except Stop as stop:
                 self.end(str(stop))
+            except Exception as error:
+                # Where it stands isn't known then.
+                self.end(f"an error of the server: {error!r}")
+                raise
 
     async def execute_next(self, client: Client, line: bytes) -> None:
         if UNFOLLOW.fullmatch(line):
@@ -334,7 +340,7 @@ class Server:
             return
         try:
             answer = await self.engine.answer(b":rows " + (follow[1] or b"") if follow else line)
-        except Stop:
+        except BaseException:
             if keeps:
                 keeps.cut()
             raise
@@ -468,7 +474,8 @@ def http_head(status: str, kind: str, length: Optional[int]) -> bytes:
         f"Content-Type: {kind}",
         "Cache-Control: no-store",
         "X-Content-Type-Options: nosniff",
-        "Content-Security-Policy: default-src 'none'; script-src 'unsafe-inline'; style-src 'unsafe-inline'; connect-src 'self'",
+        "Content-Security-Policy: default-src 'none'; script-src 'unsafe-inline'; style-src 'unsafe-inline'; connect-src 'self'; "
+        "img-src data:",
         "Connection: close",
     ]
     if length is not None:
@@ -585,6 +592,8 @@ def read_settings() -> argparse.Namespace:
         parser.error("--fsync goes with --journal")
     if not 1 <= settings.history <= 4096:
         parser.error("--history is 1 to 4096")
+    if settings.buffer < 0:
+        parser.error("--buffer is 0 or more")
     if any(port is not None and not 0 <= port < 65536 for port in (settings.tcp, settings.http)):
         parser.error("a port is 0 to 65535")
     return settings
@@ -594,7 +603,7 @@ def main() -> int:
     settings = read_settings()
     try:
         why = asyncio.run(serve(settings))
-    except (Stop, FileNotFoundError) as stop:
+    except (Stop, OSError) as stop:
         say(str(stop))
         return 1
     if why:

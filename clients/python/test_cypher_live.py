@@ -56,7 +56,7 @@ class Quoting(unittest.TestCase):
                 self.assertEqual([it.lagged for it in live.follow(name)], [True])
 
     def test_values(self) -> None:
-        values = [None, True, False, 0, 1, -1, 2**63 - 1, -(2**63), "", "null", [], [1, "a", None, True]]
+        values: List[Any] = [None, True, False, 0, 1, -1, 2**63 - 1, -(2**63), "", "null", [], [1, "a", None, True]]
         with started() as live:
             for value in values:
                 self.assertEqual(live.execute(f"RETURN {quote(value)} AS x")["rows"], [[value]])

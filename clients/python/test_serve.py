@@ -227,6 +227,11 @@ class Lines(Case):
               "/* DELETE */ RETURN 1", ":views", ":rows view", ":since v 1", ":steps", "// CREATE ()", "MATCH (n)-[:REMOVE]->() RETURN n"]
         for line in yes + no:
             self.assertEqual(may_change(line.encode()), line in yes, line)
+        begun = time.monotonic()
+        for shape in ("/* ", "//", "'\\", "\\'", "`", "'\"`", ":", ": ", ". ", "a.", "set", "\xe9"):
+            for line in (shape * 65536, "'" + shape * 65536, "/*" + shape * 65536):
+                may_change(line.encode()[:65536])
+        self.assertLess(time.monotonic() - begun, 20)
 
     def test_all_that_changes_is_kept(self) -> None:
         """Whatever makes the tick rise may change."""
@@ -429,7 +434,7 @@ class Journals(Case):
             self.assertIn([[it] for it in range(answered)], (kept, kept[:-1]))
             self.assertGreater(answered, 10)
 
-    def full_disk(self, served: Served, room: Callable[[], None]) -> None:
+    def full_disk(self, served: Served, room: Callable[[], Any]) -> None:
         with served, served.client() as live:
             live.view("v", "MATCH (n:N) RETURN n.k AS k")
             made, refused = 0, 0
@@ -521,7 +526,8 @@ class Ends(Case):
             self.assertIn("there is no program /nowhere/cypher_live", served.said())
 
     def test_arguments(self) -> None:
-        for words in ([], ["--tcp", "x"], ["--tcp", "99999"], ["--unix", "a", "--history", "0"], ["--unix", "a", "--fsync"]):
+        wrong = ["", "--tcp x", "--tcp 99999", "--unix a --history 0", "--unix a --fsync", "--unix a --buffer -1", "--other"]
+        for words in map(str.split, wrong):
             ran = subprocess.run([sys.executable, SERVE, *words], stdout=subprocess.PIPE, stderr=subprocess.PIPE, timeout=PATIENCE)
             self.assertEqual(ran.returncode, 2)
             self.assertIn(b"error: ", ran.stderr)

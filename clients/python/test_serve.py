@@ -621,6 +621,24 @@ class Pages(Case):
             self.assertEqual(self.event(answer)["code"], 101)
             self.assertIsNone(self.event(answer))
 
+    def test_demonstration(self) -> None:
+        """The demonstration makes its views and changes them, and ends with its server."""
+        demo = str(Path(SERVE).parents[2] / "examples" / "dashboard" / "demo.py")
+        words = [sys.executable, demo, "0"]
+        environment = {**os.environ, "CYPHER_LIVE": find_program()}
+        with subprocess.Popen(words, stdout=subprocess.PIPE, text=True, env=environment, start_new_session=True) as ran:
+            assert ran.stdout
+            port = int(ran.stdout.readline().split("/")[2].partition(":")[2])
+            browser = http.client.HTTPConnection("127.0.0.1", port, timeout=PATIENCE)
+            browser.request("GET", "/follow?view=parts")
+            answer = browser.getresponse()
+            self.assertEqual(len(self.event(answer)["rows"]), 9)
+            os.killpg(ran.pid, signal.SIGINT)
+            self.assertEqual(ran.wait(PATIENCE), 0)
+            while self.event(answer):
+                pass
+            browser.close()
+
     def test_what_is_no_request(self) -> None:
         with self.served("--tcp", "0", "--http", "0") as served:
             for sent in (b"\r\n\r\n", b"GET\r\n\r\n", b"x" * 200000 + b"\r\n\r\n", b"GET / HTTP/1.1\r\nHost: [\r\n\r\n", b"GET / HT"):

@@ -217,6 +217,18 @@ class Journal:
         """Keeps the line that was just written."""
         self.size += len(line) + 1
 
+    def drop(self, line: bytes) -> bool:
+        """Cuts off this line, where it is the last one."""
+        last = b"\n" + line + b"\n"
+        start = self.size - len(last)
+        # Before the first line there is no LF.
+        found = os.pread(self.file, len(last), start) if start >= 0 else b"\n" + os.pread(self.file, len(last), 0)
+        if found != last:
+            return False
+        self.size = start + 1
+        self.cut()
+        return True
+
     def cut(self) -> None:
         """Cuts off what isn't kept."""
         try:
@@ -309,9 +321,9 @@ class Server:
                 if reply in (NO_MEMORY, LOST):
                     raise Stop(f"there is too little memory for the journal: {refusal}")
         if refusal:
+            if not self.journal.drop(last):
+                raise Stop(f"the journal doesn't fit this program: {refusal}")
             say(f"the last line of the journal was cut off: {refusal}")
-            self.journal.size -= len(last) + 1
-            self.journal.cut()
             count -= 1
         return count
 
@@ -379,7 +391,10 @@ class Server:
 
     def end_view(self, view: bytes, why: bytes) -> None:
         self.push(view, b'{"ended":%s,"why":"%s"}\n' % (view, why))
-        self.followers.pop(view, None)
+        for client in self.followers.pop(view, ()):
+            if client.frame is as_event:
+                # A browser asks again by itself.
+                client.finish()
 
     def unfollow(self, client: Client) -> List[bytes]:
         views = [view for view, clients in self.followers.items() if client in clients]

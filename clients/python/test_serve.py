@@ -395,12 +395,19 @@ class Journals(Case):
             live.execute("CREATE (:B)")
         self.assertEqual(self.lines(), ["CREATE (:A)", "CREATE (:B)"])
 
+    def test_only_line_refused(self) -> None:
+        Path(self.journal).write_text("CREATE (\n")
+        with self.kept() as served, served.client() as live:
+            live.execute("CREATE (:B)")
+        self.assertEqual(self.lines(), ["CREATE (:B)"])
+
     def test_another_line_refused(self) -> None:
-        Path(self.journal).write_text("CREATE (:A)\nCREATE (\nCREATE (:B)\n")
-        with self.kept() as served:
-            self.assertEqual(served.process.wait(PATIENCE), 1)
-            self.assertIn("its line 2 is answered", served.said())
-        self.assertEqual(len(self.lines()), 3)
+        for last in ("CREATE (:B)\n", "// CREATE (\n"):
+            Path(self.journal).write_text(f"CREATE (:A)\nCREATE (\n{last}")
+            with self.kept() as served:
+                self.assertEqual(served.process.wait(PATIENCE), 1)
+                self.assertIn("its line 2 is answered", served.said())
+            self.assertEqual(len(self.lines()), 3)
 
     def test_taken(self) -> None:
         with self.kept(), Served(self.folder, "--tcp", "0", "--journal", "{}/journal") as other:
@@ -613,6 +620,7 @@ class Pages(Case):
             self.assertEqual(self.event(answer)["added"], [[["\ndata: x"], 1]])
             live.execute(":drop `a&b`")
             self.assertEqual(self.event(answer), {"ended": "a&b", "why": "dropped"})
+            self.assertIsNone(self.event(answer))
             self.assertEqual(self.event(self.ask(served, "/follow?view=none"))["code"], 61)
             live.view("v", "MATCH (n) RETURN n")
             answer = self.ask(served, "/follow?view=v")

@@ -309,6 +309,20 @@ class Following(Case):
                 self.assertEqual(other.pushes.get(timeout=PATIENCE)["added"][0][0][0], number)  # type: ignore[index]
             self.assertEqual(len(writer.rows("v")), 200)
 
+    def test_long_reply(self) -> None:
+        """Who is just reading a long reply isn't dropped for it."""
+        with self.served("--buffer", "100000") as served, served.client() as writer, served.raw() as reader:
+            writer.execute(f"UNWIND {quote(list(range(2000)))} AS k CREATE (:N {{k: k, text: {quote('x' * 2000)}}})")
+            writer.view("v", "MATCH (n:N) RETURN n.k AS k, n.text AS text")
+            reader.sendall(b":follow v\n")
+            with reader.makefile("rb") as answers:
+                began = answers.read(10)
+                for number in range(5):
+                    writer.execute(f"CREATE (:N {{k: 'after {number}'}})")
+                self.assertEqual(len(json.loads(began + answers.readline())["rows"]), 2000)
+                came = [json.loads(answers.readline()) for _ in range(5)]
+                self.assertEqual([it["added"][0][0][0] for it in came], [f"after {number}" for number in range(5)])
+
     def test_lost_entries(self) -> None:
         """Where the text of an entry found no memory each follower is told to begin again. The program is played here."""
         program = Path(self.folder) / "program"

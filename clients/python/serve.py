@@ -126,6 +126,12 @@ class Engine:
             await asyncio.create_subprocess_exec(*words, stdin=pipe, stdout=pipe, limit=1 << 60, start_new_session=True)
         )
 
+    async def check(self) -> None:
+        """Finds out whether it answers."""
+        self.stdin.write(b":\n")
+        if await self.read() != MARK:
+            raise Stop("the program isn't cypher_live: it answers something else")
+
     async def read(self) -> bytes:
         answer = await self.stdout.readline()
         if not answer.endswith(b"\n"):
@@ -562,6 +568,7 @@ async def serve(settings: argparse.Namespace) -> str:
     engine = await Engine.start(find_program(settings.program), settings.history)
     try:
         server = Server(engine, journal, settings)
+        await engine.check()
         if journal:
             say(f"{await server.read_journal()} lines of the journal were executed")
         for number in (signal.SIGINT, signal.SIGTERM):
@@ -618,8 +625,11 @@ def main() -> int:
     settings = read_settings()
     try:
         why = asyncio.run(serve(settings))
-    except (Stop, OSError) as stop:
+    except Stop as stop:
         say(str(stop))
+        return 1
+    except OSError as error:
+        say(f"{error.filename}: {error.strerror}" if error.filename else str(error))
         return 1
     if why:
         say(why)

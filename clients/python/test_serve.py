@@ -546,6 +546,15 @@ class Ends(Case):
             self.assertEqual(served.process.wait(PATIENCE), 1)
             self.assertIn("there is no program /nowhere/cypher_live", served.said())
 
+    def test_another_program(self) -> None:
+        other = Path(self.folder) / "program"
+        for script, words in (("read line; echo hello; read line", "isn't cypher_live"), ("exit 7", "ended with status 7")):
+            other.write_text(f"#!/bin/sh\n{script}\n")
+            other.chmod(0o755)
+            with self.served("--program", str(other)) as served:
+                self.assertEqual(served.process.wait(PATIENCE), 1)
+                self.assertIn(words, served.said())
+
     def test_arguments(self) -> None:
         wrong = ["", "--tcp x", "--tcp 99999", "--unix a --history 0", "--unix a --fsync", "--unix a --buffer -1", "--other"]
         for words in map(str.split, wrong):

@@ -93,6 +93,11 @@ class Sessions(unittest.TestCase):
         said = ran([find_program()], f"CREATE (:User {{name: 'x'}})\n{line}").splitlines()
         self.assertEqual(said[1], '{"changed":[0,1,0,0],"columns":[],"rows":[]}')
 
+    def test_view_of_the_page(self) -> None:
+        page = (FOLDER.parents[1] / "examples" / "dashboard" / "README.md").read_text(encoding="utf-8")
+        (line,) = re.findall(r"^:view .*$", page, re.MULTILINE)
+        self.assertIn('"columns":["source","type","target"]', ran([find_program()], line + "\n"))
+
     def test_read_and_write(self) -> None:
         (line,) = [it for it in blocks("") if "a.sum" in it]
         said = ran([find_program()], f"CREATE (:Account {{id: 7, sum: 15}})\n{line}{line}").splitlines()

@@ -348,6 +348,8 @@ class Following(Case):
             writer.execute("entry")
             self.assertEqual(reader.pushes.get(timeout=PATIENCE)["tick"], 2)  # type: ignore[index]
             self.is_fault(91, lambda: writer.execute("no reply"))
+            writer.execute("entry")
+            self.assertEqual(reader.pushes.get(timeout=PATIENCE)["tick"], 2)  # type: ignore[index]
             writer.execute("no entry")
             self.assertEqual(reader.pushes.get(timeout=PATIENCE), lost)
             reader.execute(":follow v")

@@ -16,8 +16,10 @@ from pathlib import Path
 CLIENTS = Path(__file__).resolve().parents[4] / "clients" / "python"
 sys.path.insert(0, str(CLIENTS))
 
-from cypher_live import Ended, Live, quote  # noqa: E402
+from cypher_live import Ended, Fault, Live, quote  # noqa: E402
 
+# What serve.py answers once it ends: Ctrl-C reaches it too.
+SERVICE_ENDED = 101
 STATIONS = ["north", "south", "harbour"]
 PUMPS = 9
 VIEWS = {
@@ -63,14 +65,22 @@ def main() -> None:
         if not all(listening):
             sys.exit(server.wait())
         (_, host, lines), (_, _, page) = listening
-        with suppress(KeyboardInterrupt, Ended), Live.connect((host, int(lines))) as live:
-            build(live)
-            print(f"http://localhost:{page}/?view=alarms shows it; Ctrl-C ends it", flush=True)
-            while True:
-                change(live)
-                time.sleep(1)
-        server.terminate()
+        try:
+            with Live.connect((host, int(lines))) as live:
+                build(live)
+                print(f"http://localhost:{page}/?view=alarms shows it; Ctrl-C ends it", flush=True)
+                while True:
+                    change(live)
+                    time.sleep(1)
+        except Fault as fault:
+            if fault.code != SERVICE_ENDED:
+                raise
+        except Ended:
+            pass
+        finally:
+            server.terminate()
 
 
 if __name__ == "__main__":
-    main()
+    with suppress(KeyboardInterrupt):
+        main()

@@ -76,7 +76,7 @@ def has_reply(line: str) -> bool:
 
 def find_program(program: Optional[str] = None) -> str:
     """The program of this name, else of CYPHER_LIVE, else at the top of the repository, else in PATH."""
-    name, top = program or os.environ.get("CYPHER_LIVE"), Path(__file__).resolve().parents[2] / "cypher_live"
+    name, top = program or os.environ.get("CYPHER_LIVE"), Path(__file__).resolve().parent.parent.parent / "cypher_live"
     found = shutil.which(name or str(top)) or shutil.which(name or "cypher_live")
     if found:
         return found

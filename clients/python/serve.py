@@ -25,7 +25,7 @@ from urllib.parse import parse_qs, urlsplit
 from cypher_live import BLANK, find_program, has_reply, quote_name
 
 LINE_LIMIT = 65_536
-PAGE = Path(__file__).resolve().parents[2] / "examples" / "dashboard" / "index.html"
+PAGE = Path(__file__).resolve().parent.parent.parent / "examples" / "dashboard" / "index.html"
 LOOPBACK = ("127.0.0.1", "localhost", "::1")
 # So many seconds the answers of an ended connection wait to be taken, and so long a request of HTTP may take to come.
 GRACE = 10.0
@@ -177,6 +177,8 @@ class Journal:
             raise Stop(f"another server has the journal {path}") from None
         except OSError as error:
             raise Stop(f"the journal {path}: {error.strerror}") from None
+        if not stat.S_ISREG(os.fstat(self.file).st_mode):
+            raise Stop(f"the journal {path} is no file that lines can be kept in")
         # So many bytes are lines that were accepted.
         self.size = self.whole()
         half = os.fstat(self.file).st_size - self.size

@@ -6,8 +6,11 @@ import re
 import signal
 import sys
 import unittest
+from contextlib import suppress
 from typing import Any, Callable, Dict, Iterator, List
+from unittest import mock
 
+import cypher_live
 from cypher_live import Copy, Ended, Fault, Live, counted, has_reply, quote, quote_name
 
 PATIENCE = 60.0
@@ -305,6 +308,13 @@ class Ends(unittest.TestCase):
         with Live.start(history=5000, timeout=PATIENCE) as live:
             with self.assertRaisesRegex(Ended, "status 2"):
                 live.execute("RETURN 1")
+
+    def test_copied_elsewhere(self) -> None:
+        """A copy of the client may lie in any folder, which needn't have others above it."""
+        with mock.patch.object(cypher_live, "__file__", "/cypher_live.py"), mock.patch.dict(os.environ):
+            os.environ.pop("CYPHER_LIVE", None)
+            with suppress(FileNotFoundError):
+                cypher_live.find_program()
 
     def test_too_late(self) -> None:
         """A late answer is no answer to the next line."""

@@ -435,6 +435,13 @@ class Journals(Case):
             self.assertEqual(served.process.wait(PATIENCE), 1)
             self.assertIn("No such file or directory", served.said())
 
+    def test_no_file(self) -> None:
+        """What keeps nothing, or has no end, is no journal."""
+        for path in ("/dev/null", "/dev/full"):
+            with self.served("--journal", path) as served:
+                self.assertEqual(served.process.wait(PATIENCE), 1)
+                self.assertIn("is no file that lines can be kept in", served.said())
+
     def test_fsync(self) -> None:
         with self.served("--journal", "{}/journal", "--fsync") as served, served.client() as live:
             live.execute("CREATE (:A)")

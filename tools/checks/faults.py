@@ -71,6 +71,18 @@ def test_short_moves(program: Path) -> str:
     return "one byte a read and one a write: the same output"
 
 
+def fail_each(faults: Path, program: Path, given: bytes, wanted: Ended, name: str, error: int) -> int:
+    """Has each read or write fail in turn by an error, and returns how many they were."""
+    total = count(faults, program, given, ["--feed"])[f"{name.lower()}s"]
+    for number in range(1, total + 1):
+        ended = run_with(faults, program, given, ["--feed"], **{f"FAULT_{name}": f"{number} 1 {error}"})
+        if ended.status != 3 or ended.errors or not wanted.output.startswith(ended.output):
+            raise Failure(f"{name.lower()} {number} fails by {errno.errorcode[error]}: {ended.words()}")
+        if name == "WRITE" and ended.output == wanted.output:
+            raise Failure(f"write {number} fails by {errno.errorcode[error]}, and was tried again")
+    return total
+
+
 def test_failing_moves(program: Path) -> str:
     """Each read fails in turn, and each write: what was written is a beginning, and nothing is tried again."""
     given = session()
@@ -78,26 +90,19 @@ def test_failing_moves(program: Path) -> str:
     tried = 0
     with library() as faults:
         for name, error in ("READ", errno.EIO), ("WRITE", errno.ENOSPC), ("WRITE", errno.EPIPE), ("READ", errno.EAGAIN):
-            total = count(faults, program, given, ["--feed"])[f"{name.lower()}s"]
-            for number in range(1, total + 1):
-                settings = {f"FAULT_{name}": f"{number} 1 {error}"}
-                ended = run_with(faults, program, given, ["--feed"], **settings)
-                tried += 1
-                if ended.status != 3 or ended.errors or not wanted.output.startswith(ended.output):
-                    raise Failure(f"{name.lower()} {number} fails by {errno.errorcode[error]}: {ended.words()}")
-                if name == "WRITE" and ended.output == wanted.output:
-                    raise Failure(f"write {number} fails by {errno.errorcode[error]}, and was tried again")
+            tried += fail_each(faults, program, given, wanted, name, error)
     return f"{tried} runs in which a read or a write fails: status 3 after a beginning of the output"
 
 
 def test_interrupted_moves(program: Path) -> str:
-    """A read or a write that was interrupted is asked for once more, and not for ever."""
+    """A read or a write that was interrupted is asked for once more, and not for ever; or it counts as one that failed."""
     given = session()
     wanted = run(program, ["--feed"], given)
     with library() as faults:
         first = run_with(faults, program, given, ["--feed"], FAULT_READ=f"1 1 {errno.EINTR}")
         if first == Ended(3, b"", b""):
-            raise NotRun("this program takes an interrupted read for a failed one, and ends with status 3")
+            tried = sum(fail_each(faults, program, given, wanted, name, errno.EINTR) for name in ("READ", "WRITE"))
+            return f"{tried} runs in which a read or a write is interrupted, which counts as a failure: status 3"
         totals = count(faults, program, given, ["--feed"])
         tried = 0
         for name in "READ", "WRITE":

@@ -51,7 +51,7 @@ impl ExplainFault {
 }
 
 /// The query of a view that stands on a line, with its weight and its plan.
-pub(crate) fn explained(alloc: Global, bytes: &[u8]) -> Result<Explained, ExplainFault> {
+pub(crate) fn explain(alloc: Global, bytes: &[u8]) -> Result<Explained, ExplainFault> {
     let line = text_of(bytes).map_err(ExplainFault::Lexing)?;
     let tokens = lex(alloc, line).map_err(ExplainFault::Lexing)?;
     if tokens.is_empty() {

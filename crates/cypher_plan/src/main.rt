@@ -4,7 +4,7 @@
 
 mod explaining;
 
-use crate::explaining::{Explained, explained};
+use crate::explaining::{Explained, explain};
 use cy_plan_texts::PlanText;
 use std::fmt::Display;
 use std::io::{self, BufRead, BufReader};
@@ -20,7 +20,7 @@ fn main(rt: HostRuntime) -> io::Result<()> {
 
 // Prints the answer to a line, and an empty line after it. A line without tokens has no answer.
 fn print_answer<R: Print + AllocGlobal>(rt: &R, line: &[u8]) -> io::Result<()> {
-    match explained(rt.alloc(), line) {
+    match explain(rt.alloc(), line) {
         Ok(Explained::Nothing) => Ok(()),
         Ok(Explained::Query { weight, plan }) => {
             println!(rt; "weight {weight}")?;

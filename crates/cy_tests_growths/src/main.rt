@@ -2,10 +2,12 @@
 //! can be refused one by one, and what is printed has to stay the same.
 #![tactic(auto)]
 
+ghost use Rattle.std.specs.Prelude.{◌≡◌, false};
+
 mod script;
 
 use crate::script::{AnswerWriter, ScriptReader};
-use cy_shell::{InputSource, OutputSink, RunFault, Settings, run};
+use cy_shell::{InputSource, OutputSink, RunFault, Settings, Sink, Source, run};
 use std::alloc::{AllocError, Global};
 use std::cell::Cell;
 use std::io;
@@ -39,14 +41,24 @@ fn main(rt: HostRuntime) -> io::Result<()> {
     let again = Cell::new(false);
     let mut source = InputSource::new(ScriptReader::new(&LINES, &again));
     let mut sink = OutputSink::new(AnswerWriter::new(io::writer(&rt), room(rt.alloc())?, &again));
-    // Where a growth is refused at the start, nothing is read or written, and the run begins once more.
-    let ended = match run(rt.alloc(), &mut source, &mut sink, SETTINGS) {
-        Err(RunFault::Memory) => run(rt.alloc(), &mut source, &mut sink, SETTINGS),
-        ended => ended,
-    };
-    match ended {
+    match answer_script(rt.alloc(), &mut source, &mut sink) {
         Ok(()) => Ok(()),
         Err(fault) => println!(rt; "the run ends: {fault}"),
+    }
+}
+
+// Answers the script. Where a growth is refused at the start, nothing is read or written, and the run begins once more.
+fn answer_script<R: Source, W: Sink>(
+    alloc: Global,
+    source: &mut R,
+    sink: &mut W,
+) -> Result<(), RunFault>
+    requires { R.has_failed source.old ≡ false }
+    requires { W.has_failed sink.old ≡ false }
+{
+    match run(alloc, source, sink, SETTINGS) {
+        Err(RunFault::Memory) => run(alloc, source, sink, SETTINGS),
+        ended => ended,
     }
 }
 

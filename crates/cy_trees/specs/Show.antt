@@ -20,7 +20,7 @@ use Rattle.cy_trees.specs.declared.expressions.Variable.{Variable}
 use Rattle.cy_trees.specs.declared.clauses.Direction.{Direction}
 use Rattle.cy_trees.specs.declared.clauses.Direction.TheVariants as direction
 use Rattle.cy_trees.specs.declared.clauses.Length.{Length}
-use Rattle.cy_trees.specs.Trees.{Name, Expression, null, boolean, integer, text, variable, property, has_labels, unary, binary, comparison, list, case, call, call_star, Expressions, no_more, more, Links, no_links, link, Arms, no_arms, arm, Otherwise, nothing, otherwise, MapEntry, NodePattern, RelationshipPattern, Step, Path, Item, Key, Projection, SetItem, set_property, set_labels, RemoveItem, remove_property, remove_labels, Clause, «match», unwind, «with», «return», create, set, remove, delete, Statement}
+use Rattle.cy_trees.specs.Trees.{Name, Expression, null, boolean, integer, text, variable, property, has_labels, unary, binary, comparison, list, case, call, call_star, Expressions, no_more, more, Links, no_links, link, Arms, no_arms, arm, Otherwise, nothing, otherwise, MapEntry, NodePattern, RelationshipPattern, Step, Path, Item, Key, Projection, SetItem, set_property, set_labels, RemoveItem, remove_property, remove_labels, PathTest, Where, Clause, «match», unwind, «with», «return», create, set, remove, delete, Query, Statement}
 
 -- a word, or a space between words
 pub data Piece : Type 0 where
@@ -227,13 +227,32 @@ step_pieces s = relationship_pieces s.relationship ++ node_pieces s.node
 abbrev pub path_pieces : Path → List Piece
 path_pieces p = node_pieces p.start ++ each_after [] (map step_pieces p.steps)
 
+-- a path, denied or not, as a condition
+abbrev pub denied_pieces : Bool → List Piece → List Piece
+denied_pieces true ps = says keyword.Not ∷ space ∷ bracketed ps
+denied_pieces false ps = ps
+
 -- clauses
 abbrev pub paths_pieces : List Path → List Piece
 paths_pieces ps = list_pieces (map path_pieces ps)
 
-abbrev pub filter_pieces : Option Expression → List Piece
-filter_pieces None = []
-filter_pieces (Some e) = space ∷ says keyword.Where ∷ space ∷ expression_pieces e
+abbrev pub and_pieces : List Piece
+and_pieces = space ∷ says keyword.And ∷ space ∷ []
+
+abbrev pub path_test_pieces : PathTest → List Piece
+path_test_pieces t = denied_pieces t.denied (path_pieces t.path)
+
+-- the conjuncts after WHERE: the condition, if there is one, and the paths
+abbrev pub conjuncts_pieces : Option Expression → List PathTest → List Piece
+conjuncts_pieces None tests = separated and_pieces (map path_test_pieces tests)
+conjuncts_pieces (Some e) tests = expression_pieces e ++ each_after and_pieces (map path_test_pieces tests)
+
+abbrev pub where_pieces : Option Expression → List PathTest → List Piece
+where_pieces None [] = []
+where_pieces test tests = space ∷ says keyword.Where ∷ space ∷ conjuncts_pieces test tests
+
+abbrev pub filter_pieces : Where → List Piece
+filter_pieces w = where_pieces w.test w.paths
 
 abbrev pub item_pieces : Item → List Piece
 item_pieces i = expression_pieces i.expression ++ space ∷ says keyword.As ∷ space ∷ named i.column ∷ []
@@ -289,9 +308,17 @@ clause_pieces (remove is) = says keyword.Remove ∷ space ∷ list_pieces (map r
 clause_pieces (delete detach vs) =
     detach_pieces detach ++ says keyword.Delete ∷ space ∷ list_pieces (map (λ v. named v.name ∷ []) vs)
 
+abbrev pub query_pieces : Query → List Piece
+query_pieces q = separated (space ∷ []) (map clause_pieces q.clauses)
+
+-- between two queries
+abbrev pub union_pieces : Bool → List Piece
+union_pieces true = space ∷ says keyword.Union ∷ space ∷ says keyword.All ∷ space ∷ []
+union_pieces false = space ∷ says keyword.Union ∷ space ∷ []
+
 -- a statement, and its text
 abbrev pub statement_pieces : Statement → List Piece
-statement_pieces s = separated (space ∷ []) (map clause_pieces s.clauses)
+statement_pieces s = separated (union_pieces s.all) (map query_pieces s.queries)
 
 unfoldable pub show : Statement → List ℕ
 show s = pieces_text (statement_pieces s)

@@ -100,12 +100,22 @@ pub data RemoveItem : Type 0 where
   remove_property : Variable → Name → RemoveItem
   remove_labels : Variable → List Name → RemoveItem
 
+-- a path as a condition, and whether it is denied
+pub record PathTest : Type 0 where
+  pub denied : Bool
+  pub path : Path
+
+-- what stands after WHERE: a condition, if there is one, and paths; nothing of both where there is no WHERE
+pub record Where : Type 0 where
+  pub test : Option Expression
+  pub paths : List PathTest
+
 pub data Clause : Type 0 where
   -- whether it is OPTIONAL, the paths, and what stands after WHERE
-  «match» : Bool → List Path → Option Expression → Clause
+  «match» : Bool → List Path → Where → Clause
   unwind : Expression → Variable → Clause
   -- the projection, and what stands after WHERE
-  «with» : Projection → Option Expression → Clause
+  «with» : Projection → Where → Clause
   «return» : Projection → Clause
   create : List Path → Clause
   set : List SetItem → Clause
@@ -113,5 +123,10 @@ pub data Clause : Type 0 where
   -- whether it is DETACH, and the variables
   delete : Bool → List Variable → Clause
 
-pub record Statement : Type 0 where
+pub record Query : Type 0 where
   pub clauses : List Clause
+
+-- queries, and whether ALL stands after each UNION between them
+pub record Statement : Type 0 where
+  pub queries : List Query
+  pub all : Bool

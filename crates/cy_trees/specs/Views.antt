@@ -21,10 +21,13 @@ use Rattle.cy_trees.specs.declared.clauses.SetItem as coded_set
 use Rattle.cy_trees.specs.declared.clauses.SetItem.TheVariants as set_item
 use Rattle.cy_trees.specs.declared.clauses.RemoveItem as coded_remove
 use Rattle.cy_trees.specs.declared.clauses.RemoveItem.TheVariants as remove_item
+use Rattle.cy_trees.specs.declared.clauses.PathTest as coded_path_test
+use Rattle.cy_trees.specs.declared.clauses.Where as coded_where
 use Rattle.cy_trees.specs.declared.clauses.Clause as coded_clause
 use Rattle.cy_trees.specs.declared.clauses.Clause.TheVariants as clause
+use Rattle.cy_trees.specs.declared.clauses.Query as coded_query
 use Rattle.cy_trees.specs.declared.clauses.Statement as coded_statement
-use Rattle.cy_trees.specs.Trees.{Expression, null, boolean, integer, text, variable, property, has_labels, unary, binary, comparison, list, case, call, call_star, Expressions, no_more, more, Links, no_links, link, Arms, no_arms, arm, Otherwise, nothing, otherwise, MapEntry, NodePattern, RelationshipPattern, Step, Path, Item, Key, Projection, SetItem, set_property, set_labels, RemoveItem, remove_property, remove_labels, Clause, «match», unwind, «with», «return», create, set, remove, delete, Statement}
+use Rattle.cy_trees.specs.Trees.{Expression, null, boolean, integer, text, variable, property, has_labels, unary, binary, comparison, list, case, call, call_star, Expressions, no_more, more, Links, no_links, link, Arms, no_arms, arm, Otherwise, nothing, otherwise, MapEntry, NodePattern, RelationshipPattern, Step, Path, Item, Key, Projection, SetItem, set_property, set_labels, RemoveItem, remove_property, remove_labels, PathTest, Where, Clause, «match», unwind, «with», «return», create, set, remove, delete, Query, Statement}
 
 abbrev pub expressions_from : List Expression → Expressions
 expressions_from [] = no_more
@@ -136,15 +139,24 @@ abbrev pub remove_item_of : coded_remove.RemoveItem → RemoveItem
 remove_item_of (remove_item.Property v key) = remove_property v key
 remove_item_of (remove_item.Labels v labels) = remove_labels v labels.items
 
+abbrev pub path_test_of : coded_path_test.PathTest → PathTest
+path_test_of t = record { denied = t.denied; path = path_of t.path }
+
+abbrev pub where_of : coded_where.Where → Where
+where_of w = record { test = filter_of w.test; paths = map path_test_of w.paths.items }
+
 abbrev pub clause_of : coded_clause.Clause → Clause
-clause_of (clause.Match m) = «match» m.optional (paths_of m.paths) (filter_of m.filter)
+clause_of (clause.Match m) = «match» m.optional (paths_of m.paths) (where_of m.filter)
 clause_of (clause.Unwind u) = unwind (expression_of u.list) u.variable
-clause_of (clause.With w) = «with» (projection_of w.projection) (filter_of w.filter)
+clause_of (clause.With w) = «with» (projection_of w.projection) (where_of w.filter)
 clause_of (clause.Return p) = «return» (projection_of p)
 clause_of (clause.Create ps) = create (paths_of ps)
 clause_of (clause.Set is) = set (map set_item_of is.items)
 clause_of (clause.Remove is) = remove (map remove_item_of is.items)
 clause_of (clause.Delete d) = delete d.detach d.variables.items
 
+abbrev pub query_of : coded_query.Query → Query
+query_of q = record { clauses = map clause_of q.clauses.items }
+
 abbrev pub statement_of : coded_statement.Statement → Statement
-statement_of s = record { clauses = map clause_of s.clauses.items }
+statement_of s = record { queries = map query_of s.queries.items; all = s.all }

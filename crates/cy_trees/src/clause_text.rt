@@ -7,11 +7,12 @@ ghost use Rattle.cy_trees.specs.Show.{pieces_text};
 ghost use Rattle.cy_trees.specs.Trees as trees;
 ghost use Rattle.cy_trees.specs.Views as tree;
 
-use crate::clauses::{Clause, Item, Key, Match, Path, Projection, RemoveItem, SetItem};
-use crate::expressions::Expr;
+use crate::clauses::{
+    Clause, Item, Key, Match, Path, PathTest, Projection, RemoveItem, SetItem, Where,
+};
 use crate::quoting::write_name;
 use crate::showing::{write_expression, write_labels};
-use crate::writing::{Separator, Show, write_separated};
+use crate::writing::{Separator, Show, write_each, write_separated};
 use std::alloc::AllocError;
 
 /// Writes AS and the name after it.
@@ -78,15 +79,50 @@ impl Show for RemoveItem {
     }
 }
 
-/// Writes a WHERE, if there is one.
-fn write_filter(text: &mut String, filter: &Option<Expr>) -> Result<(), AllocError>
-    ensures { OnOk result (string_bytes text.new ≡ string_bytes text.old ++ pieces_text (shown.filter_pieces (tree.filter_of filter.now))) }
+impl Show for PathTest {
+    ghost pieces = { λ t. shown.path_test_pieces (tree.path_test_of t) };
+
+    fn write(&self, text: &mut String) -> Result<(), AllocError> {
+        if !self.denied {
+            return self.path.write(text);
+        }
+        text.push_str("NOT (")?;
+        self.path.write(text)?;
+        text.push(')')
+    }
+}
+
+/// Writes paths as conditions, each after AND.
+#[tactic(auto, using(crate::proofs::ShowLemmas::path_tests_fused))]
+fn write_further_tests(text: &mut String, tests: &[PathTest]) -> Result<(), AllocError>
+    ensures { OnOk result (string_bytes text.new ≡ string_bytes text.old ++ pieces_text (shown.each_after shown.and_pieces (map shown.path_test_pieces (map tree.path_test_of tests.now)))) }
 {
-    let Some(filter) = filter else {
+    write_each(text, Separator::And, tests)
+}
+
+/// Writes paths as conditions with AND between each two.
+#[tactic(auto, using(crate::proofs::ShowLemmas::path_tests_fused))]
+fn write_tests(text: &mut String, tests: &[PathTest]) -> Result<(), AllocError>
+    ensures { OnOk result (string_bytes text.new ≡ string_bytes text.old ++ pieces_text (shown.separated shown.and_pieces (map shown.path_test_pieces (map tree.path_test_of tests.now)))) }
+{
+    write_separated(text, Separator::And, tests)
+}
+
+/// Writes a WHERE, if there is one.
+#[tactic(auto, using(crate::proofs::ShowLemmas::where_some))]
+fn write_filter(text: &mut String, filter: &Where) -> Result<(), AllocError>
+    ensures { OnOk result (string_bytes text.new ≡ string_bytes text.old ++ pieces_text (shown.filter_pieces (tree.where_of filter.now))) }
+{
+    if let Some(test) = &filter.test {
+        text.push_str(" WHERE ")?;
+        write_expression(text, test)?;
+        return write_further_tests(text, &filter.paths);
+    }
+    if filter.paths.is_empty() {
         return Ok(());
-    };
+    }
     text.push_str(" WHERE ")?;
-    write_expression(text, filter)
+    write_tests(text, &filter.paths)
 }
 
 #[tactic(auto, using(crate::proofs::ShowLemmas::keys_fused))]
@@ -211,7 +247,7 @@ impl Show for Clause {
 }
 
 fn write_match(text: &mut String, it: &Match) -> Result<(), AllocError>
-    ensures { OnOk result (string_bytes text.new ≡ string_bytes text.old ++ pieces_text (shown.clause_pieces (trees.«match» it.now.optional (tree.paths_of it.now.paths) (tree.filter_of it.now.filter)))) }
+    ensures { OnOk result (string_bytes text.new ≡ string_bytes text.old ++ pieces_text (shown.clause_pieces (trees.«match» it.now.optional (tree.paths_of it.now.paths) (tree.where_of it.now.filter)))) }
 {
     text.push_str(if it.optional {
         "OPTIONAL MATCH "

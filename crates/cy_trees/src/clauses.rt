@@ -3,9 +3,17 @@
 use crate::expressions::{Expr, Variable};
 use cy_values::Text;
 
-/// A statement: its clauses, one or more, in the order in which they are executed.
+/// A statement: its queries, one or more. Where there are several, UNION puts their rows together.
 #[derive(Drop)]
 pub struct Statement {
+    pub queries: Vec<Query>,
+    /// Whether ALL stands after each UNION, which keeps rows that are the same; false where there is one query alone.
+    pub all: bool,
+}
+
+/// A query: its clauses, one or more, in the order in which they are executed.
+#[derive(Drop)]
+pub struct Query {
     pub clauses: Vec<Clause>,
 }
 
@@ -27,7 +35,21 @@ pub enum Clause {
 pub struct Match {
     pub optional: bool,
     pub paths: Vec<Path>,
-    pub filter: Option<Expr>,
+    pub filter: Where,
+}
+
+/// What stands after WHERE: a condition, if there is one, and paths; nothing of both where there is no WHERE.
+#[derive(Drop)]
+pub struct Where {
+    pub test: Option<Expr>,
+    pub paths: Vec<PathTest>,
+}
+
+/// A path as a condition: it has to be there, or, where it is denied, must not be there.
+#[derive(Drop)]
+pub struct PathTest {
+    pub denied: bool,
+    pub path: Path,
 }
 
 /// `UNWIND list AS variable`
@@ -41,7 +63,7 @@ pub struct Unwind {
 #[derive(Drop)]
 pub struct With {
     pub projection: Projection,
-    pub filter: Option<Expr>,
+    pub filter: Where,
 }
 
 /// What WITH and RETURN make of the rows: items, one or more, in an order, of which some are cut.

@@ -12,8 +12,9 @@ mod statement_text;
 mod writing;
 
 pub use clauses::{
-    Clause, Delete, Direction, Item, Key, Length, MapEntry, Match, NodePattern, Path, Projection,
-    RelationshipPattern, RemoveItem, SetItem, Statement, Step, Unwind, With,
+    Clause, Delete, Direction, Item, Key, Length, MapEntry, Match, NodePattern, Path, PathTest,
+    Projection, Query, RelationshipPattern, RemoveItem, SetItem, Statement, Step, Unwind, Where,
+    With,
 };
 pub use expressions::{Arm, BinaryOperator, Comparator, Expr, Link, UnaryOperator, Variable};
 pub use statement_text::show;

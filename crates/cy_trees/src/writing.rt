@@ -13,6 +13,9 @@ pub(crate) enum Separator {
     Bar,
     Comma,
     Space,
+    And,
+    Union,
+    UnionAll,
 }
 
 /// A part of a statement, and how it is written.
@@ -35,6 +38,9 @@ impl Separator {
             Separator::Bar => "|",
             Separator::Comma => ", ",
             Separator::Space => " ",
+            Separator::And => " AND ",
+            Separator::Union => " UNION ",
+            Separator::UnionAll => " UNION ALL ",
         }
     }
 }

@@ -3,11 +3,11 @@
 use Rattle.std.specs.Prelude.{List, [], ◌∷◌, ◌++◌, fold, if◌then◌else◌, Result, Ok}
 use Rattle.cy_values.specs.declared.rows.Cell.{Cell}
 use Rattle.cy_values.specs.Order.{row_cmp}
-use Rattle.cy_trees.specs.Trees.{Name, SetItem, RemoveItem, Path, Clause, create, set, remove, delete, Statement}
+use Rattle.cy_trees.specs.Trees.{Name, SetItem, RemoveItem, Path, Clause, create, set, remove, delete, Query, Statement}
 use Rattle.cy_scope.specs.Views.{is_update, ends_with_return}
 use Rattle.cy_graph.specs.Graph.{State}
 use Rattle.cy_queries.specs.Order.{in_order}
-use Rattle.cy_queries.specs.Queries.{rows_after, query_columns, query_rows}
+use Rattle.cy_queries.specs.Queries.{rows_after, query_columns, rows_of_all, put_together}
 use Rattle.cy_effects.specs.declared.faults.UpdateFault.{UpdateFault}
 use Rattle.cy_effects.specs.Faults.{◌>>=◌, evaluated, each_in_turn}
 use Rattle.cy_effects.specs.Creating.{created}
@@ -72,24 +72,38 @@ pub record Outcome : Type 0 where
   pub columns : List Name
   pub rows : List (List Cell)
 
--- the table is that of RETURN; without RETURN there is none
+-- the table of a query is that of RETURN; without RETURN there is none
+abbrev pub table_of : Query → List (List Cell) → List (List Cell)
+table_of query rows = if ends_with_return query.clauses then rows else []
+
+-- A query after others begins with the empty row, once, on the graph that they leave; its table comes after theirs.
+abbrev pub after_query : Query → Progress → Result Progress UpdateFault
+after_query query so_far =
+    each_in_turn after_clause query.clauses (record so_far { rows = [] ∷ [] }) >>= λ done.
+    Ok (record done { rows = so_far.rows ++ table_of query done.rows })
+
+-- the columns of a statement's table are those of its first query
+abbrev pub columns_of : List Query → List Name
+columns_of [] = []
+columns_of (query ∷ queries) = if ends_with_return query.clauses then query_columns query else []
+
 abbrev pub outcome_of : Statement → Progress → Outcome
 outcome_of statement done = record {
   graph = done.graph;
   counts = done.counts;
-  columns = (if ends_with_return statement.clauses then query_columns statement else []);
-  rows = (if ends_with_return statement.clauses then done.rows else []);
+  columns = columns_of statement.queries;
+  rows = put_together statement.all statement.queries done.rows;
 }
 
--- a statement begins with the empty row, once
+-- nothing is done yet
 abbrev pub beginning : State → Progress
-beginning graph = record { graph = graph; rows = [] ∷ []; counts = no_counts }
+beginning graph = record { graph = graph; rows = []; counts = no_counts }
 
--- the meaning of a statement: its clauses one after another; the first that faults decides
+-- the meaning of a statement: its queries one after another, and the clauses of each; the first that faults decides
 abbrev pub statement_outcome : State → Statement → Result Outcome UpdateFault
-statement_outcome graph statement = each_in_turn after_clause statement.clauses (beginning graph) >>= λ done. Ok (outcome_of statement done)
+statement_outcome graph statement = each_in_turn after_query statement.queries (beginning graph) >>= λ done. Ok (outcome_of statement done)
 
--- a query as a statement: it leaves the graph, and makes and removes nothing
-abbrev pub query_outcome : State → Statement → Result Outcome UpdateFault
-query_outcome graph query =
-    evaluated (query_rows graph.content query) >>= λ rows. Ok (outcome_of query (record (beginning graph) { rows = rows }))
+-- a statement that only reads: it leaves the graph, and makes and removes nothing
+abbrev pub reading_outcome : State → Statement → Result Outcome UpdateFault
+reading_outcome graph statement =
+    evaluated (rows_of_all graph.content statement.queries []) >>= λ rows. Ok (outcome_of statement (record (beginning graph) { rows = rows }))

@@ -4,7 +4,7 @@ use Rattle.std.specs.List.{All}
 use Rattle.cy_trees.specs.Trees.{Statement}
 use Rattle.cy_graph.specs.Graph.{State, IsGraph}
 use Rattle.cy_patterns.specs.Outcomes.{IsSameOutcome}
-use Rattle.cy_queries.specs.Queries.{query_rows}
+use Rattle.cy_queries.specs.Queries.{statement_rows}
 use Rattle.cy_plans.specs.Plans.{Plan}
 use Rattle.cy_plans.specs.Parts.{parts}
 use Rattle.cy_plans.specs.Meaning.{rows_of}
@@ -18,5 +18,5 @@ use Rattle.cy_planner.specs.WideTables.{wide_tables}
 pub record Serves (p : Plan) (query : Statement) : Type 0 where
   pub well_formed : IsWellFormed p
   pub sure : IsSure p
-  pub rows : (graph : State) → IsGraph graph → IsSameOutcome (Ok (rows_of graph.content p)) (query_rows graph.content query)
+  pub rows : (graph : State) → IsGraph graph → IsSameOutcome (Ok (rows_of graph.content p)) (statement_rows graph.content query)
   pub bounded : (graph : State) → IsGraph graph → All (IsWithin graph.content (wide_tables graph.content query)) (parts p)

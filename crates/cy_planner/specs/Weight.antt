@@ -1,9 +1,9 @@
 -- The weight of a query: how much of it there is to plan. One for each clause, place of a node, place of a relationship, label, type,
--- entry of a map, item and WHERE; a place with a length m..n weighs 1 and the sum of the numbers m to n. (own)
-use Rattle.std.specs.Prelude.{ℕ, zero, suc, ◌+◌, ◌-◌, List, length, sum_by, Option, None, Some}
+-- entry of a map, item, WHERE, path of a WHERE and UNION; a place with a length m..n weighs 1 and the sum of the numbers m to n. (own)
+use Rattle.std.specs.Prelude.{ℕ, zero, suc, ◌+◌, ◌-◌, List, [], ◌∷◌, length, sum_by, Option, None, Some}
 use Rattle.std.specs.Option.{option_map_or}
 use Rattle.cy_trees.specs.declared.clauses.Length.{Length}
-use Rattle.cy_trees.specs.Trees.{Expression, MapEntry, NodePattern, RelationshipPattern, Step, Path, Clause, «match», unwind, «with», «return», create, set, remove, delete, Statement}
+use Rattle.cy_trees.specs.Trees.{Expression, MapEntry, NodePattern, RelationshipPattern, Step, Path, PathTest, Where, Clause, «match», unwind, «with», «return», create, set, remove, delete, Query, Statement}
 
 -- the greatest weight of a query that is planned
 abbrev pub greatest_weight : ℕ
@@ -39,9 +39,17 @@ step_weight s = relationship_weight s.relationship + node_weight s.node
 abbrev pub path_weight : Path → ℕ
 path_weight p = node_weight p.start + sum_by step_weight p.steps
 
-abbrev pub where_weight : Option Expression → ℕ
-where_weight None = 0
-where_weight (Some e) = 1
+-- whether there is a WHERE, as a number
+abbrev pub wheres : Option Expression → List PathTest → ℕ
+wheres None [] = 0
+wheres test tests = 1
+
+-- a path of a WHERE weighs as in MATCH, and 1
+abbrev pub path_test_weight : PathTest → ℕ
+path_test_weight t = 1 + path_weight t.path
+
+abbrev pub where_weight : Where → ℕ
+where_weight w = wheres w.test w.paths + sum_by path_test_weight w.paths
 
 -- a clause that stands in no query of a view counts as a clause alone (own)
 abbrev pub clause_weight : Clause → ℕ
@@ -54,5 +62,9 @@ clause_weight (set items) = 1
 clause_weight (remove items) = 1
 clause_weight (delete detach variables) = 1
 
+abbrev pub query_weight : Query → ℕ
+query_weight q = sum_by clause_weight q.clauses
+
+-- and 1 for each UNION
 abbrev pub weight : Statement → ℕ
-weight s = sum_by clause_weight s.clauses
+weight s = sum_by query_weight s.queries + (length s.queries - 1)

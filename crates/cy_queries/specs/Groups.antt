@@ -20,7 +20,7 @@ use Rattle.cy_expr.specs.Faults.{on_one}
 use Rattle.cy_expr.specs.Lists.{list_of}
 use Rattle.cy_expr.specs.Operators.{value_in_cell}
 use Rattle.cy_queries.specs.Order.{in_order, each_once}
-use Rattle.cy_patterns.specs.Outcomes.{smaller, gathered}
+use Rattle.cy_patterns.specs.Outcomes.{and_also, gathered}
 use Rattle.cy_expr.specs.Graphs.{lookups}
 
 abbrev pub without_nulls : List Cell → List Cell
@@ -112,12 +112,6 @@ abbrev pub values_among : {A : Type 0} → List (Result A EvalFault) → List A
 values_among [] = []
 values_among (Ok x ∷ outcomes) = x ∷ values_among outcomes
 values_among (Err fault ∷ outcomes) = values_among outcomes
-
--- the second, if both have values, else the smaller of their faults
-abbrev pub and_also : {A B : Type 0} → Result A EvalFault → Result B EvalFault → Result B EvalFault
-and_also (Ok a) second = second
-and_also (Err fault) (Ok b) = Err fault
-and_also (Err fault) (Err other) = Err (smaller fault other)
 
 -- grouping and aggregation: a row whose grouping items fault is in no group, and the smallest code of all counts
 abbrev pub aggregated : Content → List Item → List (List Cell) → Result (List (List Cell)) EvalFault

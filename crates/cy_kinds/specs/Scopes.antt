@@ -1,6 +1,6 @@
 -- The scope at a place of a statement: the variables that are bound there, each with its kind, in the order of their columns
 -- (own).
-use Rattle.std.specs.Prelude.{ℕ, Bool, List, [], ◌∷◌, ◌++◌, Option, Some, None, is_some, unwrap_or, if◌then◌else◌}
+use Rattle.std.specs.Prelude.{ℕ, Bool, true, false, ◌&&◌, List, [], ◌∷◌, ◌++◌, Option, Some, None, is_some, unwrap_or, if◌then◌else◌}
 use Rattle.std.specs.List.{position_from}
 use Rattle.std.specs.Map.{lookup}
 use Rattle.std.specs.Str.{bytes_eq}
@@ -27,6 +27,12 @@ is_bound scope name = is_some (find_kind scope name)
 -- the kind of a bound variable
 abbrev pub kind_in : Scope → Name → Kind
 kind_in scope name = unwrap_or (find_kind scope name) Value
+
+-- two scopes have variables of the same names, in the same order
+abbrev pub has_same_names : Scope → Scope → Bool
+has_same_names [] [] = true
+has_same_names (v ∷ scope) (w ∷ other) = bytes_eq v.0 w.0 && has_same_names scope other
+has_same_names _ _ = false
 
 -- with one variable more where the name is new
 abbrev pub added_name : Scope → Kind → Name → Scope

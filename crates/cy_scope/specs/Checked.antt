@@ -1,8 +1,8 @@
 -- What holds of the statements that were found without a fault, and of the queries of views (own).
-use Rattle.std.specs.Prelude.{◌≡◌, ⊤, ◌⊎◌, IsTrue, List, [], ◌∷◌, ◌++◌, map, Option, Some, None}
+use Rattle.std.specs.Prelude.{◌≡◌, false, ⊤, ◌⊎◌, IsTrue, List, [], ◌∷◌, ◌++◌, map, Option, Some, None}
 use Rattle.std.specs.List.{All, Contains}
 use Rattle.cy_trees.specs.declared.expressions.Variable.{Variable}
-use Rattle.cy_trees.specs.Trees.{Name, Expression, MapEntry, NodePattern, RelationshipPattern, Step, Path, Item, Key, Projection, SetItem, set_property, set_labels, RemoveItem, remove_property, remove_labels, Clause, «match», unwind, «with», «return», create, set, remove, delete, Statement}
+use Rattle.cy_trees.specs.Trees.{Name, Expression, MapEntry, NodePattern, RelationshipPattern, Step, Path, Item, Key, Projection, SetItem, set_property, set_labels, RemoveItem, remove_property, remove_labels, PathTest, Where, Clause, «match», unwind, «with», «return», create, set, remove, delete, Query, Statement}
 use Rattle.cy_kinds.specs.declared.kinds.Kind.{Kind}
 use Rattle.cy_kinds.specs.declared.kinds.Kind.TheVariants.{Node, Value}
 use Rattle.cy_kinds.specs.Kinds.{is_value, is_entity}
@@ -18,6 +18,10 @@ use Rattle.cy_kinds.specs.Kinded.{IsColumn, HasKind, IsKinded, IsAggregate}
 -- it came of a statement without a fault, by setting the columns of its variables
 abbrev pub IsChecked : Statement → Type 0
 IsChecked tree = (s : Statement) × (statement_fault s ≡ None) × (tree ≡ resolved_statement s)
+
+-- a query as a statement of its own
+abbrev pub single : Query → Statement
+single q = record { queries = q ∷ []; all = false }
 
 abbrev pub IsViewQuery : Statement → Type 0
 IsViewQuery tree = IsChecked tree × (view_fault tree ≡ None)
@@ -55,6 +59,20 @@ StepIsKinded before after s = RelationshipIsKinded before after s.relationship �
 abbrev pub PathIsKinded : Scope → Scope → Path → Type 0
 PathIsKinded before after p = NodeIsKinded before after p.start × All (StepIsKinded before after) p.steps
 
+-- a path as a condition: it names nodes alone, which are columns of the row that it is asked of, as its maps read that row
+abbrev pub RelationshipIsTested : Scope → RelationshipPattern → Type 0
+RelationshipIsTested scope r = (r.variable ≡ None) × MapGivesValues scope r.properties
+
+abbrev pub StepIsTested : Scope → Step → Type 0
+StepIsTested scope s = RelationshipIsTested scope s.relationship × NodeIsKinded scope scope s.node
+
+abbrev pub PathIsTested : Scope → Path → Type 0
+PathIsTested scope p = NodeIsKinded scope scope p.start × All (StepIsTested scope) p.steps
+
+-- what stands after WHERE
+abbrev pub WhereGivesValue : Scope → Where → Type 0
+WhereGivesValue scope w = FilterGivesValue scope w.test × All (λ t. PathIsTested scope t.path) w.paths
+
 -- an item has the kind of its column, and may be an aggregate
 abbrev pub ItemIsKinded : Scope → Item → Type 0
 ItemIsKinded scope i = HasKind scope i.expression (kind_of scope i.expression) ⊎ IsAggregate scope i.expression (kind_of scope i.expression)
@@ -81,10 +99,10 @@ RemoveIsKinded scope (remove_property v key) = IsEntityColumn scope v
 RemoveIsKinded scope (remove_labels v labels) = IsColumn scope v Node
 
 abbrev pub ClauseIsKinded : Scope → Clause → Type 0
-ClauseIsKinded scope («match» optional paths filter) =
-    All (PathIsKinded scope (with_paths scope paths)) paths × FilterGivesValue (with_paths scope paths) filter
+ClauseIsKinded scope («match» optional paths w) =
+    All (PathIsKinded scope (with_paths scope paths)) paths × WhereGivesValue (with_paths scope paths) w
 ClauseIsKinded scope (unwind e v) = GivesValue scope e × IsColumn (scope_after scope (unwind e v)) v Value
-ClauseIsKinded scope («with» p filter) = ProjectionIsKinded scope p × FilterGivesValue (columns_of scope p.items) filter
+ClauseIsKinded scope («with» p w) = ProjectionIsKinded scope p × WhereGivesValue (columns_of scope p.items) w
 ClauseIsKinded scope («return» p) = ProjectionIsKinded scope p
 ClauseIsKinded scope (create paths) = All (PathIsKinded scope (with_paths scope paths)) paths
 ClauseIsKinded scope (set items) = All (SetIsKinded scope) items

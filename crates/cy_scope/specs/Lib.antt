@@ -2,6 +2,7 @@ pub mod PatternFaults
 pub mod ClauseScopes
 pub mod Views
 pub mod ProjectionFaults
+pub mod ConditionFaults
 pub mod ClauseFaults
 pub mod Resolved
 pub mod Checked

@@ -1,7 +1,7 @@
 -- A statement whose variables have their columns; nothing else is changed (own).
 use Rattle.std.specs.Prelude.{List, [], ◌∷◌, ◌++◌, map, Option, option_map, if◌then◌else◌}
 use Rattle.cy_trees.specs.declared.expressions.Variable.{Variable}
-use Rattle.cy_trees.specs.Trees.{Expression, MapEntry, NodePattern, RelationshipPattern, Step, Path, Item, Key, Projection, SetItem, set_property, set_labels, RemoveItem, remove_property, remove_labels, Clause, «match», unwind, «with», «return», create, set, remove, delete, Statement}
+use Rattle.cy_trees.specs.Trees.{Expression, MapEntry, NodePattern, RelationshipPattern, Step, Path, Item, Key, Projection, SetItem, set_property, set_labels, RemoveItem, remove_property, remove_labels, PathTest, Where, Clause, «match», unwind, «with», «return», create, set, remove, delete, Query, Statement}
 use Rattle.cy_kinds.specs.Scopes.{Scope}
 pub use Rattle.cy_kinds.specs.ResolvedExpressions.{resolved_variable, resolved, resolved_expressions, resolved_links, resolved_arms, resolved_otherwise}
 use Rattle.cy_scope.specs.ClauseScopes.{scope_after}
@@ -61,16 +61,22 @@ abbrev pub resolved_remove : Scope → RemoveItem → RemoveItem
 resolved_remove scope (remove_property v key) = remove_property (resolved_variable scope v) key
 resolved_remove scope (remove_labels v labels) = remove_labels (resolved_variable scope v) labels
 
-abbrev pub resolved_where : Scope → Option Expression → Option Expression
-resolved_where scope filter = option_map (resolved scope) filter
+abbrev pub resolved_condition : Scope → Option Expression → Option Expression
+resolved_condition scope test = option_map (resolved scope) test
+
+abbrev pub resolved_path_test : Scope → PathTest → PathTest
+resolved_path_test scope t = record { denied = t.denied; path = resolved_path scope t.path }
+
+abbrev pub resolved_where : Scope → Where → Where
+resolved_where scope w = record { test = resolved_condition scope w.test; paths = map (resolved_path_test scope) w.paths }
 
 -- what a clause says of the rows that it makes is resolved in the scope after it, which begins with the scope before it but for
 -- WITH and RETURN: the items of these, and what keys see of it, are resolved in the scope before. A scope grows at its end alone,
 -- so a variable has the same column in both
 abbrev pub resolved_clause : Scope → Scope → Clause → Clause
-resolved_clause before after («match» optional paths filter) = «match» optional (map (resolved_path after) paths) (resolved_where after filter)
+resolved_clause before after («match» optional paths w) = «match» optional (map (resolved_path after) paths) (resolved_where after w)
 resolved_clause before after (unwind e v) = unwind (resolved after e) (resolved_variable after v)
-resolved_clause before after («with» p filter) = «with» (resolved_projection before after p) (resolved_where after filter)
+resolved_clause before after («with» p w) = «with» (resolved_projection before after p) (resolved_where after w)
 resolved_clause before after («return» p) = «return» (resolved_projection before after p)
 resolved_clause before after (create paths) = create (map (resolved_path after) paths)
 resolved_clause before after (set items) = set (map (resolved_set after) items)
@@ -81,5 +87,8 @@ abbrev pub resolved_clauses : Scope → List Clause → List Clause
 resolved_clauses scope [] = []
 resolved_clauses scope (c ∷ cs) = resolved_clause scope (scope_after scope c) c ∷ resolved_clauses (scope_after scope c) cs
 
+abbrev pub resolved_query : Query → Query
+resolved_query q = record { clauses = resolved_clauses [] q.clauses }
+
 abbrev pub resolved_statement : Statement → Statement
-resolved_statement s = record { clauses = resolved_clauses [] s.clauses }
+resolved_statement s = record { queries = map resolved_query s.queries; all = s.all }

@@ -9,7 +9,7 @@ use Rattle.cy_trees.specs.Trees.{Clause, «match», unwind, «with», «return»
 use Rattle.cy_graph.specs.Graph.{Content}
 use Rattle.cy_expr.specs.declared.faults.EvalFault.{EvalFault}
 use Rattle.cy_expr.specs.Faults.{on_one}
-use Rattle.cy_patterns.specs.Matching.{matched, optionally_matched, unwound, selected}
+use Rattle.cy_patterns.specs.Matching.{kept, matched_where, optionally_matched, unwound}
 use Rattle.cy_patterns.specs.Outcomes.{joined, IsSameOutcome}
 use Rattle.cy_queries.specs.Projection.{projection_rows}
 use Rattle.cy_queries.specs.Queries.{rows_after, rows_after_all}
@@ -22,12 +22,12 @@ module _ (total : IsTotalOrder row_cmp) (graph : Content) (rows others : List (L
   same_rows_of p = same_projection total graph p (permuted_bag total rows others same)
 
   pub same_clause : (clause : Clause) → IsSameOutcome (rows_after graph clause rows) (rows_after graph clause others)
-  same_clause («match» false paths test) = one_by_one total (matched graph paths test) rows others same
-  same_clause («match» true paths test) = one_by_one total (optionally_matched graph paths test) rows others same
+  same_clause («match» false paths w) = one_by_one total (matched_where graph paths w) rows others same
+  same_clause («match» true paths w) = one_by_one total (optionally_matched graph paths w) rows others same
   same_clause (unwind e v) = one_by_one total (unwound graph e) rows others same
-  same_clause («with» p test) =
-      subst (λ r. IsSameOutcome (rows_after graph («with» p test) rows) (on_one (λ made. joined (map (selected graph test) made)) r)) (same_rows_of p)
-      (same_itself (rows_after graph («with» p test) rows))
+  same_clause («with» p w) =
+      subst (λ r. IsSameOutcome (rows_after graph («with» p w) rows) (on_one (λ made. joined (map (kept graph w) made)) r)) (same_rows_of p)
+      (same_itself (rows_after graph («with» p w) rows))
   same_clause («return» p) = subst (λ r. IsSameOutcome (projection_rows graph p rows) r) (same_rows_of p) (same_itself (projection_rows graph p rows))
   same_clause (create paths) = same
   same_clause (set items) = same

@@ -9,13 +9,13 @@ use Rattle.cy_graph.specs.Graph.{Content}
 use Rattle.cy_kinds.specs.Aggregates.{is_aggregate_call}
 use Rattle.cy_expr.specs.Evaluation.{as_cell, cell_of}
 use Rattle.cy_queries.specs.Groups.{cells_on, grouping, Grouped, grouped, group_cells, group_keys, group_rows, over_rows, rows_of_group, values_among, aggregated}
-use Rattle.cy_patterns.specs.Matching.{selected, matched, optionally_matched, unwound}
+use Rattle.cy_patterns.specs.Matching.{kept, matched_where, optionally_matched, unwound}
 use Rattle.cy_patterns.specs.Outcomes.{gathered, joined}
 use Rattle.cy_queries.specs.Projection.{projection_rows}
 use Rattle.cy_queries.specs.Queries.{rows_after}
 use Rattle.cy_expr.specs.Graphs.{lookups}
 use Rattle.cy_queries.specs.Reading.{IsInGraph, AreInGraph}
-use Rattle.cy_queries.proofs.EachRow.{all_selected_each, matched_each, one_by_one_each, optionally_each}
+use Rattle.cy_queries.proofs.EachRow.{all_kept_each, matched_each, one_by_one_each, optionally_each}
 use Rattle.cy_queries.proofs.EachProjected.{projection_each}
 use Rattle.cy_queries.proofs.Each.{each_gathered, each_made, each_map, each_of_once, if_ok_then}
 use Rattle.cy_queries.proofs.EachValue.{each_value, second_of_both}
@@ -75,14 +75,14 @@ module _ (graph : Content) where
   projection_there p rows there = projection_each graph p RowThere RowThere (cells_there p.items) (aggregated_there p.items) rows there
 
   pub clause_there : (clause : Clause) (rows : List (List Cell)) → AreInGraph graph rows → IfOk (rows_after graph clause rows) (AreInGraph graph)
-  clause_there («match» false paths test) rows there =
-      one_by_one_each RowThere RowThere (matched graph paths test) (λ row here. matched_each graph RowThere paths test row (fitting_there graph paths row here)) rows there
-  clause_there («match» true paths test) rows there =
-      one_by_one_each RowThere RowThere (optionally_matched graph paths test)
-      (λ row here. optionally_each graph RowThere paths test row (fitting_there graph paths row here) (nulls_there graph paths row here)) rows there
+  clause_there («match» false paths w) rows there =
+      one_by_one_each RowThere RowThere (matched_where graph paths w) (λ row here. matched_each graph RowThere paths w row (fitting_there graph paths row here)) rows there
+  clause_there («match» true paths w) rows there =
+      one_by_one_each RowThere RowThere (optionally_matched graph paths w)
+      (λ row here. optionally_each graph RowThere paths w row (fitting_there graph paths row here) (nulls_there graph paths row here)) rows there
   clause_there (unwind e v) rows there = one_by_one_each RowThere RowThere (unwound graph e) (unwound_there graph e) rows there
-  clause_there («with» p test) rows there =
-      if_ok_then RowsThere RowsThere (λ made. joined (map (selected graph test) made)) (all_selected_each graph RowThere test) (projection_rows graph p rows) (projection_there p rows there)
+  clause_there («with» p w) rows there =
+      if_ok_then RowsThere RowsThere (λ made. joined (map (kept graph w) made)) (all_kept_each graph RowThere w) (projection_rows graph p rows) (projection_there p rows there)
   clause_there («return» p) rows there = projection_there p rows there
   clause_there (create paths) rows there = there
   clause_there (set items) rows there = there

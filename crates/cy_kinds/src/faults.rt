@@ -23,7 +23,7 @@ pub enum ScopeFault {
     /// An item of WITH that is no variable and has no AS.
     #[error("missing alias")]
     MissingAlias,
-    /// A second column with the same name.
+    /// A second column with the same name, or a query of a UNION with other columns than the first one.
     #[error("duplicate column")]
     DuplicateColumn,
     /// An aggregate that is no whole item.

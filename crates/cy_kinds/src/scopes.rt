@@ -66,6 +66,13 @@ impl Scope {
         self.variables.len()
     }
 
+    /// Whether the other scope has variables of the same names, in the same order.
+    pub fn has_same_names(&self, other: &Scope) -> bool
+        ensures { result ≡ spec.has_same_names self.now other.now }
+    {
+        have_same_names(&self.variables, &other.variables)
+    }
+
     /// Adds a variable, if its name is new.
     pub fn add_name(&mut self, kind: Kind, name: &str) -> Result<(), AllocError>
         ensures { OnOk result (self.new ≡ spec.added_name self.old kind name.now) }
@@ -123,6 +130,22 @@ impl Scope {
         }
         Ok(())
     }
+}
+
+/// Whether variables have the same names, in the same order.
+fn have_same_names(variables: &[(String, Kind)], others: &[(String, Kind)]) -> bool
+    ensures { result ≡ spec.has_same_names (variables_of variables.now) (variables_of others.now) }
+{
+    let mut left = others.iter();
+    for (name, _) in variables {
+        let Some((other, _)) = left.next() else {
+            return false;
+        };
+        if name.as_str() != other.as_str() {
+            return false;
+        }
+    }
+    left.next().is_none()
 }
 
 /// The kind of a relationship's variable, which stands for several where a length is written.

@@ -1,4 +1,4 @@
--- A statement without a fault, with the columns of its variables: each expression is of a kind that its place takes.
+-- Clauses without a fault, with the columns of their variables: each expression is of a kind that its place takes.
 use Rattle.std.proofs.Common.{arith, ◌≡◌, Bool, true, false, not, ◌||◌, List, [], ◌∷◌, ◌++◌, map, append_assoc, Option, Some, None, if◌then◌else◌, inl, inr, refl, sym, ap, subst, ◌∙◌}
 use Rattle.std.specs.Prelude.{is_some, ◌⊎◌}
 use Rattle.std.specs.List.{All, Contains}
@@ -6,13 +6,13 @@ use Rattle.std.proofs.lemmas.List.{append-nil}
 use Rattle.std.proofs.lemmas.List.Elements.{All-nil, All-cons, Contains-append_right}
 use Rattle.std.proofs.lemmas.Option.{none-some}
 use Rattle.cy_trees.specs.declared.expressions.Variable.{Variable}
-use Rattle.cy_trees.specs.Trees.{Name, Expression, null, boolean, integer, text, variable, property, has_labels, unary, binary, comparison, list, case, call, call_star, Expressions, Path, Item, Key, Projection, SetItem, set_property, set_labels, RemoveItem, remove_property, remove_labels, Clause, «match», unwind, «with», «return», create, set, remove, delete, Statement}
+use Rattle.cy_trees.specs.Trees.{Name, Expression, null, boolean, integer, text, variable, property, has_labels, unary, binary, comparison, list, case, call, call_star, Expressions, Path, Item, Key, Projection, SetItem, set_property, set_labels, RemoveItem, remove_property, remove_labels, Clause, «match», unwind, «with», «return», create, set, remove, delete}
 use Rattle.cy_kinds.specs.declared.kinds.Kind.{Kind}
-use Rattle.cy_kinds.specs.declared.kinds.Kind.TheVariants.{Node, Value}
+use Rattle.cy_kinds.specs.declared.kinds.Kind.TheVariants.{Value}
 use Rattle.cy_kinds.specs.declared.faults.ScopeFault.TheVariants.{UnknownVariable, UnknownFunction, AlreadyBound, WrongKind, MissingAlias, DuplicateColumn, WrongArguments}
 use Rattle.cy_kinds.specs.declared.functions.Function.{Function}
 use Rattle.cy_kinds.specs.declared.functions.Function.TheVariants as function
-use Rattle.cy_kinds.specs.Kinds.{is_node, is_entity}
+use Rattle.cy_kinds.specs.Kinds.{is_entity}
 use Rattle.cy_kinds.specs.Functions.{function_named, is_aggregate}
 use Rattle.cy_kinds.specs.Faults.{first, unless}
 use Rattle.cy_kinds.specs.Scopes.{Scope, find_kind, is_bound, added_name, added, with_paths}
@@ -22,13 +22,15 @@ use Rattle.cy_scope.specs.PatternFaults.{paths_fault}
 use Rattle.cy_scope.specs.ClauseScopes.{with_items, columns_of, scope_after}
 use Rattle.cy_kinds.specs.Same.{same}
 use Rattle.cy_scope.specs.ProjectionFaults.{has_name, item_place_fault, items_fault, repeats, keys_fault, seen_by_keys, projection_fault}
-use Rattle.cy_scope.specs.ClauseFaults.{where_fault, entity_fault, node_only_fault, set_fault, sets_fault, remove_fault, removes_fault, deletes_fault, clause_fault, clauses_fault}
+use Rattle.cy_scope.specs.ClauseFaults.{entity_fault, set_fault, sets_fault, remove_fault, removes_fault, deletes_fault, clause_fault, clauses_fault}
+use Rattle.cy_scope.specs.ConditionFaults.{where_fault}
 use Rattle.cy_scope.specs.Resolved.{resolved, resolved_expressions, resolved_variable, resolved_path, resolved_item, resolved_key, resolved_projection, resolved_set, resolved_remove, resolved_where, resolved_clause, resolved_clauses}
-use Rattle.cy_kinds.specs.Kinded.{IsColumn, HasKind, HaveKinds, IsAggregate, IsKinded}
-use Rattle.cy_scope.specs.Checked.{IsChecked, IsEntityColumn, FilterGivesValue, PathIsKinded, ItemIsKinded, item_column, ProjectionIsKinded, SetIsKinded, RemoveIsKinded, ClauseIsKinded, ClausesAreKinded}
+use Rattle.cy_kinds.specs.Kinded.{HasKind, HaveKinds, IsAggregate, IsKinded}
+use Rattle.cy_scope.specs.Checked.{IsEntityColumn, WhereGivesValue, PathIsKinded, ItemIsKinded, item_column, ProjectionIsKinded, SetIsKinded, RemoveIsKinded, ClauseIsKinded, ClausesAreKinded}
 use Rattle.cy_scope.proofs.Columns.{reads-same, reads-variable, reads-paths, keeps-same, added_here}
-use Rattle.cy_scope.proofs.KindedExpressions.{first_none, unless_none, node_is, kinds_of, good_call, call_is, call_kind_is, has_kind, have_kinds, gives_value}
+use Rattle.cy_scope.proofs.KindedExpressions.{first_none, unless_none, kinds_of, good_call, call_is, call_kind_is, has_kind, have_kinds, gives_value}
 use Rattle.cy_scope.proofs.KindedPatterns.{paths_kinded}
+use Rattle.cy_scope.proofs.KindedConditions.{node_only_kinded, where_in}
 use Rattle.cy_scope.proofs.KindsKept.{kind_kept, paths_kept, columns_kept, seen_kept, scope_kept}
 use Rattle.cy_scope.proofs.SameTrees.{same_resolved}
 
@@ -48,10 +50,6 @@ star_counts (Some function.Sum) good = absurd (none-some WrongArguments (sym goo
 star_counts (Some function.Min) good = absurd (none-some WrongArguments (sym good))
 star_counts (Some function.Max) good = absurd (none-some WrongArguments (sym good))
 star_counts (Some function.Collect) good = absurd (none-some WrongArguments (sym good))
-
-filter_in : (scope : Scope) (filter : Option Expression) → where_fault scope filter ≡ None → FilterGivesValue scope (resolved_where scope filter)
-filter_in scope None good = tt
-filter_in scope (Some e) good = gives_value scope scope (reads-same scope) e good
 
 -- an item's expression may be an aggregate
 abbrev IsItem : Scope → Expression → Kind → Type 0
@@ -179,15 +177,11 @@ module _ (scope : Scope) where
   entity_kinded v None is good = absurd (none-some UnknownVariable (sym good))
   entity_kinded v (Some k) is good = (k, reads-same scope v.name k is, unless_none (is_entity k) WrongKind good)
 
-  node_only_kinded : (v : Variable) (o : Option Kind) → find_kind scope v.name ≡ o → node_only_fault o ≡ None → IsColumn scope (resolved_variable scope v) Node
-  node_only_kinded v None is good = absurd (none-some UnknownVariable (sym good))
-  node_only_kinded v (Some k) is good = reads-same scope v.name Node (is ∙ ap (λ (l : Kind). Some l) (node_is k (unless_none (is_node k) WrongKind good)))
-
   set_kinded : (i : SetItem) → set_fault scope i ≡ None → SetIsKinded scope (resolved_set scope i)
   set_kinded (set_property v key e) good =
       let (owner, value) = first_none (entity_fault (find_kind scope v.name)) (value_fault scope e) good in
       (entity_kinded v (find_kind scope v.name) refl owner, gives_value scope scope (reads-same scope) e value)
-  set_kinded (set_labels v labels) good = node_only_kinded v (find_kind scope v.name) refl good
+  set_kinded (set_labels v labels) good = node_only_kinded scope v (find_kind scope v.name) refl good
 
   sets_kinded : (items : List SetItem) → sets_fault scope items ≡ None → All (SetIsKinded scope) (map (resolved_set scope) items)
   sets_kinded [] good = All-nil (SetIsKinded scope)
@@ -197,7 +191,7 @@ module _ (scope : Scope) where
 
   remove_kinded : (i : RemoveItem) → remove_fault scope i ≡ None → RemoveIsKinded scope (resolved_remove scope i)
   remove_kinded (remove_property v key) good = entity_kinded v (find_kind scope v.name) refl good
-  remove_kinded (remove_labels v labels) good = node_only_kinded v (find_kind scope v.name) refl good
+  remove_kinded (remove_labels v labels) good = node_only_kinded scope v (find_kind scope v.name) refl good
 
   removes_kinded : (items : List RemoveItem) → removes_fault scope items ≡ None → All (RemoveIsKinded scope) (map (resolved_remove scope) items)
   removes_kinded [] good = All-nil (RemoveIsKinded scope)
@@ -224,11 +218,11 @@ module _ (scope : Scope) where
   free name (Some k) is bound = cc
 
   clause_kinded : (c : Clause) → clause_fault scope c ≡ None → ClauseIsKinded scope (resolved_clause scope (scope_after scope c) c)
-  clause_kinded («match» optional paths filter) good =
+  clause_kinded («match» optional paths w) good =
       let after = with_paths scope paths in
-      let (pattern, kept) = first_none (paths_fault false scope scope paths) (where_fault after filter) good in (
+      let (pattern, kept) = first_none (paths_fault false scope scope paths) (where_fault after w) good in (
         pattern_kinded false paths pattern,
-        subst (λ (s : Scope). FilterGivesValue s (resolved_where after filter)) (sym (paths_kept after scope paths)) (filter_in after filter kept),
+        subst (λ (s : Scope). WhereGivesValue s (resolved_where after w)) (sym (paths_kept after scope paths)) (where_in after w kept),
       )
   clause_kinded (unwind e v) good =
       let (value, name) = first_none (value_fault scope e) (unless (not (is_bound scope v.name)) AlreadyBound) good in (
@@ -236,11 +230,11 @@ module _ (scope : Scope) where
         reads-same (added_name scope Value v.name) v.name Value
             (added_here scope Value v.name (free v.name (find_kind scope v.name) refl (unless_none (not (is_bound scope v.name)) AlreadyBound name))),
       )
-  clause_kinded («with» p filter) good =
+  clause_kinded («with» p w) good =
       let columns = columns_of scope p.items in
-      let (projected, kept) = first_none (projection_fault true scope p) (where_fault columns filter) good in (
+      let (projected, kept) = first_none (projection_fault true scope p) (where_fault columns w) good in (
         projection_kinded true p projected,
-        subst (λ (s : Scope). FilterGivesValue s (resolved_where columns filter)) (sym (columns_kept scope scope p.items)) (filter_in columns filter kept),
+        subst (λ (s : Scope). WhereGivesValue s (resolved_where columns w)) (sym (columns_kept scope scope p.items)) (where_in columns w kept),
       )
   clause_kinded («return» p) good = projection_kinded false p good
   clause_kinded (create paths) good = pattern_kinded true paths good
@@ -248,7 +242,7 @@ module _ (scope : Scope) where
   clause_kinded (remove items) good = removes_kinded items good
   clause_kinded (delete detach vs) good = deletes_kinded vs good
 
-clauses_kinded : (scope : Scope) (cs : List Clause) → clauses_fault scope cs ≡ None → ClausesAreKinded scope (resolved_clauses scope cs)
+pub clauses_kinded : (scope : Scope) (cs : List Clause) → clauses_fault scope cs ≡ None → ClausesAreKinded scope (resolved_clauses scope cs)
 clauses_kinded scope [] good = tt
 clauses_kinded scope (c ∷ cs) good =
     let after = scope_after scope c in
@@ -256,6 +250,3 @@ clauses_kinded scope (c ∷ cs) good =
       clause_kinded scope c here,
       subst (λ (s : Scope). ClausesAreKinded s (resolved_clauses after cs)) (sym (scope_kept scope after c)) (clauses_kinded after cs others),
     )
-
-pub checked_kinded : (tree : Statement) → IsChecked tree → ClausesAreKinded [] tree.clauses
-checked_kinded tree (s, good, is) = subst (λ (t : Statement). ClausesAreKinded [] t.clauses) (sym is) (clauses_kinded [] s.clauses good)

@@ -57,7 +57,7 @@ module _ (before after : Scope) (reads : Reads before after) where
       All-cons (λ (f : MapEntry). GivesValue before f.value) (resolved_entry after e) (map (resolved_entry after) entries)
       (gives_value before after reads e.value here) (entries_kinded entries others)
 
-  map_kinded : (entries : Option (List MapEntry)) → map_fault before entries ≡ None → MapGivesValues before (resolved_map after entries)
+  pub map_kinded : (entries : Option (List MapEntry)) → map_fault before entries ≡ None → MapGivesValues before (resolved_map after entries)
   map_kinded None good = tt
   map_kinded (Some entries) good = entries_kinded entries good
 

@@ -9,10 +9,10 @@ use Rattle.cy_kinds.specs.Kinds.{is_flag, flag_if}
 use Rattle.cy_kinds.specs.Functions.{function_named}
 use Rattle.cy_kinds.specs.Scopes.{Scope, added, added_name, relationship_kind, with_step, with_steps, with_path, with_paths}
 use Rattle.cy_kinds.specs.ExpressionKinds.{kind_of, are_flags, gives_flags, is_flag_otherwise, call_kind}
-use Rattle.cy_scope.specs.ClauseScopes.{with_items, columns_of, scope_after}
+use Rattle.cy_scope.specs.ClauseScopes.{with_items, columns_of, scope_after, scope_after_all}
 use Rattle.cy_kinds.specs.Aggregates.{is_aggregate_call}
 use Rattle.cy_scope.specs.ProjectionFaults.{seen_by_keys}
-use Rattle.cy_scope.specs.Resolved.{resolved, resolved_expressions, resolved_arms, resolved_otherwise, resolved_name, resolved_step, resolved_path, resolved_item, resolved_projection, resolved_clause}
+use Rattle.cy_scope.specs.Resolved.{resolved, resolved_expressions, resolved_arms, resolved_otherwise, resolved_name, resolved_step, resolved_path, resolved_item, resolved_projection, resolved_clause, resolved_clauses}
 
 module _ (scope columns : Scope) where
   mutual
@@ -109,11 +109,17 @@ pub seen_kept : (before after : Scope) (p : Projection) → seen_by_keys (resolv
 seen_kept before after p = ap (λ t. if p.distinct || t then [] else before) (aggregates_kept before p.items)
 
 pub scope_kept : (scope after : Scope) (c : Clause) → scope_after scope (resolved_clause scope after c) ≡ scope_after scope c
-scope_kept scope after («match» optional paths filter) = paths_kept after scope paths
+scope_kept scope after («match» optional paths w) = paths_kept after scope paths
 scope_kept scope after (unwind e v) = refl
-scope_kept scope after («with» p filter) = columns_kept scope scope p.items
+scope_kept scope after («with» p w) = columns_kept scope scope p.items
 scope_kept scope after («return» p) = columns_kept scope scope p.items
 scope_kept scope after (create paths) = paths_kept after scope paths
 scope_kept scope after (set items) = refl
 scope_kept scope after (remove items) = refl
 scope_kept scope after (delete detach variables) = refl
+
+pub scopes_kept : (scope : Scope) (cs : List Clause) → scope_after_all scope (resolved_clauses scope cs) ≡ scope_after_all scope cs
+scopes_kept scope [] = refl
+scopes_kept scope (c ∷ cs) =
+    let after = scope_after scope c in
+    ap (λ (s : Scope). scope_after_all s (resolved_clauses after cs)) (scope_kept scope after c) ∙ scopes_kept after cs

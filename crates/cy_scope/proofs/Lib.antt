@@ -6,5 +6,7 @@ mod SameTrees
 mod SameItself
 pub mod KindedExpressions
 mod KindedPatterns
+mod KindedConditions
 mod KindedClauses
+mod Queries
 mod WorkedRows

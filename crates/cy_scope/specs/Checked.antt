@@ -2,7 +2,7 @@
 use Rattle.std.specs.Prelude.{◌≡◌, false, ⊤, ◌⊎◌, IsTrue, List, [], ◌∷◌, ◌++◌, map, Option, Some, None}
 use Rattle.std.specs.List.{All, Contains}
 use Rattle.cy_trees.specs.declared.expressions.Variable.{Variable}
-use Rattle.cy_trees.specs.Trees.{Name, Expression, MapEntry, NodePattern, RelationshipPattern, Step, Path, Item, Key, Projection, SetItem, set_property, set_labels, RemoveItem, remove_property, remove_labels, PathTest, Where, Clause, «match», unwind, «with», «return», create, set, remove, delete, Query, Statement}
+use Rattle.cy_trees.specs.Trees.{Name, Expression, MapEntry, NodePattern, RelationshipPattern, Step, Path, Item, Key, Projection, SetItem, set_property, set_labels, RemoveItem, remove_property, remove_labels, Where, Clause, «match», unwind, «with», «return», create, set, remove, delete, Query, Statement}
 use Rattle.cy_kinds.specs.declared.kinds.Kind.{Kind}
 use Rattle.cy_kinds.specs.declared.kinds.Kind.TheVariants.{Node, Value}
 use Rattle.cy_kinds.specs.Kinds.{is_value, is_entity}

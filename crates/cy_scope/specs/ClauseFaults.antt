@@ -55,13 +55,13 @@ clauses_fault scope (c ∷ cs) = first (clause_fault scope c) (clauses_fault (sc
 abbrev pub query_fault : Query → Option ScopeFault
 query_fault q = clauses_fault [] q.clauses
 
--- a query after the first, whose columns at its end have the names of those of the first, in the same order
-abbrev pub later_query_fault : Query → Query → Option ScopeFault
-later_query_fault earliest q = first (query_fault q) (unless (has_same_names (query_scope earliest) (query_scope q)) DuplicateColumn)
+-- a query after the first: at its end its columns have the names of those of the first, in the same order
+abbrev pub later_query_fault : Scope → Query → Option ScopeFault
+later_query_fault columns q = first (query_fault q) (unless (has_same_names columns (query_scope q)) DuplicateColumn)
 
 abbrev pub queries_fault : List Query → Option ScopeFault
 queries_fault [] = None
-queries_fault (q ∷ qs) = first (query_fault q) (first_fault (later_query_fault q) qs)
+queries_fault (q ∷ qs) = first (query_fault q) (first_fault (later_query_fault (query_scope q)) qs)
 
 -- the code of the first faulty place, where there is one
 abbrev pub statement_fault : Statement → Option ScopeFault

@@ -27,6 +27,6 @@ abbrev pub scope_after_all : Scope → List Clause → Scope
 scope_after_all scope [] = scope
 scope_after_all scope (c ∷ cs) = scope_after_all (scope_after scope c) cs
 
--- the scope at a query's end, which begins without a variable
+-- the scope at the end of a query, which begins without a variable
 abbrev pub query_scope : Query → Scope
 query_scope q = scope_after_all [] q.clauses

@@ -122,10 +122,12 @@ are_sure_clauses scope [] = true
 are_sure_clauses scope (c ∷ cs) =
     is_sure_before scope c && is_sure_after (scope_after scope c) c && are_sure_clauses (scope_after scope c) cs
 
--- the statement has a query, and all its queries are readings
+abbrev pub has_queries : List Query → Bool
+has_queries [] = false
+has_queries (q ∷ queries) = true
+
 abbrev pub are_readings : List Query → Bool
-are_readings [] = false
-are_readings (q ∷ qs) = is_reading q.clauses && list_all (λ r. is_reading r.clauses) qs
+are_readings queries = has_queries queries && list_all (λ q. is_reading q.clauses) queries
 
 -- a clause of one of the queries has the property
 abbrev pub any_clause : (Clause → Bool) → List Query → Bool

@@ -1,28 +1,20 @@
 //! The faults of clauses (own).
 
 ghost use Rattle.std.specs.Prelude.{◌≡◌, ◌⊎◌, [], map, None, Some, MatchResult};
-ghost use Rattle.cy_trees.specs.Views.{filter_of, set_item_of, remove_item_of, clause_of};
+ghost use Rattle.cy_trees.specs.Views.{set_item_of, remove_item_of, clause_of, query_of};
 ghost use Rattle.cy_kinds.specs.Scopes.{find_kind};
-ghost use Rattle.cy_scope.specs.ClauseScopes.{scope_after};
-ghost use Rattle.cy_kinds.specs.internal.Answers.{Fault, MayFault, GoesOn};
+ghost use Rattle.cy_scope.specs.ClauseScopes.{scope_after, query_scope};
+ghost use Rattle.cy_kinds.specs.internal.Answers.{Fault, GoesOn};
+ghost use Rattle.cy_kinds.specs.declared.faults.ScopeFault.TheVariants.{NoMemory};
 ghost use Rattle.cy_scope.specs.internal.Trees.{unwind_of, match_of, with_of};
 ghost use Rattle.cy_scope.specs.ClauseFaults as spec;
 
+use crate::condition_checks::{check_node_only, check_where};
 use crate::pattern_checks::check_paths;
 use crate::projection_checks::check_projection;
 use cy_kinds::{Kind, Scope, ScopeFault, check_value, demand};
-use cy_trees::{Clause, Expr, Match, RemoveItem, SetItem, Unwind, Variable, With};
+use cy_trees::{Clause, Match, Query, RemoveItem, SetItem, Unwind, Variable, With};
 use std::alloc::Global;
-
-/// The fault of what stands after WHERE, if anything.
-fn check_where(alloc: Global, scope: &Scope, filter: &Option<Expr>) -> Result<(), ScopeFault>
-    ensures { Fault (spec.where_fault scope.now (filter_of filter.now)) result }
-{
-    match filter {
-        Some(filter) => check_value(alloc, scope, filter),
-        None => Ok(()),
-    }
-}
 
 /// The fault of a variable that has to be a node or one relationship.
 fn check_entity(scope: &Scope, variable: &Variable) -> Result<(), ScopeFault>
@@ -30,16 +22,6 @@ fn check_entity(scope: &Scope, variable: &Variable) -> Result<(), ScopeFault>
 {
     match scope.find_kind(variable.name.as_str()) {
         Some(kind) => demand(kind.is_entity(), ScopeFault::WrongKind),
-        None => Err(ScopeFault::UnknownVariable),
-    }
-}
-
-/// The fault of a variable that has to be a node.
-fn check_node_only(scope: &Scope, variable: &Variable) -> Result<(), ScopeFault>
-    ensures { Fault (spec.node_only_fault (find_kind scope.now variable.now.name)) result }
-{
-    match scope.find_kind(variable.name.as_str()) {
-        Some(kind) => demand(kind == Kind::Node, ScopeFault::WrongKind),
         None => Err(ScopeFault::UnknownVariable),
     }
 }
@@ -146,13 +128,13 @@ pub(crate) fn check_clause(
     }
 }
 
-/// The first fault of clauses.
-pub(crate) fn check_clauses(alloc: Global, clauses: &[Clause]) -> Result<(), ScopeFault>
-    ensures { MayFault (spec.clauses_fault [] (map clause_of clauses.now)) result }
+/// The scope at the end of a query, or its first fault.
+pub(crate) fn check_query(alloc: Global, query: &Query) -> Result<Scope, ScopeFault>
+    ensures { let q = query_of query.now in MatchResult result (λ scope. (spec.query_fault q ≡ None) × (scope ≡ query_scope q)) (λ f. (f ≡ NoMemory) ⊎ (spec.query_fault q ≡ Some f)) }
 {
     let mut scope = Scope::new(alloc);
-    for clause in clauses {
+    for clause in &query.clauses {
         check_clause(alloc, &mut scope, clause)?;
     }
-    Ok(())
+    Ok(scope)
 }

@@ -10,7 +10,7 @@ ghost use Rattle.cy_scope.specs.Resolved as spec;
 
 use crate::clause_scopes::columns_of;
 use crate::pattern_columns::{
-    resolve, resolve_paths, resolved_expression, resolved_in, resolved_where,
+    resolve, resolve_paths, resolve_where, resolved_expression, resolved_in,
 };
 use crate::projection_checks::seen_by_keys;
 use crate::repeats::{Places, places_of, repeats};
@@ -165,7 +165,7 @@ fn resolve_match(alloc: Global, scope: &mut Scope, matching: &mut Match) -> Resu
 {
     scope.add_paths(&matching.paths)?;
     resolve_paths(alloc, scope, &mut matching.paths);
-    matching.filter = resolved_where(alloc, scope, matching.filter.take());
+    resolve_where(alloc, scope, &mut matching.filter);
     Ok(())
 }
 
@@ -183,7 +183,7 @@ fn resolve_with(alloc: Global, scope: &mut Scope, with: &mut With) -> Result<(),
 {
     let columns = columns_of(alloc, scope, &with.projection.items)?;
     resolve_projection(alloc, scope, &columns, &mut with.projection)?;
-    with.filter = resolved_where(alloc, &columns, with.filter.take());
+    resolve_where(alloc, &columns, &mut with.filter);
     *scope = columns;
     Ok(())
 }

@@ -5,6 +5,7 @@ mod checked;
 mod clause_checks;
 mod clause_columns;
 mod clause_scopes;
+mod condition_checks;
 mod laws;
 mod pattern_checks;
 mod pattern_columns;

@@ -39,7 +39,7 @@ fn see(
 }
 
 /// The first fault of a property map, which sees the variables bound before its clause.
-fn check_map(
+pub(crate) fn check_map(
     alloc: Global,
     before: &Scope,
     properties: &Option<Vec<MapEntry>>,

@@ -1,11 +1,13 @@
-//! Setting the columns of the variables of patterns.
+//! Setting the columns of the variables of patterns, and of what stands after WHERE.
 
 ghost use Rattle.std.specs.Prelude.{◌≡◌, map};
-ghost use Rattle.cy_trees.specs.Views.{expression_of, entry_of, properties_of, node_of, relationship_of, step_of, path_of, filter_of};
+ghost use Rattle.cy_trees.specs.Views.{expression_of, entry_of, properties_of, node_of, relationship_of, step_of, path_of, filter_of, path_test_of, where_of};
 ghost use Rattle.cy_scope.specs.Resolved as spec;
 
 use cy_kinds::{Scope, resolved, resolved_variable};
-use cy_trees::{Expr, MapEntry, NodePattern, Path, RelationshipPattern, Step, Variable};
+use cy_trees::{
+    Expr, MapEntry, NodePattern, Path, PathTest, RelationshipPattern, Step, Variable, Where,
+};
 use std::alloc::Global;
 use std::mem;
 
@@ -29,16 +31,6 @@ pub(crate) fn resolve(alloc: Global, scope: &Scope, expression: &mut Expr)
 {
     let inner = mem::replace(expression, Expr::Null);
     *expression = resolved_expression(alloc, scope, inner);
-}
-
-/// What stands after WHERE, if anything, with the columns of its variables.
-pub(crate) fn resolved_where(alloc: Global, scope: &Scope, filter: Option<Expr>) -> Option<Expr>
-    ensures { filter_of result ≡ spec.resolved_where scope.now (filter_of filter) }
-{
-    match filter {
-        Some(filter) => Some(resolved_expression(alloc, scope, filter)),
-        None => None,
-    }
 }
 
 fn resolved_name(alloc: Global, scope: &Scope, variable: Option<Variable>) -> Option<Variable>
@@ -116,4 +108,35 @@ pub(crate) fn resolve_paths(alloc: Global, scope: &Scope, paths: &mut [Path])
     for path in paths.iter_mut() {
         resolve_path(alloc, scope, path);
     }
+}
+
+fn resolved_condition(alloc: Global, scope: &Scope, condition: Option<Expr>) -> Option<Expr>
+    ensures { filter_of result ≡ spec.resolved_condition scope.now (filter_of condition) }
+{
+    match condition {
+        Some(condition) => Some(resolved_expression(alloc, scope, condition)),
+        None => None,
+    }
+}
+
+fn resolve_test(alloc: Global, scope: &Scope, test: &mut PathTest)
+    ensures { path_test_of test.new ≡ spec.resolved_path_test scope.now (path_test_of test.old) }
+{
+    resolve_path(alloc, scope, &mut test.path);
+}
+
+fn resolve_tests(alloc: Global, scope: &Scope, tests: &mut [PathTest])
+    ensures { map path_test_of tests.new ≡ map (spec.resolved_path_test scope.now) (map path_test_of tests.old) }
+{
+    for test in tests.iter_mut() {
+        resolve_test(alloc, scope, test);
+    }
+}
+
+/// Sets the columns of the variables of what stands after WHERE.
+pub(crate) fn resolve_where(alloc: Global, scope: &Scope, filter: &mut Where)
+    ensures { where_of filter.new ≡ spec.resolved_where scope.now (where_of filter.old) }
+{
+    filter.test = resolved_condition(alloc, scope, filter.test.take());
+    resolve_tests(alloc, scope, &mut filter.paths);
 }

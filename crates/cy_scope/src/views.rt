@@ -1,19 +1,19 @@
 //! Which statements are queries of views (own).
 
 ghost use Rattle.std.specs.Prelude.{◌≡◌, ◌⊎◌, map, None, Some, Ok, Err, MatchResult, IfOk, IfSome};
-ghost use Rattle.std.specs.List.{list_any};
-ghost use Rattle.cy_trees.specs.Views.{clause_of, statement_of, path_of, projection_of};
+ghost use Rattle.std.specs.List.{list_any, list_all};
+ghost use Rattle.cy_trees.specs.Views.{clause_of, query_of, statement_of, path_of, path_test_of, projection_of};
 ghost use Rattle.cy_kinds.specs.declared.faults.ViewFault.TheVariants.{MayFail, NoMemory};
 ghost use Rattle.cy_scope.specs.Views as spec;
 
 use crate::checked::{Checked, ViewQuery};
-use crate::sureness::are_sure_clauses;
+use crate::sureness::are_sure_queries;
 use cy_kinds::{ViewFault, has_aggregates};
-use cy_trees::{Clause, Length, Path, Projection, Statement};
+use cy_trees::{Clause, Length, Path, PathTest, Projection, Query, Statement};
 use std::alloc::Global;
 
 /// The greatest upper bound of a length in a view.
-const GREATEST_LENGTH: u16 = 5;
+const GREATEST_LENGTH: u16 = 8;
 
 /// Whether a clause updates.
 pub fn is_update(clause: &Clause) -> bool
@@ -52,6 +52,24 @@ pub fn is_reading(clauses: &[Clause]) -> bool
     ensures { result ≡ spec.is_reading (map clause_of clauses.now) }
 {
     ends_with_return(clauses) && !has_update(clauses)
+}
+
+fn all_readings(queries: &[Query]) -> bool
+    ensures { result ≡ list_all (λ q. spec.is_reading q.clauses) (map query_of queries.now) }
+{
+    for query in queries {
+        if !is_reading(&query.clauses) {
+            return false;
+        }
+    }
+    true
+}
+
+/// Whether there are queries, and all of them end with RETURN and update nothing.
+fn are_readings(queries: &[Query]) -> bool
+    ensures { result ≡ spec.are_readings (map query_of queries.now) }
+{
+    !queries.is_empty() && all_readings(queries)
 }
 
 /// Whether the rows are ordered, or some of them cut.
@@ -141,11 +159,26 @@ fn has_unbounded_path(paths: &[Path]) -> bool
     false
 }
 
+fn has_unbounded_test(tests: &[PathTest]) -> bool
+    ensures { result ≡ spec.has_unbounded_test (map path_test_of tests.now) }
+{
+    for test in tests {
+        if has_unbounded(&test.path) {
+            return true;
+        }
+    }
+    false
+}
+
+/// Whether a path of the clause's pattern, or of its WHERE, has such a length.
 fn is_unbounded(clause: &Clause) -> bool
     ensures { result ≡ spec.is_unbounded (clause_of clause.now) }
 {
     match clause {
-        Clause::Match(matching) => has_unbounded_path(&matching.paths),
+        Clause::Match(matching) => {
+            has_unbounded_path(&matching.paths) || has_unbounded_test(&matching.filter.paths)
+        }
+        Clause::With(with) => has_unbounded_test(&with.filter.paths),
         _ => false,
     }
 }
@@ -161,31 +194,64 @@ fn any_unbounded(clauses: &[Clause]) -> bool
     false
 }
 
-/// A checked statement as the query of a view. `NotAReading` where it doesn't end with RETURN or has an updating clause, then
-/// `OrderInView` where it has ORDER BY, SKIP or LIMIT, `AggregateInView` where it has an aggregate, `Unbounded` where it has a
-/// length without an upper bound or with one above 5, `MayFail` where it has UNWIND, an expression that isn't sure, or a
-/// WHERE that is no sure flag: each is asked of the whole statement before the next (own). `NoMemory` when out of
-/// memory at the last of these; the others take none.
+fn any_query_ordered(queries: &[Query]) -> bool
+    ensures { result ≡ spec.any_clause spec.is_ordered (map query_of queries.now) }
+{
+    for query in queries {
+        if any_ordered(&query.clauses) {
+            return true;
+        }
+    }
+    false
+}
+
+fn any_query_aggregates(queries: &[Query]) -> bool
+    ensures { result ≡ spec.any_clause spec.has_aggregate (map query_of queries.now) }
+{
+    for query in queries {
+        if any_aggregate(&query.clauses) {
+            return true;
+        }
+    }
+    false
+}
+
+fn any_query_unbounded(queries: &[Query]) -> bool
+    ensures { result ≡ spec.any_clause spec.is_unbounded (map query_of queries.now) }
+{
+    for query in queries {
+        if any_unbounded(&query.clauses) {
+            return true;
+        }
+    }
+    false
+}
+
+/// A checked statement as the query of a view. `NotAReading` where one of its queries doesn't end with RETURN or has an updating
+/// clause, then `OrderInView` where one has ORDER BY, SKIP or LIMIT, `AggregateInView` where one has an aggregate, `Unbounded`
+/// where one has a length without an upper bound or with one above 8, `MayFail` where one has UNWIND, an expression that isn't
+/// sure, a WHERE whose condition is no sure flag, or an OPTIONAL MATCH with a path in its WHERE: each is asked of all the
+/// queries before the next (own). `NoMemory` when out of memory at the last of these; the others take none.
 pub fn check_view(alloc: Global, checked: Checked) -> Result<ViewQuery, ViewFault>
     ensures query { IfOk result (λ query. query ≡ checked) }
     ensures verdict { MatchResult result (λ _. spec.view_fault (statement_of checked) ≡ None) (λ fault. (fault ≡ NoMemory) ⊎ (spec.view_fault (statement_of checked) ≡ Some fault)) }
     // Only whether it is sure takes memory.
     ensures memory { result ≡ Err NoMemory → IfSome (spec.view_fault (statement_of checked)) (λ fault. fault ≡ MayFail) }
 {
-    let clauses = checked.statement().clauses.as_slice();
-    if !is_reading(clauses) {
+    let queries = checked.statement().queries.as_slice();
+    if !are_readings(queries) {
         return Err(ViewFault::NotAReading);
     }
-    if any_ordered(clauses) {
+    if any_query_ordered(queries) {
         return Err(ViewFault::OrderInView);
     }
-    if any_aggregate(clauses) {
+    if any_query_aggregates(queries) {
         return Err(ViewFault::AggregateInView);
     }
-    if any_unbounded(clauses) {
+    if any_query_unbounded(queries) {
         return Err(ViewFault::Unbounded);
     }
-    if !are_sure_clauses(alloc, clauses)? {
+    if !are_sure_queries(alloc, queries)? {
         return Err(ViewFault::MayFail);
     }
     Ok(ViewQuery { checked })

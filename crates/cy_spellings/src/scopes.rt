@@ -59,11 +59,19 @@ MATCH (n) WITH count(*) AS c ORDER BY count(*) RETURN c
 MATCH (n) RETURN n.k, n. k
 MATCH (n) WITH n WHERE n.k RETURN n
 MATCH ()-[r*]->() WITH r AS s RETURN size(s) AS n
-UNWIND [1] AS a WITH a, a AS b WHERE (a)<--(b) RETURN a";
+UNWIND [1] AS a WITH a, a AS b WHERE (a)<--(b) OR a = b RETURN a
+MATCH (a:A) WHERE (a)-[:T]->() RETURN a
+MATCH (a:A) WHERE NOT (a)-[:T]->() RETURN a
+MATCH (a)-[r]->(b) WHERE (a)-->(b) AND id(a) = 1 RETURN r
+MATCH (a) WHERE (a)-[:T*]->({k: a.k}) RETURN a
+OPTIONAL MATCH (z:Z) WITH z WHERE NOT (z)--() RETURN z
+RETURN 1 AS x UNION ALL RETURN 1 AS x UNION ALL RETURN null AS x
+MATCH (n) RETURN n, 1 AS m UNION RETURN 1 AS n, 2 AS m
+MATCH (a)-[r]->(b) RETURN r ORDER BY a.k LIMIT 1 UNION RETURN count(*) AS r";
 
 /// Queries that views may have.
 const QUERIES: &str = "\
-MATCH (a)-[*1..5]->(b) RETURN a
+MATCH (a)-[*1..8]->(b) RETURN a
 MATCH (n) WHERE n.x = 1 RETURN n
 MATCH (n) WHERE n:A OR n.x IS NULL RETURN n
 MATCH (n) RETURN n.k IN [1, 2] AS x
@@ -97,7 +105,12 @@ RETURN 1 AS x
 MATCH (n) RETURN n.k IS NULL = true AS x
 MATCH (a)-[:T*2]->(b) WITH a WHERE a.k = 1 RETURN DISTINCT a
 MATCH (a)-[r:T*0..5]-(b) RETURN r, a, b
-MATCH (a), (b) RETURN a = b AS x, a IS NULL AS y";
+MATCH (a), (b) RETURN a = b AS x, a IS NULL AS y
+MATCH (n:A) RETURN n UNION MATCH (n:B) RETURN n
+MATCH (n:A) RETURN n UNION ALL MATCH (n:B) RETURN n
+MATCH (a:A) WHERE NOT (a)-[:T]->() RETURN a
+MATCH (a) WHERE (a)-[:T*1..8]->({k: a.k}) AND a.k = 1 RETURN a
+OPTIONAL MATCH (z:Z) WITH z WHERE NOT (z)--() RETURN z";
 
 /// Each line after the columns of the variables that stand alone as items of its RETURN, and then as keys. A key that repeats
 /// an item is read as that item, another one in the columns and then in the variables before.
@@ -156,7 +169,8 @@ fn finds_columns(rt: HostRuntime) -> Result<(), Fail> {
     for case in COLUMNS.lines() {
         let (_, line) = case.split_once("] ").ok_or("no line")?;
         let held = checked(rt.alloc(), line)??;
-        let Some(Clause::Return(projection)) = held.statement().clauses.last() else {
+        let query = held.statement().queries.last().ok_or("no query")?;
+        let Some(Clause::Return(projection)) = query.clauses.last() else {
             return Err(Fail::from("no RETURN"));
         };
         let columns = columns_of(rt.alloc(), projection)?;

@@ -65,8 +65,8 @@ RETURN -5 AS `a`, -5 AS `b`, (-(5)) AS `c`, (-(-5)) AS `d`, (+(5)) AS `e`, (+(-5
 RETURN a-5 AS a, a--5 AS b, -5+6 AS c, -9223372036854775808 AS d, -/* */9223372036854775808 AS e, 1 - -9223372036854775808 AS f
 RETURN (`a` - 5) AS `a`, (`a` - -5) AS `b`, (-5 + 6) AS `c`, -9223372036854775808 AS `d`, -9223372036854775808 AS `e`, (1 - -9223372036854775808) AS `f`
 // what stands like a pattern, as operators
-MATCH (a) WHERE (a)--(b) RETURN (a)<--(b) AS x, (a)-[b] AS y
-MATCH (`a`) WHERE (`a` - (-(`b`))) RETURN (`a` < (-((-(`b`))))) AS `x`, (`a` - [`b`]) AS `y`
+MATCH (a) WHERE (a)--(b) OR a RETURN (a)<--(b) AS x, (a)-[b] AS y
+MATCH (`a`) WHERE ((`a` - (-(`b`))) OR `a`) RETURN (`a` < (-((-(`b`))))) AS `x`, (`a` - [`b`]) AS `y`
 // calls, properties, labels, lists and CASE
 RETURN COUNT(*) AS a, Count ( distinct x , y ) AS b, `FÄB`() AS c, f(g(1)) AS d, exists(x.k) AS e
 RETURN `count`(*) AS `a`, `count`(DISTINCT `x`, `y`) AS `b`, `fÄb`() AS `c`, `f`(`g`(1)) AS `d`, `exists`((`x`.`k`)) AS `e`
@@ -96,7 +96,20 @@ REMOVE `n`.`k`
 CREATE (n) REMOVE n:A:B ;
 CREATE (`n`) REMOVE `n`:`A`:`B`
 OPTIONAL MATCH (n), (m) WHERE n = m UNWIND [1] AS u WITH DISTINCT n, u AS v ORDER BY v DESC SKIP 1 LIMIT 2 WHERE v = 1 CREATE (n)-[:T]->(:L {k: v}), (m) WITH n MATCH (n) RETURN n
-OPTIONAL MATCH (`n`), (`m`) WHERE (`n` = `m`) UNWIND [1] AS `u` WITH DISTINCT `n` AS `n`, `u` AS `v` ORDER BY `v` DESC SKIP 1 LIMIT 2 WHERE (`v` = 1) CREATE (`n`)-[:`T`]->(:`L`{`k`:`v`}), (`m`) WITH `n` AS `n` MATCH (`n`) RETURN `n` AS `n`"#;
+OPTIONAL MATCH (`n`), (`m`) WHERE (`n` = `m`) UNWIND [1] AS `u` WITH DISTINCT `n` AS `n`, `u` AS `v` ORDER BY `v` DESC SKIP 1 LIMIT 2 WHERE (`v` = 1) CREATE (`n`)-[:`T`]->(:`L`{`k`:`v`}), (`m`) WITH `n` AS `n` MATCH (`n`) RETURN `n` AS `n`
+// paths as conditions, and several queries
+MATCH (a) WHERE (a)-->(b) RETURN a
+MATCH (`a`) WHERE (`a`)-[]->(`b`) RETURN `a` AS `a`
+MATCH (a) WHERE NOT (a)-[:T*1..2]->({k: 1})<--() RETURN a
+MATCH (`a`) WHERE NOT ((`a`)-[:`T`*1..2]->({`k`:1})<-[]-()) RETURN `a` AS `a`
+MATCH (a) WHERE (a)--() AND a.k = 1 AND NOT ((a)-[r]-(b)) AND a RETURN a
+MATCH (`a`) WHERE (((`a`.`k`) = 1) AND `a`) AND (`a`)-[]-() AND NOT ((`a`)-[`r`]-(`b`)) RETURN `a` AS `a`
+WITH a WHERE (a)--() RETURN 1 AS x
+WITH `a` AS `a` WHERE (`a`)-[]-() RETURN 1 AS `x`
+RETURN 1 AS x UNION RETURN 2 AS x;
+RETURN 1 AS `x` UNION RETURN 2 AS `x`
+MATCH (n) RETURN n union all RETURN 1 AS n Union All RETURN 2 AS n
+MATCH (`n`) RETURN `n` AS `n` UNION ALL RETURN 1 AS `n` UNION ALL RETURN 2 AS `n`"#;
 
 /// A line with a LF in it, and a text with characters that are escaped there and stand as they are in the tree's text.
 const CONTROLS: [(&str, &str); 2] = [
@@ -110,11 +123,13 @@ const CONTROLS: [(&str, &str); 2] = [
     ),
 ];
 
-/// Puts copies in the place of the expressions of a last RETURN.
+/// Puts copies in the place of the expressions of RETURN.
 fn copy_items(alloc: Global, statement: &mut Statement) -> Result<(), Fail> {
-    if let Some(Clause::Return(projection)) = statement.clauses.last_mut() {
-        for item in &mut projection.items {
-            item.expression = item.expression.copy(alloc)?;
+    for query in &mut statement.queries {
+        if let Some(Clause::Return(projection)) = query.clauses.last_mut() {
+            for item in &mut projection.items {
+                item.expression = item.expression.copy(alloc)?;
+            }
         }
     }
     Ok(())

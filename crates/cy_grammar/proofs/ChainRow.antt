@@ -13,8 +13,10 @@ use Rattle.cy_trees.specs.declared.expressions.Comparator.TheVariants as compara
 use Rattle.cy_trees.specs.Trees.{Name, Statement, «match», «return», integer, variable as named, binary, comparison, link, no_links, Expression}
 use Rattle.cy_grammar.specs.Words.{denotes, slice_in}
 use Rattle.cy_lexer.specs.Numbers.{greatest_number}
-use Rattle.cy_grammar.specs.Spells.{Spells, IsNumber, whole, predicate, signed, head, is_exclusion, is_conjunction, is_negation, is_comparison, is_predicate, is_sum, is_product, is_signed, is_postfix, is_owner, is_head, number, name, bracket, add, compare, last_link, next_link}
-use Rattle.cy_grammar.specs.SpellsClauses.{SpellsStatement, SpellsExpression, column_name, reading, ended, next_clause, no_more_clauses, nothing_more, match_, return_, projection, not_distinct, last, next, item, no_order, no_count, path, node, a_variable, variable, no_labels, no_map, no_steps, filter}
+use Rattle.cy_grammar.specs.Spells.{Spells, IsNumber, whole, negation, predicate, signed, head, is_exclusion, is_conjunction, is_negation, is_comparison, is_predicate, is_sum, is_product, is_signed, is_postfix, is_owner, is_head, number, name, bracket, add, compare, last_link, next_link}
+use Rattle.cy_grammar.specs.SpellsClauses.{SpellsStatement, one_query, Part, SpellsChain, where_expression, SpellsExpression, column_name, reading, ended, next_clause, no_more_clauses, nothing_more, match_, return_, projection, not_distinct, last, next, item, no_order, no_count, path, node, a_variable, variable, no_labels, no_map, no_steps}
+use Rattle.cy_grammar.proofs.ConditionParts.{lone_condition}
+use Rattle.cy_grammar.proofs.NoPath.{begins_no_path}
 use Rattle.cy_grammar.proofs.ShownTokens.{denotes_within}
 
 line : List ℕ
@@ -96,16 +98,20 @@ total = binary operator.Add (integer (pos 1)) (integer (pos 2))
 -- the tree, by what its two names and its first column are
 abbrev row : Name → Name → Name → Statement
 row of_node of_item column = record {
-  clauses =
-      «match» false (record { start = record { variable = Some (record { name = of_node; column = None }); labels = []; properties = None }; steps = [] } ∷ []) (Some chain) ∷
-      «return» (record {
-        distinct = false;
-        items = record { expression = total; column = column; named = false }
-            ∷ record { expression = named (record { name = of_item; column = None }); column = of_item; named = false } ∷ [];
-        order = [];
-        skip = None;
-        limit = None;
-      }) ∷ [];
+  queries = record {
+    clauses =
+        «match» false (record { start = record { variable = Some (record { name = of_node; column = None }); labels = []; properties = None }; steps = [] } ∷ [])
+        (record { test = Some chain; paths = [] }) ∷
+        «return» (record {
+          distinct = false;
+          items = record { expression = total; column = column; named = false }
+              ∷ record { expression = named (record { name = of_item; column = None }); column = of_item; named = false } ∷ [];
+          order = [];
+          skip = None;
+          limit = None;
+        }) ∷ [];
+  } ∷ [];
+  all = false;
 }
 
 node_is : denotes line node_name ≡ codes "n"
@@ -127,14 +133,19 @@ digit n t rest is small = is_postfix _ _ _ _ (number 256 n t rest is small)
 operand : (n : ℕ) (t : Token) (rest : List Token) → IsNumber n t → n < greatest_number → Spells line 257 predicate (integer (pos n)) (t ∷ rest) rest
 operand n t rest is small = is_sum _ _ _ _ (is_product _ _ _ _ (is_signed _ _ _ _ (digit n t rest is small)))
 
+chain_is_negation : Spells line 257 negation chain (one ∷ first_less ∷ two ∷ second_less ∷ three ∷ from_return) from_return
+chain_is_negation = is_comparison _ _ _ _
+    (compare _ _ _ _ _ _ (operand 1 one (first_less ∷ two ∷ second_less ∷ three ∷ from_return) refl (omega arith))
+    (next_link _ _ _ _ first_less _ _ _ refl (operand 2 two (second_less ∷ three ∷ from_return) refl (omega arith))
+    (last_link _ _ _ second_less _ _ refl (operand 3 three from_return refl (omega arith)))))
+
 chain_is_spelt : SpellsExpression line chain (one ∷ first_less ∷ two ∷ second_less ∷ three ∷ from_return) from_return
-chain_is_spelt = record {
-  spells = is_exclusion _ _ _ _ (is_conjunction _ _ _ _ (is_negation _ _ _ _ (is_comparison _ _ _ _
-      (compare _ _ _ _ _ _ (operand 1 one (first_less ∷ two ∷ second_less ∷ three ∷ from_return) refl (omega arith))
-      (next_link _ _ _ _ first_less _ _ _ refl (operand 2 two (second_less ∷ three ∷ from_return) refl (omega arith))
-      (last_link _ _ _ second_less _ _ refl (operand 3 three from_return refl (omega arith))))))));
-  shallow = omega arith;
-}
+chain_is_spelt = record { spells = is_exclusion _ _ _ _ (is_conjunction _ _ _ _ (is_negation _ _ _ _ chain_is_negation)); shallow = omega arith }
+
+-- no path is among its parts
+no_path_there : (ps : List Part) (left : List Token) → SpellsChain line ps (one ∷ first_less ∷ two ∷ second_less ∷ three ∷ from_return) left → ⊥
+no_path_there = lone_condition line chain (one ∷ first_less ∷ two ∷ second_less ∷ three ∷ from_return) from_return
+    (begins_no_path line (one ∷ first_less ∷ two ∷ second_less ∷ three ∷ from_return) refl) chain_is_negation (omega arith) refl
 
 total_is_spelt : SpellsExpression line total (left ∷ plus ∷ right ∷ comma ∷ second_item) (comma ∷ second_item)
 total_is_spelt = record {
@@ -156,16 +167,16 @@ item_is_spelt = record {
 }
 
 as_written : SpellsStatement line (row (denotes line node_name) (denotes line item_name) (column_name line total (left ∷ plus ∷ right ∷ []))) tokens
-as_written = next_clause reading _ _ _ _ refl
+as_written = one_query _ _ _ (next_clause reading _ _ _ _ _ refl
     (match_ _ _ keyword_match _ _ _ refl
     (last _ _ _ (path _ _ _ _ _ (node _ _ _ opening closing _ _ _ _ refl (a_variable _ _ _ (variable node_name _ refl)) (no_labels _) (no_map _) refl) (no_steps _)))
-    (filter _ keyword_where _ _ refl chain_is_spelt))
-    (next_clause reading _ _ _ _ refl
+    (where_expression _ keyword_where _ _ refl no_path_there chain_is_spelt))
+    (next_clause reading _ _ _ _ _ refl
     (return_ _ keyword_return _ _ refl
     (projection false _ [] None None _ _ _ _ _ _ (not_distinct _)
     (next _ _ comma _ _ _ (item _ _ _ total_is_spelt) refl (last _ _ _ (item _ _ _ item_is_spelt)))
     (no_order _) (no_count _) (no_count _)))
-    (no_more_clauses ended _ refl nothing_more))
+    (no_more_clauses ended _ refl))) nothing_more
 
 row_is_spelt : SpellsStatement line (row (codes "n") (codes "n") (codes "1 + 2")) tokens
 row_is_spelt =

@@ -1,5 +1,5 @@
--- Clauses and statements that are spelt are read.
-use Rattle.std.proofs.Common.{◌≡◌, ℕ, zero, suc, ◌≤◌, true, false, IsTrue, not, List, [], ◌∷◌, ◌++◌, length, Option, Some, None, refl, sym, ap, ◌∙◌, append_assoc, append-nil, arith, if◌then◌else◌}
+-- Clauses that are spelt are read.
+use Rattle.std.proofs.Common.{◌≡◌, ℕ, suc, ◌≤◌, Bool, true, false, IsTrue, not, ◌&&◌, List, ◌∷◌, length, Option, Some, refl, ap, ◌∙◌, arith, if◌then◌else◌}
 use Rattle.cy_lexer.specs.declared.tokens.Token.{Token}
 use Rattle.cy_lexer.specs.declared.tokens.TokenKind.{TokenKind}
 use Rattle.cy_lexer.specs.declared.keywords.Keyword.TheVariants as word
@@ -9,19 +9,20 @@ use Rattle.cy_grammar.specs.declared.phases.Opening.{Opening}
 use Rattle.cy_grammar.specs.declared.phases.Opening.TheVariants as opening
 use Rattle.cy_grammar.specs.declared.phases.ClausePhase.{ClausePhase}
 use Rattle.cy_grammar.specs.declared.phases.ClausePhase.TheVariants as phase
-use Rattle.cy_trees.specs.Trees.{Expression, Path, SetItem, set_property, RemoveItem, Clause, «match», unwind, «with», «return», create, set, remove, delete, Statement}
+use Rattle.cy_trees.specs.Trees.{Expression, Path, SetItem, set_property, RemoveItem, Where, Clause, «match», unwind, «with», «return», create, set, remove, delete}
 use Rattle.cy_grammar.specs.Words.{is_word, denotes}
-use Rattle.cy_grammar.specs.internal.Reader.{at_kind, kind_ahead, past, is_symbol, eat_symbol, skip, refuse, ◌>>◌, pure}
+use Rattle.cy_grammar.specs.internal.Reader.{at_kind, kind_ahead, past, is_symbol, skip, refuse, ◌>>◌}
 use Rattle.cy_grammar.specs.internal.Clauses as read
 use Rattle.cy_grammar.specs.Spells.{IsSymbol}
 use Rattle.cy_grammar.specs.SpellsClauses as spells
-use Rattle.cy_grammar.specs.SpellsClauses.{SpellsEach, most_levels, SpellsExpression, SpellsVariable, SpellsSetItem, set_property_to, set_labels_to, SpellsRemoveItem, remove_property_of, remove_labels_of, SpellsClause, SpellsEnd, SpellsClauses, SpellsStatement}
+use Rattle.cy_grammar.specs.SpellsClauses.{SpellsEach, most_levels, SpellsExpression, SpellsVariable, SpellsSetItem, set_property_to, set_labels_to, SpellsRemoveItem, remove_property_of, remove_labels_of, SpellsClause}
 use Rattle.cy_grammar.proofs.Takes.{after, takes, eats_symbol, leaves_symbol, expects_symbol, expects_keyword}
 use Rattle.cy_grammar.proofs.Stops.{ends_whole}
-use Rattle.cy_grammar.proofs.Follows.{at_keyword, ends_clause, ends_projection, ends_items, ends_item, projection_ends, skip_ends, order_ends, items_end, item_ends, no_comma_after, no_colon_after, no_step_after, whole_ends, opening_ends}
+use Rattle.cy_grammar.proofs.Follows.{at_keyword, ends_clause, ends_projection, ends_items, ends_item, projection_ends, skip_ends, order_ends, items_end, item_ends, no_comma_after, no_colon_after, no_step_after, whole_ends}
 use Rattle.cy_grammar.proofs.LabelsComplete.{labels_shorten, labels_read}
 use Rattle.cy_grammar.proofs.PatternsComplete.{at_symbol, whole_reads, expression_reads, each_shortens, separated_read, variable_shortens, variable_reads, paths_shorten, paths_read}
-use Rattle.cy_grammar.proofs.ProjectionsComplete.{filter_shortens, filter_reads, projection_shortens, projection_reads}
+use Rattle.cy_grammar.proofs.ProjectionsComplete.{projection_shortens, projection_reads}
+use Rattle.cy_grammar.proofs.Conditions.{filter_shortens, filter_reads}
 
 -- ---- what needs no expression
 
@@ -68,12 +69,12 @@ module _ (line : List ℕ) where
 
 -- ---- where clauses may stand
 
-abbrev phase_of : spells.ClausePhase → ClausePhase
+abbrev pub phase_of : spells.ClausePhase → ClausePhase
 phase_of spells.reading = phase.Reading
 phase_of spells.updating = phase.Updating
 phase_of spells.ended = phase.Ended
 
-abbrev opening_for : Clause → Opening
+abbrev pub opening_for : Clause → Opening
 opening_for («match» false ps f) = opening.Match
 opening_for («match» true ps f) = opening.Optional
 opening_for (unwind e v) = opening.Unwind
@@ -99,7 +100,7 @@ allowed spells.updating (delete false vs) = refl
 allowed spells.updating (delete true vs) = refl
 allowed spells.ended c = refl
 
-leads : (c : Clause) → read.phase_after (opening_for c) ≡ phase_of (spells.phase_after c)
+pub leads : (c : Clause) → read.phase_after (opening_for c) ≡ phase_of (spells.phase_after c)
 leads («match» false ps f) = refl
 leads («match» true ps f) = refl
 leads (unwind e v) = refl
@@ -111,30 +112,24 @@ leads (remove is) = refl
 leads (delete false vs) = refl
 leads (delete true vs) = refl
 
-ends_as : (s : spells.ClausePhase) → read.may_end (phase_of s) ≡ spells.may_end s
+writes : (c : Clause) → read.updates (opening_for c) ≡ spells.updates c
+writes («match» false ps f) = refl
+writes («match» true ps f) = refl
+writes (unwind e v) = refl
+writes («with» p f) = refl
+writes («return» p) = refl
+writes (create ps) = refl
+writes (set is) = refl
+writes (remove is) = refl
+writes (delete false vs) = refl
+writes (delete true vs) = refl
+
+pub ends_as : (s : spells.ClausePhase) → read.may_end (phase_of s) ≡ spells.may_end s
 ends_as spells.reading = refl
 ends_as spells.updating = refl
 ends_as spells.ended = refl
 
--- ---- the end
-
-end_follows : (ts : List Token) → SpellsEnd ts → ends_clause (kind_ahead ts) ≡ true
-end_follows _ (spells.nothing_more) = refl
-end_follows _ (spells.semicolon t is) = at_symbol ends_clause sign.Semicolon true t is refl
-
-end_opens_nothing : (ts : List Token) → SpellsEnd ts → at_kind read.opening_of (kind_ahead ts) ≡ None
-end_opens_nothing _ (spells.nothing_more) = refl
-end_opens_nothing _ (spells.semicolon t is) = ap read.opening_of is
-
-closes : (ts : List Token) → SpellsEnd ts → (eat_symbol sign.Semicolon >> read.nothing_left) ts ≡ Some (tt, [])
-closes _ (spells.nothing_more) = after _ (leaves_symbol sign.Semicolon [] refl) refl
-closes _ (spells.semicolon t is) = after _ (eats_symbol sign.Semicolon t [] is) refl
-
-end_reads : (s : ClausePhase) (ts : List Token) → read.may_end s ≡ true → SpellsEnd ts → read.end_read s ts ≡ Some (tt, [])
-unfolding read.end_read
-end_reads s ts may e = ap (λ b. (if b then (eat_symbol sign.Semicolon >> read.nothing_left) else refuse) ts) may ∙ closes ts e
-
--- ---- clauses, and statements
+-- ---- clauses
 module _ (line : List ℕ) where
   set_item_shortens : (i : SetItem) (ts rest : List Token) → SpellsSetItem line i ts rest → suc (length rest) ≤ length ts
   set_item_shortens _ ts rest (set_property_to v e dot key equal _ mid _ s is_dot is is_equal of_value) =
@@ -182,10 +177,11 @@ module _ (line : List ℕ) where
       let no_step : read.begins_step (kind_ahead rest) ≡ false = no_step_after (kind_ahead rest) (item_ends (kind_ahead rest) stop) in
       paths_read line ps ts rest s (ap (λ b. not b) no_step) (no_comma_after (kind_ahead rest) stop)
 
-  filter_begins : (f : Option Expression) (ts rest : List Token) → spells.SpellsFilterIfAny line f ts rest → ends_clause (kind_ahead rest) ≡ true →
+  filter_begins : (f : Where) (ts rest : List Token) → spells.SpellsWhereIfAny line f ts rest → ends_clause (kind_ahead rest) ≡ true →
       ends_projection (kind_ahead ts) ≡ true
-  filter_begins _ _ rest (spells.no_filter _) stop = projection_ends (kind_ahead rest) stop
-  filter_begins _ _ rest (spells.filter e where_ ts _ is s) stop = at_keyword ends_projection word.Where true where_ is refl
+  filter_begins _ _ rest (spells.no_where _) stop = projection_ends (kind_ahead rest) stop
+  filter_begins _ _ rest (spells.where_parts ps where_ ts _ is chain shallow) stop = at_keyword ends_projection word.Where true where_ is refl
+  filter_begins _ _ rest (spells.where_expression e where_ ts _ is none s) stop = at_keyword ends_projection word.Where true where_ is refl
 
   after_projection : (k : Option TokenKind) → ends_projection k ≡ true → ends_items k ≡ true
   after_projection k e = items_end k (order_ends k (skip_ends k e))
@@ -193,7 +189,7 @@ module _ (line : List ℕ) where
   after_clause : (k : Option TokenKind) → ends_clause k ≡ true → ends_items k ≡ true
   after_clause k e = after_projection k (projection_ends k e)
 
-  clause_opens : (c : Clause) (ts rest : List Token) → SpellsClause line c ts rest → at_kind read.opening_of (kind_ahead ts) ≡ Some (opening_for c)
+  pub clause_opens : (c : Clause) (ts rest : List Token) → SpellsClause line c ts rest → at_kind read.opening_of (kind_ahead ts) ≡ Some (opening_for c)
   clause_opens _ _ rest (spells.match_ ps f t ts mid _ is s of_filter) = ap read.opening_of is
   clause_opens _ _ rest (spells.optional_match ps f optional t ts mid _ is is_match s of_filter) = ap read.opening_of is
   clause_opens _ _ rest (spells.unwind_as e v t as_ ts mid _ is s is_as of_variable) = ap read.opening_of is
@@ -205,7 +201,7 @@ module _ (line : List ℕ) where
   clause_opens _ _ rest (spells.delete_ vs t ts _ is s) = ap read.opening_of is
   clause_opens _ _ rest (spells.detach_delete vs detach t ts _ is is_delete s) = ap read.opening_of is
 
-  clause_shortens : (c : Clause) (ts rest : List Token) → SpellsClause line c ts rest → suc (length rest) ≤ length ts
+  pub clause_shortens : (c : Clause) (ts rest : List Token) → SpellsClause line c ts rest → suc (length rest) ≤ length ts
   clause_shortens _ _ rest (spells.match_ ps f t ts mid _ is s of_filter) =
       let x = paths_shorten line ps ts mid s in
       let y = filter_shortens line f mid rest of_filter in
@@ -254,53 +250,14 @@ module _ (line : List ℕ) where
   clause_reads _ _ rest (spells.detach_delete vs detach t ts _ is is_delete s) stop =
       after _ (expects_keyword word.Delete t ts is_delete) (after _ (variables_read line vs ts rest s (after_clause (kind_ahead rest) stop)) refl)
 
-  clause_in_reads : (s : spells.ClausePhase) (c : Clause) (ts rest : List Token) → IsTrue (spells.may_follow s c) → SpellsClause line c ts rest →
-      ends_clause (kind_ahead rest) ≡ true → read.clause_in line (phase_of s) (opening_for c) ts ≡ Some (c, rest)
+  may_stand : (later : Bool) (s : spells.ClausePhase) (c : Clause) → IsTrue (spells.may_follow s c) → (later ≡ true → IsTrue (not (spells.updates c))) →
+      IsTrue (read.is_allowed later (phase_of s) (opening_for c))
+  may_stand false s c may reads = allowed s c ∙ may
+  may_stand true s c may reads =
+      ap (λ b. b && not (read.updates (opening_for c))) (allowed s c ∙ may) ∙ ap (λ b. not b) (writes c) ∙ reads refl
+
+  pub clause_in_reads : (later : Bool) (s : spells.ClausePhase) (c : Clause) (ts rest : List Token) → IsTrue (spells.may_follow s c) → (later ≡ true → IsTrue (not (spells.updates c))) →
+      SpellsClause line c ts rest → ends_clause (kind_ahead rest) ≡ true → read.clause_in line later (phase_of s) (opening_for c) ts ≡ Some (c, rest)
   unfolding read.clause_in
-  clause_in_reads s c ts rest may spelt stop =
-      ap (λ b. (if b then (skip >> read.clause_by line (opening_for c)) else refuse) ts) (allowed s c ∙ may) ∙ after _ refl (clause_reads c ts rest spelt stop)
-
-  clauses_follow : (s : spells.ClausePhase) (cs : List Clause) (ts : List Token) → SpellsClauses line s cs ts → ends_clause (kind_ahead ts) ≡ true
-  clauses_follow s _ ts (spells.no_more_clauses _ _ may e) = end_follows ts e
-  clauses_follow s _ ts (spells.next_clause _ c cs _ mid may spelt others) = opening_ends (kind_ahead ts) (opening_for c) (clause_opens c ts mid spelt)
-
-  clauses_end : (s : spells.ClausePhase) (found : List Clause) (ts : List Token) → IsTrue (spells.may_end s) → SpellsEnd ts →
-      (read.end_read (phase_of s) >> pure found) ts ≡ Some (found ++ [], [])
-  clauses_end s found ts may e = after _ (end_reads (phase_of s) ts (ends_as s ∙ may) e) (ap (λ z. Some (z, [])) (sym (append-nil found)))
-
-  clauses_read_from : (k : ℕ) (s : spells.ClausePhase) (found cs : List Clause) (ts : List Token) → SpellsClauses line s cs ts → length ts ≤ k →
-      read.clauses_from line k (phase_of s) found ts ≡ Some (found ++ cs, [])
-  unfolding read.clauses_from
-  clauses_read_from zero s found _ ts (spells.no_more_clauses _ _ may e) few = clauses_end s found ts may e
-  clauses_read_from (suc k) s found _ ts (spells.no_more_clauses _ _ may e) few = after _ refl (rw (end_opens_nothing ts e) (clauses_end s found ts may e))
-  clauses_read_from zero s found _ ts (spells.next_clause _ c cs _ mid may spelt others) few =
-      let x = clause_shortens c ts mid spelt in absurd (omega (arith, x, few))
-  clauses_read_from (suc k) s found _ ts (spells.next_clause _ c cs _ mid may spelt others) few =
-      let x = clause_shortens c ts mid spelt in
-      let fewer : length mid ≤ k = omega (arith, x, few) in
-      let stop : ends_clause (kind_ahead mid) ≡ true = clauses_follow (spells.phase_after c) cs mid others in
-      after _ refl (rw (clause_opens c ts mid spelt)
-      (after _ (clause_in_reads s c ts mid may spelt stop) (rw (leads c)
-      (clauses_read_from k (spells.phase_after c) (found ++ c ∷ []) cs mid others fewer ∙ ap (λ z. Some (z, [])) (append_assoc found (c ∷ []) cs)))))
-
-  pub statement-complete : (s : Statement) (ts : List Token) → SpellsStatement line s ts → read.statement line ts ≡ Some (s, [])
-  unfolding read.statement read.clauses
-  statement-complete s ts spelt = after _ (clauses_read_from (length ts) spells.reading [] s.clauses ts spelt (omega arith)) refl
-
-  -- tokens spell one statement at most
-  pub statement-unique : (s other : Statement) (ts : List Token) → SpellsStatement line s ts → SpellsStatement line other ts → s ≡ other
-  statement-unique s other ts of_one of_other =
-      let one : read.statement line ts ≡ Some (s, []) = statement-complete s ts of_one in
-      let two : read.statement line ts ≡ Some (other, []) = statement-complete other ts of_other in
-      let x : Statement × List Token = (s, []) in
-      let y : Statement × List Token = (other, []) in
-      let both : x ≡ y = cc in
-      ap (λ p. p.0) both
-
-  -- no tokens spell no statement
-  pub statement-some : (s : Statement) (ts : List Token) → SpellsStatement line s ts → length ts ≡ 0 → ⊥
-  statement-some s ts spelt none = nothing_spelt s.clauses ts spelt none
-    where
-      nothing_spelt : (cs : List Clause) (ts : List Token) → SpellsClauses line spells.reading cs ts → length ts ≡ 0 → ⊥
-      nothing_spelt _ ts (spells.no_more_clauses _ _ may e) none = cc
-      nothing_spelt _ ts (spells.next_clause _ c cs _ mid may spelt others) none = let x = clause_shortens c ts mid spelt in omega (arith, x, none)
+  clause_in_reads later s c ts rest may reads spelt stop =
+      ap (λ b. (if b then (skip >> read.clause_by line (opening_for c)) else refuse) ts) (may_stand later s c may reads) ∙ after _ refl (clause_reads c ts rest spelt stop)

@@ -822,3 +822,7 @@ module _ (line : List ℕ) where
   pub expression-complete : (e : Expression) (ts rest : List Token) → Spells line most_levels whole e ts rest →
       Reading most_levels begins_negation ends_whole (read.expression line) e ts rest
   expression-complete e ts rest s = nested_whole most_levels e ts rest (complete s)
+
+  pub negation-complete : (e : Expression) (ts rest : List Token) → Spells line most_levels negation e ts rest →
+      Reading most_levels begins_negation ends_comparisons (nesting line most_levels nested.Negation) e ts rest
+  negation-complete e ts rest s = nested_negation most_levels e ts rest (complete s)

@@ -10,6 +10,7 @@ use Rattle.cy_grammar.specs.declared.phases.Opening.{Opening}
 use Rattle.cy_grammar.specs.internal.Reader.{at_kind, is_symbol, is_keyword}
 use Rattle.cy_grammar.specs.internal.Clauses.{opening_of, begins_step, descends}
 use Rattle.cy_grammar.specs.Spells.{IsKeyword}
+use Rattle.cy_grammar.specs.SpellsClauses.{is_after_where}
 use Rattle.cy_grammar.proofs.Stops.{ends_whole}
 
 -- what holds of a keyword holds of the token that is it
@@ -19,18 +20,7 @@ at_keyword test w b t is holds = ap (λ k. test (Some k)) is ∙ holds
 -- the token before which a clause, a projection, its SKIP, its ORDER BY, its items and one of its items have ended
 abbrev pub ends_clause : Option TokenKind → Bool
 ends_clause None = true
-ends_clause (Some (kind.Symbol sign.Semicolon)) = true
-ends_clause (Some (kind.Keyword word.Match)) = true
-ends_clause (Some (kind.Keyword word.Optional)) = true
-ends_clause (Some (kind.Keyword word.Unwind)) = true
-ends_clause (Some (kind.Keyword word.With)) = true
-ends_clause (Some (kind.Keyword word.Return)) = true
-ends_clause (Some (kind.Keyword word.Create)) = true
-ends_clause (Some (kind.Keyword word.Set)) = true
-ends_clause (Some (kind.Keyword word.Remove)) = true
-ends_clause (Some (kind.Keyword word.Delete)) = true
-ends_clause (Some (kind.Keyword word.Detach)) = true
-ends_clause _ = false
+ends_clause (Some k) = is_after_where k
 
 abbrev pub ends_projection : Option TokenKind → Bool
 ends_projection (Some (kind.Keyword word.Where)) = true

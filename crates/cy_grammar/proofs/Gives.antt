@@ -12,7 +12,7 @@ use Rattle.cy_lexer.specs.declared.tokens.Token.{Token}
 use Rattle.cy_trees.specs.Trees.{Expression}
 use Rattle.cy_trees.specs.Depth.{depth, greatest_depth}
 use Rattle.cy_grammar.specs.Words.{denotes}
-use Rattle.cy_grammar.specs.internal.Reader.{Outcome, Reader, and_then, is_keyword, is_symbol, kind_ahead, past, sees_keyword, sees_symbol, eat_keyword, eat_symbol, peek, skip, at_kind, expect_keyword, expect_symbol, denoting, checked}
+use Rattle.cy_grammar.specs.internal.Reader.{Outcome, Reader, and_then, is_keyword, is_symbol, kind_ahead, past, or_else, sees_keyword, sees_symbol, eat_keyword, eat_symbol, peek, skip, at_kind, expect_keyword, expect_symbol, denoting, checked}
 use Rattle.cy_grammar.specs.Spells.{IsKeyword, IsSymbol}
 
 -- wherever the outcome is an answer, this holds of it and of what is left
@@ -164,3 +164,18 @@ pub by_option : {A B : Type 0} (p : Reader A) (q : B → Reader A) (o : Option B
     Gives ((elim o as (λ x. Reader A) [ None ↦ p | Some b ↦ q b ]) ts) holds
 by_option p q None ts holds at_none at_some = at_none refl
 by_option p q (Some b) ts holds at_none at_some = at_some b refl
+
+-- one of two outcomes
+pub by_either : {A : Type 0} (o other : Outcome A) (holds : A → List Token → Type 0) →
+    Gives o holds → (o ≡ None → Gives other holds) → Gives (or_else o other) holds
+unfolding or_else
+by_either (Some p) other holds first second = first
+by_either None other holds first second = second refl
+
+-- nothing is answered where nothing holds
+pub refuses : {A : Type 0} (o : Outcome A) (holds : A → List Token → Type 0) → Gives o holds → ((a : A) (rest : List Token) → holds a rest → ⊥) → o ≡ None
+refuses (Some p) holds g none = absurd (none p.0 p.1 (g.given p.0 p.1 refl))
+refuses None holds g none = refl
+
+pub also : {A : Type 0} (o : Outcome A) (first second : A → List Token → Type 0) → Gives o first → Gives o second → Gives o (λ a rest. first a rest × second a rest)
+also o first second g h = record { given = λ a rest e. (g.given a rest e, h.given a rest e) }

@@ -11,7 +11,7 @@ use Rattle.cy_lexer.specs.declared.symbols.Symbol.TheVariants as sign
 use Rattle.cy_trees.specs.declared.clauses.Direction.TheVariants as direction
 use Rattle.cy_trees.specs.Trees.{Name, Statement, «match», delete}
 use Rattle.cy_grammar.specs.Words.{denotes}
-use Rattle.cy_grammar.specs.SpellsClauses.{SpellsStatement, reading, ended, next_clause, no_more_clauses, nothing_more, match_, delete_, last, path, node, a_variable, variable, no_variable, no_labels, no_map, no_steps, a_step, relationship, details, no_types, a_length, at_least, arrow, no_arrow, no_filter}
+use Rattle.cy_grammar.specs.SpellsClauses.{SpellsStatement, one_query, reading, ended, next_clause, no_more_clauses, nothing_more, match_, delete_, last, path, node, a_variable, variable, no_variable, no_labels, no_map, no_steps, a_step, relationship, details, no_types, a_length, at_least, arrow, no_arrow, no_where}
 use Rattle.cy_grammar.proofs.ShownTokens.{denotes_within}
 
 line : List ℕ
@@ -78,15 +78,18 @@ tokens = keyword_match ∷ first_opening ∷ first_name ∷ first_closing ∷ le
 -- the tree, by what its three names are: two or more relationships, each of which leads to the left
 abbrev row : Name → Name → Name → Statement
 row first second gone = record {
-  clauses =
-      «match» false (record {
-        start = record { variable = Some (record { name = first; column = None }); labels = []; properties = None };
-        steps = record {
-          relationship = record { variable = None; direction = direction.Left; types = []; length = Some (record { least = 2; most = None }); properties = None };
-          node = record { variable = Some (record { name = second; column = None }); labels = []; properties = None };
-        } ∷ [];
-      } ∷ []) None ∷
-      delete false (record { name = gone; column = None } ∷ []) ∷ [];
+  queries = record {
+    clauses =
+        «match» false (record {
+          start = record { variable = Some (record { name = first; column = None }); labels = []; properties = None };
+          steps = record {
+            relationship = record { variable = None; direction = direction.Left; types = []; length = Some (record { least = 2; most = None }); properties = None };
+            node = record { variable = Some (record { name = second; column = None }); labels = []; properties = None };
+          } ∷ [];
+        } ∷ []) (record { test = None; paths = [] }) ∷
+        delete false (record { name = gone; column = None } ∷ []) ∷ [];
+  } ∷ [];
+  all = false;
 }
 
 first_is : denotes line first_name ≡ codes "a"
@@ -102,8 +105,8 @@ unfolding line encode
 deleted_is = denotes_within line deleted refl ∙ ap encode_utf8_all (chars-encodes (98 ∷ []) refl)
 
 as_written : SpellsStatement line (row (denotes line first_name) (denotes line second_name) (denotes line deleted)) tokens
-as_written = next_clause reading _ _ _ _ refl
-    (match_ _ None keyword_match _ _ _ refl
+as_written = one_query _ _ _ (next_clause reading _ _ _ _ _ refl
+    (match_ _ _ keyword_match _ _ _ refl
     (last _ _ _ (path _ _ _ _ _
     (node _ _ _ first_opening first_closing _ _ _ _ refl (a_variable _ _ _ (variable first_name _ refl)) (no_labels _) (no_map _) refl)
     (a_step _ _ _ _ _ _ _
@@ -113,10 +116,10 @@ as_written = next_clause reading _ _ _ _ refl
     refl (no_arrow _))
     (node _ _ _ second_opening second_closing _ _ _ _ refl (a_variable _ _ _ (variable second_name _ refl)) (no_labels _) (no_map _) refl)
     (no_steps _))))
-    (no_filter _))
-    (next_clause reading _ _ _ _ refl
+    (no_where _))
+    (next_clause reading _ _ _ _ _ refl
     (delete_ _ keyword_delete _ _ refl (last _ _ _ (variable deleted _ refl)))
-    (no_more_clauses ended _ refl nothing_more))
+    (no_more_clauses ended _ refl))) nothing_more
 
 row_is_spelt : SpellsStatement line (row (codes "a") (codes "b") (codes "b")) tokens
 row_is_spelt =

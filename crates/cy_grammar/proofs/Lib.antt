@@ -2,7 +2,11 @@ pub mod WithinLemmas
 pub mod Gives
 pub mod Sound
 pub mod SoundPatterns
+pub mod PathTests
+pub mod ConditionParts
+pub mod Conditions
 pub mod SoundClauses
+pub mod SoundStatements
 pub mod Takes
 pub mod Stops
 pub mod LabelsComplete
@@ -14,11 +18,15 @@ pub mod ShownTokens
 pub mod ShownExpressions
 pub mod ShownPatterns
 pub mod ShownProjections
+pub mod NoPath
+pub mod ShownConditions
 pub mod ShownClauses
+pub mod ShownStatements
 pub mod Follows
 pub mod PatternsComplete
 pub mod ProjectionsComplete
 pub mod ClausesComplete
+pub mod StatementsComplete
 pub mod WellSpelt
 pub mod WellSpeltClauses
 pub mod PiecesLemmas
@@ -28,3 +36,5 @@ pub mod ShownAgain
 pub mod Rows
 pub mod ChainRow
 pub mod LengthRow
+pub mod ConditionRow
+pub mod UnionRow

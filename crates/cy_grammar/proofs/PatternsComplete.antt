@@ -13,7 +13,7 @@ use Rattle.cy_trees.specs.declared.clauses.Length.{Length}
 use Rattle.cy_trees.specs.Trees.{Name, Expression, MapEntry, NodePattern, RelationshipPattern, Step, Path}
 use Rattle.cy_grammar.specs.Words.{is_word, is_name, denotes}
 use Rattle.cy_lexer.specs.Numbers.{greatest_number}
-use Rattle.cy_grammar.specs.internal.Reader.{Reader, and_then, kind_ahead, is_symbol, eat_symbol, skip, refuse, ◌>>◌, ◌>>=◌, ◌<$>◌, pure}
+use Rattle.cy_grammar.specs.internal.Reader.{Reader, and_then, kind_ahead, past, is_symbol, eat_symbol, skip, refuse, ◌>>◌, ◌>>=◌, ◌<$>◌, pure}
 use Rattle.cy_grammar.specs.internal.Expressions.{expression}
 use Rattle.cy_grammar.specs.internal.Clauses as read
 use Rattle.cy_grammar.specs.Spells.{IsSymbol, IsNumber}
@@ -107,7 +107,7 @@ module _ (line : List ℕ) where
   variable_if_any_reads _ _ rest (no_variable _) stop = after _ refl (no_variable_at (kind_ahead rest) rest stop)
   variable_if_any_reads _ ts rest (a_variable v _ _ s) stop = after _ refl (some_variable v ts rest s)
 
-  labels_begin : (test : Option TokenKind → Bool) (b : Bool) → test (Some (kind.Symbol sign.Colon)) ≡ b →
+  pub labels_begin : (test : Option TokenKind → Bool) (b : Bool) → test (Some (kind.Symbol sign.Colon)) ≡ b →
       (ls : List Name) (ts rest : List Token) → SpellsLabelsIfAny line ls ts rest → test (kind_ahead rest) ≡ b → test (kind_ahead ts) ≡ b
   labels_begin test b at _ _ rest (no_labels _) stop = stop
   labels_begin test b at ls _ rest (labels _ colon ts _ is s) stop = at_symbol test sign.Colon b colon is at
@@ -279,7 +279,7 @@ module _ (line : List ℕ) where
   unfolding read.entries
   entries_read es ts rest s stop no_comma = separated_read (read.entry line) (SpellsEntry line) ends_whole refl entry_shortens entry_reads es ts rest s stop no_comma
 
-  map_begins : (test : Option TokenKind → Bool) (b : Bool) → test (Some (kind.Symbol sign.LeftBrace)) ≡ b →
+  pub map_begins : (test : Option TokenKind → Bool) (b : Bool) → test (Some (kind.Symbol sign.LeftBrace)) ≡ b →
       (m : Option (List MapEntry)) (ts rest : List Token) → SpellsMapIfAny line m ts rest → test (kind_ahead rest) ≡ b → test (kind_ahead ts) ≡ b
   map_begins test b at _ _ rest (no_map _) stop = stop
   map_begins test b at _ _ rest (empty_map opening closing _ is is_closing) stop = at_symbol test sign.LeftBrace b opening is at
@@ -318,12 +318,30 @@ module _ (line : List ℕ) where
       let z = map_if_any_shortens m mid (closing ∷ rest) of_map in
       omega (arith, x, y, z)
 
-  node_begins : (test : Option TokenKind → Bool) (b : Bool) → test (Some (kind.Symbol sign.LeftParenthesis)) ≡ b →
+  pub node_begins : (test : Option TokenKind → Bool) (b : Bool) → test (Some (kind.Symbol sign.LeftParenthesis)) ≡ b →
       (n : NodePattern) (ts rest : List Token) → SpellsNode line n ts rest → test (kind_ahead ts) ≡ b
   node_begins test b at _ _ rest (node v ls m opening closing ts from mid _ is of_variable of_labels of_map is_closing) =
       at_symbol test sign.LeftParenthesis b opening is at
 
-  node_reads : (n : NodePattern) (ts rest : List Token) → SpellsNode line n ts rest → read.node line ts ≡ Some (n, rest)
+  -- a second bracket doesn't come after that of a node
+  name_no_bracket : (k : TokenKind) → is_name k ≡ true → is_symbol sign.LeftParenthesis (Some k) ≡ false
+  name_no_bracket kind.Name e = refl
+  name_no_bracket kind.QuotedName e = refl
+  name_no_bracket _ e = cc
+
+  variable_no_bracket : (v : Option Variable) (ts rest : List Token) → SpellsVariableIfAny line v ts rest →
+      is_symbol sign.LeftParenthesis (kind_ahead rest) ≡ false → is_symbol sign.LeftParenthesis (kind_ahead ts) ≡ false
+  variable_no_bracket _ _ rest (no_variable _) stop = stop
+  variable_no_bracket _ _ rest (a_variable _ _ _ (variable t _ is)) stop = name_no_bracket t.kind is
+
+  pub node_second : (n : NodePattern) (ts rest : List Token) → SpellsNode line n ts rest → is_symbol sign.LeftParenthesis (kind_ahead (past ts)) ≡ false
+  node_second _ _ rest (node v ls m opening closing ts from mid _ is of_variable of_labels of_map is_closing) =
+      let at_map : is_symbol sign.LeftParenthesis (kind_ahead mid) ≡ false =
+      map_begins (is_symbol sign.LeftParenthesis) false refl m mid (closing ∷ rest) of_map (at_symbol (is_symbol sign.LeftParenthesis) sign.RightParenthesis false closing is_closing refl) in
+      let at_labels : is_symbol sign.LeftParenthesis (kind_ahead from) ≡ false = labels_begin line (is_symbol sign.LeftParenthesis) false refl ls from mid of_labels at_map in
+      variable_no_bracket v ts from of_variable at_labels
+
+  pub node_reads : (n : NodePattern) (ts rest : List Token) → SpellsNode line n ts rest → read.node line ts ≡ Some (n, rest)
   unfolding read.node
   node_reads _ _ rest (node v ls m opening closing ts from mid _ is of_variable of_labels of_map is_closing) =
       let no_colon : is_symbol sign.Colon (kind_ahead mid) ≡ false =
@@ -394,7 +412,7 @@ module _ (line : List ℕ) where
       let z = arrow_shortens sign.Greater is_right mid rest of_right in
       omega (arith, x, y, z)
 
-  relationship_begins : (r : RelationshipPattern) (ts rest : List Token) → SpellsRelationship line r ts rest → read.begins_step (kind_ahead ts) ≡ true
+  pub relationship_begins : (r : RelationshipPattern) (ts rest : List Token) → SpellsRelationship line r ts rest → read.begins_step (kind_ahead ts) ≡ true
   relationship_begins _ ts rest (relationship r is_left is_right first second _ from mid _ of_left is_first of_details is_second of_right) =
       arrow_begins read.begins_step true sign.Less refl is_left ts (first ∷ from) of_left (at_symbol read.begins_step sign.Minus true first is_first refl)
 
@@ -443,7 +461,7 @@ module _ (line : List ℕ) where
       (steps_read_from k (found ++ record { relationship = r; node = n } ∷ []) more mid rest others stop fewer
       ∙ ap (λ z. Some (z, rest)) (append_assoc found (record { relationship = r; node = n } ∷ []) more)))
 
-  path_shortens : (p : Path) (ts rest : List Token) → SpellsPath line p ts rest → suc (length rest) ≤ length ts
+  pub path_shortens : (p : Path) (ts rest : List Token) → SpellsPath line p ts rest → suc (length rest) ≤ length ts
   path_shortens _ ts rest (path n more _ mid _ of_node of_steps) =
       let x = node_shortens n ts mid of_node in
       let y = steps_shorten more mid rest of_steps in
@@ -453,7 +471,7 @@ module _ (line : List ℕ) where
   abbrev pub ends_path : Option TokenKind → Bool
   ends_path k = not (read.begins_step k)
 
-  path_reads : (p : Path) (ts rest : List Token) → SpellsPath line p ts rest → ends_path (kind_ahead rest) ≡ true → read.path line ts ≡ Some (p, rest)
+  pub path_reads : (p : Path) (ts rest : List Token) → SpellsPath line p ts rest → ends_path (kind_ahead rest) ≡ true → read.path line ts ≡ Some (p, rest)
   unfolding read.path read.steps
   path_reads _ ts rest (path n more _ mid _ of_node of_steps) stop =
       after _ (node_reads n ts mid of_node) (after _ (steps_read_from (length mid) [] more mid rest of_steps (not_true _ stop) (omega arith)) refl)

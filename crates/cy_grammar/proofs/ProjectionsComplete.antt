@@ -1,4 +1,4 @@
--- Projections and filters that are spelt are read.
+-- Projections that are spelt are read.
 use Rattle.std.proofs.Common.{◌≡◌, ℕ, suc, ◌≤◌, ◌<◌, ◌⊎◌, inl, inr, Bool, true, false, List, ◌∷◌, length, Option, Some, refl, ap, ◌∙◌, arith, nat_lt, if◌then◌else◌}
 use Rattle.std.proofs.lemmas.Bool.Decides.{nat_tests}
 use Rattle.cy_lexer.specs.declared.tokens.Token.{Token}
@@ -6,16 +6,16 @@ use Rattle.cy_lexer.specs.declared.tokens.TokenKind.{TokenKind}
 use Rattle.cy_lexer.specs.declared.tokens.TokenKind.TheVariants as kind
 use Rattle.cy_lexer.specs.declared.keywords.Keyword.{Keyword}
 use Rattle.cy_lexer.specs.declared.keywords.Keyword.TheVariants as word
-use Rattle.cy_trees.specs.Trees.{Expression, Item, Key, Projection}
+use Rattle.cy_trees.specs.Trees.{Item, Key, Projection}
 use Rattle.cy_grammar.specs.Words.{is_name}
 use Rattle.cy_lexer.specs.Numbers.{greatest_number}
 use Rattle.cy_grammar.specs.internal.Reader.{and_then, kind_ahead, is_keyword, eat_keyword, skip, refuse, ◌>>◌, pure}
 use Rattle.cy_grammar.specs.internal.Clauses as read
 use Rattle.cy_grammar.specs.Spells.{IsKeyword, IsNumber}
-use Rattle.cy_grammar.specs.SpellsClauses.{SpellsEach, SpellsFilterIfAny, no_filter, filter, SpellsItem, item_as, item, SpellsKey, plain_key, asc, desc, SpellsOrderIfAny, no_order, order_by, SpellsCountIfAny, no_count, a_count, SpellsDistinct, not_distinct, distinct, SpellsProjection, projection}
+use Rattle.cy_grammar.specs.SpellsClauses.{SpellsEach, SpellsItem, item_as, item, SpellsKey, plain_key, asc, desc, SpellsOrderIfAny, no_order, order_by, SpellsCountIfAny, no_count, a_count, SpellsDistinct, not_distinct, distinct, SpellsProjection, projection}
 use Rattle.cy_grammar.proofs.Takes.{after, takes, eats_keyword, leaves_keyword, expects_keyword}
 use Rattle.cy_grammar.proofs.Stops.{ends_whole, no_distinct}
-use Rattle.cy_grammar.proofs.Follows.{at_keyword, ends_clause, ends_projection, ends_skip, ends_order, ends_items, ends_item, skip_ends, order_ends, items_end, item_ends, clause_ends_item, no_filter_after, no_limit_after, no_skip_after, no_order_after, no_comma_after, no_column_after, no_direction_after, whole_ends}
+use Rattle.cy_grammar.proofs.Follows.{at_keyword, ends_projection, ends_skip, ends_order, ends_items, ends_item, skip_ends, order_ends, items_end, item_ends, no_limit_after, no_skip_after, no_order_after, no_comma_after, no_column_after, no_direction_after, whole_ends}
 use Rattle.cy_grammar.proofs.PatternsComplete.{whole_reads, expression_reads, each_shortens, each_begins, separated_read}
 
 -- ---- the order of a key
@@ -80,18 +80,6 @@ module _ (line : List ℕ) where
 
 -- ---- what has expressions in it
 module _ (line : List ℕ) where
-  pub filter_shortens : (f : Option Expression) (ts rest : List Token) → SpellsFilterIfAny line f ts rest → length rest ≤ length ts
-  filter_shortens _ _ rest (no_filter _) = omega arith
-  filter_shortens _ _ rest (filter e where_ ts _ is s) = let x = (whole_reads line e ts rest s).shortens in omega (arith, x)
-
-  pub filter_reads : (f : Option Expression) (ts rest : List Token) → SpellsFilterIfAny line f ts rest → ends_clause (kind_ahead rest) ≡ true →
-      read.filter_if_any line ts ≡ Some (f, rest)
-  unfolding read.filter_if_any
-  filter_reads _ _ rest (no_filter _) stop = after _ (leaves_keyword word.Where rest (no_filter_after (kind_ahead rest) stop)) refl
-  filter_reads _ _ rest (filter e where_ ts _ is s) stop =
-      after _ (eats_keyword word.Where where_ ts is)
-      (after _ (expression_reads line e ts rest s (whole_ends (kind_ahead rest) (clause_ends_item (kind_ahead rest) stop))) refl)
-
   item_shortens : (i : Item) (ts rest : List Token) → SpellsItem line i ts rest → suc (length rest) ≤ length ts
   item_shortens _ ts rest (item_as e as_ column _ _ s is is_column) = let x = (whole_reads line e ts (as_ ∷ column ∷ rest) s).shortens in omega (arith, x)
   item_shortens _ ts rest (item e _ _ s) = (whole_reads line e ts rest s).shortens

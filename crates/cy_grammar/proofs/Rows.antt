@@ -15,7 +15,7 @@ use Rattle.cy_trees.specs.Trees.{Statement, «return», integer, Expression}
 use Rattle.cy_trees.specs.Depth.{depth}
 use Rattle.cy_grammar.specs.Words.{denotes}
 use Rattle.cy_grammar.specs.Spells.{Spells, signed, negative}
-use Rattle.cy_grammar.specs.SpellsClauses.{SpellsStatement, SpellsItem, most_levels, reading, ended, next_clause, no_more_clauses, nothing_more, return_, projection, not_distinct, last, item_as, no_order, no_count}
+use Rattle.cy_grammar.specs.SpellsClauses.{SpellsStatement, one_query, SpellsItem, most_levels, reading, ended, next_clause, no_more_clauses, nothing_more, return_, projection, not_distinct, last, item_as, no_order, no_count}
 use Rattle.cy_grammar.proofs.ShownExpressions.{as_whole}
 
 line : List ℕ
@@ -41,13 +41,16 @@ least = integer (negsuc 9223372036854775807)
 
 abbrev row : Statement
 row = record {
-  clauses = «return» (record {
-    distinct = false;
-    items = record { expression = least; column = codes "x"; named = true } ∷ [];
-    order = [];
-    skip = None;
-    limit = None;
-  }) ∷ [];
+  queries = record {
+    clauses = «return» (record {
+      distinct = false;
+      items = record { expression = least; column = codes "x"; named = true } ∷ [];
+      order = [];
+      skip = None;
+      limit = None;
+    }) ∷ [];
+  } ∷ [];
+  all = false;
 }
 
 column_is : denotes line column ≡ codes "x"
@@ -64,10 +67,10 @@ item_is_spelt = subst (λ name. SpellsItem line (record { expression = least; co
     (record { spells = as_whole line most_levels least (minus ∷ digits ∷ names ∷ column ∷ []) (names ∷ column ∷ []) least_is_spelt; shallow = omega arith }) refl refl)
 
 row_is_spelt : SpellsStatement line row (first ∷ minus ∷ digits ∷ names ∷ column ∷ [])
-row_is_spelt = next_clause reading _ [] _ [] refl
+row_is_spelt = one_query _ _ [] (next_clause reading _ [] _ [] _ refl
     (return_ _ first (minus ∷ digits ∷ names ∷ column ∷ []) [] refl
     (projection false _ [] None None _ (minus ∷ digits ∷ names ∷ column ∷ []) [] [] [] [] (not_distinct _) (last _ _ [] item_is_spelt) (no_order []) (no_count []) (no_count [])))
-    (no_more_clauses ended [] refl nothing_more)
+    (no_more_clauses ended [] refl)) nothing_more
 
 -- its depth, and how it is shown
 depth_of_row : depth least ≡ 1

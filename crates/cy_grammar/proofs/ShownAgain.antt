@@ -14,7 +14,7 @@ use Rattle.cy_grammar.specs.Shown.{AreAlike, AreNeighbours, with_columns}
 use Rattle.cy_grammar.specs.SpellsClauses.{SpellsStatement}
 use Rattle.cy_grammar.proofs.PiecesLemmas.{AreTokens}
 use Rattle.cy_grammar.proofs.ShownWords.{shown-is_read}
-use Rattle.cy_grammar.proofs.ShownClauses.{shown-statement}
+use Rattle.cy_grammar.proofs.ShownStatements.{shown-statement}
 use Rattle.cy_grammar.proofs.Stands.{Stands, nothing_stands, word_stands}
 use Rattle.cy_grammar.proofs.WellSpelt.{IsPart, part_next, part_lexed}
 use Rattle.cy_grammar.proofs.WellSpeltClauses.{statement-well}

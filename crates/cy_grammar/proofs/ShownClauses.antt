@@ -1,43 +1,21 @@
--- The tokens of a statement that is shown spell it, with each column after AS.
-use Rattle.std.proofs.Common.{◌≡◌, ℕ, true, false, List, [], ◌∷◌, ◌++◌, map, refl, sym, ◌∙◌, subst}
+-- The tokens of a clause that is shown spell it, with each column after AS.
+use Rattle.std.proofs.Common.{ℕ, true, false, IsTrue, List, [], ◌∷◌, ◌++◌, map, subst}
 use Rattle.cy_lexer.specs.declared.tokens.Token.{Token}
 use Rattle.cy_lexer.specs.declared.keywords.Keyword.TheVariants as keyword
 use Rattle.cy_lexer.specs.declared.symbols.Symbol.TheVariants as sign
 use Rattle.cy_trees.specs.declared.expressions.Variable.{Variable}
-use Rattle.cy_trees.specs.Trees.{Name, SetItem, set_property, set_labels, RemoveItem, remove_property, remove_labels, Clause, «match», unwind, «with», «return», create, set, remove, delete, Statement}
-use Rattle.cy_trees.specs.Show.{Piece, space, says, mark, named, each_after, separated, list_pieces, label_pieces, expression_pieces, paths_pieces, filter_pieces, projection_pieces, set_item_pieces, remove_item_pieces, clause_pieces, statement_pieces}
+use Rattle.cy_trees.specs.Trees.{Name, SetItem, set_property, set_labels, RemoveItem, remove_property, remove_labels, Clause, «match», unwind, «with», «return», create, set, remove, delete}
+use Rattle.cy_trees.specs.Show.{space, says, mark, named, list_pieces, label_pieces, expression_pieces, paths_pieces, filter_pieces, projection_pieces, set_item_pieces, remove_item_pieces, clause_pieces}
 use Rattle.cy_grammar.specs.Spells.{SpellsLabels, IsSymbol}
-use Rattle.cy_grammar.specs.Shown.{named_clause, with_columns}
-use Rattle.cy_grammar.specs.SpellsClauses.{SpellsEach, SpellsVariable, SpellsSetItem, set_property_to, set_labels_to, SpellsRemoveItem, remove_property_of, remove_labels_of, SpellsClause, match_, optional_match, unwind_as, with_, return_, create_, set_, remove_, delete_, detach_delete, ClausePhase, reading, updating, ended, phase_after, may_follow, nothing_more, SpellsClauses, no_more_clauses, next_clause, SpellsStatement}
-use Rattle.cy_grammar.specs.internal.WellFormed.{IsNamed, IsVariable, Several, SetItemIsWellFormed, RemoveItemIsWellFormed, ClauseIsWellFormed, ClausesAreWellFormed, StatementIsWellFormed}
+use Rattle.cy_grammar.specs.Shown.{named_clause}
+use Rattle.cy_grammar.specs.SpellsClauses.{SpellsEach, SpellsVariable, SpellsSetItem, set_property_to, set_labels_to, SpellsRemoveItem, remove_property_of, remove_labels_of, SpellsClause, match_, optional_match, unwind_as, with_, return_, create_, set_, remove_, delete_, detach_delete, ends_where}
+use Rattle.cy_grammar.specs.internal.WellFormed.{IsNamed, IsVariable, Several, SetItemIsWellFormed, RemoveItemIsWellFormed, ClauseIsWellFormed}
 use Rattle.cy_grammar.proofs.ShownTokens.{Shown, both, at_symbol, at_keyword, at_name}
 use Rattle.cy_grammar.proofs.ShownExpressions.{shown_labels}
 use Rattle.cy_grammar.proofs.ShownPatterns.{shown_expression, shown_several, shown_variable, shown_paths}
-use Rattle.cy_grammar.proofs.ShownProjections.{shown_filter, shown_projection}
+use Rattle.cy_grammar.proofs.ShownProjections.{shown_projection}
+use Rattle.cy_grammar.proofs.ShownConditions.{shown_where}
 use Rattle.cy_grammar.proofs.Stands.{at_end}
-
--- columns after AS change nothing in the order of clauses
-named_phase : (c : Clause) → phase_after (named_clause c) ≡ phase_after c
-named_phase («match» optional paths f) = refl
-named_phase (unwind e v) = refl
-named_phase («with» p f) = refl
-named_phase («return» p) = refl
-named_phase (create paths) = refl
-named_phase (set is) = refl
-named_phase (remove is) = refl
-named_phase (delete detach vs) = refl
-
-named_follow : (s : ClausePhase) (c : Clause) → may_follow s (named_clause c) ≡ may_follow s c
-named_follow reading c = refl
-named_follow ended c = refl
-named_follow updating («match» optional paths f) = refl
-named_follow updating (unwind e v) = refl
-named_follow updating («with» p f) = refl
-named_follow updating («return» p) = refl
-named_follow updating (create paths) = refl
-named_follow updating (set is) = refl
-named_follow updating (remove is) = refl
-named_follow updating (delete detach vs) = refl
 
 module _ (line : List ℕ) where
   -- ---- updates
@@ -86,59 +64,41 @@ module _ (line : List ℕ) where
 
   -- ---- clauses
 
-  shown_clause : (c : Clause) (ts rest : List Token) → ClauseIsWellFormed c → Shown line (clause_pieces c) ts rest → SpellsClause line (named_clause c) ts rest
-  shown_clause («match» false paths f) ts rest w s =
+  pub shown_clause : (c : Clause) (ts rest : List Token) → ClauseIsWellFormed c → IsTrue (ends_where rest) → Shown line (clause_pieces c) ts rest → SpellsClause line (named_clause c) ts rest
+  shown_clause («match» false paths f) ts rest w ends s =
       at_keyword line (λ us. SpellsClause line («match» false paths f) us rest) keyword.Match (space ∷ (paths_pieces paths ++ filter_pieces f)) ts rest s (λ t from is after.
       let x = both line (paths_pieces paths) (filter_pieces f) from rest after in
-      match_ paths f t from x.0 rest is (shown_paths line paths from x.0 w.0 x.1) (shown_filter line f x.0 rest w.1 x.2))
-  shown_clause («match» true paths f) ts rest w s =
+      match_ paths f t from x.0 rest is (shown_paths line paths from x.0 w.0 x.1) (shown_where line f x.0 rest w.1 ends x.2))
+  shown_clause («match» true paths f) ts rest w ends s =
       at_keyword line (λ us. SpellsClause line («match» true paths f) us rest) keyword.Optional (space ∷ says keyword.Match ∷ space ∷ (paths_pieces paths ++ filter_pieces f)) ts rest s (λ optional mid may further.
       at_keyword line (λ us. SpellsClause line («match» true paths f) (optional ∷ us) rest) keyword.Match (space ∷ (paths_pieces paths ++ filter_pieces f)) mid rest further (λ t from is after.
       let x = both line (paths_pieces paths) (filter_pieces f) from rest after in
-      optional_match paths f optional t from x.0 rest may is (shown_paths line paths from x.0 w.0 x.1) (shown_filter line f x.0 rest w.1 x.2)))
-  shown_clause (unwind e v) ts rest w s =
+      optional_match paths f optional t from x.0 rest may is (shown_paths line paths from x.0 w.0 x.1) (shown_where line f x.0 rest w.1 ends x.2)))
+  shown_clause (unwind e v) ts rest w ends s =
       at_keyword line (λ us. SpellsClause line (unwind e v) us rest) keyword.Unwind (space ∷ (expression_pieces e ++ space ∷ says keyword.As ∷ space ∷ named v.name ∷ [])) ts rest s (λ t from is after.
       let x = both line (expression_pieces e) (space ∷ says keyword.As ∷ space ∷ named v.name ∷ []) from rest after in
       at_keyword line (λ us. Shown line (expression_pieces e) from us → SpellsClause line (unwind e v) (t ∷ from) rest) keyword.As (space ∷ named v.name ∷ []) x.0 rest x.2 (λ as_ mid names last_ here.
       unwind_as e v t as_ from mid rest is (shown_expression line e from (as_ ∷ mid) w.0 here) names (shown_variable line v mid rest w.1 last_)) x.1)
-  shown_clause («with» p f) ts rest w s =
+  shown_clause («with» p f) ts rest w ends s =
       at_keyword line (λ us. SpellsClause line (named_clause («with» p f)) us rest) keyword.With (space ∷ (projection_pieces p ++ filter_pieces f)) ts rest s (λ t from is after.
       let x = both line (projection_pieces p) (filter_pieces f) from rest after in
-      with_ _ f t from x.0 rest is (shown_projection line p from x.0 w.0 x.1) (shown_filter line f x.0 rest w.1 x.2))
-  shown_clause («return» p) ts rest w s =
+      with_ _ f t from x.0 rest is (shown_projection line p from x.0 w.0 x.1) (shown_where line f x.0 rest w.1 ends x.2))
+  shown_clause («return» p) ts rest w ends s =
       at_keyword line (λ us. SpellsClause line (named_clause («return» p)) us rest) keyword.Return (space ∷ projection_pieces p) ts rest s (λ t from is after.
       return_ _ t from rest is (shown_projection line p from rest w after))
-  shown_clause (create paths) ts rest w s =
+  shown_clause (create paths) ts rest w ends s =
       at_keyword line (λ us. SpellsClause line (create paths) us rest) keyword.Create (space ∷ paths_pieces paths) ts rest s (λ t from is after.
       create_ paths t from rest is (shown_paths line paths from rest w after))
-  shown_clause (set is) ts rest w s =
+  shown_clause (set is) ts rest w ends s =
       at_keyword line (λ us. SpellsClause line (set is) us rest) keyword.Set (space ∷ list_pieces (map set_item_pieces is)) ts rest s (λ t from says_ after.
       set_ is t from rest says_ (shown_several line set_item_pieces SetItemIsWellFormed (SpellsSetItem line) shown_set_item is from rest w after))
-  shown_clause (remove is) ts rest w s =
+  shown_clause (remove is) ts rest w ends s =
       at_keyword line (λ us. SpellsClause line (remove is) us rest) keyword.Remove (space ∷ list_pieces (map remove_item_pieces is)) ts rest s (λ t from says_ after.
       remove_ is t from rest says_ (shown_several line remove_item_pieces RemoveItemIsWellFormed (SpellsRemoveItem line) shown_remove_item is from rest w after))
-  shown_clause (delete false vs) ts rest w s =
+  shown_clause (delete false vs) ts rest w ends s =
       at_keyword line (λ us. SpellsClause line (delete false vs) us rest) keyword.Delete (space ∷ list_pieces (map (λ v. named v.name ∷ []) vs)) ts rest s (λ t from is after.
       delete_ vs t from rest is (shown_variables vs from rest w after))
-  shown_clause (delete true vs) ts rest w s =
+  shown_clause (delete true vs) ts rest w ends s =
       at_keyword line (λ us. SpellsClause line (delete true vs) us rest) keyword.Detach (space ∷ says keyword.Delete ∷ space ∷ list_pieces (map (λ v. named v.name ∷ []) vs)) ts rest s (λ detach mid lets further.
       at_keyword line (λ us. SpellsClause line (delete true vs) (detach ∷ us) rest) keyword.Delete (space ∷ list_pieces (map (λ v. named v.name ∷ []) vs)) mid rest further (λ t from is after.
       detach_delete vs detach t from rest lets is (shown_variables vs from rest w after)))
-
-  -- ---- statements
-
-  shown_clauses : (st : ClausePhase) (cs : List Clause) (ts : List Token) → ClausesAreWellFormed st cs → Shown line (each_after (space ∷ []) (map clause_pieces cs)) ts [] →
-      SpellsClauses line st (map named_clause cs) ts
-  shown_clauses st [] ts w s = at_end line (λ us. SpellsClauses line st [] us) ts [] s (no_more_clauses st [] w nothing_more)
-  shown_clauses st (c ∷ cs) ts w s =
-      let x = both line (clause_pieces c) (each_after (space ∷ []) (map clause_pieces cs)) ts [] s in
-      next_clause st (named_clause c) (map named_clause cs) ts x.0 (named_follow st c ∙ w.0) (shown_clause c ts x.0 w.1 x.1)
-      (subst (λ z. SpellsClauses line z (map named_clause cs) x.0) (sym (named_phase c)) (shown_clauses (phase_after c) cs x.0 w.2 x.2))
-
-  -- spaces are no words
-  shown_separated : (pss : List (List Piece)) (ts rest : List Token) → Shown line (separated (space ∷ []) pss) ts rest → Shown line (each_after (space ∷ []) pss) ts rest
-  shown_separated [] ts rest s = s
-  shown_separated (ps ∷ pss) ts rest s = s
-
-  pub shown-statement : (s : Statement) → StatementIsWellFormed s → (ts : List Token) → Shown line (statement_pieces s) ts [] → SpellsStatement line (with_columns s) ts
-  shown-statement s w ts here = shown_clauses reading s.clauses ts w (shown_separated (map clause_pieces s.clauses) ts [] here)

@@ -393,3 +393,6 @@ module _ (line : List ℕ) where
 
   pub shown-whole : (e : Expression) → IsWellFormed e → (m : ℕ) → 3 * depth e ≤ m → (ts rest : List Token) → Shown line (expression_pieces e) ts rest → Spells line m whole e ts rest
   shown-whole e w m few ts rest s = as_whole m e ts rest (signed_of (is_literal_or_list e) m e ts rest (shown e w m few ts rest s))
+
+  pub shown-negation : (e : Expression) → IsWellFormed e → (m : ℕ) → 3 * depth e ≤ m → (ts rest : List Token) → Shown line (expression_pieces e) ts rest → Spells line m negation e ts rest
+  shown-negation e w m few ts rest s = as_negation m e ts rest (signed_of (is_literal_or_list e) m e ts rest (shown e w m few ts rest s))

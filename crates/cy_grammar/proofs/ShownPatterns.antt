@@ -78,7 +78,7 @@ module _ (line : List ℕ) where
       last_symbol line (λ us. Shown line (list_pieces (map entry_pieces (e ∷ es))) mid us → SpellsMapIfAny line (Some (e ∷ es)) (opening ∷ mid) rest) sign.RightBrace x.0 rest x.2 (λ closing closes here.
       map_of (e ∷ es) opening closing mid rest opens (shown_several entry_pieces EntryIsWellFormed (SpellsEntry line) shown_entry (e ∷ es) mid (closing ∷ rest) w here) closes) x.1)
 
-  shown_node : (n : NodePattern) (ts rest : List Token) → NodeIsWellFormed n → Shown line (node_pieces n) ts rest → SpellsNode line n ts rest
+  pub shown_node : (n : NodePattern) (ts rest : List Token) → NodeIsWellFormed n → Shown line (node_pieces n) ts rest → SpellsNode line n ts rest
   shown_node n ts rest w s =
       in_brackets line (λ us. SpellsNode line n us rest) (variable_pieces n.variable ++ (label_pieces n.labels ++ map_pieces n.properties)) ts rest s (λ opening closing inside opens closes here.
       let x = both line (variable_pieces n.variable) (label_pieces n.labels ++ map_pieces n.properties) inside (closing ∷ rest) here in
@@ -192,7 +192,7 @@ module _ (line : List ℕ) where
       a_step step.relationship step.node ss ts y.0 x.0 rest (shown_towards step.relationship.direction step.relationship ts y.0 w.0.0 y.1)
       (shown_node step.node y.0 x.0 w.0.1 y.2) (shown_steps ss x.0 rest w.1 x.2)
 
-  shown_path : (p : Path) (ts rest : List Token) → PathIsWellFormed p → Shown line (path_pieces p) ts rest → SpellsPath line p ts rest
+  pub shown_path : (p : Path) (ts rest : List Token) → PathIsWellFormed p → Shown line (path_pieces p) ts rest → SpellsPath line p ts rest
   shown_path p ts rest w s =
       let x = both line (node_pieces p.start) (each_after [] (map step_pieces p.steps)) ts rest s in
       path p.start p.steps ts x.0 rest (shown_node p.start ts x.0 w.0 x.1) (shown_steps p.steps x.0 rest w.1 x.2)

@@ -5,9 +5,9 @@ use Rattle.cy_lexer.specs.declared.keywords.Keyword.{Keyword}
 use Rattle.cy_lexer.specs.declared.keywords.Keyword.TheVariants as keyword
 use Rattle.cy_lexer.specs.Words as words
 use Rattle.cy_trees.specs.Trees.{Expression, Item, Key, Projection}
-use Rattle.cy_trees.specs.Show.{word, space, says, named, list_pieces, expression_pieces, distinct_pieces, filter_pieces, item_pieces, descending_pieces, key_pieces, order_pieces, count_pieces, projection_pieces}
+use Rattle.cy_trees.specs.Show.{word, space, says, named, list_pieces, expression_pieces, distinct_pieces, item_pieces, descending_pieces, key_pieces, order_pieces, count_pieces, projection_pieces}
 use Rattle.cy_grammar.specs.Shown.{named_item, named_projection}
-use Rattle.cy_grammar.specs.SpellsClauses.{SpellsEach, last, next, SpellsFilterIfAny, no_filter, filter, SpellsItem, item_as, SpellsKey, plain_key, desc, SpellsOrderIfAny, no_order, order_by, SpellsCountIfAny, no_count, a_count, SpellsDistinct, not_distinct, distinct, SpellsProjection, projection}
+use Rattle.cy_grammar.specs.SpellsClauses.{SpellsEach, last, next, SpellsItem, item_as, SpellsKey, plain_key, desc, SpellsOrderIfAny, no_order, order_by, SpellsCountIfAny, no_count, a_count, SpellsDistinct, not_distinct, distinct, SpellsProjection, projection}
 use Rattle.cy_grammar.specs.internal.WellFormed.{IsWhole, Every, Several, IfAny, ItemIsWellFormed, KeyIsWellFormed, CountIsWellFormed, ProjectionIsWellFormed}
 use Rattle.cy_grammar.proofs.ShownTokens.{Shown, both, at_keyword, at_number, at_name, last_keyword}
 use Rattle.cy_grammar.proofs.ShownPatterns.{shown_expression, shown_several}
@@ -20,12 +20,6 @@ spelt_of f each _ ts rest (last a _ _ s) = last (f a) ts rest s
 spelt_of f each _ ts rest (next a more t _ mid _ s is others) = next (f a) (map f more) t ts mid rest s is (spelt_of f each more mid rest others)
 
 module _ (line : List ℕ) where
-  pub shown_filter : (f : Option Expression) (ts rest : List Token) → IfAny IsWhole f → Shown line (filter_pieces f) ts rest → SpellsFilterIfAny line f ts rest
-  shown_filter None ts rest w s = at_end line (λ us. SpellsFilterIfAny line None us rest) ts rest s (no_filter rest)
-  shown_filter (Some e) ts rest w s =
-      at_keyword line (λ us. SpellsFilterIfAny line (Some e) us rest) keyword.Where (space ∷ expression_pieces e) ts rest s (λ t mid is after.
-      filter e t mid rest is (shown_expression line e mid rest w after))
-
   shown_item : (i : Item) (ts rest : List Token) → ItemIsWellFormed i → Shown line (item_pieces i) ts rest → SpellsItem line (named_item i) ts rest
   shown_item i ts rest w s =
       let x = both line (expression_pieces i.expression) (space ∷ says keyword.As ∷ space ∷ named i.column ∷ []) ts rest s in

@@ -1,5 +1,5 @@
 -- The tokens of a statement's text are the words of its pieces.
-use Rattle.std.proofs.Common.{◌≡◌, ℕ, suc, pos, negsuc, ◌≤◌, Bool, true, false, List, [], ◌∷◌, ◌++◌, length, map, Option, Some, None, Ok, refl, sym, ap, ◌∙◌, subst, arith}
+use Rattle.std.proofs.Common.{◌≡◌, ℕ, suc, pos, negsuc, ◌≤◌, Bool, true, false, not, IsTrue, List, [], ◌∷◌, ◌++◌, length, map, Option, Some, None, Ok, refl, sym, ap, ◌∙◌, subst, arith}
 use Rattle.std.specs.Str.{chars, encode_utf8_all}
 use Rattle.std.proofs.lemmas.Bool.Decides.{nat_tests}
 use Rattle.std.proofs.lemmas.Str.{chars-encodes}
@@ -25,12 +25,12 @@ use Rattle.cy_trees.specs.declared.expressions.Variable.{Variable}
 use Rattle.cy_trees.specs.declared.clauses.Direction.{Direction}
 use Rattle.cy_trees.specs.declared.clauses.Direction.TheVariants as direction
 use Rattle.cy_trees.specs.declared.clauses.Length.{Length}
-use Rattle.cy_trees.specs.Trees.{Name, Expression, null, boolean, integer, text, variable, property, has_labels, unary, binary, comparison, list, case, call, call_star, Expressions, no_more, more, Links, no_links, link, Arms, no_arms, arm, Otherwise, nothing, otherwise, MapEntry, NodePattern, RelationshipPattern, Step, Path, Item, Key, Projection, SetItem, set_property, set_labels, RemoveItem, remove_property, remove_labels, Clause, «match», unwind, «with», «return», create, set, remove, delete, Statement}
-use Rattle.cy_trees.specs.Show.{Piece, says, mark, named, spelt, bracketed, each_after, separated, comma, list_pieces, binary_pieces, comparator_symbol, unary_pieces, label_pieces, is_literal_or_list, owner_pieces, distinct_pieces, expression_pieces, elements_pieces, further_pieces, links_pieces, arms_pieces, otherwise_pieces, entry_pieces, map_pieces, variable_pieces, node_pieces, type_pieces, bound_pieces, length_pieces, tail_pieces, head_pieces, relationship_pieces, step_pieces, path_pieces, paths_pieces, filter_pieces, item_pieces, descending_pieces, key_pieces, order_pieces, count_pieces, projection_pieces, set_item_pieces, remove_item_pieces, optional_pieces, detach_pieces, clause_pieces, statement_pieces, pieces_text, show}
+use Rattle.cy_trees.specs.Trees.{Name, Expression, null, boolean, integer, text, variable, property, has_labels, unary, binary, comparison, list, case, call, call_star, Expressions, no_more, more, Links, no_links, link, Arms, no_arms, arm, Otherwise, nothing, otherwise, MapEntry, NodePattern, RelationshipPattern, Step, Path, Item, Key, Projection, SetItem, set_property, set_labels, RemoveItem, remove_property, remove_labels, PathTest, Where, Clause, «match», unwind, «with», «return», create, set, remove, delete, Query, Statement}
+use Rattle.cy_trees.specs.Show.{Piece, says, mark, named, spelt, bracketed, each_after, separated, comma, list_pieces, binary_pieces, comparator_symbol, unary_pieces, label_pieces, is_literal_or_list, owner_pieces, distinct_pieces, expression_pieces, elements_pieces, further_pieces, links_pieces, arms_pieces, otherwise_pieces, entry_pieces, map_pieces, variable_pieces, node_pieces, type_pieces, bound_pieces, length_pieces, tail_pieces, head_pieces, relationship_pieces, step_pieces, path_pieces, denied_pieces, paths_pieces, and_pieces, path_test_pieces, where_pieces, filter_pieces, item_pieces, descending_pieces, key_pieces, order_pieces, count_pieces, projection_pieces, set_item_pieces, remove_item_pieces, optional_pieces, detach_pieces, clause_pieces, query_pieces, union_pieces, statement_pieces, pieces_text, show}
 use Rattle.cy_trees.specs.internal.PieceWords.{words_of}
 use Rattle.cy_trees.specs.Show as piece
-use Rattle.cy_grammar.specs.SpellsClauses.{greatest_bound, ClausePhase, phase_after, reading}
-use Rattle.cy_grammar.specs.internal.WellFormed.{IsText, IsNamed, Every, Several, IfAny, IsVariable, IsWellFormed, AreWellFormed, LinksAreWellFormed, ArmsAreWellFormed, OtherwiseIsWellFormed, IsWhole, EntryIsWellFormed, NodeIsWellFormed, LengthIsWellFormed, RelationshipIsWellFormed, StepIsWellFormed, PathIsWellFormed, ItemIsWellFormed, KeyIsWellFormed, CountIsWellFormed, ProjectionIsWellFormed, SetItemIsWellFormed, RemoveItemIsWellFormed, ClauseIsWellFormed, ClausesAreWellFormed, StatementIsWellFormed}
+use Rattle.cy_grammar.specs.SpellsClauses.{greatest_bound, ClausePhase, phase_after, reading, may_end}
+use Rattle.cy_grammar.specs.internal.WellFormed.{IsText, IsNamed, Every, Several, IfAny, IsVariable, IsWellFormed, AreWellFormed, LinksAreWellFormed, ArmsAreWellFormed, OtherwiseIsWellFormed, IsWhole, EntryIsWellFormed, NodeIsWellFormed, LengthIsWellFormed, RelationshipIsWellFormed, StepIsWellFormed, PathIsWellFormed, ItemIsWellFormed, KeyIsWellFormed, CountIsWellFormed, ProjectionIsWellFormed, SetItemIsWellFormed, RemoveItemIsWellFormed, PathTestIsWellFormed, WhereIsWellFormed, ClauseIsWellFormed, ClausesAreWellFormed, QueryIsWellFormed, ReadingIsWellFormed, QueriesAreWellFormed, StatementIsWellFormed}
 use Rattle.cy_grammar.proofs.PiecesLemmas.{Before, free, ended, owned, after, touches, stands, Allows, Runs, runs-stands, no_pieces, a_word, a_space, space_after, both, from, to, is_quiet, after_symbol, after_end, after_owner, ended_owned, last, spaced, AreTokens, spaced-words, spaced-are_words, spaced-text, free_first, unspaced}
 use Rattle.cy_grammar.proofs.Stands.{Stands}
 use Rattle.cy_grammar.proofs.WordsSpans.{words-have_spans, words-stand}
@@ -306,9 +306,25 @@ path-runs p is = both (node-runs free refl p.start is.0) (steps-run p.steps is.1
 paths-run : (ps : List Path) → Several PathIsWellFormed ps → Runs free (paths_pieces ps) ended
 paths-run ps are = list-runs PathIsWellFormed path_pieces path-runs ps are
 
-filter-runs : (f : Option Expression) → IfAny IsWhole f → Runs ended (filter_pieces f) ended
-filter-runs None is = no_pieces
-filter-runs (Some e) is = space_after (said keyword.Where refl (operand-runs e is.0))
+denied-runs : (b : Bool) (p : Path) → PathIsWellFormed p → Runs free (denied_pieces b (path_pieces p)) ended
+denied-runs true p is = said keyword.Not refl (bracketed-ends (path-runs p is))
+denied-runs false p is = path-runs p is
+
+path_test-runs : (t : PathTest) → PathTestIsWellFormed t → Runs free (path_test_pieces t) ended
+path_test-runs t is = denied-runs t.denied t.path is.path
+
+path_tests-run : (ts : List PathTest) → Every PathTestIsWellFormed ts → Runs ended (each_after and_pieces (map path_test_pieces ts)) ended
+path_tests-run [] are = no_pieces
+path_tests-run (t ∷ ts) are = space_after (said keyword.And refl (both (path_test-runs t are.0) (path_tests-run ts are.1)))
+
+where-runs : (test : Option Expression) (tests : List PathTest) → IfAny IsWhole test → Every PathTestIsWellFormed tests → Runs ended (where_pieces test tests) ended
+where-runs None [] is are = no_pieces
+where-runs None (t ∷ ts) is are = space_after (said keyword.Where refl (both (path_test-runs t are.0) (path_tests-run ts are.1)))
+where-runs (Some e) [] is are = space_after (said keyword.Where refl (both (operand-runs e is.0) no_pieces))
+where-runs (Some e) (t ∷ ts) is are = space_after (said keyword.Where refl (both (operand-runs e is.0) (path_tests-run (t ∷ ts) are)))
+
+filter-runs : (f : Where) → WhereIsWellFormed f → Runs ended (filter_pieces f) ended
+filter-runs f is = where-runs f.test f.paths is.test is.paths
 
 item-runs : (i : Item) → ItemIsWellFormed i → Runs free (item_pieces i) ended
 item-runs i is = both (operand-runs i.expression is.0.0) (space_after (said keyword.As refl (last_name i.column refl is.1)))
@@ -378,9 +394,25 @@ clauses-run : (s : ClausePhase) (cs : List Clause) → ClausesAreWellFormed s cs
 clauses-run s [] are = no_pieces
 clauses-run s (c ∷ cs) are = space_after (both (clause-runs c are.1) (clauses-run (phase_after c) cs are.2))
 
-clauses-stand : (s : ClausePhase) (cs : List Clause) → ClausesAreWellFormed s cs → stands free (separated (piece.space ∷ []) (map clause_pieces cs)) ≡ true
-clauses-stand s [] are = refl
-clauses-stand s (c ∷ cs) are = runs-stands (both (clause-runs c are.1) (clauses-run (phase_after c) cs are.2))
+query-runs : (q : Query) → QueryIsWellFormed q → Runs free (query_pieces q) ended
+query-runs q are = first-runs reading q.clauses refl are
+  where
+    first-runs : (s : ClausePhase) (cs : List Clause) → IsTrue (not (may_end s)) → ClausesAreWellFormed s cs → Runs free (separated (piece.space ∷ []) (map clause_pieces cs)) ended
+    first-runs s [] none are = absurd cc
+    first-runs s (c ∷ cs) none are = both (clause-runs c are.1) (clauses-run (phase_after c) cs are.2)
+
+union-runs : {ps : List Piece} (all : Bool) → Runs free ps ended → Runs ended (union_pieces all ++ ps) ended
+union-runs true run = space_after (said keyword.Union refl (said keyword.All refl run))
+union-runs false run = space_after (said keyword.Union refl run)
+
+unions-run : (all : Bool) (qs : List Query) → Every ReadingIsWellFormed qs → Runs ended (each_after (union_pieces all) (map query_pieces qs)) ended
+unions-run all [] are = no_pieces
+unions-run all (q ∷ qs) are = union-runs all (both (query-runs q are.0.0) (unions-run all qs are.1))
+
+queries-stand : (qs : List Query) (all : Bool) → QueriesAreWellFormed qs all → stands free (separated (union_pieces all) (map query_pieces qs)) ≡ true
+queries-stand [] all are = absurd are
+queries-stand (q ∷ []) all are = runs-stands (both (query-runs q are.0) no_pieces)
+queries-stand (q ∷ second ∷ others) all are = runs-stands (both (query-runs q are.0.0) (unions-run all (second ∷ others) are.1))
 
 -- The tokens of the text of pieces are the words of the pieces, one for each, in order: with the spaces after them, without,
 -- and as tokens that have places in the line.
@@ -409,4 +441,4 @@ pub shown-is_read : (s : Statement) → StatementIsWellFormed s → length (show
     (us : List Token) × (tokens_of (show s) ≡ Ok us) × AreTokensOf (show s) us (spaced (statement_pieces s)) × AreTokens (show s) us (words_of (statement_pieces s)) ×
     Stands (show s) (words_of (statement_pieces s)) us []
 unfolding show
-shown-is_read s is short = pieces-are_read (statement_pieces s) (clauses-stand reading s.clauses is) short
+shown-is_read s is short = pieces-are_read (statement_pieces s) (queries-stand s.queries s.all is) short

@@ -691,3 +691,6 @@ nesting-sound line (suc n) = level-sound line n (nesting line n) (nesting-sound 
 
 pub expression-sound : (line : List ℕ) (ts : List Token) → Gives (expression line ts) (Spelt line most_levels whole ts)
 expression-sound line ts = (nesting-sound line most_levels).whole_is ts
+
+pub conjunct-sound : (line : List ℕ) (ts : List Token) → Gives (nesting line most_levels nested.Negation ts) (Spelt line most_levels negation ts)
+conjunct-sound line ts = (nesting-sound line most_levels).negation_is ts

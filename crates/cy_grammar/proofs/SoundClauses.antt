@@ -1,5 +1,5 @@
--- What is read spells what is answered: projections, updates, clauses and statements.
-use Rattle.std.proofs.Common.{◌≡◌, ℕ, zero, suc, ◌<◌, ◌-◌, inl, inr, Bool, true, false, IsTrue, List, [], ◌∷◌, ◌++◌, length, take, Option, Some, None, refl, sym, ap, ◌∙◌, subst, append_assoc, append-nil, arith, nat_lt, if◌then◌else◌}
+-- What is read spells what is answered: projections, updates and clauses.
+use Rattle.std.proofs.Common.{◌≡◌, ℕ, ◌<◌, ◌-◌, inl, inr, Bool, true, false, IsTrue, List, [], ◌∷◌, length, take, Option, Some, None, refl, sym, ap, ◌∙◌, subst, arith, nat_lt, if◌then◌else◌}
 use Rattle.std.proofs.lemmas.Bool.Decides.{nat_tests}
 use Rattle.cy_lexer.specs.declared.tokens.Token.{Token}
 use Rattle.cy_lexer.specs.declared.tokens.TokenKind.{TokenKind}
@@ -12,28 +12,20 @@ use Rattle.cy_grammar.specs.declared.phases.Opening.{Opening}
 use Rattle.cy_grammar.specs.declared.phases.Opening.TheVariants as opening
 use Rattle.cy_grammar.specs.declared.phases.ClausePhase.{ClausePhase}
 use Rattle.cy_grammar.specs.declared.phases.ClausePhase.TheVariants as phase
-use Rattle.cy_trees.specs.Trees.{Expression, Path, Projection, SetItem, set_property, RemoveItem, remove_property, Clause, «match», unwind, «with», «return», create, set, remove, delete}
+use Rattle.cy_trees.specs.Trees.{Expression, Path, Projection, SetItem, set_property, RemoveItem, remove_property, Where, Clause, «match», unwind, «with», «return», create, set, remove, delete}
 use Rattle.cy_grammar.specs.Words.{is_word, is_name}
 use Rattle.cy_lexer.specs.Numbers.{greatest_number}
 use Rattle.cy_grammar.specs.internal.Reader.{at_kind, kind_ahead, past, skip, refuse, ◌>>◌, pure}
 use Rattle.cy_grammar.specs.internal.Clauses as read
 use Rattle.cy_grammar.specs.Spells.{IsSymbol}
 use Rattle.cy_grammar.specs.SpellsClauses as spells
-use Rattle.cy_grammar.specs.SpellsClauses.{SpellsEach, SpellsExpression, SpellsVariable, SpellsFilterIfAny, no_filter, filter, SpellsItem, item_as, item, SpellsKey, plain_key, asc, desc, SpellsOrderIfAny, no_order, order_by, SpellsCountIfAny, no_count, a_count, SpellsDistinct, not_distinct, distinct, SpellsProjection, projection, SpellsSetItem, set_property_to, set_labels_to, SpellsRemoveItem, remove_property_of, remove_labels_of, SpellsPath, SpellsClause}
-use Rattle.cy_grammar.proofs.Gives.{AteKeyword, AteSymbol, Gives, bind, answer, refused, symbol_there, keyword_there, ate_symbol, ate_keyword, by_test, denoting_there, bind_peek, bind_skip, ahead, ahead_by, by_option}
+use Rattle.cy_grammar.specs.SpellsClauses.{SpellsEach, SpellsExpression, SpellsVariable, SpellsItem, item_as, item, SpellsKey, plain_key, asc, desc, SpellsOrderIfAny, no_order, order_by, SpellsCountIfAny, no_count, a_count, SpellsDistinct, not_distinct, distinct, SpellsProjection, projection, SpellsSetItem, set_property_to, set_labels_to, SpellsRemoveItem, remove_property_of, remove_labels_of, SpellsPath, SpellsClause}
+use Rattle.cy_grammar.proofs.Gives.{AteKeyword, Gives, bind, answer, refused, symbol_there, keyword_there, ate_symbol, ate_keyword, by_test, denoting_there, bind_peek, bind_skip, ahead, ahead_by}
 use Rattle.cy_grammar.proofs.Sound.{later, labels-sound}
 use Rattle.cy_grammar.proofs.SoundPatterns.{separated-sound, whole-sound, variable-sound, paths-sound}
+use Rattle.cy_grammar.proofs.Conditions.{filter-sound}
 
 module _ (line : List ℕ) where
-  filter-sound : (ts : List Token) → Gives (read.filter_if_any line ts) (λ f rest. SpellsFilterIfAny line f ts rest)
-  unfolding read.filter_if_any
-  filter-sound ts =
-      bind (ate_keyword word.Where ts) (λ is_there after c. by_test _ _ is_there after _
-      (λ yes. bind (whole-sound line after) (λ e rest s. answer _ _ _ (
-      let x = c.there yes in
-      subst (λ z. SpellsFilterIfAny line (Some e) z rest) (sym x.1) (filter e x.0 after rest x.2 s))))
-      (λ none. answer _ _ _ (subst (λ z. SpellsFilterIfAny line None z after) (c.absent none) (no_filter after))))
-
   column-sound : (e : Expression) (ts after : List Token) → SpellsExpression line e ts after → Gives (read.column line e ts after) (λ i rest. SpellsItem line i ts rest)
   unfolding read.column
   column-sound e ts after s =
@@ -151,16 +143,17 @@ module _ (line : List ℕ) where
   variables-sound ts = separated-sound (read.variable_read line) (SpellsVariable line) (variable-sound line) ts
 
   -- where a phase stands
-  abbrev spelt_phase : ClausePhase → spells.ClausePhase
+  abbrev pub spelt_phase : ClausePhase → spells.ClausePhase
   spelt_phase phase.Reading = spells.reading
   spelt_phase phase.Updating = spells.updating
   spelt_phase phase.Ended = spells.ended
 
-  -- the clause that was read is spelt, may stand where its first word may, and leads where that leads
-  record IsClause (s : ClausePhase) (o : Opening) (ts : List Token) (c : Clause) (rest : List Token) : Type 0 where
+  -- the clause that was read is spelt, may stand where its first word may, leads where that leads, and writes where that does
+  pub record IsClause (s : ClausePhase) (o : Opening) (ts : List Token) (c : Clause) (rest : List Token) : Type 0 where
     pub spelt : SpellsClause line c ts rest
     pub follows : spells.may_follow (spelt_phase s) c ≡ read.allows s o
     pub leads : spells.phase_after c ≡ spelt_phase (read.phase_after o)
+    pub writes : spells.updates c ≡ read.updates o
 
   abbrev first_word : Opening → Keyword
   first_word opening.Match = word.Match
@@ -187,12 +180,12 @@ module _ (line : List ℕ) where
   opening_is (kind.Keyword word.Detach) o e = let same : opening.Detach ≡ o = cc in ap (λ x. kind.Keyword (first_word x)) same
   opening_is _ o e = cc
 
-  reads : (s : ClausePhase) (b : Bool) (ps : List Path) (f : Option Expression) → spells.may_follow (spelt_phase s) («match» b ps f) ≡ read.allows s opening.Match
+  reads : (s : ClausePhase) (b : Bool) (ps : List Path) (f : Where) → spells.may_follow (spelt_phase s) («match» b ps f) ≡ read.allows s opening.Match
   reads phase.Reading b ps f = refl
   reads phase.Updating b ps f = refl
   reads phase.Ended b ps f = refl
 
-  reads_optional : (s : ClausePhase) (b : Bool) (ps : List Path) (f : Option Expression) → spells.may_follow (spelt_phase s) («match» b ps f) ≡ read.allows s opening.Optional
+  reads_optional : (s : ClausePhase) (b : Bool) (ps : List Path) (f : Where) → spells.may_follow (spelt_phase s) («match» b ps f) ≡ read.allows s opening.Optional
   reads_optional phase.Reading b ps f = refl
   reads_optional phase.Updating b ps f = refl
   reads_optional phase.Ended b ps f = refl
@@ -202,7 +195,7 @@ module _ (line : List ℕ) where
   unwinds phase.Updating e v = refl
   unwinds phase.Ended e v = refl
 
-  goes_on : (s : ClausePhase) (p : Projection) (f : Option Expression) → spells.may_follow (spelt_phase s) («with» p f) ≡ read.allows s opening.With
+  goes_on : (s : ClausePhase) (p : Projection) (f : Where) → spells.may_follow (spelt_phase s) («with» p f) ≡ read.allows s opening.With
   goes_on phase.Reading p f = refl
   goes_on phase.Updating p f = refl
   goes_on phase.Ended p f = refl
@@ -241,14 +234,15 @@ module _ (line : List ℕ) where
       Gives (read.clause_by line o ts) (IsClause s o (t ∷ ts))
   unfolding read.match_read read.unwind_read read.with_read read.delete_read
   open_by s opening.Match t ts is =
-      bind (paths-sound line ts) (λ ps mid a. bind (filter-sound mid) (λ f rest b. answer _ _ _
-      (record { spelt = spells.match_ ps f t ts mid rest is a b; follows = reads s false ps f; leads = refl })))
+      bind (paths-sound line ts) (λ ps mid a. bind (filter-sound line mid) (λ f rest b. answer _ _ _
+      (record { spelt = spells.match_ ps f t ts mid rest is a b; follows = reads s false ps f; leads = refl; writes = refl })))
   open_by s opening.Optional t ts is =
-      bind (keyword_there word.Match ts) (λ _ from x. bind (paths-sound line from) (λ ps mid a. bind (filter-sound mid) (λ f rest b. answer _ _ _
+      bind (keyword_there word.Match ts) (λ _ from x. bind (paths-sound line from) (λ ps mid a. bind (filter-sound line mid) (λ f rest b. answer _ _ _
       (record {
         spelt = subst (λ z. SpellsClause line («match» true ps f) (t ∷ z) rest) (sym x.1) (spells.optional_match ps f t x.0 from mid rest is x.2 a b);
         follows = reads_optional s true ps f;
         leads = refl;
+        writes = refl;
       }))))
   open_by s opening.Unwind t ts is =
       bind (whole-sound line ts) (λ e from a. bind (keyword_there word.As from) (λ _ mid x. bind (variable-sound line mid) (λ v rest b. answer _ _ _
@@ -256,84 +250,35 @@ module _ (line : List ℕ) where
         spelt = spells.unwind_as e v t x.0 ts mid rest is (subst (λ z. SpellsExpression line e ts z) x.1 a) x.2 b;
         follows = unwinds s e v;
         leads = refl;
+        writes = refl;
       }))))
   open_by s opening.With t ts is =
-      bind (projection-sound ts) (λ p mid a. bind (filter-sound mid) (λ f rest b. answer _ _ _
-      (record { spelt = spells.with_ p f t ts mid rest is a b; follows = goes_on s p f; leads = refl })))
+      bind (projection-sound ts) (λ p mid a. bind (filter-sound line mid) (λ f rest b. answer _ _ _
+      (record { spelt = spells.with_ p f t ts mid rest is a b; follows = goes_on s p f; leads = refl; writes = refl })))
   open_by s opening.Return t ts is =
-      bind (projection-sound ts) (λ p rest a. answer _ _ _ (record { spelt = spells.return_ p t ts rest is a; follows = returns s p; leads = refl }))
+      bind (projection-sound ts) (λ p rest a. answer _ _ _ (record { spelt = spells.return_ p t ts rest is a; follows = returns s p; leads = refl; writes = refl }))
   open_by s opening.Create t ts is =
-      bind (paths-sound line ts) (λ ps rest a. answer _ _ _ (record { spelt = spells.create_ ps t ts rest is a; follows = creates s ps; leads = refl }))
+      bind (paths-sound line ts) (λ ps rest a. answer _ _ _ (record { spelt = spells.create_ ps t ts rest is a; follows = creates s ps; leads = refl; writes = refl }))
   open_by s opening.Set t ts is =
-      bind (set_items-sound ts) (λ is1 rest a. answer _ _ _ (record { spelt = spells.set_ is1 t ts rest is a; follows = sets s is1; leads = refl }))
+      bind (set_items-sound ts) (λ is1 rest a. answer _ _ _ (record { spelt = spells.set_ is1 t ts rest is a; follows = sets s is1; leads = refl; writes = refl }))
   open_by s opening.Remove t ts is =
-      bind (remove_items-sound ts) (λ is1 rest a. answer _ _ _ (record { spelt = spells.remove_ is1 t ts rest is a; follows = removes s is1; leads = refl }))
+      bind (remove_items-sound ts) (λ is1 rest a. answer _ _ _ (record { spelt = spells.remove_ is1 t ts rest is a; follows = removes s is1; leads = refl; writes = refl }))
   open_by s opening.Delete t ts is =
-      bind (variables-sound ts) (λ vs rest a. answer _ _ _ (record { spelt = spells.delete_ vs t ts rest is a; follows = deletes s false vs; leads = refl }))
+      bind (variables-sound ts) (λ vs rest a. answer _ _ _ (record { spelt = spells.delete_ vs t ts rest is a; follows = deletes s false vs; leads = refl; writes = refl }))
   open_by s opening.Detach t ts is =
       bind (keyword_there word.Delete ts) (λ _ from x. bind (variables-sound from) (λ vs rest a. answer _ _ _
       (record {
         spelt = subst (λ z. SpellsClause line (delete true vs) (t ∷ z) rest) (sym x.1) (spells.detach_delete vs t x.0 from rest is x.2 a);
         follows = detaches s true vs;
         leads = refl;
+        writes = refl;
       })))
 
-  clause_in-sound : (s : ClausePhase) (o : Opening) (ts : List Token) → at_kind read.opening_of (kind_ahead ts) ≡ Some o →
-      Gives (read.clause_in line s o ts) (λ c rest. IsClause s o ts c rest × IsTrue (read.allows s o))
+  pub clause_in-sound : (later_one : Bool) (s : ClausePhase) (o : Opening) (ts : List Token) → at_kind read.opening_of (kind_ahead ts) ≡ Some o →
+      Gives (read.clause_in line later_one s o ts) (λ c rest. IsClause s o ts c rest × IsTrue (read.is_allowed later_one s o))
   unfolding read.clause_in
-  clause_in-sound s o ts e = by_test _ _ (read.allows s o) ts _
+  clause_in-sound later_one s o ts e = by_test _ _ (read.is_allowed later_one s o) ts _
       (λ yes. bind_skip _ ts (later _ _ (λ c rest k. (
       let x = ahead_by read.opening_of ts o e in
       (subst (λ z. IsClause s o z c rest) (sym x.1) k, yes))) (open_by s o (ahead_by read.opening_of ts o e).0 (past ts) (opening_is _ o (ahead_by read.opening_of ts o e).2))))
       (λ none. refused _)
-
-  ends_as : (s : ClausePhase) → read.may_end s ≡ spells.may_end (spelt_phase s)
-  ends_as phase.Reading = refl
-  ends_as phase.Updating = refl
-  ends_as phase.Ended = refl
-
-  nothing_left-sound : (ts : List Token) → Gives {A = Unit {0}} (read.nothing_left ts) (λ _ rest. (ts ≡ []) × (rest ≡ []))
-  nothing_left-sound [] = answer _ _ _ (refl, refl)
-  nothing_left-sound (t ∷ ts) = refused _
-
-  semicolon_or_not : (ts mid : List Token) (b : Bool) → AteSymbol sign.Semicolon ts b mid → mid ≡ [] → spells.SpellsEnd ts
-  semicolon_or_not ts mid true c none =
-      let x = c.there refl in
-      let one : ts ≡ x.0 ∷ [] = x.1 ∙ ap (λ z. x.0 ∷ z) none in
-      subst (λ z. spells.SpellsEnd z) (sym one) (spells.semicolon x.0 x.2)
-  semicolon_or_not ts mid false c none =
-      let empty : [] ≡ ts = sym none ∙ c.absent refl in
-      subst (λ z. spells.SpellsEnd z) empty spells.nothing_more
-
-  end-sound : (s : ClausePhase) (ts : List Token) → Gives (read.end_read s ts) (λ _ rest. spells.SpellsEnd ts × IsTrue (spells.may_end (spelt_phase s)) × (rest ≡ []))
-  unfolding read.end_read
-  end-sound s ts = by_test _ _ (read.may_end s) ts _
-      (λ yes. bind (ate_symbol sign.Semicolon ts) (λ b mid c. later _ _ (λ _ rest n. (semicolon_or_not ts mid b c n.0, sym (ends_as s) ∙ yes, n.1)) (nothing_left-sound mid)))
-      (λ none. refused _)
-
-  record FoundClauses (s : ClausePhase) (found : List Clause) (ts : List Token) (all : List Clause) (rest : List Token) : Type 0 where
-    pub these : List Clause
-    pub all_is : all ≡ found ++ these
-    pub spelt : spells.SpellsClauses line (spelt_phase s) these ts
-    pub nothing_is_left : rest ≡ []
-
-  end-found : (s : ClausePhase) (found : List Clause) (ts : List Token) → Gives ((read.end_read s >> pure found) ts) (FoundClauses s found ts)
-  end-found s found ts = bind (end-sound s ts) (λ _ rest e. answer _ _ _
-      (record { these = []; all_is = sym (append-nil found); spelt = spells.no_more_clauses (spelt_phase s) ts e.1 e.0; nothing_is_left = e.2 }))
-
-  clauses-sound-from : (turns : ℕ) (s : ClausePhase) (found : List Clause) (ts : List Token) → Gives (read.clauses_from line turns s found ts) (FoundClauses s found ts)
-  unfolding read.clauses_from
-  clauses-sound-from zero s found ts = end-found s found ts
-  clauses-sound-from (suc turns) s found ts = bind_peek _ ts (by_option _ _ (at_kind read.opening_of (kind_ahead ts)) ts _
-      (λ none. end-found s found ts)
-      (λ o e. bind (clause_in-sound s o ts e) (λ c mid k. later _ _ (λ all rest g. record {
-        these = c ∷ g.these;
-        all_is = g.all_is ∙ append_assoc found (c ∷ []) g.these;
-        spelt = spells.next_clause (spelt_phase s) c g.these ts mid (k.0.follows ∙ k.1) k.0.spelt (subst (λ z. spells.SpellsClauses line z g.these mid) (sym k.0.leads) g.spelt);
-        nothing_is_left = g.nothing_is_left;
-      }) (clauses-sound-from turns (read.phase_after o) (found ++ c ∷ []) mid))))
-
-  pub statement-sound : (ts : List Token) → Gives (read.statement line ts) (λ s rest. spells.SpellsStatement line s ts × (rest ≡ []))
-  unfolding read.statement read.clauses
-  statement-sound ts = bind (clauses-sound-from (length ts) phase.Reading [] ts) (λ cs rest g. answer _ _ _
-      (subst (λ z. spells.SpellsClauses line spells.reading z ts) (sym g.all_is) g.spelt, g.nothing_is_left))

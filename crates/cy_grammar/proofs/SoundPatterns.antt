@@ -297,7 +297,7 @@ module _ (line : List ℕ) where
       }) (steps-sound-from turns (found ++ s ∷ []) mid)))
       (λ none. answer _ _ _ (record { these = []; all_is = sym (append-nil found); spells = no_steps ts })))
 
-  path-sound : (ts : List Token) → Gives (read.path line ts) (λ p rest. SpellsPath line p ts rest)
+  pub path-sound : (ts : List Token) → Gives (read.path line ts) (λ p rest. SpellsPath line p ts rest)
   unfolding read.path read.steps
   path-sound ts = bind (node-sound line ts) (λ n mid a. bind (steps-sound-from (length mid) [] mid) (λ more rest g. answer _ _ _
       (path n more ts mid rest a (subst (λ z. SpellsSteps line z mid rest) (sym g.all_is) g.spells))))

@@ -11,7 +11,7 @@ use denote.Enum.Bare.{true_same}
 use Rattle.cy_trees.specs.Trees.{Expression}
 use Rattle.cy_trees.specs.Depth.{depth, greatest_depth}
 use Rattle.cy_grammar.specs.Words.{denotes}
-use Rattle.cy_grammar.specs.internal.Reader.{Outcome, Reader, and_then, is_keyword, is_symbol, kind_ahead, past, sees_keyword, sees_symbol, eat_keyword, eat_symbol, peek, expect_keyword, expect_symbol, denoting, checked}
+use Rattle.cy_grammar.specs.internal.Reader.{Outcome, Reader, and_then, is_keyword, is_symbol, kind_ahead, past, or_else, sees_keyword, sees_symbol, eat_keyword, eat_symbol, peek, expect_keyword, expect_symbol, denoting, checked}
 use Rattle.cy_grammar.specs.Spells.{IsKeyword, IsSymbol}
 
 -- one reader after another
@@ -82,10 +82,28 @@ passes e ts shallow =
     let is : nat_le (depth e) greatest_depth ≡ true = grind (arith, nat_tests) in
     ap (λ b. if b then Some (e, ts) else None) is
 
+-- the first outcome that is an answer
+pub takes_first : {A : Type 0} (o other : Outcome A) (p : A × List Token) → o ≡ Some p → or_else o other ≡ Some p
+unfolding or_else
+takes_first o other p e = ap (λ z. or_else z other) e
+
+pub takes_second : {A : Type 0} (o other : Outcome A) → o ≡ None → or_else o other ≡ other
+unfolding or_else
+takes_second o other e = ap (λ z. or_else z other) e
+
+abbrev Pair : (A : Type 0) → A → List Token → A × List Token
+Pair A a left = (a, left)
+
 -- one answer
-pub answers_one : {A : Type 0} (o : Outcome A) (a b : A) (left rest : List Token) → o ≡ Some (a, left) → o ≡ Some (b, rest) → a ≡ b
-answers_one {A = A} o a b left rest first second =
+answers_same : {A : Type 0} (o : Outcome A) (a b : A) (left rest : List Token) → o ≡ Some (a, left) → o ≡ Some (b, rest) → Pair A a left ≡ Pair A b rest
+answers_same {A = A} o a b left rest first second =
     let x : A × List Token = (a, left) in
     let y : A × List Token = (b, rest) in
     let both : x ≡ y = cc in
-    ap (λ p. p.0) both
+    both
+
+pub answers_one : {A : Type 0} (o : Outcome A) (a b : A) (left rest : List Token) → o ≡ Some (a, left) → o ≡ Some (b, rest) → a ≡ b
+answers_one {A = A} o a b left rest first second = ap (λ p. p.0) (answers_same o a b left rest first second)
+
+pub leaves_one : {A : Type 0} (o : Outcome A) (a b : A) (left rest : List Token) → o ≡ Some (a, left) → o ≡ Some (b, rest) → left ≡ rest
+leaves_one {A = A} o a b left rest first second = ap (λ p. p.1) (answers_same o a b left rest first second)

@@ -1,7 +1,8 @@
 -- What tokens of a line spell is well formed: patterns, clauses and statements.
-use Rattle.std.proofs.Common.{◌≡◌, ℕ, zero, suc, ◌≤◌, ◌-◌, Bool, List, [], ◌∷◌, ◌++◌, length, take, drop, Option, Some, Ok, refl, sym, ap, ◌∙◌, subst, append_assoc, if◌then◌else◌, slice_get, slice_range, arith}
+use Rattle.std.proofs.Common.{◌≡◌, ℕ, zero, suc, ◌≤◌, ◌-◌, Bool, List, [], ◌∷◌, ◌++◌, length, take, drop, Option, Some, None, Ok, refl, sym, ap, ◌∙◌, subst, append_assoc, if◌then◌else◌, slice_get, slice_range, arith}
 use Rattle.std.specs.Prelude.{encode_utf8_all}
 use Rattle.std.specs.Str.{IsUtf8}
+use Rattle.std.specs.Option.{ForSome}
 use Rattle.std.proofs.lemmas.List.{take-append-drop}
 use Rattle.std.proofs.lemmas.Str.{encodes-chars}
 use Rattle.cy_lexer.specs.declared.symbols.Symbol.{Symbol}
@@ -12,16 +13,38 @@ use Rattle.cy_lexer.specs.Tokens.{tokens_of}
 use Rattle.cy_lexer.proofs.LexedLemmas.{tokens_of-own, IsStretch}
 use Rattle.cy_trees.specs.declared.expressions.Variable.{Variable}
 use Rattle.cy_trees.specs.declared.clauses.Length.{Length}
-use Rattle.cy_trees.specs.Trees.{Name, Expression, variable, MapEntry, NodePattern, RelationshipPattern, Step, Path, Item, Key, Projection, SetItem, RemoveItem, Clause, Statement}
+use Rattle.cy_trees.specs.declared.expressions.BinaryOperator.TheVariants as operator
+use Rattle.cy_trees.specs.Depth.{depth, greatest_depth}
+use Rattle.cy_trees.specs.Trees.{Name, Expression, binary, variable, MapEntry, NodePattern, RelationshipPattern, Step, Path, Item, Key, Projection, SetItem, RemoveItem, PathTest, Where, Clause, Query, Statement}
 use Rattle.cy_grammar.specs.Words.{slice_in, spanning, written}
 use Rattle.cy_grammar.specs.SpellsClauses as spell
-use Rattle.cy_grammar.specs.internal.WellFormed.{IsNamed, IsVariable, Every, Several, IfAny, IsWhole, EntryIsWellFormed, NodeIsWellFormed, LengthIsWellFormed, RelationshipIsWellFormed, StepIsWellFormed, PathIsWellFormed, ItemIsWellFormed, KeyIsWellFormed, CountIsWellFormed, ProjectionIsWellFormed, SetItemIsWellFormed, RemoveItemIsWellFormed, ClauseIsWellFormed, ClausesAreWellFormed, StatementIsWellFormed}
+use Rattle.cy_grammar.specs.internal.WellFormed.{IsNamed, IsVariable, Every, Several, IfAny, IsWellFormed, IsWhole, EntryIsWellFormed, NodeIsWellFormed, LengthIsWellFormed, RelationshipIsWellFormed, StepIsWellFormed, PathIsWellFormed, ItemIsWellFormed, KeyIsWellFormed, CountIsWellFormed, ProjectionIsWellFormed, SetItemIsWellFormed, RemoveItemIsWellFormed, PathTestIsWellFormed, WhereIsWellFormed, ClauseIsWellFormed, ClausesAreWellFormed, ReadingIsWellFormed, StatementIsWellFormed}
 use Rattle.cy_grammar.proofs.Complete.{expression-complete}
 use Rattle.cy_grammar.proofs.WellSpelt.{IsPart, part_next, named_token, labels_well, name_is_word, some_every, well}
 
 some_all : {A : Type 0} (P : A → Type 0) (xs : List A) → Several P xs → Every P xs
 some_all P [] are = absurd are
 some_all P (x ∷ xs) are = are
+
+-- what conjuncts make
+abbrev ConjunctIsWellFormed : spell.Part → Type 0
+ConjunctIsWellFormed (spell.condition e) = IsWellFormed e
+ConjunctIsWellFormed (spell.path_test t) = PathTestIsWellFormed t
+
+paths_well_among : (cs : List spell.Part) → Every ConjunctIsWellFormed cs → Every PathTestIsWellFormed (spell.paths_among cs)
+paths_well_among [] are = tt
+paths_well_among (spell.condition e ∷ cs) are = paths_well_among cs are.1
+paths_well_among (spell.path_test t ∷ cs) are = (are.0, paths_well_among cs are.1)
+
+test_after_well : (before : Option Expression) (cs : List spell.Part) → IfAny IsWellFormed before → Every ConjunctIsWellFormed cs → IfAny IsWellFormed (spell.test_after before cs)
+test_after_well before [] w are = w
+test_after_well None (spell.condition e ∷ cs) w are = test_after_well (Some e) cs are.0 are.1
+test_after_well (Some b) (spell.condition e ∷ cs) w are = test_after_well (Some (binary operator.And b e)) cs (w, are.0) are.1
+test_after_well before (spell.path_test t ∷ cs) w are = test_after_well before cs w are.1
+
+whole_if_any : (o : Option Expression) → IfAny IsWellFormed o → ForSome o (λ e. depth e ≤ greatest_depth) → IfAny IsWhole o
+whole_if_any None w s = tt
+whole_if_any (Some e) w s = (w, s e refl)
 
 -- the last of some tokens
 last_of : (t : Token) (ts : List Token) → (u : Token) × (slice_get (t ∷ ts) (length ts) ≡ Some u)
@@ -207,10 +230,6 @@ module _ (line : List ℕ) (utf8 : IsUtf8 line) where
       let y = count_well f x.1 in
       ((v.0, w.0, x.0, y.0), y.1)
 
-  filter_well : {f : Option Expression} {ts rest : List Token} → spell.SpellsFilterIfAny line f ts rest → Part ts → IfAny IsWhole f × Part rest
-  filter_well (spell.no_filter ts) p = (tt, p)
-  filter_well (spell.filter e where_ ts rest is s) p = whole_well e ts rest s (next where_ ts p)
-
   -- ---- updates
 
   set_item_well : (i : SetItem) (ts rest : List Token) → spell.SpellsSetItem line i ts rest → Part ts → SetItemIsWellFormed i × Part rest
@@ -234,18 +253,46 @@ module _ (line : List ℕ) (utf8 : IsUtf8 line) where
       let y = labels_well line utf8 u (next colon mid x.1) in
       ((x.0, y.0), y.1)
 
+  -- ---- conditions
+
+  path_test_well : (t : PathTest) (ts rest : List Token) → spell.SpellsPathTest line t ts rest → Part ts → PathTestIsWellFormed t × Part rest
+  path_test_well _ _ _ (spell.path_there q ts rest s steps) p = let x = path_well q ts rest s p in (record { path = x.0; steps = steps }, x.1)
+  path_test_well _ _ _ (spell.no_path q negation ts rest is s steps) p =
+      let x = path_well q ts rest s (next negation ts p) in (record { path = x.0; steps = steps }, x.1)
+  path_test_well _ _ _ (spell.no_path_in_brackets q negation opening closing ts rest is opens s steps closes) p =
+      let x = path_well q ts (closing ∷ rest) s (next opening ts (next negation (opening ∷ ts) p)) in
+      (record { path = x.0; steps = steps }, next closing rest x.1)
+
+  conjunct_well : (c : spell.Part) (ts rest : List Token) → spell.SpellsPart line c ts rest → Part ts → ConjunctIsWellFormed c × Part rest
+  conjunct_well _ _ _ (spell.path_part t ts rest s ends) p = path_test_well t ts rest s p
+  conjunct_well _ _ _ (spell.condition_part e ts rest none s shallow ends) p = well line utf8 s p
+
+  conjuncts_well : {cs : List spell.Part} {ts rest : List Token} → spell.SpellsParts line cs ts rest → Part ts → Every ConjunctIsWellFormed cs × Part rest
+  conjuncts_well (spell.last_part c ts rest s) p = let x = conjunct_well c ts rest s p in ((x.0, tt), x.1)
+  conjuncts_well (spell.next_part c cs and ts mid rest s is others) p =
+      let x = conjunct_well c ts (and ∷ mid) s p in
+      let y = conjuncts_well others (next and mid x.1) in
+      ((x.0, y.0), y.1)
+
+  where_well : {f : Where} {ts rest : List Token} → spell.SpellsWhereIfAny line f ts rest → Part ts → WhereIsWellFormed f × Part rest
+  where_well (spell.no_where ts) p = (record { test = tt; paths = tt }, p)
+  where_well (spell.where_parts cs where_ ts rest is chain shallow) p =
+      let x = conjuncts_well chain.parts (next where_ ts p) in
+      (record { test = whole_if_any (spell.test_of cs) (test_after_well None cs tt x.0) shallow; paths = paths_well_among cs x.0 }, x.1)
+  where_well (spell.where_expression e where_ ts rest is none s) p = let x = whole_well e ts rest s (next where_ ts p) in (record { test = x.0; paths = tt }, x.1)
+
   -- ---- clauses
 
   paths_well : {ps : List Path} {ts rest : List Token} → spell.SpellsEach (spell.SpellsPath line) ps ts rest → Part ts → Several PathIsWellFormed ps × Part rest
   paths_well s p = each_well (spell.SpellsPath line) PathIsWellFormed path_well s p
 
   clause_well : {c : Clause} {ts rest : List Token} → spell.SpellsClause line c ts rest → Part ts → ClauseIsWellFormed c × Part rest
-  clause_well (spell.match_ ps f t ts mid rest is s u) p = let x = paths_well s (next t ts p) in let y = filter_well u x.1 in ((x.0, y.0), y.1)
+  clause_well (spell.match_ ps f t ts mid rest is s u) p = let x = paths_well s (next t ts p) in let y = where_well u x.1 in ((x.0, y.0), y.1)
   clause_well (spell.optional_match ps f optional t ts mid rest o is s u) p =
-      let x = paths_well s (next t ts (next optional (t ∷ ts) p)) in let y = filter_well u x.1 in ((x.0, y.0), y.1)
+      let x = paths_well s (next t ts (next optional (t ∷ ts) p)) in let y = where_well u x.1 in ((x.0, y.0), y.1)
   clause_well (spell.unwind_as e v t as_ ts mid rest is s named_ u) p =
       let x = whole_well e ts (as_ ∷ mid) s (next t ts p) in let y = variable_well v mid rest u (next as_ mid x.1) in ((x.0, y.0), y.1)
-  clause_well (spell.with_ q f t ts mid rest is s u) p = let x = projection_well s (next t ts p) in let y = filter_well u x.1 in ((x.0, y.0), y.1)
+  clause_well (spell.with_ q f t ts mid rest is s u) p = let x = projection_well s (next t ts p) in let y = where_well u x.1 in ((x.0, y.0), y.1)
   clause_well (spell.return_ q t ts rest is s) p = projection_well s (next t ts p)
   clause_well (spell.create_ ps t ts rest is s) p = paths_well s (next t ts p)
   clause_well (spell.set_ is t ts rest sets s) p = each_well (spell.SpellsSetItem line) SetItemIsWellFormed set_item_well s (next t ts p)
@@ -253,11 +300,29 @@ module _ (line : List ℕ) (utf8 : IsUtf8 line) where
   clause_well (spell.delete_ vs t ts rest is s) p = each_well (spell.SpellsVariable line) IsVariable variable_well s (next t ts p)
   clause_well (spell.detach_delete vs detach t ts rest d is s) p = each_well (spell.SpellsVariable line) IsVariable variable_well s (next t ts (next detach (t ∷ ts) p))
 
-  clauses_well : {s : spell.ClausePhase} {cs : List Clause} {ts : List Token} → spell.SpellsClauses line s cs ts → Part ts → ClausesAreWellFormed s cs
-  clauses_well (spell.no_more_clauses s ts may ends) p = may
-  clauses_well (spell.next_clause s c cs ts mid may spelt others) p =
-      let x = clause_well spelt p in (may, x.0, clauses_well others x.1)
+  -- ---- queries and statements
+
+  clauses_well : {s : spell.ClausePhase} {cs : List Clause} {ts rest : List Token} → spell.SpellsQuery line s cs ts rest → Part ts → ClausesAreWellFormed s cs × Part rest
+  clauses_well (spell.no_more_clauses s ts may) p = (may, p)
+  clauses_well (spell.next_clause s c cs ts mid rest may spelt others) p =
+      let x = clause_well spelt p in
+      let y = clauses_well others x.1 in
+      ((may, x.0, y.0), y.1)
+
+  reading_well : (q : Query) (ts rest : List Token) → spell.SpellsReading line q ts rest → Part ts → ReadingIsWellFormed q × Part rest
+  reading_well q ts rest r p = let x = clauses_well r.spelt p in ((x.0, r.reads), x.1)
+
+  union_part : {all : Bool} {ts rest : List Token} → spell.SpellsUnion all ts rest → Part ts → Part rest
+  union_part (spell.union t rest is) p = next t rest p
+  union_part (spell.union_all t all rest is is_all) p = next all rest (next t (all ∷ rest) p)
+
+  further_well : {all : Bool} {qs : List Query} {ts rest : List Token} → spell.SpellsFurther line all qs ts rest → Part ts → Every ReadingIsWellFormed qs
+  further_well (spell.no_further ts) p = tt
+  further_well (spell.further q qs ts from mid rest u r others) p =
+      let x = reading_well q from mid r (union_part u p) in (x.0, further_well others x.1)
 
   -- a statement that tokens of the line spell
   pub statement-well : (s : Statement) (ts : List Token) → spell.SpellsStatement line s ts → Part ts → StatementIsWellFormed s
-  statement-well s ts spelt p = clauses_well spelt p
+  statement-well _ ts (spell.one_query q _ rest s e) p = ((clauses_well s p).0, refl)
+  statement-well _ ts (spell.union_of first second others all _ mid rest r more e) p =
+      let x = reading_well first ts mid r p in (x.0, further_well more x.1)

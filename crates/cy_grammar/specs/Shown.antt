@@ -3,7 +3,7 @@ use Rattle.std.specs.Prelude.{◌≡◌, ℕ, true, List, ◌++◌, map, Ok}
 use Rattle.cy_lexer.specs.declared.tokens.Token.{Token}
 use Rattle.cy_lexer.specs.Spans.{slice_of}
 use Rattle.cy_lexer.specs.Tokens.{tokens_of}
-use Rattle.cy_trees.specs.Trees.{Item, Projection, Clause, «with», «return», Statement}
+use Rattle.cy_trees.specs.Trees.{Item, Projection, Clause, «with», «return», Query, Statement}
 
 -- the tokens stand one after another among those of the line
 abbrev pub AreNeighbours : List ℕ → List Token → Type 0
@@ -25,5 +25,8 @@ named_clause («with» p filter) = «with» (named_projection p) filter
 named_clause («return» p) = «return» (named_projection p)
 named_clause c = c
 
+abbrev pub named_query : Query → Query
+named_query q = record { clauses = map named_clause q.clauses }
+
 abbrev pub with_columns : Statement → Statement
-with_columns s = record { clauses = map named_clause s.clauses }
+with_columns s = record { queries = map named_query s.queries; all = s.all }

@@ -1,6 +1,9 @@
 -- Which tokens spell patterns, clauses and a statement: the rules of the grammar (openCypher 9, grammar, narrowed to this
 -- profile). As for expressions, what stands from the tokens `ts` up to the tokens `rest` spells the tree.
-use Rattle.std.specs.Prelude.{ℕ, ◌<◌, ◌≤◌, ◌-◌, ◌⊎◌, length, take, Bool, true, false, IsTrue, List, [], ◌∷◌, Option, Some, None}
+use Rattle.std.specs.Prelude.{ℕ, ◌<◌, ◌≤◌, ◌-◌, ◌⊎◌, length, take, Bool, true, false, not, ◌&&◌, IsTrue, List, [], ◌∷◌, Option, Some, None}
+use Rattle.std.specs.Option.{ForSome}
+use Rattle.cy_lexer.specs.declared.tokens.TokenKind.{TokenKind}
+use Rattle.cy_lexer.specs.declared.tokens.TokenKind.TheVariants as kind
 use Rattle.cy_lexer.specs.declared.tokens.Token.{Token}
 use Rattle.cy_lexer.specs.declared.keywords.Keyword.{Keyword}
 use Rattle.cy_lexer.specs.declared.keywords.Keyword.TheVariants as word
@@ -10,11 +13,12 @@ use Rattle.cy_trees.specs.declared.expressions.Variable.{Variable}
 use Rattle.cy_trees.specs.declared.clauses.Direction.{Direction}
 use Rattle.cy_trees.specs.declared.clauses.Direction.TheVariants as direction
 use Rattle.cy_trees.specs.declared.clauses.Length.{Length}
-use Rattle.cy_trees.specs.Trees.{Name, Expression, variable as variable_tree, MapEntry, NodePattern, RelationshipPattern, Step, Path, Item, Key, Projection, SetItem, set_property, set_labels, RemoveItem, remove_property, remove_labels, Clause, «match», unwind, «with», «return», create, set, remove, delete, Statement}
+use Rattle.cy_trees.specs.declared.expressions.BinaryOperator.TheVariants as operator
+use Rattle.cy_trees.specs.Trees.{Name, Expression, binary, variable as variable_tree, MapEntry, NodePattern, RelationshipPattern, Step, Path, Item, Key, Projection, SetItem, set_property, set_labels, RemoveItem, remove_property, remove_labels, PathTest, Where, Clause, «match», unwind, «with», «return», create, set, remove, delete, Query, Statement}
 use Rattle.cy_trees.specs.Depth.{depth, greatest_depth}
 use Rattle.cy_grammar.specs.Words.{is_name, is_word, denotes, written}
 use Rattle.cy_lexer.specs.Numbers.{greatest_number}
-use Rattle.cy_grammar.specs.Spells.{Spells, whole, SpellsLabels, IsKeyword, IsSymbol, IsNumber}
+use Rattle.cy_grammar.specs.Spells.{Spells, whole, negation, SpellsLabels, IsKeyword, IsSymbol, IsNumber}
 
 -- trees with a `,` between, one or more
 pub data SpellsEach {A : Type 0} (each : A → List Token → List Token → Type 0) : List A → List Token → List Token → Type 0 where
@@ -113,6 +117,75 @@ pub data SpellsArrow (s : Symbol) : Bool → List Token → List Token → Type 
   arrow : (t : Token) (rest : List Token) → IsSymbol s t → SpellsArrow s true (t ∷ rest) rest
   no_arrow : (ts : List Token) → SpellsArrow s false ts ts
 
+-- ---- the conjuncts of a WHERE
+
+-- a conjunct: an expression, or a path
+pub data Part : Type 0 where
+  condition : Expression → Part
+  path_test : PathTest → Part
+
+abbrev pub any_step : List Step → Bool
+any_step [] = false
+any_step (s ∷ ss) = true
+
+-- the path has a relationship
+abbrev pub has_step : Path → Bool
+has_step p = any_step p.steps
+
+abbrev pub is_path_among : List Part → Bool
+is_path_among [] = false
+is_path_among (condition e ∷ ps) = is_path_among ps
+is_path_among (path_test t ∷ ps) = true
+
+-- the paths, in order
+abbrev pub paths_among : List Part → List PathTest
+paths_among [] = []
+paths_among (condition e ∷ ps) = paths_among ps
+paths_among (path_test t ∷ ps) = t ∷ paths_among ps
+
+-- the expressions in order, joined by AND to the left
+abbrev pub joined : Option Expression → Expression → Expression
+joined None e = e
+joined (Some before) e = binary operator.And before e
+
+abbrev pub test_after : Option Expression → List Part → Option Expression
+test_after before [] = before
+test_after before (condition e ∷ ps) = test_after (Some (joined before e)) ps
+test_after before (path_test t ∷ ps) = test_after before ps
+
+abbrev pub test_of : List Part → Option Expression
+test_of ps = test_after None ps
+
+-- a WHERE ends before `;`, UNION and the first word of a clause
+abbrev pub is_after_where : TokenKind → Bool
+is_after_where (kind.Symbol sign.Semicolon) = true
+is_after_where (kind.Keyword word.Union) = true
+is_after_where (kind.Keyword word.Match) = true
+is_after_where (kind.Keyword word.Optional) = true
+is_after_where (kind.Keyword word.Unwind) = true
+is_after_where (kind.Keyword word.With) = true
+is_after_where (kind.Keyword word.Return) = true
+is_after_where (kind.Keyword word.Create) = true
+is_after_where (kind.Keyword word.Set) = true
+is_after_where (kind.Keyword word.Remove) = true
+is_after_where (kind.Keyword word.Delete) = true
+is_after_where (kind.Keyword word.Detach) = true
+is_after_where _ = false
+
+-- the WHERE ends before these tokens
+abbrev pub ends_where : List Token → Bool
+ends_where [] = true
+ends_where (t ∷ ts) = is_after_where t.kind
+
+-- a conjunct may end before AND too
+abbrev pub is_after_part : TokenKind → Bool
+is_after_part (kind.Keyword word.And) = true
+is_after_part k = is_after_where k
+
+abbrev pub ends_part : List Token → Bool
+ends_part [] = true
+ends_part (t ∷ ts) = is_after_part t.kind
+
 module _ (line : List ℕ) where
   -- what stands in the square brackets, and nothing where there are none; the direction is that of the arrows around it, which
   -- the next rule sets
@@ -148,11 +221,47 @@ module _ (line : List ℕ) where
   column_name (variable_tree v) own = v.name
   column_name _ own = written line own
 
-  -- where = "WHERE" expr
-  pub data SpellsFilterIfAny : Option Expression → List Token → List Token → Type 0 where
-    no_filter : (ts : List Token) → SpellsFilterIfAny None ts ts
-    filter : (e : Expression) (where_ : Token) (ts rest : List Token) → IsKeyword word.Where where_ → SpellsExpression line e ts rest
-        → SpellsFilterIfAny (Some e) (where_ ∷ ts) rest
+  -- path1 | "NOT" path1 | "NOT" "(" path1 ")", where path1 = node rel node { rel node }
+  pub data SpellsPathTest : PathTest → List Token → List Token → Type 0 where
+    path_there : (p : Path) (ts rest : List Token) → SpellsPath p ts rest → IsTrue (has_step p)
+        → SpellsPathTest (record { denied = false; path = p }) ts rest
+    no_path : (p : Path) (not_ : Token) (ts rest : List Token) → IsKeyword word.Not not_ → SpellsPath p ts rest → IsTrue (has_step p)
+        → SpellsPathTest (record { denied = true; path = p }) (not_ ∷ ts) rest
+    no_path_in_brackets : (p : Path) (not_ opening closing : Token) (ts rest : List Token) → IsKeyword word.Not not_
+        → IsSymbol sign.LeftParenthesis opening → SpellsPath p ts (closing ∷ rest) → IsTrue (has_step p) → IsSymbol sign.RightParenthesis closing
+        → SpellsPathTest (record { denied = true; path = p }) (not_ ∷ opening ∷ ts) rest
+
+  -- part = not | path1 | "NOT" path1 | "NOT" "(" path1 ")": it is a path where the tokens spell one up to the part's end, else
+  -- an expression, which isn't too deep
+  pub data SpellsPart : Part → List Token → List Token → Type 0 where
+    path_part : (t : PathTest) (ts rest : List Token) → SpellsPathTest t ts rest → IsTrue (ends_part rest) → SpellsPart (path_test t) ts rest
+    condition_part : (e : Expression) (ts rest : List Token)
+        → ((t : PathTest) (left : List Token) → SpellsPathTest t ts left → IsTrue (ends_part left) → ⊥)
+        → Spells line most_levels negation e ts rest → depth e ≤ greatest_depth → IsTrue (ends_part rest)
+        → SpellsPart (condition e) ts rest
+
+  -- part { "AND" part }
+  pub data SpellsParts : List Part → List Token → List Token → Type 0 where
+    last_part : (p : Part) (ts rest : List Token) → SpellsPart p ts rest → SpellsParts (p ∷ []) ts rest
+    next_part : (p : Part) (ps : List Part) (and : Token) (ts mid rest : List Token) → SpellsPart p ts (and ∷ mid) → IsKeyword word.And and
+        → SpellsParts ps mid rest → SpellsParts (p ∷ ps) ts rest
+
+  -- parts up to the end of the WHERE, of which one is a path
+  pub record SpellsChain (ps : List Part) (ts rest : List Token) : Type 0 where
+    pub parts : SpellsParts ps ts rest
+    pub ends : IsTrue (ends_where rest)
+    pub has_path : IsTrue (is_path_among ps)
+
+  -- where = "WHERE" expr | "WHERE" part { "AND" part }: it is a chain of parts where the tokens spell one, of which a part is a
+  -- path, else an expression; the condition that the parts make isn't too deep
+  pub data SpellsWhereIfAny : Where → List Token → List Token → Type 0 where
+    no_where : (ts : List Token) → SpellsWhereIfAny (record { test = None; paths = [] }) ts ts
+    where_parts : (ps : List Part) (where_ : Token) (ts rest : List Token) → IsKeyword word.Where where_ → SpellsChain ps ts rest
+        → ForSome (test_of ps) (λ e. depth e ≤ greatest_depth)
+        → SpellsWhereIfAny (record { test = test_of ps; paths = paths_among ps }) (where_ ∷ ts) rest
+    where_expression : (e : Expression) (where_ : Token) (ts rest : List Token) → IsKeyword word.Where where_
+        → ((ps : List Part) (left : List Token) → SpellsChain ps ts left → ⊥) → SpellsExpression line e ts rest
+        → SpellsWhereIfAny (record { test = Some e; paths = [] }) (where_ ∷ ts) rest
 
   -- item = expr [ "AS" name ], where without AS the column is the variable's name, or what is written
   pub data SpellsItem : Item → List Token → List Token → Type 0 where
@@ -212,15 +321,15 @@ module _ (line : List ℕ) where
         → SpellsRemoveItem (remove_labels v ls) ts rest
 
   pub data SpellsClause : Clause → List Token → List Token → Type 0 where
-    match_ : (ps : List Path) (f : Option Expression) (t : Token) (ts mid rest : List Token) → IsKeyword word.Match t
-        → SpellsEach SpellsPath ps ts mid → SpellsFilterIfAny f mid rest → SpellsClause («match» false ps f) (t ∷ ts) rest
-    optional_match : (ps : List Path) (f : Option Expression) (optional t : Token) (ts mid rest : List Token) → IsKeyword word.Optional optional
-        → IsKeyword word.Match t → SpellsEach SpellsPath ps ts mid → SpellsFilterIfAny f mid rest
+    match_ : (ps : List Path) (f : Where) (t : Token) (ts mid rest : List Token) → IsKeyword word.Match t
+        → SpellsEach SpellsPath ps ts mid → SpellsWhereIfAny f mid rest → SpellsClause («match» false ps f) (t ∷ ts) rest
+    optional_match : (ps : List Path) (f : Where) (optional t : Token) (ts mid rest : List Token) → IsKeyword word.Optional optional
+        → IsKeyword word.Match t → SpellsEach SpellsPath ps ts mid → SpellsWhereIfAny f mid rest
         → SpellsClause («match» true ps f) (optional ∷ t ∷ ts) rest
     unwind_as : (e : Expression) (v : Variable) (t as_ : Token) (ts mid rest : List Token) → IsKeyword word.Unwind t
         → SpellsExpression line e ts (as_ ∷ mid) → IsKeyword word.As as_ → SpellsVariable line v mid rest → SpellsClause (unwind e v) (t ∷ ts) rest
-    with_ : (p : Projection) (f : Option Expression) (t : Token) (ts mid rest : List Token) → IsKeyword word.With t
-        → SpellsProjection p ts mid → SpellsFilterIfAny f mid rest → SpellsClause («with» p f) (t ∷ ts) rest
+    with_ : (p : Projection) (f : Where) (t : Token) (ts mid rest : List Token) → IsKeyword word.With t
+        → SpellsProjection p ts mid → SpellsWhereIfAny f mid rest → SpellsClause («with» p f) (t ∷ ts) rest
     return_ : (p : Projection) (t : Token) (ts rest : List Token) → IsKeyword word.Return t → SpellsProjection p ts rest
         → SpellsClause («return» p) (t ∷ ts) rest
     create_ : (ps : List Path) (t : Token) (ts rest : List Token) → IsKeyword word.Create t → SpellsEach SpellsPath ps ts rest
@@ -260,23 +369,57 @@ may_follow updating (unwind e v) = false
 may_follow updating c = true
 may_follow ended c = false
 
--- a statement ends with an updating clause or RETURN
+-- a query ends with an updating clause or RETURN
 abbrev pub may_end : ClausePhase → Bool
 may_end reading = false
 may_end updating = true
 may_end ended = true
+
+-- query = clause { clause }, in an order that is allowed
+pub data SpellsQuery (line : List ℕ) : ClausePhase → List Clause → List Token → List Token → Type 0 where
+  no_more_clauses : (s : ClausePhase) (ts : List Token) → IsTrue (may_end s) → SpellsQuery line s [] ts ts
+  next_clause : (s : ClausePhase) (c : Clause) (cs : List Clause) (ts mid rest : List Token) → IsTrue (may_follow s c) → SpellsClause line c ts mid
+      → SpellsQuery line (phase_after c) cs mid rest → SpellsQuery line s (c ∷ cs) ts rest
+
+-- ---- queries with UNION between
+
+abbrev pub updates : Clause → Bool
+updates (create ps) = true
+updates (set is) = true
+updates (remove is) = true
+updates (delete detach vs) = true
+updates c = false
+
+-- no clause updates, so that a whole query of them ends with RETURN
+abbrev pub reads_alone : List Clause → Bool
+reads_alone [] = true
+reads_alone (c ∷ cs) = not (updates c) && reads_alone cs
+
+-- a query of a union
+pub record SpellsReading (line : List ℕ) (q : Query) (ts rest : List Token) : Type 0 where
+  pub spelt : SpellsQuery line reading q.clauses ts rest
+  pub reads : IsTrue (reads_alone q.clauses)
+
+-- "UNION" [ "ALL" ]
+pub data SpellsUnion : Bool → List Token → List Token → Type 0 where
+  union : (t : Token) (rest : List Token) → IsKeyword word.Union t → SpellsUnion false (t ∷ rest) rest
+  union_all : (t all : Token) (rest : List Token) → IsKeyword word.Union t → IsKeyword word.All all → SpellsUnion true (t ∷ all ∷ rest) rest
+
+-- { "UNION" [ "ALL" ] query }, with ALL after each UNION or after none
+pub data SpellsFurther (line : List ℕ) (all : Bool) : List Query → List Token → List Token → Type 0 where
+  no_further : (ts : List Token) → SpellsFurther line all [] ts ts
+  further : (q : Query) (qs : List Query) (ts from mid rest : List Token) → SpellsUnion all ts from → SpellsReading line q from mid
+      → SpellsFurther line all qs mid rest → SpellsFurther line all (q ∷ qs) ts rest
 
 -- the end of the tokens, which a `;` may stand before
 pub data SpellsEnd : List Token → Type 0 where
   nothing_more : SpellsEnd []
   semicolon : (t : Token) → IsSymbol sign.Semicolon t → SpellsEnd (t ∷ [])
 
--- clauses to the end of the tokens, in an order that is allowed
-pub data SpellsClauses (line : List ℕ) : ClausePhase → List Clause → List Token → Type 0 where
-  no_more_clauses : (s : ClausePhase) (ts : List Token) → IsTrue (may_end s) → SpellsEnd ts → SpellsClauses line s [] ts
-  next_clause : (s : ClausePhase) (c : Clause) (cs : List Clause) (ts mid : List Token) → IsTrue (may_follow s c) → SpellsClause line c ts mid
-      → SpellsClauses line (phase_after c) cs mid → SpellsClauses line s (c ∷ cs) ts
-
--- statement = clause { clause } [ ";" ]
-abbrev pub SpellsStatement : List ℕ → Statement → List Token → Type 0
-SpellsStatement line s ts = SpellsClauses line reading s.clauses ts
+-- statement = query { "UNION" [ "ALL" ] query } [ ";" ], where queries of a union are reading ones
+pub data SpellsStatement (line : List ℕ) : Statement → List Token → Type 0 where
+  one_query : (q : Query) (ts rest : List Token) → SpellsQuery line reading q.clauses ts rest → SpellsEnd rest
+      → SpellsStatement line (record { queries = q ∷ []; all = false }) ts
+  union_of : (first second : Query) (others : List Query) (all : Bool) (ts mid rest : List Token) → SpellsReading line first ts mid
+      → SpellsFurther line all (second ∷ others) mid rest → SpellsEnd rest
+      → SpellsStatement line (record { queries = first ∷ second ∷ others; all = all }) ts

@@ -24,6 +24,6 @@ pub enum ClausePhase {
     Reading,
     /// Updating clauses: more of them, WITH, RETURN, or the end.
     Updating,
-    /// RETURN or DELETE: the end alone.
+    /// RETURN or DELETE: the query's end alone.
     Ended,
 }

@@ -1,5 +1,5 @@
 -- How patterns, clauses and statements are read.
-use Rattle.std.specs.Prelude.{ℕ, zero, suc, Bool, true, false, ◌&&◌, if◌then◌else◌, nat_lt, nat_le, List, [], ◌∷◌, ◌++◌, length, take, ◌-◌, Option, Some, None}
+use Rattle.std.specs.Prelude.{ℕ, zero, suc, Bool, true, false, not, ◌&&◌, if◌then◌else◌, nat_lt, nat_le, List, [], ◌∷◌, ◌++◌, length, take, ◌-◌, Option, Some, None}
 use Rattle.cy_lexer.specs.declared.tokens.TokenKind.{TokenKind}
 use Rattle.cy_lexer.specs.declared.tokens.TokenKind.TheVariants as kind
 use Rattle.cy_lexer.specs.declared.tokens.Token.{Token}
@@ -10,15 +10,17 @@ use Rattle.cy_trees.specs.declared.expressions.Variable.{Variable}
 use Rattle.cy_trees.specs.declared.clauses.Direction.{Direction}
 use Rattle.cy_trees.specs.declared.clauses.Direction.TheVariants as direction
 use Rattle.cy_trees.specs.declared.clauses.Length.{Length}
+use Rattle.cy_trees.specs.declared.expressions.BinaryOperator.TheVariants as operator
+use Rattle.cy_grammar.specs.declared.places.Nested.TheVariants as nested
 use Rattle.cy_grammar.specs.declared.phases.Opening.{Opening}
 use Rattle.cy_grammar.specs.declared.phases.Opening.TheVariants as opening
 use Rattle.cy_grammar.specs.declared.phases.ClausePhase.{ClausePhase}
 use Rattle.cy_grammar.specs.declared.phases.ClausePhase.TheVariants as phase
-use Rattle.cy_trees.specs.Trees.{Name, Expression, MapEntry, NodePattern, RelationshipPattern, Step, Path, Item, Key, Projection, SetItem, set_property, set_labels, RemoveItem, remove_property, remove_labels, Clause, «match», unwind, «with», «return», create, set, remove, delete, Statement}
+use Rattle.cy_trees.specs.Trees.{Name, Expression, binary, MapEntry, NodePattern, RelationshipPattern, Step, Path, Item, Key, Projection, SetItem, set_property, set_labels, RemoveItem, remove_property, remove_labels, PathTest, Where, Clause, «match», unwind, «with», «return», create, set, remove, delete, Query, Statement}
 use Rattle.cy_lexer.specs.Numbers.{greatest_number}
-use Rattle.cy_grammar.specs.SpellsClauses.{greatest_bound, direction_of, column_name}
-use Rattle.cy_grammar.specs.internal.Reader.{Reader, ◌>>=◌, ◌>>◌, ◌<$>◌, pure, refuse, peek, skip, at_kind, eat_keyword, eat_symbol, expect_keyword, expect_symbol, name, word as any_word}
-use Rattle.cy_grammar.specs.internal.Expressions.{labels, expression}
+use Rattle.cy_grammar.specs.SpellsClauses.{greatest_bound, most_levels, direction_of, column_name, Part, condition, path_test as path_conjunct, has_step, is_path_among, ends_part, reads_alone}
+use Rattle.cy_grammar.specs.internal.Reader.{Reader, ◌>>=◌, ◌>>◌, ◌<$>◌, ◌<|>◌, pure, refuse, peek, skip, past, at_kind, sees_symbol, eat_keyword, eat_symbol, expect_keyword, expect_symbol, checked, name, word as any_word}
+use Rattle.cy_grammar.specs.internal.Expressions.{labels, expression, nesting}
 
 -- items with commas between, one or more
 unfoldable pub separated_from : {A : Type 0} → Reader A → ℕ → List A → Reader (List A)
@@ -124,19 +126,74 @@ phase_after opening.Remove = phase.Updating
 phase_after opening.Delete = phase.Ended
 phase_after opening.Detach = phase.Ended
 
--- a statement may end after these clauses
+-- the clauses that write
+abbrev pub updates : Opening → Bool
+updates opening.Create = true
+updates opening.Set = true
+updates opening.Remove = true
+updates opening.Delete = true
+updates opening.Detach = true
+updates o = false
+
+-- a clause may follow, in a query after UNION too
+abbrev pub is_allowed : Bool → ClausePhase → Opening → Bool
+is_allowed false s o = allows s o
+is_allowed true s o = allows s o && not (updates o)
+
+-- a query may end after these clauses
 abbrev pub may_end : ClausePhase → Bool
 may_end phase.Reading = false
 may_end phase.Updating = true
 may_end phase.Ended = true
+
+unfoldable pub query_ended : ClausePhase → Reader (Unit {0})
+query_ended s = if may_end s then pure tt else refuse
 
 -- the end of the tokens, which a `;` may stand before
 abbrev pub nothing_left : Reader (Unit {0})
 nothing_left [] = Some (tt, [])
 nothing_left (t ∷ ts) = None
 
-unfoldable pub end_read : ClausePhase → Reader (Unit {0})
-end_read s = if may_end s then (eat_symbol sign.Semicolon >> nothing_left) else refuse
+unfoldable pub end_read : Reader (Unit {0})
+end_read = eat_symbol sign.Semicolon >> nothing_left
+
+-- ALL, or none, after a later UNION, as after the first one
+unfoldable pub same_union : Bool → Reader (Unit {0})
+same_union true = expect_keyword word.All
+same_union false = pure tt
+
+-- ---- the conjuncts of a WHERE
+
+-- two brackets come next
+unfoldable pub sees_two_brackets : List Token → Bool
+sees_two_brackets ts = sees_symbol sign.LeftParenthesis ts && sees_symbol sign.LeftParenthesis (past ts)
+
+abbrev pub two_brackets : Reader Bool
+two_brackets = λ ts. Some (sees_two_brackets ts, ts)
+
+-- the condition with one more conjunct
+unfoldable pub conjoined : Option Expression → Expression → Reader Expression
+conjoined None e = pure e
+conjoined (Some before) e = checked (binary operator.And before e)
+
+-- a WHERE with more parts
+unfoldable pub where_from : Where → List Part → Reader Where
+where_from found [] = pure found
+where_from found (condition e ∷ ps) = conjoined found.test e >>= (λ test. where_from (record { test = Some test; paths = found.paths }) ps)
+where_from found (path_conjunct t ∷ ps) = where_from (record { test = found.test; paths = found.paths ++ t ∷ [] }) ps
+
+-- a part ends after what was read
+abbrev pub ending : {A : Type 0} → A → Reader A
+ending a = λ ts. if ends_part ts then Some (a, ts) else None
+
+abbrev pub no_where : Where
+no_where = record { test = None; paths = [] }
+
+abbrev pub test_alone : Expression → Where
+test_alone e = record { test = Some e; paths = [] }
+
+abbrev pub path_read : Bool → Path → PathTest
+path_read denied p = record { denied = denied; path = p }
 
 -- whether a key's order falls
 abbrev pub descends : Option TokenKind → Reader Bool
@@ -311,10 +368,71 @@ module _ (line : List ℕ) where
     most ← number_after word.Limit
     pure (record { distinct = distinct; items = is; order = ks; skip = skipped; limit = most })
 
-  unfoldable pub filter_if_any : Reader (Option Expression)
+  -- ---- conditions
+
+  -- a path with a relationship
+  unfoldable pub stepped : Reader Path
+  stepped = do
+    p ← path
+    if has_step p then pure p else refuse
+
+  unfoldable pub bracketed_path : Reader Path
+  bracketed_path = do
+    expect_symbol sign.LeftParenthesis
+    p ← stepped
+    expect_symbol sign.RightParenthesis
+    pure p
+
+  -- after NOT
+  unfoldable pub denied_path : Reader Path
+  denied_path = do
+    in_brackets ← two_brackets
+    if in_brackets then bracketed_path else stepped
+
+  unfoldable pub path_test : Reader PathTest
+  path_test = do
+    denied ← eat_keyword word.Not
+    if denied then path_read true <$> denied_path else path_read false <$> stepped
+
+  unfoldable pub path_part : Reader Part
+  path_part = path_test >>= (λ t. ending (path_conjunct t))
+
+  unfoldable pub condition_part : Reader Part
+  condition_part = nesting line most_levels nested.Negation >>= (λ e. ending (condition e))
+
+  -- a path where one stands up to the part's end, else an expression
+  unfoldable pub part : Reader Part
+  part = path_part <|> condition_part
+
+  unfoldable pub parts_from : ℕ → List Part → Reader (List Part)
+  parts_from zero found = refuse
+  parts_from (suc n) found = do
+    p ← part
+    goes_on ← eat_keyword word.And
+    if goes_on then parts_from n (found ++ p ∷ []) else pure (found ++ p ∷ [])
+
+  unfoldable pub parts : Reader (List Part)
+  parts = λ ts. parts_from (length ts) [] ts
+
+  -- parts of which one is a path
+  unfoldable pub conjuncts : Reader (List Part)
+  conjuncts = do
+    ps ← parts
+    if is_path_among ps then pure ps else refuse
+
+  -- what the conjuncts make, or else the expression
+  abbrev pub where_by : Option (List Part × List Token) → Reader Where
+  where_by (Some found) = λ ts. where_from no_where found.0 found.1
+  where_by None = test_alone <$> whole
+
+  -- after WHERE
+  unfoldable pub condition_read : Reader Where
+  condition_read = λ ts. where_by (conjuncts ts) ts
+
+  unfoldable pub filter_if_any : Reader Where
   filter_if_any = do
     is_there ← eat_keyword word.Where
-    if is_there then Some <$> whole else pure None
+    if is_there then condition_read else pure no_where
 
   -- ---- updates
 
@@ -379,21 +497,55 @@ module _ (line : List ℕ) where
   clause_by opening.Delete = delete_read false
   clause_by opening.Detach = expect_keyword word.Delete >> delete_read true
 
-  -- the clause that the next token begins, if it may stand here
-  unfoldable pub clause_in : ClausePhase → Opening → Reader Clause
-  clause_in s o = if allows s o then skip >> clause_by o else refuse
+  -- the clause that the next token begins, if it may stand here; `later` of a query after UNION
+  unfoldable pub clause_in : Bool → ClausePhase → Opening → Reader Clause
+  clause_in later s o = if is_allowed later s o then skip >> clause_by o else refuse
 
-  unfoldable pub clauses_from : ℕ → ClausePhase → List Clause → Reader (List Clause)
-  clauses_from zero s found = end_read s >> pure found
-  clauses_from (suc n) s found = do
+  unfoldable pub clauses_from : ℕ → Bool → ClausePhase → List Clause → Reader (List Clause)
+  clauses_from zero later s found = query_ended s >> pure found
+  clauses_from (suc n) later s found = do
     next ← peek
     elim (at_kind opening_of next) [
-      | None ↦ end_read s >> pure found
-      | Some o ↦ clause_in s o >>= (λ c. clauses_from n (phase_after o) (found ++ c ∷ []))
+      | None ↦ query_ended s >> pure found
+      | Some o ↦ clause_in later s o >>= (λ c. clauses_from n later (phase_after o) (found ++ c ∷ []))
     ]
 
-  unfoldable pub clauses : Reader (List Clause)
-  clauses = λ ts. clauses_from (length ts) phase.Reading [] ts
+  -- clauses as long as they go on
+  unfoldable pub clauses : Bool → Reader (List Clause)
+  clauses later = λ ts. clauses_from (length ts) later phase.Reading [] ts
+
+  unfoldable pub query : Bool → Reader Query
+  query later = (λ cs. record { clauses = cs }) <$> clauses later
+
+  -- further queries, each after a UNION as the first one
+  unfoldable pub queries_from : ℕ → Bool → List Query → Reader (List Query)
+  queries_from zero all found = pure found
+  queries_from (suc n) all found = do
+    goes_on ← eat_keyword word.Union
+    if goes_on then (do
+      same_union all
+      q ← query true
+      queries_from n all (found ++ q ∷ [])) else pure found
+
+  -- the queries of a union, after its first query and the first UNION
+  unfoldable pub union_read : Query → Reader Statement
+  union_read first = do
+    all ← eat_keyword word.All
+    second ← query true
+    (λ qs. record { queries = qs; all = all }) <$> (λ ts. queries_from (length ts) all (first ∷ second ∷ []) ts)
+
+  unfoldable pub union_of : Query → Reader Statement
+  union_of first = if reads_alone first.clauses then union_read first else refuse
+
+  -- queries, to where no UNION follows
+  unfoldable pub queries : Reader Statement
+  queries = do
+    first ← query false
+    is_union ← eat_keyword word.Union
+    if is_union then union_of first else pure (record { queries = first ∷ []; all = false })
 
   unfoldable pub statement : Reader Statement
-  statement = (λ cs. record { clauses = cs }) <$> clauses
+  statement = do
+    found ← queries
+    end_read
+    pure found

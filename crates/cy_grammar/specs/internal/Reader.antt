@@ -40,6 +40,15 @@ f <$> p = p >>= (λ x. pure (f x))
 abbrev pub refuse : {A : Type 0} → Reader A
 refuse = λ ts. None
 
+-- the first reader's answer, or the second one's where the first answers nothing
+unfoldable pub or_else : {A : Type 0} → Outcome A → Outcome A → Outcome A
+or_else (Some p) other = Some p
+or_else None other = other
+
+infixl 9 ◌<|>◌
+abbrev pub ◌<|>◌ : {A : Type 0} → Reader A → Reader A → Reader A
+p <|> q = λ ts. or_else (p ts) (q ts)
+
 -- ---- single tokens
 
 abbrev pub kind_ahead : List Token → Option TokenKind

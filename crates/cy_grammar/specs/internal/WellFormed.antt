@@ -1,14 +1,14 @@
 -- Trees that have tokens: names aren't empty, nor are the lists of which the grammar asks for one part at least, numbers
 -- have 64 bits, and no expression is too deep.
-use Rattle.std.specs.Prelude.{◌≡◌, ⊤, ℕ, pos, negsuc, ◌<◌, ◌≤◌, true, false, IsTrue, List, [], ◌∷◌, Option, Some, None, encode_utf8_all}
+use Rattle.std.specs.Prelude.{◌≡◌, ⊤, ℕ, pos, negsuc, ◌<◌, ◌≤◌, Bool, true, false, IsTrue, List, [], ◌∷◌, Option, Some, None, encode_utf8_all}
 use Rattle.std.specs.Str.{all_scalars}
 use Rattle.cy_trees.specs.declared.expressions.Variable.{Variable}
 use Rattle.cy_trees.specs.declared.clauses.Length.{Length}
-use Rattle.cy_trees.specs.Trees.{Name, Expression, null, boolean, integer, text, variable, property, has_labels, unary, binary, comparison, list, case, call, call_star, Expressions, no_more, more, Links, no_links, link, Arms, no_arms, arm, Otherwise, nothing, otherwise, MapEntry, NodePattern, RelationshipPattern, Step, Path, Item, Key, Projection, SetItem, set_property, set_labels, RemoveItem, remove_property, remove_labels, Clause, «match», unwind, «with», «return», create, set, remove, delete, Statement}
+use Rattle.cy_trees.specs.Trees.{Name, Expression, null, boolean, integer, text, variable, property, has_labels, unary, binary, comparison, list, case, call, call_star, Expressions, no_more, more, Links, no_links, link, Arms, no_arms, arm, Otherwise, nothing, otherwise, MapEntry, NodePattern, RelationshipPattern, Step, Path, Item, Key, Projection, SetItem, set_property, set_labels, RemoveItem, remove_property, remove_labels, PathTest, Where, Clause, «match», unwind, «with», «return», create, set, remove, delete, Query, Statement}
 use Rattle.cy_trees.specs.Depth.{depth, greatest_depth}
 use Rattle.cy_grammar.specs.Words.{lowered}
 use Rattle.cy_lexer.specs.Numbers.{greatest_number}
-use Rattle.cy_grammar.specs.SpellsClauses.{greatest_bound, ClausePhase, may_follow, may_end, phase_after, reading}
+use Rattle.cy_grammar.specs.SpellsClauses.{greatest_bound, has_step, ClausePhase, may_follow, may_end, phase_after, reading, reads_alone}
 
 -- the bytes of characters, and of one at least
 abbrev pub IsText : Name → Type 0
@@ -123,10 +123,19 @@ abbrev pub RemoveItemIsWellFormed : RemoveItem → Type 0
 RemoveItemIsWellFormed (remove_property v key) = IsVariable v × IsNamed key
 RemoveItemIsWellFormed (remove_labels v labels) = IsVariable v × Several IsNamed labels
 
+-- conditions
+pub record PathTestIsWellFormed (t : PathTest) : Type 0 where
+  pub path : PathIsWellFormed t.path
+  pub steps : IsTrue (has_step t.path)
+
+pub record WhereIsWellFormed (w : Where) : Type 0 where
+  pub test : IfAny IsWhole w.test
+  pub paths : Every PathTestIsWellFormed w.paths
+
 abbrev pub ClauseIsWellFormed : Clause → Type 0
-ClauseIsWellFormed («match» optional paths filter) = Several PathIsWellFormed paths × IfAny IsWhole filter
+ClauseIsWellFormed («match» optional paths filter) = Several PathIsWellFormed paths × WhereIsWellFormed filter
 ClauseIsWellFormed (unwind e v) = IsWhole e × IsVariable v
-ClauseIsWellFormed («with» p filter) = ProjectionIsWellFormed p × IfAny IsWhole filter
+ClauseIsWellFormed («with» p filter) = ProjectionIsWellFormed p × WhereIsWellFormed filter
 ClauseIsWellFormed («return» p) = ProjectionIsWellFormed p
 ClauseIsWellFormed (create paths) = Several PathIsWellFormed paths
 ClauseIsWellFormed (set items) = Several SetItemIsWellFormed items
@@ -138,5 +147,17 @@ abbrev pub ClausesAreWellFormed : ClausePhase → List Clause → Type 0
 ClausesAreWellFormed s [] = IsTrue (may_end s)
 ClausesAreWellFormed s (c ∷ cs) = IsTrue (may_follow s c) × ClauseIsWellFormed c × ClausesAreWellFormed (phase_after c) cs
 
+abbrev pub QueryIsWellFormed : Query → Type 0
+QueryIsWellFormed q = ClausesAreWellFormed reading q.clauses
+
+abbrev pub ReadingIsWellFormed : Query → Type 0
+ReadingIsWellFormed q = QueryIsWellFormed q × IsTrue (reads_alone q.clauses)
+
+-- one query, or several that read
+abbrev pub QueriesAreWellFormed : List Query → Bool → Type 0
+QueriesAreWellFormed [] all = ⊥
+QueriesAreWellFormed (q ∷ []) all = QueryIsWellFormed q × (all ≡ false)
+QueriesAreWellFormed (q ∷ second ∷ others) all = Every ReadingIsWellFormed (q ∷ second ∷ others)
+
 abbrev pub StatementIsWellFormed : Statement → Type 0
-StatementIsWellFormed s = ClausesAreWellFormed reading s.clauses
+StatementIsWellFormed s = QueriesAreWellFormed s.queries s.all

@@ -1,4 +1,4 @@
-use Rattle.cy_grammar.proofs.ClausesComplete.{statement-unique}
+use Rattle.cy_grammar.proofs.StatementsComplete.{statement-unique}
 use Rattle.cy_grammar.proofs.ShownAgain.{shown-itself}
 use Rattle.cy_grammar.proofs.laws.trees_and_texts.Goals as goal
 

@@ -3,7 +3,8 @@ use Rattle.std.proofs.Common.{List, [], ◌∷◌}
 use Rattle.std.specs.Prelude.{Result, Ok, Err, IfOk}
 use Rattle.std.specs.List.{AllByRecursion}
 use Rattle.cy_expr.specs.declared.faults.EvalFault.{EvalFault}
-use Rattle.cy_queries.specs.Groups.{values_among, and_also}
+use Rattle.cy_patterns.specs.Outcomes.{and_also}
+use Rattle.cy_queries.specs.Groups.{values_among}
 
 pub each_value : {A : Type 0} (P : A → Type 0) (os : List (Result A EvalFault)) → AllByRecursion (λ o. IfOk o P) os → AllByRecursion P (values_among os)
 each_value P [] each = tt

@@ -97,3 +97,7 @@ to_another_b = record {
 -- `CREATE ()-[:T]->()` twice
 abbrev pub two_apart : Content
 two_apart = record { nodes = bare 1 ∷ bare 2 ∷ bare 3 ∷ bare 4 ∷ []; rels = relationship 1 1 T 2 ∷ relationship 2 3 T 4 ∷ [] }
+
+-- `CREATE (a:A)-[:T]->(:B), (:A)`
+abbrev pub one_with_and_one_without : Content
+one_with_and_one_without = record { nodes = labelled 1 A ∷ labelled 2 B ∷ labelled 3 A ∷ []; rels = relationship 1 1 T 2 ∷ [] }

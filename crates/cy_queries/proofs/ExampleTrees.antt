@@ -7,8 +7,8 @@ use Rattle.cy_values.specs.declared.rows.Cell.TheVariants as cell
 use Rattle.cy_trees.specs.declared.clauses.Direction.{Direction}
 use Rattle.cy_trees.specs.declared.clauses.Length.{Length}
 use Rattle.cy_trees.specs.declared.expressions.Variable.{Variable}
-use Rattle.cy_trees.specs.Trees.{Name, Expression, integer, variable, property, list, call, call_star, Expressions, no_more, more, NodePattern, RelationshipPattern, Path, Item, Key, Projection, Clause, «match», unwind, «return»}
-use Rattle.cy_scope.specs.Resolved.{resolved_statement}
+use Rattle.cy_trees.specs.Trees.{Name, Expression, integer, variable, property, list, call, call_star, Expressions, no_more, more, NodePattern, RelationshipPattern, Path, Item, Key, Projection, PathTest, Where, Clause, «match», unwind, «return», Query, Statement}
+use Rattle.cy_scope.specs.Resolved.{resolved_query}
 use Rattle.cy_graph.specs.Graph.{Content}
 use Rattle.cy_expr.specs.declared.faults.EvalFault.{EvalFault}
 use Rattle.cy_queries.specs.Queries.{query_rows}
@@ -16,7 +16,7 @@ use Rattle.cy_queries.proofs.ExampleGraphs.{number}
 
 -- what a query of these clauses gives
 abbrev pub answer : Content → List Clause → Result (List (List Cell)) EvalFault
-answer graph clauses = query_rows graph (resolved_statement (record { clauses = clauses }))
+answer graph clauses = query_rows graph (resolved_query (record { clauses = clauses }))
 
 -- expressions
 abbrev pub named : Name → Variable
@@ -78,15 +78,31 @@ path a r b = record { start = a; steps = record { relationship = r; node = b } �
 abbrev pub lengths : ℕ → Option ℕ → Option Length
 lengths least most = Some (record { least = least; most = most })
 
+-- what stands after WHERE
+abbrev pub no_where : Where
+no_where = record { test = None; paths = [] }
+
+abbrev pub only : Expression → Where
+only e = record { test = Some e; paths = [] }
+
+abbrev pub there : Path → PathTest
+there p = record { denied = false; path = p }
+
+abbrev pub not_there : Path → PathTest
+not_there p = record { denied = true; path = p }
+
 -- clauses
 abbrev pub matching : List Path → Clause
-matching paths = «match» false paths None
+matching paths = «match» false paths no_where
 
 abbrev pub matching_where : List Path → Expression → Clause
-matching_where paths e = «match» false paths (Some e)
+matching_where paths e = «match» false paths (only e)
+
+abbrev pub matching_when : List Path → Where → Clause
+matching_when paths w = «match» false paths w
 
 abbrev pub optional : List Path → Clause
-optional paths = «match» true paths None
+optional paths = «match» true paths no_where
 
 abbrev pub unwinding : Expressions → Name → Clause
 unwinding es name = unwind (list es) (named name)

@@ -16,9 +16,9 @@ use Rattle.cy_expr.specs.declared.faults.EvalFault.{EvalFault}
 use Rattle.cy_expr.specs.Comparison.{is_null_cell}
 use Rattle.cy_expr.specs.Evaluation.{as_cell, cell_of}
 use Rattle.cy_expr.specs.Faults.{on_one}
-use Rattle.cy_queries.specs.Groups.{taken, aggregate_if, over_rows, grouping, Grouped, grouped, group_keys, rows_of_group, group_cells, group_rows, values_among, and_also, aggregated}
+use Rattle.cy_queries.specs.Groups.{taken, aggregate_if, over_rows, grouping, Grouped, grouped, group_keys, rows_of_group, group_cells, group_rows, values_among, aggregated}
 use Rattle.cy_queries.specs.Order.{in_order}
-use Rattle.cy_patterns.specs.Outcomes.{smaller, gathered}
+use Rattle.cy_patterns.specs.Outcomes.{and_also, smaller, gathered}
 use Rattle.cy_expr.specs.Graphs.{lookups}
 use Rattle.cy_queries.proofs.BagLemmas.{identity, same_cell}
 use Rattle.cy_queries.proofs.InOrder.{same_in_order}

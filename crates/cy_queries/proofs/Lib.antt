@@ -37,6 +37,7 @@ pub mod ExampleTrees
 mod MatchRows
 mod LengthRows
 mod OptionalRows
+mod ConditionRows
 mod UnwindRows
 mod AggregateRows
 mod OrderRows

@@ -6,7 +6,7 @@ use Rattle.cy_trees.specs.declared.expressions.Comparator.TheVariants.{Equal}
 use Rattle.cy_trees.specs.Trees.{comparison, no_links, link as and_link, Clause, «match»}
 use Rattle.cy_kinds.specs.Functions.{function_named}
 use Rattle.cy_queries.proofs.ExampleGraphs.{A, B, T, empty, one_a, a_to_b, to_another_b}
-use Rattle.cy_queries.proofs.ExampleTrees.{answer, int, id_of, some_node, node_named, node_with_label, link, single, path, matching, optional, column, returning, null_cell, node_cell, a, b, n}
+use Rattle.cy_queries.proofs.ExampleTrees.{answer, int, id_of, some_node, node_named, node_with_label, link, single, path, matching, optional, column, returning, null_cell, node_cell, a, b, n, only}
 
 -- `OPTIONAL MATCH (n) RETURN n` where there is no node
 nothing_found : answer empty (optional (single (node_named n) ∷ []) ∷ returning (column n ∷ []) ∷ []) ≡ Ok ((null_cell ∷ []) ∷ [])
@@ -33,7 +33,7 @@ another_partner = refl
 
 -- `MATCH (a:A) OPTIONAL MATCH (a)-->(b) WHERE id(b) = 5 RETURN a, b`: WHERE is part of it
 where_keeps_none : answer a_to_b (matching (single (node_with_label a A) ∷ [])
-    ∷ «match» true (path (node_named a) (link None Right [] None) (node_named b) ∷ []) (Some (comparison (id_of b) (and_link Equal (int 5) no_links)))
+    ∷ «match» true (path (node_named a) (link None Right [] None) (node_named b) ∷ []) (only (comparison (id_of b) (and_link Equal (int 5) no_links)))
     ∷ returning (column a ∷ column b ∷ []) ∷ [])
     ≡ Ok ((node_cell 1 ∷ null_cell ∷ []) ∷ [])
 unfolding function_named

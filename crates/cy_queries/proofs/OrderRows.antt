@@ -1,5 +1,5 @@
 -- Worked rows: DISTINCT, ORDER BY, SKIP and LIMIT.
-use Rattle.std.proofs.Common.{◌≡◌, [], ◌∷◌, refl, true, Some, None}
+use Rattle.std.proofs.Common.{◌≡◌, [], ◌∷◌, refl, true, Some}
 use Rattle.std.specs.Prelude.{Ok, Err}
 use Rattle.cy_values.specs.declared.scalars.Value.TheVariants as value
 use Rattle.cy_values.specs.declared.rows.Cell.TheVariants as cell
@@ -8,7 +8,7 @@ use Rattle.cy_trees.specs.declared.expressions.Comparator.TheVariants.{Greater}
 use Rattle.cy_trees.specs.Trees.{null, boolean, text, binary, comparison, no_links, link as and_link, more, «with», «return»}
 use Rattle.cy_expr.specs.declared.faults.EvalFault.TheVariants.{WrongType}
 use Rattle.cy_queries.proofs.ExampleGraphs.{A, empty, twice_five}
-use Rattle.cy_queries.proofs.ExampleTrees.{answer, var, int, property_of, two, node_with_label, single, matching, unwinding, item, column, projection, returning, returning_distinct, ascending, descending, number_cell, text_cell, null_cell, a, n, x}
+use Rattle.cy_queries.proofs.ExampleTrees.{answer, var, int, property_of, two, node_with_label, single, matching, unwinding, item, column, projection, returning, returning_distinct, ascending, descending, number_cell, text_cell, null_cell, a, n, x, no_where, only}
 
 -- `UNWIND [3, null, 'a', true] AS x RETURN x ORDER BY x DESC`
 turned_round : answer empty (unwinding (more (int 3) (more null (two (text a) (boolean true)))) x
@@ -18,7 +18,7 @@ turned_round = refl
 
 -- `UNWIND [3, 1, 2] AS x WITH x ORDER BY x DESC LIMIT 2 RETURN x`: the order decides what LIMIT leaves, and isn't kept
 limit_by_order : answer empty (unwinding (more (int 3) (two (int 1) (int 2))) x
-    ∷ «with» (record (projection (column x ∷ [])) { order = descending (var x) ∷ []; limit = Some 2 }) None
+    ∷ «with» (record (projection (column x ∷ [])) { order = descending (var x) ∷ []; limit = Some 2 }) no_where
     ∷ returning (column x ∷ []) ∷ [])
     ≡ Ok ((number_cell 2 ∷ []) ∷ (number_cell 3 ∷ []) ∷ [])
 limit_by_order = refl
@@ -41,7 +41,7 @@ first_step = refl
 
 -- `UNWIND [3, 1, 2] AS x WITH x ORDER BY x LIMIT 2 WHERE x > 1 RETURN x`: WHERE comes after LIMIT
 where_after_limit : answer empty (unwinding (more (int 3) (two (int 1) (int 2))) x
-    ∷ «with» (record (projection (column x ∷ [])) { order = ascending (var x) ∷ []; limit = Some 2 }) (Some (comparison (var x) (and_link Greater (int 1) no_links)))
+    ∷ «with» (record (projection (column x ∷ [])) { order = ascending (var x) ∷ []; limit = Some 2 }) (only (comparison (var x) (and_link Greater (int 1) no_links)))
     ∷ returning (column x ∷ []) ∷ [])
     ≡ Ok ((number_cell 2 ∷ []) ∷ [])
 where_after_limit = refl

@@ -1,3 +1,4 @@
 pub mod DepthLemmas
 pub mod RefusalLemmas
 pub mod Turns
+pub mod PartsLemmas

@@ -1,5 +1,5 @@
 -- What is refused where a reader answers.
-use Rattle.std.proofs.Common.{◌≡◌, ◌≢◌, List, Option, Some, None, refl}
+use Rattle.std.proofs.Common.{◌≡◌, ◌≢◌, List, Some, None, refl}
 use Rattle.cy_lexer.specs.declared.tokens.Token.{Token}
 use Rattle.cy_grammar.specs.internal.Reader.{Outcome}
 use Rattle.cy_parser.specs.declared.refusals.Refusal.{Refusal}

@@ -2,3 +2,4 @@ pub mod Reads
 pub mod Nests
 pub mod ReadsOperations
 pub mod Operands
+pub mod Parts

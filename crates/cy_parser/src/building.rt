@@ -27,7 +27,7 @@ pub(crate) fn deeper(depth: usize, tokens: &Cursor<'_>) -> Result<usize, Refusal
     if depth < GREATEST_DEPTH {
         Ok(depth + 1)
     } else {
-        Err(Refusal::TooDeep(tokens.count()))
+        Err(Refusal::too_deep(tokens.count()))
     }
 }
 

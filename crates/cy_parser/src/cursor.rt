@@ -4,10 +4,13 @@ ghost use Rattle.cy_parser.specs.declared.refusals.Refusal.TheVariants.{NoMemory
 ghost use Rattle.std.specs.Prelude.{◌≡◌, ◌≢◌, ◌<◌, ◌≤◌, pos, MatchResult, length, List, Some, None, [], ◌∷◌};
 ghost use Rattle.cy_grammar.specs.Words.{negated};
 ghost use Rattle.cy_lexer.specs.Numbers.{greatest_number};
+ghost use Rattle.cy_grammar.specs.SpellsClauses.{ends_part};
+ghost use Rattle.cy_grammar.specs.internal.Clauses as clauses;
 ghost use Rattle.cy_grammar.specs.internal.Expressions as spec;
 ghost use Rattle.cy_grammar.specs.internal.Reader as reader;
 ghost use Rattle.cy_parser.specs.internal.Reads.{Reads};
 
+use crate::order::is_after_part;
 use crate::refusals::Refusal;
 use cy_grammar::{denoted_text, is_name, is_word};
 use cy_lexer::{Keyword, Symbol, Token, TokenKind};
@@ -38,6 +41,20 @@ impl<'a> Cursor<'a> {
         ensures { result ≡ tokens.now }
     {
         Cursor { left: tokens }
+    }
+
+    /// A cursor of its own at this place.
+    pub(crate) fn ahead(&self) -> Cursor<'a>
+        ensures { result ≡ self.now }
+    {
+        Cursor { left: self.left }
+    }
+
+    /// Goes to where the other cursor stands.
+    pub(crate) fn follow(&mut self, other: &Cursor<'a>)
+        ensures { self.new ≡ other.now }
+    {
+        self.left = other.left;
     }
 
     /// How many tokens are left.
@@ -119,6 +136,25 @@ impl<'a> Cursor<'a> {
             Ok(())
         } else {
             Err(self.unexpected())
+        }
+    }
+
+    /// Whether two brackets open next.
+    #[tactic(auto, unfolding(cy_grammar::specs::internal::Clauses::sees_two_brackets))]
+    pub(crate) fn sees_two_brackets(&self) -> bool
+        ensures { result ≡ clauses.sees_two_brackets self.now }
+    {
+        let mut ahead = self.ahead();
+        ahead.eat_symbol(Symbol::LeftParenthesis) && ahead.eat_symbol(Symbol::LeftParenthesis)
+    }
+
+    /// Whether a part of a WHERE ends before the next token.
+    pub(crate) fn ends_part(&self) -> bool
+        ensures { result ≡ ends_part self.now }
+    {
+        match self.peek() {
+            Some(kind) => is_after_part(kind),
+            None => true,
         }
     }
 

@@ -32,7 +32,7 @@ impl<'l, F: Fn(Global, &str, &mut Cursor<'_>, usize, Nested) -> Result<Operand, 
         ensures { Reads (λ u. u) (spec.opened self.now.levels tokens.now) result tokens.now }
     {
         if self.levels == 0 {
-            return Err(Refusal::TooDeep(tokens.count()));
+            return Err(Refusal::too_deep(tokens.count()));
         }
         Ok(())
     }

@@ -2,6 +2,7 @@
 #![tactic(auto)]
 
 mod building;
+mod conditions;
 mod connectives;
 mod cursor;
 mod faults;
@@ -24,8 +25,8 @@ mod updates;
 pub use cy_grammar::{denoted_text, is_word, slice_in, trees_and_texts};
 pub use cy_trees::{
     Arm, BinaryOperator, Clause, Comparator, Delete, Direction, Expr, Item, Key, Length, Link,
-    MapEntry, Match, NodePattern, Path, Projection, RelationshipPattern, RemoveItem, SetItem,
-    Statement, Step, UnaryOperator, Unwind, Variable, With, show,
+    MapEntry, Match, NodePattern, Path, PathTest, Projection, Query, RelationshipPattern,
+    RemoveItem, SetItem, Statement, Step, UnaryOperator, Unwind, Variable, Where, With, show,
 };
 pub use faults::ParseFault;
 pub use parsing::parse;

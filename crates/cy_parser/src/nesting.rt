@@ -22,7 +22,7 @@ pub(crate) fn nesting(
     ensures { Reads operand_of (spec.nesting line.now levels place tokens.old) result tokens.new }
 {
     if levels == 0 {
-        return Err(Refusal::TooDeep(tokens.count()));
+        return Err(Refusal::too_deep(tokens.count()));
     }
     Grammar {
         alloc,

@@ -42,7 +42,7 @@ fn fault_of(tokens: &[Token], line: &str, refusal: Refusal) -> ParseFault
     match refusal {
         Refusal::NumberTooLarge(left) => ParseFault::NumberTooLarge(place(left)),
         Refusal::Unexpected(left) => ParseFault::Unexpected(place(left)),
-        Refusal::TooDeep(left) => ParseFault::TooDeep(place(left)),
+        Refusal::TooDeep { left: _, first } => ParseFault::TooDeep(place(first)),
         Refusal::ClauseOrder(left) => ParseFault::ClauseOrder(place(left)),
         Refusal::BadRange(left) => ParseFault::BadRange(place(left)),
         Refusal::NoMemory => ParseFault::NoMemory,

@@ -226,7 +226,7 @@ impl<'l> Source<'l> {
 
     /// A path of a pattern.
     #[tactic(auto, unfolding(cy_grammar::specs::internal::Reader::and_then, cy_grammar::specs::internal::Clauses::path))]
-    fn path(&self, tokens: &mut Cursor<'_>) -> Result<Path, Refusal>
+    pub(crate) fn path(&self, tokens: &mut Cursor<'_>) -> Result<Path, Refusal>
         ensures { Reads path_of (spec.path self.now.line.now tokens.old) result tokens.new }
     {
         let start = self.node(tokens)?;

@@ -1,9 +1,9 @@
-//! Projections: items, order, SKIP and LIMIT, and what stands after WHERE.
+//! Projections: items, order, SKIP and LIMIT.
 
 ghost use Rattle.std.specs.Prelude.{◌≡◌, ◌-◌, Some, take, length, map, option_map, IfOk, IfErr};
 ghost use Rattle.cy_parser.specs.declared.refusals.Refusal.TheVariants.{NoMemory};
 ghost use Rattle.cy_grammar.specs.Words as words;
-ghost use Rattle.cy_trees.specs.Views.{expression_of, filter_of, item_of, key_of, projection_of};
+ghost use Rattle.cy_trees.specs.Views.{expression_of, item_of, key_of, projection_of};
 ghost use Rattle.cy_grammar.specs.SpellsClauses as spells;
 ghost use Rattle.cy_grammar.specs.internal.Clauses as spec;
 ghost use Rattle.cy_parser.specs.internal.Reads.{Reads};
@@ -162,17 +162,5 @@ impl<'l> Source<'l> {
             skip,
             limit,
         })
-    }
-
-    /// What stands after WHERE, if that comes next.
-    #[tactic(auto, unfolding(cy_grammar::specs::internal::Reader::and_then, cy_grammar::specs::internal::Clauses::filter_if_any))]
-    pub(crate) fn filter_if_any(&self, tokens: &mut Cursor<'_>) -> Result<Option<Expr>, Refusal>
-        ensures { Reads filter_of (spec.filter_if_any self.now.line.now tokens.old) result tokens.new }
-    {
-        if tokens.eat_keyword(Keyword::Where) {
-            Ok(Some(self.expression(tokens)?))
-        } else {
-            Ok(None)
-        }
     }
 }

@@ -1,6 +1,6 @@
 //! Why tokens spell no tree, by how many of them are left from the faulty one on.
 
-ghost use Rattle.std.specs.Prelude.{◌≡◌};
+ghost use Rattle.std.specs.Prelude.{◌≡◌, ◌≢◌, None};
 ghost use Rattle.cy_parser.specs.declared.refusals.Refusal.TheVariants.{NoMemory};
 
 use cy_lexer::LexFault;
@@ -14,14 +14,57 @@ pub(crate) enum Refusal {
     NumberTooLarge(usize),
     /// A token after which nothing can go on, or the end of the text.
     Unexpected(usize),
-    /// An expression that is too deep, or has too many open levels.
-    TooDeep(usize),
+    /// An expression that is too deep, or has too many open levels; and how many tokens are left from its first on.
+    TooDeep { left: usize, first: usize },
     /// A clause where it may not stand, or the end of the text where no statement ends.
     ClauseOrder(usize),
     /// A range whose bounds are out of order or too large.
     BadRange(usize),
     /// Out of memory.
     NoMemory,
+}
+
+impl Refusal {
+    /// An expression that is too deep, as it is seen at a token from which so many are left.
+    pub(crate) fn too_deep(left: usize) -> Refusal
+        ensures { result ≢ NoMemory }
+    {
+        Refusal::TooDeep { left, first: left }
+    }
+
+    /// The refusal in an expression from whose first token on so many are left.
+    pub(crate) fn since(self, first: usize) -> Refusal
+        ensures { self ≡ NoMemory → result ≡ NoMemory }
+    {
+        match self {
+            Refusal::TooDeep { left, first: _ } => Refusal::TooDeep { left, first },
+            refusal => refusal,
+        }
+    }
+
+    /// How many tokens are left, the faulty one among them.
+    fn left(&self) -> Option<usize>
+        ensures { self.now ≡ NoMemory → result ≡ None }
+    {
+        match self {
+            Refusal::NumberTooLarge(left)
+            | Refusal::Unexpected(left)
+            | Refusal::TooDeep { left, first: _ }
+            | Refusal::ClauseOrder(left)
+            | Refusal::BadRange(left) => Some(*left),
+            Refusal::NoMemory => None,
+        }
+    }
+
+    /// Of two readings that stop, the refusal of the one that got further, and of the other one where both stop at one token.
+    pub(crate) fn or_further(self, other: Refusal) -> Refusal
+        ensures { other ≡ NoMemory → result ≡ NoMemory }
+    {
+        match (self.left(), other.left()) {
+            (Some(left), Some(other_left)) if left < other_left => self,
+            _ => other,
+        }
+    }
 }
 
 impl From<AllocError> for Refusal {

@@ -15,7 +15,7 @@ use cy_trees::{Expr, Variable};
 use std::alloc::Global;
 
 /// How many levels may be open in an expression at one place, and one for the expression itself (own).
-const MOST_LEVELS: usize = 257;
+pub(crate) const MOST_LEVELS: usize = 257;
 
 /// A line, and where its trees take their memory from.
 #[derive(Clone, Copy)]
@@ -32,8 +32,7 @@ impl<'l> Source<'l> {
         let first = tokens.count();
         match nesting(self.alloc, self.line, tokens, MOST_LEVELS, Nested::Whole) {
             Ok(found) => Ok(found.into_tree()),
-            Err(Refusal::TooDeep(_)) => Err(Refusal::TooDeep(first)),
-            Err(refusal) => Err(refusal),
+            Err(refusal) => Err(refusal.since(first)),
         }
     }
 

@@ -2,8 +2,8 @@ use Rattle.std.proofs.Common.{◌≡◌, subst, ap, ◌∙◌, [], length, arith
 use Rattle.std.proofs.lemmas.Bool.Decides.{nat_tests}
 use Rattle.cy_grammar.specs.SpellsClauses.{SpellsStatement}
 use Rattle.cy_trees.specs.Views.{statement_of}
-use Rattle.cy_grammar.proofs.SoundClauses.{statement-sound}
-use Rattle.cy_grammar.proofs.ClausesComplete.{statement-complete, statement-some}
+use Rattle.cy_grammar.proofs.SoundStatements.{statement-sound}
+use Rattle.cy_grammar.proofs.StatementsComplete.{statement-complete, statement-some}
 use Rattle.cy_grammar.proofs.ShownAgain.{shown-again}
 use Rattle.cy_grammar.specs.Shown.{with_columns}
 use Rattle.cy_grammar.proofs.Takes.{answers_one}
@@ -41,3 +41,8 @@ returns-then-is_empty-clause-shown c = λ s first spelling us utf8 of_first spel
     let none : length c.args.tokens.now ≡ 0 = grind (arith, nat_tests, c.is_empty.ensures, c.if-is_empty.ensures) in
     absurd (statement-some c.args.line.now (with_columns s) c.args.tokens.now
     (shown-again s first spelling c.args.line.now c.args.tokens.now us utf8 c.utf8.line of_first spelt of_line short tokens alike) none)
+
+pub returns-then-is_empty-clause-complete : goal.returns-then-is_empty-clause-complete
+returns-then-is_empty-clause-complete c = λ s spelt.
+    let none : length c.args.tokens.now ≡ 0 = grind (arith, nat_tests, c.is_empty.ensures, c.if-is_empty.ensures) in
+    absurd (statement-some c.args.line.now s c.args.tokens.now spelt none)

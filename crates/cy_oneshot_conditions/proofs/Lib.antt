@@ -1,0 +1,2 @@
+mod WhereLemmas
+mod MatchLemmas

@@ -1,8 +1,14 @@
 //! The input and the output of a program, of whose bytes nothing is known.
 
+ghost use Rattle.std.specs.Prelude.{◌≤◌, IfOk, length};
+ghost use Rattle.std.specs.Io.KnownBytes.{Keeps, ReadConsumes, WriteAppends};
+
 use crate::streams::{Failed, Sink, Source};
-use std::io::{Read, Write};
+use std::io::{ErrorKind, Read, Write};
 use std::marker::Model;
+
+/// How many times a call is made at most, where a signal interrupts it each time.
+const MOST_TRIES: usize = 1_000;
 
 /// A reader, as that of standard input, whose bytes aren't known.
 #[derive(Drop)]
@@ -44,7 +50,8 @@ impl<R: Read> Source for InputSource<R> {
 
     ghost has_failed = { λ (source : StreamState R). source.has_failed };
 
-    /// Gives the bytes that the reader gives. A read that the reader refuses has failed.
+    /// Gives the bytes that the reader gives. A read that a signal interrupted is made again, up to 1,000 times; one that the reader
+    /// refuses else has failed.
     fn read(&mut self, piece: &mut [u8]) -> Result<usize, Failed>
         requires { self.old.has_failed ≡ false }
         ensures within { IfOk result (λ count. count ≤ length piece.old) }
@@ -52,14 +59,25 @@ impl<R: Read> Source for InputSource<R> {
         ensures fails { OnErr result (self.new.has_failed ≡ true) }
         ensures reader { ReadConsumes (R.remaining self.old.stream) (R.remaining self.new.stream) result piece.new }
     {
-        match self.reader.read(piece) {
-            Ok(count) => Ok(count),
-            Err(_) => {
-                self.has_failed = true;
-                Err(Failed)
-            }
+        let read = read_piece(&mut self.reader, piece);
+        self.has_failed = read.is_err();
+        read
+    }
+}
+
+// Reads as a reader does, again where a signal interrupted it. Any other error is final.
+fn read_piece<R: Read>(reader: &mut R, piece: &mut [u8]) -> Result<usize, Failed>
+    ensures within { IfOk result (λ count. count ≤ length piece.old) }
+    ensures reader { ReadConsumes (R.remaining reader.old) (R.remaining reader.new) result piece.new }
+{
+    for _ in 0..MOST_TRIES {
+        match reader.read(piece) {
+            Ok(count) => return Ok(count),
+            Err(error) if error.kind() == ErrorKind::Interrupted => {}
+            Err(_) => return Err(Failed),
         }
     }
+    Err(Failed)
 }
 
 /// A writer, as that of standard output, whose bytes aren't known.
@@ -102,8 +120,8 @@ impl<W: Write> Sink for OutputSink<W> {
 
     ghost has_failed = { λ (sink : StreamState W). sink.has_failed };
 
-    /// Writes to the writer. A write that the writer refuses has failed, and so has one that takes no byte of a piece that
-    /// is not empty.
+    /// Writes to the writer. A write that a signal interrupted is made again, up to 1,000 times; one that the writer refuses else has failed,
+    /// and so has one that takes no byte of a piece that is not empty.
     fn write(&mut self, piece: &[u8]) -> Result<usize, Failed>
         requires { self.old.has_failed ≡ false }
         ensures within { IfOk result (λ count. count ≤ length piece.now) }
@@ -112,7 +130,7 @@ impl<W: Write> Sink for OutputSink<W> {
         ensures fails { OnErr result (self.new.has_failed ≡ true) }
         ensures writer { WriteAppends (W.contents self.old.stream) (W.contents self.new.stream) result piece.now }
     {
-        match self.writer.write(piece) {
+        match write_piece(&mut self.writer, piece) {
             Ok(count) if count > 0 || piece.is_empty() => Ok(count),
             _ => {
                 self.has_failed = true;
@@ -121,16 +139,44 @@ impl<W: Write> Sink for OutputSink<W> {
         }
     }
 
+    /// Flushes the writer, again where a signal interrupted it, up to 1,000 times.
     fn flush(&mut self) -> Result<(), Failed>
         requires { self.old.has_failed ≡ false }
         ensures works { OnOk result (self.new.has_failed ≡ false) }
         ensures fails { OnErr result (self.new.has_failed ≡ true) }
         ensures writer { Keeps (W.contents self.old.stream) (W.contents self.new.stream) }
     {
-        self.has_failed = self.writer.flush().is_err();
-        if self.has_failed {
-            return Err(Failed);
-        }
-        Ok(())
+        let flushed = flush(&mut self.writer);
+        self.has_failed = flushed.is_err();
+        flushed
     }
+}
+
+// Writes as a writer does, again where a signal interrupted it. Any other error is final.
+fn write_piece<W: Write>(writer: &mut W, piece: &[u8]) -> Result<usize, Failed>
+    ensures within { IfOk result (λ count. count ≤ length piece.now) }
+    ensures writer { WriteAppends (W.contents writer.old) (W.contents writer.new) result piece.now }
+{
+    for _ in 0..MOST_TRIES {
+        match writer.write(piece) {
+            Ok(taken) => return Ok(taken),
+            Err(error) if error.kind() == ErrorKind::Interrupted => {}
+            Err(_) => return Err(Failed),
+        }
+    }
+    Err(Failed)
+}
+
+// Flushes as a writer does, again where a signal interrupted it. Any other error is final.
+fn flush<W: Write>(writer: &mut W) -> Result<(), Failed>
+    ensures { Keeps (W.contents writer.old) (W.contents writer.new) }
+{
+    for _ in 0..MOST_TRIES {
+        match writer.flush() {
+            Ok(()) => return Ok(()),
+            Err(error) if error.kind() == ErrorKind::Interrupted => {}
+            Err(_) => return Err(Failed),
+        }
+    }
+    Err(Failed)
 }

@@ -20,7 +20,7 @@ use Rattle.cy_shell.specs.Streams.{appended}
 use Rattle.cy_shell.specs.internal.Writing.{AppendsFront}
 use Rattle.cy_shell.proofs.Appends.{appended-nil, appended-appended}
 
-run_append : (old mid new : Serving) (xs ys : List (List ℕ)) (a b : List ℕ) → PrintedRun old xs a mid → PrintedRun mid ys b new → PrintedRun old (xs ++ ys) (a ++ b) new
+pub run_append : (old mid new : Serving) (xs ys : List (List ℕ)) (a b : List ℕ) → PrintedRun old xs a mid → PrintedRun mid ys b new → PrintedRun old (xs ++ ys) (a ++ b) new
 run_append old mid new [] ys a b left right = subst (λ t. PrintedRun old ys t new) (ap (λ t. t ++ b) (sym left.0)) (subst (λ s. PrintedRun s ys b new) left.1 right)
 run_append old mid new (x ∷ xs) ys a b (next, first, rest, is, answered, run) right =
     (next, first, rest ++ b, ap (λ t. t ++ b) is ∙ append_assoc first rest b, answered, run_append next mid new xs ys rest b run right)

@@ -6,5 +6,6 @@ pub mod HistoryOption
 pub mod LineTexts
 pub mod Objects
 pub mod Outcomes
+pub mod PrintedHeadline
 pub mod Progress
 pub mod Reading

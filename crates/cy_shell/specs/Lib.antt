@@ -4,6 +4,7 @@ pub mod Lines
 pub mod Memory
 pub mod Options
 pub mod Printed
+pub mod PrintedHeadline
 pub mod Replies
 pub mod Runs
 pub mod Standard

@@ -5,6 +5,7 @@ mod answers;
 mod buffer;
 mod feeding;
 mod json_values;
+pub mod laws;
 mod memory;
 mod options;
 mod printing;

@@ -3,10 +3,12 @@
 ghost use Rattle.std.specs.Prelude.{◌≡◌, ◌≢◌, ◌+◌, ◌≤◌, ◌<◌, [], length, take, ℕ, List, Option, Some, true, false, Err, OnOk, OnErr, IfOk, IfSome};
 ghost use Rattle.cy_shell.specs.internal.Lines.{buffered};
 ghost use Rattle.cy_shell.specs.Runs.{input_limit, WritesAll, StopsReading, StopsWriting, beginning};
+ghost use Rattle.cy_shell.specs.PrintedHeadline.{AnswersAll, AnswersRead, AnswersBegun};
 ghost use Rattle.cy_shell.specs.internal.Serving.{serving};
 ghost use Rattle.cy_shell.specs.Streams.{TakesFront};
 ghost use Rattle.cy_shell.specs.declared.serving.RunFault.TheVariants.{Memory};
 
+use crate::laws::headline_is_printed;
 use crate::session::Session;
 use crate::streams::{Failed, Sink, Source};
 use std::alloc::{AllocError, Global};
@@ -110,11 +112,21 @@ pub fn run<R: Source, W: Sink>(
     // Else all that was written was handed on, if all before it was.
     ensures handed { result ≢ Err RunFault.Write → W.handed_on sink.old ≡ W.written sink.old → W.handed_on sink.new ≡ W.written sink.new }
 
+    // The headline holds of what is written: of all lines at the end of the input, of those that were read whole where the source failed or
+    // 2^62 bytes were read, and of those that had ended before the last read where the sink failed.
+    ensures headline { OnOk result (IfSome (R.remaining source.old) (λ input.
+        AnswersAll settings.history settings.feed input (W.written sink.old) (W.written sink.new))) }
+    ensures read_headline { result ≡ Err RunFault.Read → IfSome (R.remaining source.old) (λ input.
+        AnswersRead settings.history settings.feed input (R.remaining source.new) (W.written sink.old) (W.written sink.new)) }
+    ensures write_headline { result ≡ Err RunFault.Write → IfSome (R.remaining source.old) (λ input.
+        AnswersBegun settings.history settings.feed input (R.remaining source.new) (W.written sink.old) (W.written sink.new)) }
+
     // Nothing was read or written.
     ensures memory { result ≡ Err RunFault.Memory → (source.new ≡ source.old) × (sink.new ≡ sink.old) }
 {
     let mut piece = new_piece(alloc)?;
     let mut session = Session::new(alloc, settings.history, settings.feed)?;
+    headline_is_printed();
     serve(&mut session, piece.as_mut_slice(), source, sink)
 }
 

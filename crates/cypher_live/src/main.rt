@@ -3,6 +3,7 @@
 
 ghost use Rattle.std.specs.Prelude.{◌≡◌, ◌⊎◌, ◌≤◌, IfSome, Ok, false, true};
 ghost use Rattle.std.specs.Process.{exit_status};
+ghost use Rattle.cy_shell.specs.PrintedHeadline.{AnswersAll, AnswersRead, AnswersBegun};
 ghost use Rattle.cy_shell.specs.Runs.{StopsReading, StopsWriting, WritesAll, beginning};
 ghost use Rattle.cypher_live.specs.internal.Requests.{HasHistory};
 
@@ -72,6 +73,12 @@ fn serve<R: Source, W: Sink>(
         StopsReading (beginning settings.history settings.feed) input (R.remaining source.new) (R.has_failed source.new) (W.written sink.old) (W.written sink.new)
         ⊎ ((W.has_failed sink.new ≡ true)
         × StopsWriting (beginning settings.history settings.feed) input (R.remaining source.new) (R.taken source.new) (W.written sink.old) (W.written sink.new) (W.handed_on sink.old) (W.handed_on sink.new))) }
+    ensures headline { exit_status result ≡ 0 → IfSome (R.remaining source.old) (λ input.
+        AnswersAll settings.history settings.feed input (W.written sink.old) (W.written sink.new)) }
+    ensures stopped_headline { exit_status result ≡ 3 → IfSome (R.remaining source.old) (λ input.
+        AnswersRead settings.history settings.feed input (R.remaining source.new) (W.written sink.old) (W.written sink.new)
+        ⊎ ((W.has_failed sink.new ≡ true)
+        × AnswersBegun settings.history settings.feed input (R.remaining source.new) (W.written sink.old) (W.written sink.new))) }
     ensures memory { exit_status result ≡ 4 → (source.new ≡ source.old) × (sink.new ≡ sink.old) }
     ensures known { (exit_status result ≡ 0) ⊎ (exit_status result ≡ 3) ⊎ (exit_status result ≡ 4) }
 {

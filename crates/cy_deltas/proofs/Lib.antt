@@ -2,6 +2,7 @@ pub mod Same
 pub mod ShiftLemmas
 pub mod Parts
 pub mod StepCounts
+pub mod Readings
 pub mod Staging
 pub mod BagLemmas
 pub mod PairLemmas

@@ -1,3 +1,4 @@
 pub mod Costs
 pub mod Deltas
+pub mod Reading
 pub mod internal

@@ -6,6 +6,7 @@ ghost use Rattle.cy_values.specs.declared.rows.Cell.{Cell};
 ghost use Rattle.cy_memory.specs.declared.faults.MemoryFault.TheVariants.{NoMemory, TooManyRows};
 ghost use Rattle.cy_memory.specs.Counts.{greatest_count};
 ghost use Rattle.cy_deltas.specs.Deltas.{IsBounded, IsDelta, shift_between};
+ghost use Rattle.cy_deltas.specs.Reading.{IsRead};
 ghost use Rattle.cy_merges.specs.Merges.{AreBounded, IsWhole};
 ghost use Rattle.cy_merges.specs.internal.Sums.{AreShiftsOf, lost, gained, shift_in, shifts_at};
 
@@ -60,11 +61,8 @@ fn shifts_of_changes<M: Memory>(
 ) -> Result<Vec<Shift>, MemoryFault>
     requires whole { (row : List Cell) → 0 < M.was memory.old row + M.staged memory.old row → IsWhole (M.key_columns memory.old) row }
     ensures made { IfOk result (λ made. AreShiftsOf (M.was memory.old) (M.staged memory.old) changes.items made.items) }
-    ensures was { M.was memory.new ≡ M.was memory.old }
-    ensures staged { M.staged memory.new ≡ M.staged memory.old }
-    ensures columns { M.key_columns memory.new ≡ M.key_columns memory.old }
+    ensures read { IsRead M.key_columns M.was M.staged M.step_count memory.old memory.new }
     ensures steps { M.EXACT ≡ true → M.step_count memory.new ≤ M.step_count memory.old + 2 * length changes.items }
-    ensures grows { M.step_count memory.old ≤ M.step_count memory.new }
 {
     if changes.len() == 1 {
         return shift_of_change(alloc, memory, changes);
@@ -86,11 +84,8 @@ fn shift_of_change<M: Memory>(
     requires single { length changes.items ≡ 1 }
     requires whole { (row : List Cell) → 0 < M.was memory.old row + M.staged memory.old row → IsWhole (M.key_columns memory.old) row }
     ensures made { IfOk result (λ made. AreShiftsOf (M.was memory.old) (M.staged memory.old) changes.items made.items) }
-    ensures was { M.was memory.new ≡ M.was memory.old }
-    ensures staged { M.staged memory.new ≡ M.staged memory.old }
-    ensures columns { M.key_columns memory.new ≡ M.key_columns memory.old }
+    ensures read { IsRead M.key_columns M.was M.staged M.step_count memory.old memory.new }
     ensures steps { M.EXACT ≡ true → M.step_count memory.new ≤ M.step_count memory.old + 2 }
-    ensures grows { M.step_count memory.old ≤ M.step_count memory.new }
 {
     let Some(change) = changes.pop() else {
         return Ok(changes);
@@ -107,11 +102,8 @@ fn shifts_of<M: Memory>(
 ) -> Result<Vec<Shift>, MemoryFault>
     requires whole { (row : List Cell) → 0 < M.was memory.old row + M.staged memory.old row → IsWhole (M.key_columns memory.old) row }
     ensures made { IfOk result (λ made. made.items ≡ shifts_at (M.was memory.old) (M.staged memory.old) rows.now) }
-    ensures was { M.was memory.new ≡ M.was memory.old }
-    ensures staged { M.staged memory.new ≡ M.staged memory.old }
-    ensures columns { M.key_columns memory.new ≡ M.key_columns memory.old }
+    ensures read { IsRead M.key_columns M.was M.staged M.step_count memory.old memory.new }
     ensures steps { M.EXACT ≡ true → M.step_count memory.new ≤ M.step_count memory.old + 2 * length rows.now }
-    ensures grows { M.step_count memory.old ≤ M.step_count memory.new }
 {
     let mut made = Vec::new(alloc);
     for row in rows {
@@ -129,11 +121,8 @@ fn add_change<M: Memory>(
 ) -> Result<(), MemoryFault>
     requires whole { (other : List Cell) → 0 < M.was memory.old other + M.staged memory.old other → IsWhole (M.key_columns memory.old) other }
     ensures made { OnOk result (made.new.items ≡ made.old.items ++ shift_between row.now (M.was memory.old row.now) (M.staged memory.old row.now)) }
-    ensures was { M.was memory.new ≡ M.was memory.old }
-    ensures staged { M.staged memory.new ≡ M.staged memory.old }
-    ensures columns { M.key_columns memory.new ≡ M.key_columns memory.old }
+    ensures read { IsRead M.key_columns M.was M.staged M.step_count memory.old memory.new }
     ensures steps { M.EXACT ≡ true → M.step_count memory.new ≤ M.step_count memory.old + 2 }
-    ensures grows { M.step_count memory.old ≤ M.step_count memory.new }
 {
     let mut cursor = memory.look(alloc, row)?;
     let found = memory.take(alloc, &mut cursor)?;

@@ -20,7 +20,7 @@ returns-clause-delta g c =
     let now = g.M.Memory.staged c.shifts_of_changes-made.new.memory in
     merged_result (AreShiftsOf was_now gains c.args.changes.items) (IsDelta was now) _ c.shifts_of_changes-made.result c.map_err.result (λ made. made.items) c.map_err.ensures.cases c.map_err.ensures.variant c.shifts_of_changes-made.ensures.made
     (merged_delta was was_now (g.M.Memory.staged c.args.memory.now) (g.M.Memory.staged c.stage_losses.new.memory) gains now c.args.changes.items c.deref.result.now c.deref-2.result.now
-    c.deref.ensures.value c.deref-2.ensures.value c.requires.settled (c.in_ok-stage_gains.ensures.was ∙ c.in_ok-stage_losses.ensures.was) c.shifts_of_changes-made.ensures.staged
+    c.deref.ensures.value c.deref-2.ensures.value c.requires.settled (c.in_ok-stage_gains.ensures.was ∙ c.in_ok-stage_losses.ensures.was) c.shifts_of_changes-made.ensures.read.staged
     c.in_ok-stage_losses.ensures.staged c.in_ok-stage_gains.ensures.staged)
 
 pub returns-clause-shifts : goal.returns-clause-shifts

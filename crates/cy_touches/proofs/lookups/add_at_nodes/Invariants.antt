@@ -7,6 +7,7 @@ use Rattle.cy_values.specs.declared.rows.Cell.TheVariants as cell
 use Rattle.cy_graph.specs.declared.nodes.Node.{Node}
 use Rattle.cy_graph.specs.Graph.{State}
 use Rattle.cy_deltas.specs.Deltas.{shifts_of}
+use Rattle.cy_deltas.specs.Reading.{IsRead}
 use Rattle.cy_touches.specs.Changes.{IsChange}
 use Rattle.cy_touches.specs.internal.Attributes.{still}
 use Rattle.cy_touches.specs.internal.Named.{AreAmong, with_key}
@@ -19,10 +20,7 @@ invariant-loop-touched g l = record {
       ++ flat_map (λ (e : ℕ × Option Node). still before.content l.initial.sight.graph.now.content column l.attribute (g.M.Memory.was l.initial.memory) (g.M.Memory.staged l.initial.memory) (cell.Node (record { 0 = e.0 })) row) (map (λ e. (e.0, option_copied e.1)) l.touched-iterator)
       ≡ shifts_of row l.initial.made.items
       ++ flat_map (λ (e : ℕ × Option Node). still before.content l.initial.sight.graph.now.content column l.attribute (g.M.Memory.was l.initial.memory) (g.M.Memory.staged l.initial.memory) (cell.Node (record { 0 = e.0 })) row) l.change.nodes;
-  was : g.M.Memory.was l.memory ≡ g.M.Memory.was l.initial.memory;
-  staged : g.M.Memory.staged l.memory ≡ g.M.Memory.staged l.initial.memory;
-  grows : g.M.Memory.step_count l.initial.memory ≤ g.M.Memory.step_count l.memory;
-  columns : g.M.Memory.key_columns l.memory ≡ g.M.Memory.key_columns l.initial.memory;
+  read : IsRead g.M.Memory.key_columns g.M.Memory.was g.M.Memory.staged g.M.Memory.step_count l.initial.memory l.memory;
   graph : l.sight.graph ≡ l.initial.sight.graph;
   reads : l.sight.reads + length l.touched-iterator ≤ l.initial.sight.reads + length l.change.nodes;
   steps : (column : ℕ) (rows : List (List Cell)) → g.M.Memory.key_columns l.initial.memory ≡ column ∷ [] → AreAmong (g.M.Memory.was l.initial.memory) (g.M.Memory.staged l.initial.memory) rows → g.M.Memory.EXACT ≡ true

@@ -19,11 +19,11 @@ returns-clause-delta g c = λ before old new change is delta.
     c.args.sight.now.graph c.add_changed.new.sight.graph c.add_at_nodes.new.sight.graph c.add_changed.ensures.graph (c.add_at_nodes.ensures.graph ∙ c.add_changed.ensures.graph)
     was (counts_after c.args.shifts.items was)
     (g.M.Memory.was c.stage_shifts.new.memory) (g.M.Memory.staged c.stage_shifts.new.memory) (g.M.Memory.was c.add_at_nodes.new.memory) (g.M.Memory.staged c.add_at_nodes.new.memory)
-    c.stage_shifts.ensures.was staged_now (c.add_at_nodes.ensures.was ∙ c.stage_shifts.ensures.was) (c.add_at_nodes.ensures.staged ∙ staged_now)
+    c.stage_shifts.ensures.was staged_now (c.add_at_nodes.ensures.read.was ∙ c.stage_shifts.ensures.was) (c.add_at_nodes.ensures.read.staged ∙ staged_now)
     c.args.shifts.items c.new-made.result.items c.add_changed.new.made.items c.add_at_nodes.new.made.items c.add_at_rels.new.made.items c.new-made.ensures.items
     c.in_ok-add_changed.ensures.made
     (λ b h. c.in_ok-add_at_nodes.ensures.made b c.args.column h keys)
-    (λ b h. c.in_ok-add_at_rels.ensures.made b c.args.column h (c.add_at_nodes.ensures.columns ∙ keys))
+    (λ b h. c.in_ok-add_at_rels.ensures.made b c.args.column h (c.add_at_nodes.ensures.read.columns ∙ keys))
     before change)
     old new is delta
 
@@ -39,11 +39,11 @@ returns-clause-bounded g c = λ before change.
     c.args.sight.now.graph c.add_changed.new.sight.graph c.add_at_nodes.new.sight.graph c.add_changed.ensures.graph (c.add_at_nodes.ensures.graph ∙ c.add_changed.ensures.graph)
     was (counts_after c.args.shifts.items was)
     (g.M.Memory.was c.stage_shifts.new.memory) (g.M.Memory.staged c.stage_shifts.new.memory) (g.M.Memory.was c.add_at_nodes.new.memory) (g.M.Memory.staged c.add_at_nodes.new.memory)
-    c.stage_shifts.ensures.was staged_now (c.add_at_nodes.ensures.was ∙ c.stage_shifts.ensures.was) (c.add_at_nodes.ensures.staged ∙ staged_now)
+    c.stage_shifts.ensures.was staged_now (c.add_at_nodes.ensures.read.was ∙ c.stage_shifts.ensures.was) (c.add_at_nodes.ensures.read.staged ∙ staged_now)
     c.args.shifts.items c.new-made.result.items c.add_changed.new.made.items c.add_at_nodes.new.made.items c.add_at_rels.new.made.items c.new-made.ensures.items
     c.in_ok-add_changed.ensures.made
     (λ b h. c.in_ok-add_at_nodes.ensures.made b c.args.column h keys)
-    (λ b h. c.in_ok-add_at_rels.ensures.made b c.args.column h (c.add_at_nodes.ensures.columns ∙ keys))
+    (λ b h. c.in_ok-add_at_rels.ensures.made b c.args.column h (c.add_at_nodes.ensures.read.columns ∙ keys))
     before change)
     c.requires.within c.requires.bounded
 
@@ -60,6 +60,6 @@ returns-clause-steps g c = λ before old new change is delta exact.
     _ _ _ _ _
     (c.stage_shifts.ensures.steps exact)
     (c.in_ok-add_at_nodes.ensures.steps c.args.column rows keys (among_alike rows was (g.M.Memory.was c.stage_shifts.new.memory) (counts_after c.args.shifts.items was) (g.M.Memory.staged c.stage_shifts.new.memory) c.stage_shifts.ensures.was staged_now among) exact)
-    (c.in_ok-add_at_rels.ensures.steps c.args.column rows (c.add_at_nodes.ensures.columns ∙ keys)
-    (among_alike rows was (g.M.Memory.was c.add_at_nodes.new.memory) (counts_after c.args.shifts.items was) (g.M.Memory.staged c.add_at_nodes.new.memory) (c.add_at_nodes.ensures.was ∙ c.stage_shifts.ensures.was) (c.add_at_nodes.ensures.staged ∙ staged_now) among) exact)
+    (c.in_ok-add_at_rels.ensures.steps c.args.column rows (c.add_at_nodes.ensures.read.columns ∙ keys)
+    (among_alike rows was (g.M.Memory.was c.add_at_nodes.new.memory) (counts_after c.args.shifts.items was) (g.M.Memory.staged c.add_at_nodes.new.memory) (c.add_at_nodes.ensures.read.was ∙ c.stage_shifts.ensures.was) (c.add_at_nodes.ensures.read.staged ∙ staged_now) among) exact)
     (named_sum c.args.change.now c.args.column change.nodes_once change.rels_once rows)

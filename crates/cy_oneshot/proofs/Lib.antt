@@ -1,2 +1,3 @@
 mod ClauseAnswers
 mod NewNames
+mod UnionAnswers

@@ -1,10 +1,10 @@
 -- MATCH and UNWIND give the same of rows in which the cells that they don't read are null, but for these cells.
-use Rattle.std.proofs.Common.{◌≡◌, ℕ, ◌+◌, ◌≤◌, Bool, true, false, cond, List, [], ◌∷◌, ◌++◌, filter, length, map, refl, sym, ap, ◌∙◌, arith}
+use Rattle.std.proofs.Common.{◌≡◌, ℕ, ◌+◌, ◌≤◌, ◌||◌, Bool, true, false, not, cond, List, [], ◌∷◌, ◌++◌, filter, length, map, refl, sym, ap, subst, ◌∙◌, arith}
 use Rattle.std.specs.Prelude.{◌&&◌, Option, None, Some, IfOk, IfSome, Result, Ok, Err, flat_map, slice_get, zip}
-use Rattle.std.specs.List.{AllByRecursion, list_all}
+use Rattle.std.specs.List.{AllByRecursion, list_all, list_any}
 use Rattle.std.specs.Option.{option_map_or}
 use Rattle.std.specs.Ordering.{eq_by_cmp}
-use Rattle.std.proofs.lemmas.List.{length-append}
+use Rattle.std.proofs.lemmas.List.{append-nil, length-append}
 use Rattle.cy_values.specs.declared.numbers.Entity.{Entity}
 use Rattle.cy_values.specs.declared.scalars.Value.{Value}
 use Rattle.cy_values.specs.declared.scalars.Value.TheVariants as value
@@ -13,7 +13,7 @@ use Rattle.cy_values.specs.declared.rows.Cell.TheVariants as cell
 use Rattle.cy_values.specs.declared.truth.Truth.{Truth}
 use Rattle.cy_values.specs.Order.{cell_order}
 use Rattle.cy_values.specs.Truth.{is_yes}
-use Rattle.cy_trees.specs.Trees.{Clause, Expression, MapEntry, Path, «match», unwind, «with», «return», create, set, remove, delete}
+use Rattle.cy_trees.specs.Trees.{Clause, Expression, MapEntry, Path, PathTest, Where, «match», unwind, «with», «return», create, set, remove, delete}
 use Rattle.cy_scope.specs.Views.{is_update}
 use Rattle.cy_graph.specs.Graph.{Content}
 use Rattle.cy_graph.specs.Maps.{value_at}
@@ -24,13 +24,13 @@ use Rattle.cy_expr.specs.Graphs.{lookups, properties_in}
 use Rattle.cy_expr.specs.Logic.{truth_of}
 use Rattle.cy_expr.specs.Operators.{value_in_cell}
 use Rattle.cy_patterns.specs.Fits.{agrees, are_different, are_linked, entities_of, extended, fits, has_entries, has_entry, is_equal, is_labelled, is_new, relationships_of}
-use Rattle.cy_patterns.specs.Matching.{assigned, condition, elements_of, fitting, map_values, matched, optionally_matched, selected, unless_none, unwound, with_nulls}
-use Rattle.cy_patterns.specs.Outcomes.{gathered, joined, together}
-use Rattle.cy_patterns.specs.Places.{Place, assignments, column_at, entries_at, places}
+use Rattle.cy_patterns.specs.Matching.{assigned, elements_of, fitting, is_met, is_there, kept, map_values, matched_where, optionally_matched, test_truth, unless_none, unwound, where_truth, with_nulls}
+use Rattle.cy_patterns.specs.Outcomes.{and_also, gathered, joined, together}
+use Rattle.cy_patterns.specs.Places.{Place, assignments, column_at, entries_at, path_places, places}
 use Rattle.cy_queries.specs.Queries.{rows_after}
 use Rattle.cy_columns.specs.Columns.{columns_read}
 use Rattle.cy_columns.proofs.Agreeing.{cell-same}
-use Rattle.cy_unwinding.specs.Carried.{AreEntriesRead, AreNeeded, ArePlacesRead, IsClauseRead, IsTestRead, carried, carried_from, is_needed, is_projection}
+use Rattle.cy_unwinding.specs.Carried.{AreEntriesRead, AreNeeded, ArePlacesRead, IsClauseRead, IsTestRead, IsWhereRead, carried, carried_from, is_needed, is_projection}
 use Rattle.cy_unwinding.proofs.Carried.{AreLong, NeededFrom, agree_carried, carried_together, from_long, from_more, get_from, less_last, row_length}
 use Rattle.cy_queries.proofs.Each.{each_joined, each_made, each_map, if_ok_any, if_ok_then}
 
@@ -108,20 +108,14 @@ module _ (graph : Content) (needed : List Bool) where
 
   -- ---- WHERE
 
-  abbrev kept : Bool → List Cell → Result (List (List Cell)) EvalFault
-  kept b row = Ok (cond b (row ∷ []) [])
+  truth_less : (test : Option Expression) (row : List Cell) → IsTestRead needed test → test_truth graph test (less row) ≡ test_truth graph test row
+  truth_less None row read = refl
+  truth_less (Some e) row read = ap (λ c. on_one truth_of (on_one value_in_cell c)) (cell_less e row read)
 
-  kept_less : (row : List Cell) (o : Result Truth EvalFault) → on_one (λ truth. kept (is_yes truth) (less row)) o ≡ carried needed (on_one (λ truth. kept (is_yes truth) row) o)
-  kept_less row (Err fault) = refl
-  kept_less row (Ok truth) = elim (is_yes truth) as (λ b. kept b (less row) ≡ carried needed (kept b row)) [ true ↦ refl | false ↦ refl ]
-
-  selected_less : (test : Option Expression) (row : List Cell) → IsTestRead needed test → selected graph test (less row) ≡ carried needed (selected graph test row)
-  selected_less None row read = refl
-  selected_less (Some e) row read = ap (λ c. on_one (λ truth. kept (is_yes truth) (less row)) (on_one truth_of (on_one value_in_cell c))) (cell_less e row read) ∙ kept_less row (condition graph e row)
-
-  joined_less : (f : List Cell → Result (List (List Cell)) EvalFault) → ((row : List Cell) → f (less row) ≡ carried needed (f row)) → (rows : List (List Cell)) → joined (map f (map less rows)) ≡ carried needed (joined (map f rows))
-  joined_less f same [] = refl
-  joined_less f same (row ∷ rows) = (λ j. together (same row j) (joined_less f same rows j)) ∙ sym (carried_together needed (f row) (joined (map f rows)))
+  joined_less : (f : List Cell → Result (List (List Cell)) EvalFault) → ((row : List Cell) → NeededFrom needed (length row) → f (less row) ≡ carried needed (f row))
+      → (rows : List (List Cell)) → AllByRecursion (λ row. NeededFrom needed (length row)) rows → joined (map f (map less rows)) ≡ carried needed (joined (map f rows))
+  joined_less f same [] from = refl
+  joined_less f same (row ∷ rows) from = (λ j. together (same row from.0 j) (joined_less f same rows from.1 j)) ∙ sym (carried_together needed (f row) (joined (map f rows)))
 
   values_less : (row : List Cell) (es : List MapEntry) → AreEntriesRead needed es → map (λ e. cell_of (lookups graph) (less row) e.value) es ≡ map (λ e. cell_of (lookups graph) row e.value) es
   values_less row [] read = refl
@@ -139,14 +133,62 @@ module _ (graph : Content) (needed : List Bool) where
   after_values rows (Ok values) = refl
   after_values rows (Err fault) = refl
 
+  any_less : (row : List Cell) → NeededFrom needed (length row) → (ps : List Place) → ArePlacesRead needed ps → (css : List (List Cell))
+      → list_any (fits graph (less row)) (map (λ cells. zip ps cells) css) ≡ list_any (fits graph row) (map (λ cells. zip ps cells) css)
+  any_less row from ps read [] = refl
+  any_less row from ps read (cells ∷ css) = λ j. fits_less row from (zip ps cells) (zip_read ps cells read) j || any_less row from ps read css j
+
+  there_less : (row : List Cell) → NeededFrom needed (length row) → (path : Path) → ArePlacesRead needed (places (path ∷ [])) → is_there graph (less row) path ≡ is_there graph row path
+  there_less row from path read = any_less row from (places (path ∷ [])) read (assignments graph (places (path ∷ [])))
+
+  first_read : (ps qs : List Place) → ArePlacesRead needed (ps ++ qs) → ArePlacesRead needed ps
+  first_read [] qs read = tt
+  first_read (p ∷ ps) qs read = (read.0, first_read ps qs read.1)
+
+  rest_read : (ps qs : List Place) → ArePlacesRead needed (ps ++ qs) → ArePlacesRead needed qs
+  rest_read [] qs read = read
+  rest_read (p ∷ ps) qs read = rest_read ps qs read.1
+
+  all_met_less : (row : List Cell) → NeededFrom needed (length row) → (ts : List PathTest) → ArePlacesRead needed (places (map (λ t. t.path) ts))
+      → list_all (is_met graph (less row)) ts ≡ list_all (is_met graph row) ts
+  all_met_less row from [] read = refl
+  all_met_less row from (t ∷ ts) read =
+      let others : List Place = places (map (λ (u : PathTest). u.path) ts) in
+      let there : is_there graph (less row) t.path ≡ is_there graph row t.path =
+      there_less row from t.path (subst (ArePlacesRead needed) (sym (append-nil (path_places t.path))) (first_read (path_places t.path) others read)) in
+      λ j. cond t.denied (not (there j)) (there j) && all_met_less row from ts (rest_read (path_places t.path) others read) j
+
+  where_less : (w : Where) → IsWhereRead needed w → (row : List Cell) → NeededFrom needed (length row) → where_truth graph w (less row) ≡ where_truth graph w row
+  where_less w read row from =
+      let ps : List Place = places (map (λ (t : PathTest). t.path) w.paths) in
+      λ j. and_also (gathered (values_less row (flat_map entries_at ps) (all_entries_read ps read.1) j))
+      (on_one (λ truth. Ok (is_yes truth && all_met_less row from w.paths read.1 j)) (truth_less w.test row read.0 j))
+
+  kept_if : (row : List Cell) (o : Result Bool EvalFault) → on_one (λ holds. Ok (cond holds (less row ∷ []) [])) o ≡ carried needed (on_one (λ holds. Ok (cond holds (row ∷ []) [])) o)
+  kept_if row (Ok true) = refl
+  kept_if row (Ok false) = refl
+  kept_if row (Err fault) = refl
+
+  kept_less : (w : Where) → IsWhereRead needed w → (row : List Cell) → NeededFrom needed (length row) → kept graph w (less row) ≡ carried needed (kept graph w row)
+  kept_less w read row from = ap (on_one (λ holds. Ok (cond holds (less row ∷ []) []))) (where_less w read row from) ∙ kept_if row (where_truth graph w row)
+
+  extended_from : (row : List Cell) → NeededFrom needed (length row) → (ps : List (Place × Cell)) → NeededFrom needed (length (extended row ps))
+  extended_from row from [] = from
+  extended_from row from (p ∷ ps) =
+      elim (is_new (length row) p.0) as (λ b. NeededFrom needed (length (extended (cond b (row ++ p.1 ∷ []) row) ps))) [
+        | true ↦ extended_from (row ++ p.1 ∷ []) (from_more needed row p.1 from) ps
+        | false ↦ extended_from row from ps
+      ]
+
   -- what MATCH gives for a row
-  pub matched_less : (paths : List Path) (test : Option Expression) → ArePlacesRead needed (places paths) → IsTestRead needed test → (row : List Cell) → NeededFrom needed (length row)
-      → matched graph paths test (less row) ≡ carried needed (matched graph paths test row)
-  matched_less paths test read tested row from =
-      (λ j. on_one (λ values. joined (map (selected graph test) (fitting_less row from (places paths) read (assignments graph (places paths)) j)))
+  pub matched_less : (paths : List Path) (w : Where) → ArePlacesRead needed (places paths) → IsWhereRead needed w → (row : List Cell) → NeededFrom needed (length row)
+      → matched_where graph paths w (less row) ≡ carried needed (matched_where graph paths w row)
+  matched_less paths w read asked row from =
+      (λ j. on_one (λ values. joined (map (kept graph w) (fitting_less row from (places paths) read (assignments graph (places paths)) j)))
       (gathered (values_less row (flat_map entries_at (places paths)) (all_entries_read (places paths) read) j)))
-      ∙ ap (λ o. on_one (λ values. o) (map_values graph paths row)) (joined_less (selected graph test) (λ r. selected_less test r tested) (fitting graph paths row))
-      ∙ after_values (joined (map (selected graph test) (fitting graph paths row))) (map_values graph paths row)
+      ∙ ap (λ o. on_one (λ values. o) (map_values graph paths row)) (joined_less (kept graph w) (λ r longer. kept_less w asked r longer) (fitting graph paths row)
+      (each_made (λ r. NeededFrom needed (length r)) (extended row) (λ ps. extended_from row from ps) (filter (fits graph row) (assigned graph paths))))
+      ∙ after_values (joined (map (kept graph w) (fitting graph paths row))) (map_values graph paths row)
 
   -- the same by OPTIONAL MATCH
   unless_less : (nulls : List Cell) (rows : List (List Cell)) → unless_none (less nulls) (map less rows) ≡ map less (unless_none nulls rows)
@@ -157,11 +199,11 @@ module _ (graph : Content) (needed : List Bool) where
   or_nulls nulls (Ok rows) = ap Ok (unless_less nulls rows)
   or_nulls nulls (Err fault) = refl
 
-  optionally_less : (paths : List Path) (test : Option Expression) → ArePlacesRead needed (places paths) → IsTestRead needed test → (row : List Cell) → NeededFrom needed (length row)
-      → optionally_matched graph paths test (less row) ≡ carried needed (optionally_matched graph paths test row)
-  optionally_less paths test read tested row from =
-      (λ j. on_one (λ rows. Ok (unless_none (extended_less row from (map (λ place. (place, cell.Value value.Null)) (places paths)) j) rows)) (matched_less paths test read tested row from j))
-      ∙ or_nulls (with_nulls paths row) (matched graph paths test row)
+  optionally_less : (paths : List Path) (w : Where) → ArePlacesRead needed (places paths) → IsWhereRead needed w → (row : List Cell) → NeededFrom needed (length row)
+      → optionally_matched graph paths w (less row) ≡ carried needed (optionally_matched graph paths w row)
+  optionally_less paths w read asked row from =
+      (λ j. on_one (λ rows. Ok (unless_none (extended_less row from (map (λ place. (place, cell.Value value.Null)) (places paths)) j) rows)) (matched_less paths w read asked row from j))
+      ∙ or_nulls (with_nulls paths row) (matched_where graph paths w row)
 
   -- ---- UNWIND
 
@@ -189,8 +231,8 @@ module _ (graph : Content) (needed : List Bool) where
   -- what a clause that keeps the row gives for all rows
   pub reading_less : (c : Clause) → is_update c ≡ false → is_projection c ≡ false → IsClauseRead needed c → (rows : List (List Cell)) → AreLong needed rows
       → rows_after graph c (map less rows) ≡ carried needed (rows_after graph c rows)
-  reading_less («match» false paths test) reads keeps read rows long = rows_less (matched graph paths test) (matched_less paths test read.0 read.1) rows long
-  reading_less («match» true paths test) reads keeps read rows long = rows_less (optionally_matched graph paths test) (optionally_less paths test read.0 read.1) rows long
+  reading_less («match» false paths w) reads keeps read rows long = rows_less (matched_where graph paths w) (matched_less paths w read.0 read.1) rows long
+  reading_less («match» true paths w) reads keeps read rows long = rows_less (optionally_matched graph paths w) (optionally_less paths w read.0 read.1) rows long
   reading_less (unwind e v) reads keeps read rows long = rows_less (unwound graph e) (unwound_less e read) rows long
   reading_less («with» p test) reads keeps read rows long = absurd (let e : true ≡ false = keeps in cc)
   reading_less («return» p) reads keeps read rows long = absurd (let e : true ≡ false = keeps in cc)
@@ -210,28 +252,27 @@ module _ (graph : Content) (P : List Cell → Type 0) (more : (row : List Cell) 
         | false ↦ extended_grown row ps here
       ]
 
-  each_kept : (test : Option Expression) (row : List Cell) → P row → IfOk (selected graph test row) (AllByRecursion P)
-  each_kept None row here = (here, tt)
-  each_kept (Some e) row here =
-      if_ok_any (AllByRecursion P) (λ truth. Ok (cond (is_yes truth) (row ∷ []) []))
-      (λ truth. elim (is_yes truth) as (λ b. AllByRecursion P (cond b (row ∷ []) [])) [ true ↦ (here, tt) | false ↦ tt ]) (condition graph e row)
+  each_kept : (w : Where) (row : List Cell) → P row → IfOk (kept graph w row) (AllByRecursion P)
+  each_kept w row here =
+      if_ok_any (AllByRecursion P) (λ holds. Ok (cond holds (row ∷ []) []))
+      (λ holds. elim holds as (λ b. AllByRecursion P (cond b (row ∷ []) [])) [ true ↦ (here, tt) | false ↦ tt ]) (where_truth graph w row)
 
-  all_kept : (test : Option Expression) (rows : List (List Cell)) → AllByRecursion P rows → IfOk (joined (map (selected graph test) rows)) (AllByRecursion P)
-  all_kept test rows each = each_joined P (map (selected graph test) rows) (each_map P (λ o. IfOk o (AllByRecursion P)) (selected graph test) (each_kept test) rows each)
+  all_kept : (w : Where) (rows : List (List Cell)) → AllByRecursion P rows → IfOk (joined (map (kept graph w) rows)) (AllByRecursion P)
+  all_kept w rows each = each_joined P (map (kept graph w) rows) (each_map P (λ o. IfOk o (AllByRecursion P)) (kept graph w) (each_kept w) rows each)
 
-  matched_grown : (paths : List Path) (test : Option Expression) (row : List Cell) → P row → IfOk (matched graph paths test row) (AllByRecursion P)
-  matched_grown paths test row here =
-      if_ok_any (AllByRecursion P) (λ values. joined (map (selected graph test) (fitting graph paths row)))
-      (λ values. all_kept test (fitting graph paths row) (each_made P (extended row) (λ ps. extended_grown row ps here) (filter (fits graph row) (assigned graph paths)))) (map_values graph paths row)
+  matched_grown : (paths : List Path) (w : Where) (row : List Cell) → P row → IfOk (matched_where graph paths w row) (AllByRecursion P)
+  matched_grown paths w row here =
+      if_ok_any (AllByRecursion P) (λ values. joined (map (kept graph w) (fitting graph paths row)))
+      (λ values. all_kept w (fitting graph paths row) (each_made P (extended row) (λ ps. extended_grown row ps here) (filter (fits graph row) (assigned graph paths)))) (map_values graph paths row)
 
   unless_grown : (row : List Cell) (rows : List (List Cell)) → P row → AllByRecursion P rows → AllByRecursion P (unless_none row rows)
   unless_grown row [] here each = (here, tt)
   unless_grown row (found ∷ others) here each = each
 
-  optionally_grown : (paths : List Path) (test : Option Expression) (row : List Cell) → P row → IfOk (optionally_matched graph paths test row) (AllByRecursion P)
-  optionally_grown paths test row here =
+  optionally_grown : (paths : List Path) (w : Where) (row : List Cell) → P row → IfOk (optionally_matched graph paths w row) (AllByRecursion P)
+  optionally_grown paths w row here =
       if_ok_then (AllByRecursion P) (AllByRecursion P) (λ rows. Ok (unless_none (with_nulls paths row) rows))
-      (λ rows all. unless_grown (with_nulls paths row) rows (extended_grown row (map (λ place. (place, cell.Value value.Null)) (places paths)) here) all) (matched graph paths test row) (matched_grown paths test row here)
+      (λ rows all. unless_grown (with_nulls paths row) rows (extended_grown row (map (λ place. (place, cell.Value value.Null)) (places paths)) here) all) (matched_where graph paths w row) (matched_grown paths w row here)
 
   unwound_grown : (e : Expression) (row : List Cell) → P row → IfOk (unwound graph e row) (AllByRecursion P)
   unwound_grown e row here =
@@ -243,8 +284,8 @@ module _ (graph : Content) (P : List Cell → Type 0) (more : (row : List Cell) 
   each_row f step rows each = each_joined P (map f rows) (each_map P (λ o. IfOk o (AllByRecursion P)) f step rows each)
 
   pub reading_grown : (c : Clause) → is_update c ≡ false → is_projection c ≡ false → (rows : List (List Cell)) → AllByRecursion P rows → IfOk (rows_after graph c rows) (AllByRecursion P)
-  reading_grown («match» false paths test) reads keeps rows each = each_row (matched graph paths test) (matched_grown paths test) rows each
-  reading_grown («match» true paths test) reads keeps rows each = each_row (optionally_matched graph paths test) (optionally_grown paths test) rows each
+  reading_grown («match» false paths w) reads keeps rows each = each_row (matched_where graph paths w) (matched_grown paths w) rows each
+  reading_grown («match» true paths w) reads keeps rows each = each_row (optionally_matched graph paths w) (optionally_grown paths w) rows each
   reading_grown (unwind e v) reads keeps rows each = each_row (unwound graph e) (unwound_grown e) rows each
   reading_grown («with» p test) reads keeps rows each = absurd (let e : true ≡ false = keeps in cc)
   reading_grown («return» p) reads keeps rows each = absurd (let e : true ≡ false = keeps in cc)

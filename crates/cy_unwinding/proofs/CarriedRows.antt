@@ -19,7 +19,7 @@ use Rattle.cy_expr.specs.Evaluation.{as_cell, cell_of}
 use Rattle.cy_expr.specs.Faults.{on_one}
 use Rattle.cy_expr.specs.Graphs.{lookups}
 use Rattle.cy_queries.specs.Order.{Keyed, each_once}
-use Rattle.cy_patterns.specs.Matching.{selected}
+use Rattle.cy_patterns.specs.Matching.{kept}
 use Rattle.cy_patterns.specs.Outcomes.{gathered, joined}
 use Rattle.cy_columns.specs.Columns.{AgreeOn, columns_read}
 use Rattle.cy_columns.proofs.Agreeing.{cell-same}
@@ -302,7 +302,7 @@ module _ (graph : Content) (needed : List Bool) where
 
   -- WITH and RETURN
   pub projecting_less : (c : Clause) → is_projection c ≡ true → IsClauseRead needed c → (rows : List (List Cell)) → rows_after graph c (map less rows) ≡ rows_after graph c rows
-  projecting_less («with» p test) is read rows = ap (on_one (λ made. joined (map (selected graph test) made))) (projection_less p rows read)
+  projecting_less («with» p w) is read rows = ap (on_one (λ made. joined (map (kept graph w) made))) (projection_less p rows read)
   projecting_less («return» p) is read rows = projection_less p rows read
   projecting_less («match» optional paths test) is read rows = absurd (let e : false ≡ true = is in cc)
   projecting_less (unwind e v) is read rows = absurd (let e : false ≡ true = is in cc)

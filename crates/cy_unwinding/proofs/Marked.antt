@@ -7,13 +7,13 @@ use Rattle.std.proofs.lemmas.List.{length-drop, map-append, take_all, take_more}
 use Rattle.cy_values.specs.declared.rows.Cell.{Cell}
 use Rattle.cy_trees.specs.declared.expressions.Variable.{Variable}
 use Rattle.cy_trees.specs.declared.clauses.Length.{Length}
-use Rattle.cy_trees.specs.Trees.{Clause, Expression, Item, Key, MapEntry, Path, Projection, Step, SetItem, set_property, set_labels, RemoveItem, remove_property, remove_labels, «match», unwind, «with», «return», create, remove, delete}
+use Rattle.cy_trees.specs.Trees.{Clause, Expression, Item, Key, MapEntry, Path, Projection, Step, Where, SetItem, set_property, set_labels, RemoveItem, remove_property, remove_labels, «match», unwind, «with», «return», create, remove, delete}
 use Rattle.cy_trees.specs.Trees as trees
 use Rattle.cy_scope.specs.Views.{is_update}
 use Rattle.cy_patterns.specs.Places.{Place, column_at, entries_at, link_place, node, path_places, places, relationship, step_places}
 use Rattle.cy_columns.specs.Columns.{column_list, columns_read}
 use Rattle.cy_queries.proofs.Each.{each_append, each_flat_map, each_then}
-use Rattle.cy_unwinding.specs.Carried.{AreAlike, AreEntriesRead, AreKeysRead, AreNeeded, ArePlacesRead, AreRead, AreSeen, IsAlike, IsClauseRead, IsEnough, IsKeyRead, IsPlaceRead, IsProjectionRead, IsRemoveRead, IsSeen, IsSetRead, IsTestRead, IsVariableRead, first_row, is_last, is_needed, is_projection, keys_of, updates_ahead}
+use Rattle.cy_unwinding.specs.Carried.{AreAlike, AreEntriesRead, AreKeysRead, AreNeeded, ArePlacesRead, AreRead, AreSeen, IsAlike, IsClauseRead, IsEnough, IsKeyRead, IsPlaceRead, IsProjectionRead, IsRemoveRead, IsSeen, IsSetRead, IsTestRead, IsVariableRead, IsWhereRead, first_row, is_last, is_needed, is_projection, keys_of, updates_ahead}
 use Rattle.cy_unwinding.specs.internal.Carried.{StillNeeded}
 
 pub marked_there : (needed : List Bool) (column : ℕ) → is_needed (set needed column true) column ≡ true
@@ -73,6 +73,9 @@ module _ (needed after : List Bool) (still : StillNeeded needed after) where
   still_test None is = tt
   still_test (Some e) is = still_columns (columns_read e) is
 
+  pub still_where : (w : Where) → IsWhereRead needed w → IsWhereRead after w
+  still_where w are = (still_test w.test are.0, still_places (places (map (λ t. t.path) w.paths)) are.1)
+
   pub still_item : (i : Item) → AreNeeded needed (columns_read i.expression) → AreNeeded after (columns_read i.expression)
   still_item i are = still_columns (columns_read i.expression) are
 
@@ -104,9 +107,9 @@ module _ (needed after : List Bool) (still : StillNeeded needed after) where
   still_remove (remove_labels v labels) are = still_variable v are
 
   still_clause : (c : Clause) → IsClauseRead needed c → IsClauseRead after c
-  still_clause («match» optional paths test) are = (still_places (places paths) are.0, still_test test are.1)
+  still_clause («match» optional paths w) are = (still_places (places paths) are.0, still_where w are.1)
   still_clause (unwind e v) are = still_columns (columns_read e) are
-  still_clause («with» p test) are = still_projection p are
+  still_clause («with» p w) are = still_projection p are
   still_clause («return» p) are = still_projection p are
   still_clause (create paths) are = still_places (places paths) are
   still_clause (trees.set items) are = each_then (IsSetRead needed) (IsSetRead after) still_set items are

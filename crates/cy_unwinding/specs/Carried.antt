@@ -5,7 +5,7 @@ use Rattle.cy_values.specs.declared.scalars.Value.TheVariants as value
 use Rattle.cy_values.specs.declared.rows.Cell.{Cell}
 use Rattle.cy_values.specs.declared.rows.Cell.TheVariants as cell
 use Rattle.cy_trees.specs.declared.expressions.Variable.{Variable}
-use Rattle.cy_trees.specs.Trees.{Expression, Item, Key, MapEntry, Projection, SetItem, set_property, set_labels, RemoveItem, remove_property, remove_labels, Clause, «match», unwind, «with», «return», create, set, remove, delete}
+use Rattle.cy_trees.specs.Trees.{Expression, Item, Key, MapEntry, Projection, Where, SetItem, set_property, set_labels, RemoveItem, remove_property, remove_labels, Clause, «match», unwind, «with», «return», create, set, remove, delete}
 use Rattle.cy_scope.specs.Views.{is_update}
 use Rattle.cy_expr.specs.declared.faults.EvalFault.{EvalFault}
 use Rattle.cy_expr.specs.Faults.{on_one}
@@ -79,6 +79,10 @@ ArePlacesRead needed ps = AllByRecursion (IsPlaceRead needed) ps
 abbrev pub IsTestRead : List Bool → Option Expression → Type 0
 IsTestRead needed test = IfSome test (λ e. AreNeeded needed (columns_read e))
 
+-- so are those that a WHERE reads: its condition, and its paths
+abbrev pub IsWhereRead : List Bool → Where → Type 0
+IsWhereRead needed w = IsTestRead needed w.test × ArePlacesRead needed (places (map (λ t. t.path) w.paths))
+
 -- the column of a variable is needed, if it has one
 abbrev pub IsVariableRead : List Bool → Variable → Type 0
 IsVariableRead needed v = AreNeeded needed (column_list v.column)
@@ -95,9 +99,9 @@ IsRemoveRead needed (remove_labels v labels) = IsVariableRead needed v
 
 -- all that a clause reads of the row before it is needed
 abbrev pub IsClauseRead : List Bool → Clause → Type 0
-IsClauseRead needed («match» optional paths test) = ArePlacesRead needed (places paths) × IsTestRead needed test
+IsClauseRead needed («match» optional paths w) = ArePlacesRead needed (places paths) × IsWhereRead needed w
 IsClauseRead needed (unwind e v) = AreNeeded needed (columns_read e)
-IsClauseRead needed («with» p test) = IsProjectionRead needed p
+IsClauseRead needed («with» p w) = IsProjectionRead needed p
 IsClauseRead needed («return» p) = IsProjectionRead needed p
 IsClauseRead needed (create paths) = ArePlacesRead needed (places paths)
 IsClauseRead needed (set items) = AllByRecursion (IsSetRead needed) items
@@ -106,7 +110,7 @@ IsClauseRead needed (delete detach variables) = AllByRecursion (IsVariableRead n
 
 -- whether a clause is WITH or RETURN
 abbrev pub is_projection : Clause → Bool
-is_projection («with» p test) = true
+is_projection («with» p w) = true
 is_projection («return» p) = true
 is_projection clause = false
 

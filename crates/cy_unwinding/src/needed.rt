@@ -2,13 +2,13 @@
 
 ghost use Rattle.std.specs.Prelude.{◌≡◌, ◌⊎◌, ◌≤◌, ℕ, [], IfOk, IfSome, OnOk, flat_map, length, map, option_map, slice_get, true, false};
 ghost use Rattle.std.specs.List.{AllByRecursion};
-ghost use Rattle.cy_trees.specs.Views.{clause_of, entry_of, expression_of, filter_of, item_of, path_of, projection_of, remove_item_of, set_item_of, step_of};
+ghost use Rattle.cy_trees.specs.Views.{clause_of, entry_of, expression_of, item_of, path_of, path_test_of, projection_of, remove_item_of, set_item_of, step_of, where_of};
 ghost use Rattle.cy_columns.specs.Columns.{columns_read};
 ghost use Rattle.cy_patterns.specs.Places.{path_places, places, step_places};
 ghost use Rattle.cy_patterns.specs.internal.Patterns.{place_of};
 ghost use Rattle.cy_projections.specs.SortKeys.{sort_key_of};
 ghost use Rattle.cy_unwinding.specs.Carried as spec;
-ghost use Rattle.cy_unwinding.specs.Carried.{AreEntriesRead, AreKeysRead, AreNeeded, ArePlacesRead, AreRead, AreSeen, IsClauseRead, IsEnough, IsKeyRead, IsPlaceRead, IsProjectionRead, IsRemoveRead, IsSeen, IsSetRead, IsTestRead, IsVariableRead, AreAlike, IsAlike, updates_ahead};
+ghost use Rattle.cy_unwinding.specs.Carried.{AreEntriesRead, AreKeysRead, AreNeeded, ArePlacesRead, AreRead, AreSeen, IsClauseRead, IsEnough, IsKeyRead, IsPlaceRead, IsProjectionRead, IsRemoveRead, IsSeen, IsSetRead, IsTestRead, IsVariableRead, IsWhereRead, AreAlike, IsAlike, updates_ahead};
 ghost use Rattle.cy_unwinding.specs.internal.Carried.{StillNeeded};
 
 use cy_columns::columns_read;
@@ -17,7 +17,8 @@ use cy_patterns::Place;
 use cy_projections::{SortKey, sort_keys};
 use cy_scope::is_update;
 use cy_trees::{
-    Clause, Expr, Item, MapEntry, Match, Path, Projection, RemoveItem, SetItem, Step, Variable,
+    Clause, Expr, Item, MapEntry, Match, Path, PathTest, Projection, RemoveItem, SetItem, Step,
+    Variable, Where,
 };
 use cy_values::{Cell, Fault, Row};
 use std::alloc::Global;
@@ -225,11 +226,31 @@ fn mark_clause(alloc: Global, needed: &mut Vec<bool>, clause: &Clause) -> Result
 // Marks the columns that MATCH reads.
 fn mark_match(alloc: Global, needed: &mut Vec<bool>, clause: &Match) -> Result<(), Fault>
     ensures places { OnOk result (ArePlacesRead needed.new.items (places (map path_of clause.now.paths.items))) }
-    ensures test { OnOk result (IsTestRead needed.new.items (filter_of clause.now.filter)) }
+    ensures asked { OnOk result (IsWhereRead needed.new.items (where_of clause.now.filter)) }
     ensures still { OnOk result (StillNeeded needed.old.items needed.new.items) }
 {
-    mark_test(alloc, needed, clause.filter.as_ref())?;
+    mark_where(alloc, needed, &clause.filter)?;
     mark_paths(alloc, needed, &clause.paths)
+}
+
+// Marks the columns that a WHERE reads.
+fn mark_where(alloc: Global, needed: &mut Vec<bool>, filter: &Where) -> Result<(), Fault>
+    ensures read { OnOk result (IsWhereRead needed.new.items (where_of filter.now)) }
+    ensures still { OnOk result (StillNeeded needed.old.items needed.new.items) }
+{
+    mark_test(alloc, needed, filter.test.as_ref())?;
+    mark_path_tests(alloc, needed, &filter.paths)
+}
+
+// Marks the columns that paths as conditions read.
+fn mark_path_tests(alloc: Global, needed: &mut Vec<bool>, tests: &[PathTest]) -> Result<(), Fault>
+    ensures read { OnOk result (ArePlacesRead needed.new.items (places (map (λ t. t.path) (map path_test_of tests.now)))) }
+    ensures still { OnOk result (StillNeeded needed.old.items needed.new.items) }
+{
+    for test in tests {
+        mark_path(alloc, needed, &test.path)?;
+    }
+    Ok(())
 }
 
 // Marks the columns that a condition reads, if there is one.

@@ -1,5 +1,5 @@
 -- Outcomes that together have a value: each of them has one.
-use Rattle.std.proofs.Common.{◌≡◌, Bool, true, false, cond, List, [], ◌∷◌, ◌++◌, map, filter, refl, sym, ap, subst, ◌∙◌}
+use Rattle.std.proofs.Common.{◌≡◌, Bool, true, false, cond, ◌&&◌, List, [], ◌∷◌, ◌++◌, map, filter, refl, sym, ap, subst, ◌∙◌}
 use Rattle.std.specs.Prelude.{flat_map, IsOk, Option, None, Some, Result, Ok, Err, if◌then◌else◌}
 use Rattle.std.specs.List.{AllByRecursion}
 use Rattle.cy_values.specs.declared.rows.Cell.{Cell}
@@ -9,12 +9,13 @@ use Rattle.cy_trees.specs.Trees.{Expression, Path}
 use Rattle.cy_graph.specs.Graph.{Content}
 use Rattle.cy_expr.specs.declared.faults.EvalFault.{EvalFault}
 use Rattle.cy_expr.specs.Faults.{on_one}
-use Rattle.cy_patterns.specs.Matching.{fitting, map_values, matched, selected}
+use Rattle.cy_patterns.specs.Matching.{condition, fitting, found_and, kept, map_values, matched, matched_where, selected}
 use Rattle.cy_patterns.specs.Outcomes.{joined, together}
 use Rattle.cy_queries.proofs.Each.{each_append}
 use Rattle.cy_queries.proofs.Together.{all_kept}
 use Rattle.cy_plans.specs.Expressions.{is_true}
 use Rattle.cy_row_plans.specs.Rows.{condition_on, keeps}
+use Rattle.cy_clause_plans.specs.Matched.{where_only}
 
 pub both_ok : {A : Type 0} (o q : Result (List A) EvalFault) → IsOk (together o q) → IsOk o × IsOk q
 both_ok (Ok xs) (Ok ys) is = (refl, refl)
@@ -143,3 +144,35 @@ module _ (graph : Content) (paths : List Path) (test : Option Expression) where
   matched_wide_ok rows is =
       subst (λ (o : Result (List (List Cell)) EvalFault). IsOk o)
       (sym (joined_made (λ row. IsOk (matched graph paths test row)) (matched graph paths None) (fitting graph paths) matched_alone rows (each_ok (matched graph paths test) rows is))) refl
+
+-- ---- a WHERE without paths
+
+if_true : (row : List Cell) (o : Result Truth EvalFault)
+    → on_one (λ holds. let rows : List (List Cell) = (if holds then row ∷ [] else []) in Ok rows) (on_one (λ truth. let holds : Bool = is_yes truth && true in Ok holds) o)
+    ≡ on_one (λ truth. let rows : List (List Cell) = (if is_yes truth then row ∷ [] else []) in Ok rows) o
+if_true row (Ok truth) = by (is_yes truth)
+  where
+    same : Bool → Result (List (List Cell)) EvalFault
+    same b = Ok (if b then row ∷ [] else [])
+
+    by : (b : Bool) → same (b && true) ≡ same b
+    by true = refl
+    by false = refl
+if_true row (Err fault) = refl
+
+module _ (graph : Content) where
+  -- it keeps what its condition keeps
+  pub kept_only : (test : Option Expression) (row : List Cell) → kept graph (where_only test) row ≡ selected graph test row
+  kept_only None row = refl
+  kept_only (Some e) row = if_true row (condition graph e row)
+
+  pub matched_only : (paths : List Path) (test : Option Expression) (row : List Cell) → matched_where graph paths (where_only test) row ≡ matched graph paths test row
+  matched_only paths test row = λ i. found_and graph paths (λ r. kept_only test r i) row
+
+  -- all rows of MATCH with it are those with its condition
+  pub where_matched : (paths : List Path) (test : Option Expression) (rows : List (List Cell))
+      → joined (map (matched_where graph paths (where_only test)) rows) ≡ joined (map (matched graph paths test) rows)
+  where_matched paths test rows = λ i. joined (map (λ row. matched_only paths test row i) rows)
+
+  pub where_selected : (test : Option Expression) (rows : List (List Cell)) → joined (map (kept graph (where_only test)) rows) ≡ joined (map (selected graph test) rows)
+  where_selected test rows = λ i. joined (map (λ row. kept_only test row i) rows)

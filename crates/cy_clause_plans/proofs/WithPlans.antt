@@ -12,7 +12,7 @@ use Rattle.cy_kinds.specs.Scopes.{Scope}
 use Rattle.cy_graph.specs.Graph.{State}
 use Rattle.cy_expr.specs.declared.faults.EvalFault.{EvalFault}
 use Rattle.cy_expr.specs.Faults.{on_one}
-use Rattle.cy_patterns.specs.Matching.{selected}
+use Rattle.cy_patterns.specs.Matching.{kept}
 use Rattle.cy_patterns.specs.Outcomes.{IsSameOutcome, joined}
 use Rattle.cy_queries.proofs.BagLemmas.{permuted_bag}
 use Rattle.cy_queries.proofs.Together.{all_kept}
@@ -24,9 +24,10 @@ use Rattle.cy_plans.specs.Meaning.{rows_of}
 use Rattle.cy_plans.specs.Parts.{parts}
 use Rattle.cy_plans.specs.Within.{IsWithin}
 use Rattle.cy_row_plans.specs.Rows.{FitsRows, IsFiltered, keeps}
+use Rattle.cy_clause_plans.specs.Matched.{where_only}
 use Rattle.cy_clause_plans.specs.Projections.{CanGoOn, CanProject, IsProjection, IsWith}
 use Rattle.cy_clause_plans.proofs.MatchPlans.{sift_bag}
-use Rattle.cy_clause_plans.proofs.Outcomes.{IsTested, kept_rows, selected_each, selected_rows, then_ok}
+use Rattle.cy_clause_plans.proofs.Outcomes.{IsTested, kept_rows, selected_each, selected_rows, then_ok, where_selected}
 
 -- an outcome without a fault, as its value
 abbrev pub HasValue : Result (List (List Cell)) EvalFault → Type 0
@@ -42,7 +43,7 @@ module _ (total : IsTotalOrder row_cmp) (below : Plan) (p : Projection) (q : Pla
     before = rows_of graph.content below
 
     abbrev select : List (List Cell) → Result (List (List Cell)) EvalFault
-    select rows = joined (map (selected graph.content test) rows)
+    select rows = joined (map (kept graph.content (where_only test)) rows)
 
     projects : IsOk (projection_rows graph.content p before)
     projects = then_ok select (projection_rows graph.content p before) can.ok
@@ -68,20 +69,22 @@ module _ (total : IsTotalOrder row_cmp) (below : Plan) (p : Projection) (q : Pla
 
     selected_all : AllByRecursion (IsTested graph.content test) result.0
     selected_all =
-        selected_each graph.content test result.0 (subst (λ (o : Result (List (List Cell)) EvalFault). IsOk (on_one select o)) result.1 can.ok)
+        selected_each graph.content test result.0
+        (subst (λ (o : Result (List (List Cell)) EvalFault). IsOk o) (where_selected graph.content test result.0)
+        (subst (λ (o : Result (List (List Cell)) EvalFault). IsOk (on_one select o)) result.1 can.ok))
 
-    meaning_is : rows_after graph.content («with» p test) before ≡ Ok (kept_rows graph.content test result.0)
-    meaning_is = ap (on_one select) result.1 ∙ selected_rows graph.content test result.0 selected_all
+    meaning_is : rows_after graph.content («with» p (where_only test)) before ≡ Ok (kept_rows graph.content test result.0)
+    meaning_is = ap (on_one select) result.1 ∙ where_selected graph.content test result.0 ∙ selected_rows graph.content test result.0 selected_all
 
     bounded_q : (tables : List (List (List Cell))) (table : List (List Cell)) → Contains tables table
-        → IsSameOutcome (Ok table) (rows_after graph.content («with» (record p { distinct = false }) None) before)
+        → IsSameOutcome (Ok table) (rows_after graph.content («with» (record p { distinct = false }) (where_only None)) before)
         → All (IsWithin graph.content tables) (parts below) → All (IsWithin graph.content tables) (parts q)
     bounded_q tables table there same each =
         made.bounded graph scope tables table can_project there
         (alone (projection_rows graph.content (record p { distinct = false }) before) same) each
       where
-        alone : (o : Result (List (List Cell)) EvalFault) → IsSameOutcome (Ok table) (on_one (λ rows. joined (map (selected graph.content None) rows)) o) → IsSameOutcome (Ok table) o
-        alone (Ok rows) is = subst (λ (o : Result (List (List Cell)) EvalFault). IsSameOutcome (Ok table) o) (all_kept graph.content rows) is
+        alone : (o : Result (List (List Cell)) EvalFault) → IsSameOutcome (Ok table) (on_one (λ rows. joined (map (kept graph.content (where_only None)) rows)) o) → IsSameOutcome (Ok table) o
+        alone (Ok rows) is = subst (λ (o : Result (List (List Cell)) EvalFault). IsSameOutcome (Ok table) o) (where_selected graph.content None rows ∙ all_kept graph.content rows) is
         alone (Err fault) is = is
 
   -- without WHERE

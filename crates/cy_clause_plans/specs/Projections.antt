@@ -18,7 +18,7 @@ use Rattle.cy_plans.specs.Sure.{IsSureOn}
 use Rattle.cy_plans.specs.Within.{IsWithin}
 use Rattle.cy_row_plans.specs.Rows.{FitsRows}
 use Rattle.cy_kinds.specs.Kinded.{IsKinded}
-use Rattle.cy_clause_plans.specs.Matched.{IsTestKinded}
+use Rattle.cy_clause_plans.specs.Matched.{IsTestKinded, where_only}
 
 abbrev pub expressions_in : List Item → List Expression
 expressions_in items = map (λ i. i.expression) items
@@ -52,14 +52,14 @@ pub record CanGoOn (below : Plan) (p : Projection) (test : Option Expression) (g
   pub long : length after ≡ length p.items
   pub test_kinded : IsTestKinded after test
   pub made_fit : IfOk (projection_rows graph.content p (rows_of graph.content below)) (AllByRecursion (λ row. IsTrue (row_fits after row)))
-  pub ok : IsOk (rows_after graph.content («with» p test) (rows_of graph.content below))
+  pub ok : IsOk (rows_after graph.content («with» p (where_only test)) (rows_of graph.content below))
 
 -- The rows of WITH, as a bag; counts are bounded as those of its projection are.
 pub record IsWith (below : Plan) (p : Projection) (test : Option Expression) (made : Plan) : Type 0 where
   pub as_wide : width made ≡ length p.items
   pub rows : (graph : State) (scope after : Scope) → CanGoOn below p test graph scope after
-      → IsSameOutcome (Ok (rows_of graph.content made)) (rows_after graph.content («with» p test) (rows_of graph.content below))
+      → IsSameOutcome (Ok (rows_of graph.content made)) (rows_after graph.content («with» p (where_only test)) (rows_of graph.content below))
   pub sure : (graph : State) (scope after : Scope) → CanGoOn below p test graph scope after → IsSureOn graph.content below → IsSureOn graph.content made
   pub bounded : (graph : State) (scope after : Scope) (tables : List (List (List Cell))) (table : List (List Cell)) → CanGoOn below p test graph scope after → Contains tables table
-      → IsSameOutcome (Ok table) (rows_after graph.content («with» (record p { distinct = false }) None) (rows_of graph.content below))
+      → IsSameOutcome (Ok table) (rows_after graph.content («with» (record p { distinct = false }) (where_only None)) (rows_of graph.content below))
       → All (IsWithin graph.content tables) (parts below) → All (IsWithin graph.content tables) (parts made)

@@ -4,4 +4,4 @@
 mod assigned;
 mod trails;
 
-pub use assigned::optional_rows;
+pub use assigned::{optional_rows, own_table};

@@ -4,7 +4,10 @@
 mod columns;
 mod conditions;
 mod joining;
-mod keys;
 mod lookups;
+mod place_keys;
 
+pub use columns::row_columns;
 pub use joining::outer_rows;
+pub use lookups::right_lookups;
+pub use place_keys::keys;

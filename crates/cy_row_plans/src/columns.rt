@@ -44,7 +44,7 @@ fn first_columns(alloc: Global, count: usize) -> Result<Vec<Output>, Fault>
 }
 
 /// The rows of a plan, each with its first columns alone. Fails only when out of memory.
-pub(crate) fn narrowed(alloc: Global, plan: Plan, count: usize) -> Result<Plan, Fault>
+pub fn narrowed(alloc: Global, plan: Plan, count: usize) -> Result<Plan, Fault>
     requires { count ≤ width (plan_of plan) }
     ensures { IfOk result (λ p. plan_of p ≡ spec.narrowed count (plan_of plan)) }
 {

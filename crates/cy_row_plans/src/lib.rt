@@ -8,7 +8,7 @@ mod lookups;
 mod projections;
 
 pub use asked::add_asked;
-pub use columns::{column_output, column_outputs};
+pub use columns::{column_output, column_outputs, narrowed};
 pub use filters::{check_room, filter_where};
 pub use lookups::{copy_attribute, with_lookups};
 pub use projections::project_items;

@@ -9,9 +9,9 @@ use Rattle.cy_values.specs.Order.{row_cmp}
 use Rattle.cy_trees.specs.Trees.{Expression, Item}
 use Rattle.cy_graph.specs.Graph.{Content}
 use Rattle.cy_expr.specs.declared.faults.EvalFault.{EvalFault}
-use Rattle.cy_queries.specs.Groups.{Grouped, aggregated, and_also, group_cells, group_keys, group_rows, grouped, grouping, rows_of_group, values_among}
+use Rattle.cy_queries.specs.Groups.{Grouped, aggregated, group_cells, group_keys, group_rows, grouped, grouping, rows_of_group, values_among}
 use Rattle.cy_queries.specs.Order.{each_once}
-use Rattle.cy_patterns.specs.Outcomes.{gathered, smaller}
+use Rattle.cy_patterns.specs.Outcomes.{and_also, gathered, smaller}
 use Rattle.cy_queries.specs.internal.Answers.{outcome_of, sifted, with_fault}
 use Rattle.cy_projections.specs.internal.Grouping.{AreGroups, Gathering, grouped_by, with_key}
 use Rattle.cy_queries.specs.internal.Permuted.{Alike}

@@ -2,8 +2,8 @@
 use Rattle.std.proofs.Common.{◌≡◌, List, [], ◌∷◌, ◌++◌, append_assoc, append-nil, refl, sym, ap, ◌∙◌}
 use Rattle.std.specs.Prelude.{Option, None, Some, Result, Ok, Err}
 use Rattle.cy_expr.specs.declared.faults.EvalFault.{EvalFault}
-use Rattle.cy_queries.specs.Groups.{values_among, and_also}
-use Rattle.cy_patterns.specs.Outcomes.{together, gathered}
+use Rattle.cy_queries.specs.Groups.{values_among}
+use Rattle.cy_patterns.specs.Outcomes.{and_also, together, gathered}
 use Rattle.cy_queries.specs.internal.Answers.{least, outcome_of, sifted, with_fault}
 use Rattle.cy_queries.proofs.Together.{together_first, together_three}
 

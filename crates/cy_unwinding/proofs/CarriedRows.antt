@@ -20,10 +20,10 @@ use Rattle.cy_expr.specs.Faults.{on_one}
 use Rattle.cy_expr.specs.Graphs.{lookups}
 use Rattle.cy_queries.specs.Order.{Keyed, each_once}
 use Rattle.cy_patterns.specs.Matching.{kept}
-use Rattle.cy_patterns.specs.Outcomes.{gathered, joined}
+use Rattle.cy_patterns.specs.Outcomes.{and_also, gathered, joined}
 use Rattle.cy_columns.specs.Columns.{AgreeOn, columns_read}
 use Rattle.cy_columns.proofs.Agreeing.{cell-same}
-use Rattle.cy_queries.specs.Groups.{Grouped, aggregate_if, aggregated, and_also, cells_on, group_cells, group_keys, group_rows, grouped, grouping, over_rows, rows_of_group, taken, values_among}
+use Rattle.cy_queries.specs.Groups.{Grouped, aggregate_if, aggregated, cells_on, group_cells, group_keys, group_rows, grouped, grouping, over_rows, rows_of_group, taken, values_among}
 use Rattle.cy_queries.specs.Projection.{Projected, cut, distinct_rows, item_of_key, item_rows, key_cell, keyed, project, projection_rows, with_columns_alone}
 use Rattle.cy_queries.specs.Queries.{rows_after, rows_after_all}
 use Rattle.cy_unwinding.specs.Carried.{AreKeysRead, AreNeeded, AreRead, AreSeen, IsClauseRead, IsEnough, IsProjectionRead, IsSeen, carried, carried_from, is_last, is_needed, is_projection, keys_of}

@@ -7,7 +7,7 @@ use Rattle.cy_trees.specs.Trees.{binary, Clause, create, delete, «with»}
 use Rattle.cy_graph.specs.Graph.{empty_state}
 use Rattle.cy_expr.specs.declared.faults.EvalFault.TheVariants.{DivisionByZero}
 use Rattle.cy_queries.proofs.ExampleGraphs.{A, B, bare, labelled, empty, loop, one_a, a_to_b, to_another_b}
-use Rattle.cy_queries.proofs.ExampleTrees.{int, named, some_node, node_named, node_with_label, link, single, path, matching, optional, column, projection, returning, node_cell, a, b, c, n, r, x}
+use Rattle.cy_queries.proofs.ExampleTrees.{int, named, some_node, node_named, node_with_label, link, single, path, matching, no_where, optional, column, projection, returning, node_cell, a, b, c, n, r, x}
 use Rattle.cy_effects.specs.declared.faults.UpdateFault.TheVariants.{Eval, StillConnected}
 use Rattle.cy_effects.proofs.ExampleTrees.{whole, outcome_on, counted, leaves, entry, new_node}
 
@@ -69,7 +69,7 @@ null_names_nothing : outcome_on (whole one_a) (optional (single (node_with_label
 null_names_nothing = refl
 
 -- `CREATE (a:A) WITH a MATCH (n:A) RETURN n`: MATCH reads the graph as CREATE left it
-reads_what_was_made : outcome_on (whole one_a) (create (single (node_with_label a A) ∷ []) ∷ «with» (projection (column a ∷ [])) None ∷ match_a ∷ returning (column n ∷ []) ∷ [])
+reads_what_was_made : outcome_on (whole one_a) (create (single (node_with_label a A) ∷ []) ∷ «with» (projection (column a ∷ [])) no_where ∷ match_a ∷ returning (column n ∷ []) ∷ [])
     ≡ Ok (record {
       graph = whole (record { nodes = labelled 1 A ∷ labelled 2 A ∷ []; rels = [] });
       counts = counted 1 0 0 0;

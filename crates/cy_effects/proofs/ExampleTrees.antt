@@ -1,5 +1,5 @@
 -- The trees of the worked rows that update, and what a statement gives, its variables being given their columns first.
-use Rattle.std.proofs.Common.{ℕ, List, [], ◌∷◌, ◌+◌, Some, None}
+use Rattle.std.proofs.Common.{ℕ, false, List, [], ◌∷◌, ◌+◌, Some, None}
 use Rattle.std.specs.Prelude.{length, Result}
 use Rattle.cy_trees.specs.declared.clauses.Direction.{Direction}
 use Rattle.cy_trees.specs.Trees.{Name, Expression, list, null, MapEntry, NodePattern, RelationshipPattern, Clause}
@@ -16,7 +16,7 @@ whole content = record { content = content; next_node = length content.nodes + 1
 
 -- what a statement of these clauses leaves and answers
 abbrev pub outcome_on : State → List Clause → Result Outcome UpdateFault
-outcome_on graph clauses = statement_outcome graph (resolved_statement (record { clauses = clauses }))
+outcome_on graph clauses = statement_outcome graph (resolved_statement (record { queries = record { clauses = clauses } ∷ []; all = false }))
 
 -- made and removed nodes, made and removed relationships
 abbrev pub counted : ℕ → ℕ → ℕ → ℕ → Counts

@@ -6,7 +6,7 @@ use Rattle.cy_values.specs.declared.numbers.NodeId.{NodeId}
 use Rattle.cy_values.specs.declared.numbers.RelId.{RelId}
 use Rattle.cy_values.specs.declared.rows.Cell.{Cell}
 use Rattle.cy_values.specs.Order.{row_cmp}
-use Rattle.cy_trees.specs.Trees.{Clause, «match», unwind, «with», «return», create, set, remove, delete, Statement}
+use Rattle.cy_trees.specs.Trees.{Clause, «match», unwind, «with», «return», create, set, remove, delete, Query, Statement}
 use Rattle.cy_scope.specs.Views.{is_update}
 use Rattle.cy_graph.specs.Graph.{Content, State, IsGraph}
 use Rattle.cy_graph.specs.declared.nodes.Node.{Node}
@@ -19,7 +19,7 @@ use Rattle.cy_expr.specs.declared.faults.EvalFault.{EvalFault}
 use Rattle.cy_effects.specs.Counts.{AgreeWith, Counts, counts_between, plus}
 use Rattle.cy_effects.specs.Faults.{◌>>=◌, each_in_turn, evaluated}
 use Rattle.cy_effects.specs.Deleting.{deleted, is_going, is_node_of, without_set}
-use Rattle.cy_effects.specs.Statements.{GraphTable, Outcome, Progress, after_clause, after_reading, after_updating, beginning, create_row, outcome_of, remove_row, rows_taken, set_row, statement_outcome, updated}
+use Rattle.cy_effects.specs.Statements.{GraphTable, Outcome, Progress, after_clause, after_query, after_reading, after_updating, beginning, create_row, outcome_of, remove_row, rows_taken, set_row, statement_outcome, table_of, updated}
 use Rattle.cy_effects.proofs.Created.{GoodTable, rows_good}
 use Rattle.cy_effects.proofs.Deleted.{Left, delete_left}
 use Rattle.cy_effects.proofs.Entries.{all_then}
@@ -162,10 +162,25 @@ module _ (reading : (graph : Content) (clause : Clause) (rows : List (List Cell)
   all_come (clause ∷ clauses) p come =
       and_then (Come first) (Come first) (λ next. each_in_turn after_clause clauses next) (λ next done. all_come clauses next done) (after_clause clause p) (clause_come clause p come)
 
+  -- ---- queries
+
+  -- a graph, and counts that agree with it
+  abbrev Agreed : Progress → Type 0
+  Agreed p = IsGraph p.graph × AgreeWith first p.graph p.counts
+
+  query_left : (query : Query) (p : Progress) → Agreed p → IfOk (after_query query p) Agreed
+  query_left query p left =
+      and_then (Come first) Agreed (λ (done : Progress). Ok (record done { rows = p.rows ++ table_of query done.rows })) (λ done come. (come.is, come.counted))
+      (each_in_turn after_clause query.clauses (record p { rows = [] ∷ [] })) (all_come query.clauses (record p { rows = [] ∷ [] }) (record { is = left.0; counted = left.1; rows = (tt, tt) }))
+
+  queries_left : (queries : List Query) (p : Progress) → Agreed p → IfOk (each_in_turn after_query queries p) Agreed
+  queries_left [] p left = left
+  queries_left (query ∷ queries) p left =
+      and_then Agreed Agreed (λ next. each_in_turn after_query queries next) (λ next done. queries_left queries next done) (after_query query p) (query_left query p left)
+
   pub statement_left : (statement : Statement) → IsGraph first → IfOk (statement_outcome first statement) (λ outcome. IsGraph outcome.graph × AgreeWith first outcome.graph outcome.counts)
   statement_left statement is =
-      and_then (Come first) (λ (outcome : Outcome). IsGraph outcome.graph × AgreeWith first outcome.graph outcome.counts) (λ done. Ok (outcome_of statement done))
-      (λ done come. (come.is, come.counted))
-      (each_in_turn after_clause statement.clauses (beginning first))
-      (all_come statement.clauses (beginning first)
-      (record { is = is; counted = record { node_numbers = omega arith; rel_numbers = omega arith; nodes = omega arith; rels = omega arith }; rows = (tt, tt) }))
+      and_then Agreed (λ (outcome : Outcome). IsGraph outcome.graph × AgreeWith first outcome.graph outcome.counts) (λ done. Ok (outcome_of statement done))
+      (λ done left. left)
+      (each_in_turn after_query statement.queries (beginning first))
+      (queries_left statement.queries (beginning first) (is, record { node_numbers = omega arith; rel_numbers = omega arith; nodes = omega arith; rels = omega arith }))

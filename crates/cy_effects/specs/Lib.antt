@@ -4,6 +4,7 @@ pub mod Creating
 pub mod Setting
 pub mod Deleting
 pub mod Counts
+pub mod Readings
 pub mod Statements
 pub mod Bags
 pub mod internal

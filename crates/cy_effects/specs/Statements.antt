@@ -7,7 +7,7 @@ use Rattle.cy_trees.specs.Trees.{Name, SetItem, RemoveItem, Path, Clause, create
 use Rattle.cy_scope.specs.Views.{is_update, ends_with_return}
 use Rattle.cy_graph.specs.Graph.{State}
 use Rattle.cy_queries.specs.Order.{in_order}
-use Rattle.cy_queries.specs.Queries.{rows_after, query_columns, rows_of_all, put_together}
+use Rattle.cy_queries.specs.Queries.{rows_after, query_columns, put_together}
 use Rattle.cy_effects.specs.declared.faults.UpdateFault.{UpdateFault}
 use Rattle.cy_effects.specs.Faults.{◌>>=◌, evaluated, each_in_turn}
 use Rattle.cy_effects.specs.Creating.{created}
@@ -102,8 +102,3 @@ beginning graph = record { graph = graph; rows = []; counts = no_counts }
 -- the meaning of a statement: its queries one after another, and the clauses of each; the first that faults decides
 abbrev pub statement_outcome : State → Statement → Result Outcome UpdateFault
 statement_outcome graph statement = each_in_turn after_query statement.queries (beginning graph) >>= λ done. Ok (outcome_of statement done)
-
--- a statement that only reads: it leaves the graph, and makes and removes nothing
-abbrev pub reading_outcome : State → Statement → Result Outcome UpdateFault
-reading_outcome graph statement =
-    evaluated (rows_of_all graph.content statement.queries []) >>= λ rows. Ok (outcome_of statement (record (beginning graph) { rows = rows }))

@@ -1,7 +1,7 @@
 //! What holds of the meaning of updating clauses and statements.
 
 ghost use Rattle.std.specs.Prelude.{◌≡◌, false, true, List, None, IfOk, IsTrue};
-ghost use Rattle.std.specs.List.{AllByRecursion, list_any};
+ghost use Rattle.std.specs.List.{AllByRecursion, list_all, list_any};
 ghost use Rattle.cy_values.specs.declared.rows.Cell.{Cell};
 ghost use Rattle.cy_trees.specs.Trees.{Clause, Statement};
 ghost use Rattle.cy_scope.specs.ClauseFaults.{clause_fault};
@@ -9,14 +9,15 @@ ghost use Rattle.cy_scope.specs.ClauseScopes.{scope_after};
 ghost use Rattle.cy_scope.specs.Resolved.{resolved_clause};
 ghost use Rattle.cy_kinds.specs.Rows.{row_fits};
 ghost use Rattle.cy_kinds.specs.Scopes.{Scope};
-ghost use Rattle.cy_scope.specs.Views.{is_update};
+ghost use Rattle.cy_scope.specs.Views.{ends_with_return, is_update};
 ghost use Rattle.cy_graph.specs.Graph.{State, IsGraph};
 ghost use Rattle.cy_values.specs.Bag.{IsSameBag};
 ghost use Rattle.cy_queries.specs.Reading.{AreInGraph};
 ghost use Rattle.cy_effects.specs.Bags.{IsSameProgress, IsSameResult};
 ghost use Rattle.cy_effects.specs.Counts.{AgreeWith, counts_between};
 ghost use Rattle.cy_effects.specs.Faults.{each_in_turn};
-ghost use Rattle.cy_effects.specs.Statements.{Progress, after_clause, query_outcome, statement_outcome, updated};
+ghost use Rattle.cy_effects.specs.Readings.{reading_outcome, rows_outcome};
+ghost use Rattle.cy_effects.specs.Statements.{Progress, after_clause, statement_outcome, updated};
 
 use cy_queries::laws::{clauses_on_bags, rows_in_graph};
 use cy_values::row_order_laws;
@@ -34,11 +35,14 @@ pub fn statements_on_bags()
     clauses_on_bags();
 }
 
-/// A statement without an updating clause leaves the graph, makes and removes nothing, and means what the query means (openCypher 9,
-/// Reading clauses).
+/// A statement without an updating clause leaves the graph, makes and removes nothing, and means what its queries mean, of which one
+/// without RETURN gives no table. Where each ends with RETURN, its rows are those of the statement, put together by UNION if there are
+/// several queries (openCypher 9, Reading clauses, UNION).
 pub fn reading_statements()
-    ensures { (graph : State) (statement : Statement) → list_any is_update statement.clauses ≡ false
-        → statement_outcome graph statement ≡ query_outcome graph statement }
+    ensures reading { (graph : State) (statement : Statement) → list_any (λ q. list_any is_update q.clauses) statement.queries ≡ false
+        → statement_outcome graph statement ≡ reading_outcome graph statement }
+    ensures rows { (graph : State) (statement : Statement) → list_all (λ q. ends_with_return q.clauses) statement.queries ≡ true
+        → reading_outcome graph statement ≡ rows_outcome graph statement }
 {}
 
 /// What an updating clause leaves of a graph is a graph: numbers rise, ends are there, and all that it stores can be stored. The rows

@@ -141,6 +141,12 @@ module _ (graph : Content) (needed : List Bool) where
   there_less : (row : List Cell) → NeededFrom needed (length row) → (path : Path) → ArePlacesRead needed (places (path ∷ [])) → is_there graph (less row) path ≡ is_there graph row path
   there_less row from path read = any_less row from (places (path ∷ [])) read (assignments graph (places (path ∷ [])))
 
+  -- so whether it is there, or the smallest fault of its maps
+  pub path_less : (row : List Cell) → NeededFrom needed (length row) → (path : Path) → ArePlacesRead needed (places (path ∷ []))
+      → on_one (λ values. Ok (is_there graph (less row) path)) (map_values graph (path ∷ []) (less row)) ≡ on_one (λ values. Ok (is_there graph row path)) (map_values graph (path ∷ []) row)
+  path_less row from path read =
+      λ j. on_one (λ values. Ok (there_less row from path read j)) (gathered (values_less row (flat_map entries_at (places (path ∷ []))) (all_entries_read (places (path ∷ [])) read) j))
+
   first_read : (ps qs : List Place) → ArePlacesRead needed (ps ++ qs) → ArePlacesRead needed ps
   first_read [] qs read = tt
   first_read (p ∷ ps) qs read = (read.0, first_read ps qs read.1)

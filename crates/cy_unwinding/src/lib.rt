@@ -4,5 +4,5 @@
 mod needed;
 mod unwinding;
 
-pub use needed::needed_after;
+pub use needed::{mark_path, needed_after};
 pub use unwinding::unwound;

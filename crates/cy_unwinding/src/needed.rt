@@ -275,8 +275,8 @@ fn mark_paths(alloc: Global, needed: &mut Vec<bool>, paths: &[Path]) -> Result<(
     Ok(())
 }
 
-// Marks the columns that a path reads.
-fn mark_path(alloc: Global, needed: &mut Vec<bool>, path: &Path) -> Result<(), Fault>
+/// Marks the columns that a path reads. Fails only when out of memory.
+pub fn mark_path(alloc: Global, needed: &mut Vec<bool>, path: &Path) -> Result<(), Fault>
     ensures read { OnOk result (ArePlacesRead needed.new.items (path_places (path_of path.now))) }
     ensures still { OnOk result (StillNeeded needed.old.items needed.new.items) }
 {

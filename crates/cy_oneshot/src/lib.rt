@@ -5,6 +5,6 @@ mod clauses;
 mod names;
 mod table;
 
-pub use clauses::{answer, read_clause, read_clause_before, unit};
+pub use clauses::{answer, no_table, read_clause, read_clause_before, unit, unite};
 pub use names::{add_names, names_of};
 pub use table::Table;

@@ -1,5 +1,6 @@
 mod ClauseSteps
 mod ReachedSteps
+mod QuerySteps
 mod Changes
 mod CarriedOn
 mod CarriedUpdates

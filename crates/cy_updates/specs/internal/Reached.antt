@@ -1,8 +1,8 @@
--- How far the clauses of a statement have been executed.
+-- How far the clauses of a query have been executed.
 use Rattle.std.specs.Prelude.{◌≡◌, ◌⊎◌, ◌≤◌, Bool, true, [], ◌∷◌, List, length, map, None, IsTrue, Result, Ok, Err, MatchResult, if◌then◌else◌}
 use Rattle.std.specs.List.{AllByRecursion}
 use Rattle.cy_values.specs.declared.rows.Cell.{Cell}
-use Rattle.cy_trees.specs.Trees.{Name, Clause, unwind, Statement}
+use Rattle.cy_trees.specs.Trees.{Name, Clause, unwind, Query}
 use Rattle.cy_scope.specs.ClauseFaults.{clauses_fault}
 use Rattle.cy_scope.specs.Resolved.{resolved_clauses}
 use Rattle.cy_kinds.specs.Rows.{row_fits}
@@ -19,13 +19,17 @@ use Rattle.cy_effects.specs.Bags.{IsSameResult}
 use Rattle.cy_effects.specs.Counts.{Counts}
 use Rattle.cy_effects.specs.Faults.{◌>>=◌, each_in_turn}
 use Rattle.cy_effects.specs.internal.Gone.{AreGone}
-use Rattle.cy_effects.specs.Statements.{Progress, after_clause, beginning}
+use Rattle.cy_effects.specs.Statements.{Progress, after_clause}
 
 -- how far a statement has come: a graph, rows, and counts
 abbrev pub progress : State → List (List Cell) → Counts → Progress
 progress graph rows counts = record { graph = graph; rows = rows; counts = counts }
 
--- what a statement leaves, of which the rows count where it returns
+-- where a query begins: the empty row, once
+abbrev pub opening : State → Counts → Progress
+opening graph counts = progress graph ([] ∷ []) counts
+
+-- what a query leaves, of which the rows count where it returns
 abbrev pub at_end : Bool → Result Progress UpdateFault → Result Progress UpdateFault
 at_end returns r = r >>= λ done. Ok (record done { rows = (if returns then done.rows else []) })
 
@@ -43,17 +47,17 @@ pub record AreResolved (columns : List Name) (rows : List (List Cell)) (clauses 
   pub names : map (λ v. v.0) scope ≡ columns
   pub fit : AllByRecursion (λ row. IsTrue (row_fits scope row)) rows
 
--- the clauses lead on from a graph and a table as all of them do from the beginning
-pub record LeadOn (first graph : State) (rows : List (List Cell)) (clauses : List Clause) (statement : Statement) : Type 0 where
-  pub counts : Counts
-  pub bag : IsSameResult (at_end (ends_with_return statement.clauses) (each_in_turn after_clause clauses (progress graph rows counts))) (at_end (ends_with_return statement.clauses) (each_in_turn after_clause statement.clauses (beginning first)))
-  pub ordered : IsTrue (ends_with_return statement.clauses) → each_in_turn after_clause clauses (progress graph rows counts) ≡ each_in_turn after_clause statement.clauses (beginning first)
-  pub returns : IsTrue (ends_with_return statement.clauses) → (c : Clause) (cs : List Clause) → clauses ≡ c ∷ cs → IsTrue (ends_with_return clauses)
+-- The clauses lead on from a graph and a table as all of them do from the beginning, whatever had been made and removed before it.
+pub record LeadOn (first graph : State) (rows : List (List Cell)) (clauses : List Clause) (query : Query) : Type 0 where
+  pub counts : Counts → Counts
+  pub bag : (begun : Counts) → IsSameResult (at_end (ends_with_return query.clauses) (each_in_turn after_clause clauses (progress graph rows (counts begun)))) (at_end (ends_with_return query.clauses) (each_in_turn after_clause query.clauses (opening first begun)))
+  pub ordered : IsTrue (ends_with_return query.clauses) → (begun : Counts) → each_in_turn after_clause clauses (progress graph rows (counts begun)) ≡ each_in_turn after_clause query.clauses (opening first begun)
+  pub returns : IsTrue (ends_with_return query.clauses) → (c : Clause) (cs : List Clause) → clauses ≡ c ∷ cs → IsTrue (ends_with_return clauses)
 
 -- the graph, the table and what went so far, and the clauses that are left
-pub record IsReached (first graph : State) (statement : Statement) (after : Updated) (clauses : List Clause) : Type 0 where
-  pub leads : LeadOn first graph after.table.rows.items clauses statement
-  pub names : columns_after_all after.table.columns.items clauses ≡ query_columns statement
+pub record IsReached (first graph : State) (query : Query) (after : Updated) (clauses : List Clause) : Type 0 where
+  pub leads : LeadOn first graph after.table.rows.items clauses query
+  pub names : columns_after_all after.table.columns.items clauses ≡ query_columns query
   pub there : AreInGraph graph.content after.table.rows.items
   pub resolved : AreResolved after.table.columns.items after.table.rows.items clauses
   pub gone : AreGone first graph after.gone.nodes after.gone.rels

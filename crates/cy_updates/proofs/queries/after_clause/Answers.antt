@@ -3,7 +3,7 @@ use Rattle.std.proofs.lemmas.Bool.{false≢true}
 use Rattle.std.proofs.lemmas.Result.{err_from_is_err_and}
 use Rattle.cy_trees.specs.Views.{clause_of}
 use Rattle.cy_updates.proofs.ClauseSteps.{none_gone, read_done, read_in_order, read_stopped, return_reads, update_next}
-use Rattle.cy_updates.proofs.statements.after_clause.Goals as goal
+use Rattle.cy_updates.proofs.queries.after_clause.Goals as goal
 
 pub update-requires-clause-updates : goal.update-requires-clause-updates
 update-requires-clause-updates c = sym c.is_update.ensures ∙ c.if-is_update.true

@@ -1,2 +1,3 @@
 mod WhereLemmas
 mod MatchLemmas
+mod KnownPaths

@@ -1,14 +1,15 @@
 -- A WHERE that is made ready for rows of a width.
-use Rattle.std.specs.Prelude.{◌≡◌, ℕ, ◌&&◌, Bool, true, false, List, [], ◌∷◌, All, IfOk, flat_map, length, map, option_map, Option, None, Result, Ok, Err}
+use Rattle.std.specs.Prelude.{◌≡◌, ℕ, ◌&&◌, Bool, true, false, List, [], ◌∷◌, All, IfOk, IfSome, flat_map, length, map, option_map, Option, None, Result, Ok, Err}
 use Rattle.std.specs.List.{AllByRecursion, list_all}
 use Rattle.cy_values.specs.declared.rows.Cell.{Cell}
-use Rattle.cy_trees.specs.Trees.{Expression, PathTest, Where}
+use Rattle.cy_trees.specs.Trees.{Expression, MapEntry, Path, PathTest, Where}
 use Rattle.cy_trees.specs.Views.{expression_of, path_of, path_test_of}
 use Rattle.cy_graph.specs.Graph.{Content}
 use Rattle.cy_expr.specs.declared.faults.EvalFault.{EvalFault}
 use Rattle.cy_expr.specs.Faults.{on_one}
 use Rattle.cy_patterns.specs.declared.pattern.Pattern.{Pattern}
-use Rattle.cy_patterns.specs.Matching.{is_met, kept, map_values, matched, selected}
+use Rattle.cy_kinds.specs.Sure.{is_literal}
+use Rattle.cy_patterns.specs.Matching.{is_met, is_there, kept, map_values, matched, selected}
 use Rattle.cy_patterns.specs.Outcomes.{joined, smaller}
 use Rattle.cy_patterns.specs.Places.{entries_at, places}
 use Rattle.cy_patterns.specs.internal.Patterns.{place_of}
@@ -30,27 +31,36 @@ where_in c = record { test = option_map (λ e. expression_of e.now) c.test; path
 abbrev pub nothing : Where
 nothing = record { test = None; paths = [] }
 
--- a path is made ready
-pub record IsReady (width : ℕ) (p : PathCondition) : Type 0 where
+-- whether a path is there, or the smallest fault of its maps
+abbrev pub presence : Content → List Cell → Path → Result Bool EvalFault
+presence graph row path = on_one (λ values. Ok (is_there graph row path)) (map_values graph (path ∷ []) row)
+
+-- this is the answer for each row of a width
+abbrev pub IsKnown : Content → ℕ → Path → Bool → Type 0
+IsKnown graph width path there = (row : List Cell) → length row ≡ width → presence graph row path ≡ Ok there
+
+-- a path is made ready for the rows of a graph
+pub record IsReady (graph : Content) (width : ℕ) (p : PathCondition) : Type 0 where
   pub path : map path_of p.pattern.paths.now ≡ path_of p.test.now.path ∷ []
   pub wide : p.pattern.width ≡ width
   pub prepared : IsPattern None p.pattern
+  pub known : IfSome p.known (IsKnown graph width (path_of p.test.now.path))
 
 -- each of its paths is
-abbrev pub AreReady : Condition → Type 0
-AreReady c = All (IsReady c.width) c.paths.items
+abbrev pub AreReady : Content → Condition → Type 0
+AreReady graph c = All (IsReady graph c.width) c.paths.items
 
-abbrev pub is_empty : {A : Type 0} → List A → Bool
-is_empty [] = true
-is_empty (x ∷ xs) = false
+-- each entry of a property map is written out, so that none can fault
+abbrev pub are_literals : List MapEntry → Bool
+are_literals entries = list_all (λ e. is_literal e.value) entries
 
--- none of these paths has a property map with an entry
-abbrev pub have_no_maps : List PathCondition → Bool
-have_no_maps paths = list_all (λ p. list_all (λ place. is_empty (entries_at (place_of place))) p.pattern.places.items) paths
+-- so are those of these paths
+abbrev pub have_literals : List PathCondition → Bool
+have_literals paths = list_all (λ p. list_all (λ place. are_literals (entries_at (place_of place))) p.pattern.places.items) paths
 
--- its paths have no property map with an entry
-abbrev pub HasNoMaps : Where → Type 0
-HasNoMaps w = flat_map entries_at (places (map (λ t. t.path) w.paths)) ≡ []
+-- so are those of its paths
+abbrev pub HasLiterals : Where → Type 0
+HasLiterals w = are_literals (flat_map entries_at (places (map (λ t. t.path) w.paths))) ≡ true
 
 -- both are true; of their faults the smaller one counts
 abbrev pub both : Result Bool EvalFault → Result Bool EvalFault → Result Bool EvalFault

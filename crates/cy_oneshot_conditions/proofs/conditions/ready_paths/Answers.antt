@@ -9,6 +9,7 @@ use Rattle.cy_oneshot_conditions.proofs.conditions.ready_paths.Goals as goal
 
 pub loop-test-preserved : goal.loop-test-preserved
 loop-test-preserved c =
+    let graph = c.args.store.now.graph.now.content in
     let all = c.args.tests.now in
     let i = c.loop-test.test-index in
     let path = c.in_ok-new.field-0 in
@@ -20,6 +21,6 @@ loop-test-preserved c =
           ∙ (λ j. c.loop-test.invariant.made j ++ path_test_of (c.in_ok-new.ensures.test j) ∷ [])
           ∙ sym (ap (map path_test_of) (take_more all i c.test-item.result c.loop-test-test.true ∙ ap (λ t. take i all ++ t ∷ []) (sym c.test-item.is)) ∙ map-append path_test_of (take i all) (c.test-item.result ∷ []));
       ready =
-          subst (All (IsReady c.args.width)) (sym c.in_ok-push.ensures.items)
-          (All-push (IsReady c.args.width) c.loop-test.paths.items path c.loop-test.invariant.ready c.in_ok-new.ensures.ready);
+          subst (All (IsReady graph c.args.width)) (sym c.in_ok-push.ensures.items)
+          (All-push (IsReady graph c.args.width) c.loop-test.paths.items path c.loop-test.invariant.ready c.in_ok-new.ensures.ready);
     }

@@ -7,5 +7,5 @@ use Rattle.cy_oneshot_conditions.proofs.conditions.ready_paths.Given as goal
 abbrev pub invariant-loop-test : goal.invariant-loop-test
 invariant-loop-test l = record {
   made : tests_in l.paths.items ≡ map path_test_of (take l.test-index l.tests);
-  ready : All (IsReady l.width) l.paths.items;
+  ready : All (IsReady l.store.graph.now.content l.width) l.paths.items;
 }

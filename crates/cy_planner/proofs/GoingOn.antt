@@ -7,8 +7,9 @@ use Rattle.std.proofs.lemmas.List.Elements.{All-cons, All-nil}
 use Rattle.cy_values.specs.declared.rows.Cell.{Cell}
 use Rattle.cy_values.specs.Bag.{count_of, IsSameBag}
 use Rattle.cy_values.specs.Order.{row_cmp}
-use Rattle.cy_trees.specs.Trees.{Clause, «match», unwind, «with», «return», create, set, remove, delete, Statement}
+use Rattle.cy_trees.specs.Trees.{Clause, «match», unwind, «with», «return», create, set, remove, delete, Query}
 use Rattle.cy_kinds.specs.Scopes.{Scope}
+use Rattle.cy_scope.specs.ClauseScopes.{query_scope}
 use Rattle.cy_scope.specs.Views.{is_update}
 use Rattle.cy_graph.specs.Graph.{Content, State, IsGraph}
 use Rattle.cy_expr.specs.declared.faults.EvalFault.{EvalFault}
@@ -25,9 +26,9 @@ use Rattle.cy_plans.specs.Meaning.{rows_of}
 use Rattle.cy_plans.specs.WellFormed.{IsWellFormed}
 use Rattle.cy_plans.specs.Within.{IsWithin}
 use Rattle.cy_plans.proofs.Counts.{count_cons, same}
-use Rattle.cy_planner.specs.Serves.{Serves}
-use Rattle.cy_planner.specs.WideTables.{rows_or_none, tables_after, unselected, wide_tables}
+use Rattle.cy_planner.specs.WideTables.{query_tables, rows_or_none, tables_after, unselected}
 use Rattle.cy_planner.specs.internal.ClausePlans.{Fits, IsClausePlan}
+use Rattle.cy_planner.specs.internal.QueryPlans.{IsQueryPlan}
 use Rattle.cy_planner.specs.internal.Stands.{Stands}
 
 abbrev pub Outcome : Type 0
@@ -39,7 +40,7 @@ ok_first : {A B : Type 0} (f : A → Result B EvalFault) (o : Result A EvalFault
 ok_first f (Ok x) is = refl
 ok_first f (Err fault) is = cc
 
-value_of_ok : (o : Outcome) → IsOk o → (rows : List (List Cell)) × (o ≡ Ok rows)
+pub value_of_ok : (o : Outcome) → IsOk o → (rows : List (List Cell)) × (o ≡ Ok rows)
 value_of_ok (Ok rows) is = (rows, refl)
 value_of_ok (Err fault) is = cc
 
@@ -73,10 +74,10 @@ of_last graph c (Ok rows) = alone (rows_after graph c rows)
 after_one : (graph : Content) (done : List Clause) (c : Clause) (start : List (List Cell)) → rows_after_all graph (done ++ c ∷ []) start ≡ on_one (rows_after graph c) (rows_after_all graph done start)
 after_one graph done c start = after_more graph done c [] (Ok start) ∙ of_last graph c (rows_after_all graph done start)
 
-first_there : {A : Type 0} (x : A) (xs : List A) → Contains (x ∷ xs) x
+pub first_there : {A : Type 0} (x : A) (xs : List A) → Contains (x ∷ xs) x
 first_there x xs = (0, (let less : 0 < suc (length xs) = omega arith in less), refl)
 
-later_there : {A : Type 0} (x y : A) (xs : List A) → Contains xs x → Contains (y ∷ xs) x
+pub later_there : {A : Type 0} (x y : A) (xs : List A) → Contains xs x → Contains (y ∷ xs) x
 later_there x y xs there = (suc there.0, (let more = there.1 in let less : suc there.0 < suc (length xs) = omega (arith, more) in less), there.2)
 
 -- the table of a clause is among the wide tables
@@ -96,13 +97,13 @@ table_there graph (d ∷ done) c rest start rows is =
 
 -- ---- the beginning and the end
 
-pub begins : (query : Statement) → Stands query [] [] plan.unit
+pub begins : (query : Query) → Stands query [] [] plan.unit
 begins query = record {
   long = refl;
   rows = λ graph is row. refl;
   fits = λ graph is. (refl, tt);
   sure = λ graph is. tt;
-  bounded = λ graph is. All-cons (IsWithin graph.content (wide_tables graph.content query)) plan.unit [] (λ row. inl (once row)) (All-nil (IsWithin graph.content (wide_tables graph.content query)));
+  bounded = λ graph is. All-cons (IsWithin graph.content (query_tables graph.content query)) plan.unit [] (λ row. inl (once row)) (All-nil (IsWithin graph.content (query_tables graph.content query)));
 }
   where
     at_most : (b : Bool) (n : ℕ) → n ≡ 0 → cond b 1 0 + n ≤ 1
@@ -112,20 +113,21 @@ begins query = record {
     once : (row : List Cell) → count_of row ([] ∷ []) ≤ 1
     once row = subst (λ n. n ≤ 1) (sym (count_cons row [] [])) (at_most (same row []) (count_of row []) refl)
 
-pub serves : (query : Statement) (scope : Scope) (p : Plan) → Stands query query.clauses scope p → IsWellFormed p → Serves p query
-serves query scope p stands well = record {
-  well_formed = well;
-  sure = stands.sure;
+pub ends : (query : Query) (scope : Scope) (p : Plan) → Stands query query.clauses scope p → scope ≡ query_scope query → IsWellFormed p → IsQueryPlan query p
+ends query scope p stands last well = record {
+  long = sym (ap length last) ∙ stands.long;
   rows = stands.rows;
+  sure = stands.sure;
+  well_formed = well;
   bounded = stands.bounded;
 }
 
 -- ---- one clause more
 
 unselected_reads : (c : Clause) → is_update c ≡ false → is_update (unselected c) ≡ false
-unselected_reads («match» optional paths test) reads = refl
+unselected_reads («match» optional paths w) reads = refl
 unselected_reads (unwind e v) reads = refl
-unselected_reads («with» p test) reads = refl
+unselected_reads («with» p w) reads = refl
 unselected_reads («return» p) reads = refl
 unselected_reads (create paths) reads = reads
 unselected_reads (set items) reads = reads
@@ -136,7 +138,7 @@ if_ok_value : (P : List (List Cell) → Type 0) (o : Outcome) (rows : List (List
 if_ok_value P o rows is here = subst (λ (q : Outcome). IfOk q P) is here
 
 module _ (total : IsTotalOrder row_cmp) (bags : (graph : Content) (clause : Clause) (rows others : List (List Cell)) → is_update clause ≡ false → IsSameBag rows others → IsSameOutcome (rows_after graph clause rows) (rows_after graph clause others))
-    (query : Statement) (done : List Clause) (c : Clause) (rest : List Clause) (splits : query.clauses ≡ done ++ c ∷ rest) (ok : (graph : State) → IsGraph graph → IsOk (query_rows graph.content query))
+    (query : Query) (done : List Clause) (c : Clause) (rest : List Clause) (splits : query.clauses ≡ done ++ c ∷ rest) (ok : (graph : State) → IsGraph graph → IsOk (query_rows graph.content query))
     (scope : Scope) (below : Plan) (stands : Stands query done scope below) (reads : is_update c ≡ false) where
   module _ (graph : State) (is : IsGraph graph) where
     abbrev start : List (List Cell)
@@ -189,7 +191,7 @@ module _ (total : IsTotalOrder row_cmp) (bags : (graph : Content) (clause : Clau
       abbrev table : List (List Cell)
       table = rows_or_none (rows_after graph.content (unselected c) (meant graph is).0)
 
-      there : Contains (wide_tables graph.content query) table
+      there : Contains (query_tables graph.content query) table
       there =
           subst (λ (cs : List Clause). Contains (tables_after graph.content cs (start graph is)) table) (sym splits) (table_there graph.content done c rest (start graph is) (meant graph is).0 (meant graph is).1)
 
@@ -206,8 +208,8 @@ module _ (total : IsTotalOrder row_cmp) (bags : (graph : Content) (clause : Clau
           (table_is (rows_after graph.content (unselected c) (meant graph is).0) (ok_same (rows_after graph.content (unselected c) (meant graph is).0) (rows_after graph.content (unselected c) (before graph is)) same_wide (made.wide_ok graph is (clause_ok graph is))))
           same_wide
 
-      next_bounded : All (IsWithin graph.content (wide_tables graph.content query)) (parts p)
-      next_bounded = made.bounded graph (wide_tables graph.content query) table is (seen graph is) (clause_ok graph is) there same_table (stands.bounded graph is)
+      next_bounded : All (IsWithin graph.content (query_tables graph.content query)) (parts p)
+      next_bounded = made.bounded graph (query_tables graph.content query) table is (seen graph is) (clause_ok graph is) there same_table (stands.bounded graph is)
 
     pub goes_on : Stands query (done ++ c ∷ []) after p
     goes_on = record {

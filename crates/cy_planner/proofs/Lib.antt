@@ -7,4 +7,5 @@ pub mod QuerySteps
 pub mod Rewriting
 pub mod Sums
 pub mod UnderWay
+pub mod Unions
 pub mod ViewClauses

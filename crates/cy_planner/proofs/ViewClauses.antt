@@ -6,39 +6,35 @@ use Rattle.std.proofs.lemmas.Bool.{and_parts, false≢true, true≢false}
 use Rattle.std.proofs.lemmas.List.{length-map}
 use Rattle.std.proofs.lemmas.List.Elements.{recursion_from_All}
 use Rattle.cy_values.specs.declared.rows.Cell.{Cell}
-use Rattle.cy_trees.specs.Trees.{Expression, null, boolean, integer, text, variable, property, has_labels, unary, binary, comparison, list, case, call, call_star, Path, Item, Projection, Clause, «match», unwind, «with», «return», create, set, remove, delete, Statement}
+use Rattle.cy_trees.specs.Trees.{Expression, null, boolean, integer, text, variable, property, has_labels, unary, binary, comparison, list, case, call, call_star, Path, Item, Projection, Clause, «match», unwind, «with», «return», create, set, remove, delete, PathTest, Query, Statement, Where}
 use Rattle.cy_kinds.specs.declared.functions.Function.{Function}
 use Rattle.cy_kinds.specs.declared.kinds.Kind.{Kind}
 use Rattle.cy_kinds.specs.Aggregates.{has_aggregates, is_aggregate_call, is_aggregate_if}
 use Rattle.cy_kinds.specs.Kinded.{HasKind, IsAggregate, IsKinded}
 use Rattle.cy_kinds.specs.Scopes.{Scope, with_paths}
-use Rattle.cy_scope.specs.Checked.{ClausesAreKinded, FilterGivesValue, IsChecked, IsViewQuery, ItemIsKinded, ProjectionIsKinded, item_column}
-use Rattle.cy_scope.specs.ClauseFaults.{clause_fault, clauses_fault, where_fault}
+use Rattle.cy_scope.specs.Checked.{ClausesAreKinded, FilterGivesValue, IsChecked, IsViewQuery, ItemIsKinded, ProjectionIsKinded, item_column, single}
+use Rattle.cy_scope.specs.ClauseFaults.{clause_fault, clauses_fault, queries_fault, query_fault}
 use Rattle.cy_scope.specs.ClauseScopes.{columns_of, scope_after}
+use Rattle.cy_scope.specs.ConditionFaults.{where_fault}
 use Rattle.cy_scope.specs.PatternFaults.{paths_fault}
 use Rattle.cy_scope.specs.ProjectionFaults.{projection_fault}
-use Rattle.cy_scope.specs.Resolved.{resolved_clause, resolved_clauses, resolved_path, resolved_projection}
+use Rattle.cy_scope.specs.Resolved.{resolved_clause, resolved_clauses, resolved_path, resolved_projection, resolved_query}
 use Rattle.cy_kinds.specs.Faults.{first}
 use Rattle.cy_kinds.specs.declared.faults.ScopeFault.{ScopeFault}
-use Rattle.cy_kinds.specs.declared.faults.ViewFault.{ViewFault}
 use Rattle.cy_kinds.specs.declared.faults.ViewFault.TheVariants.{AggregateInView, MayFail, NotAReading, OrderInView, Unbounded}
-use Rattle.cy_scope.specs.Views.{are_sure_clauses, ends_with_return, has_aggregate, is_ordered, is_reading, is_sure_after, is_sure_before, is_unbounded, is_update}
+use Rattle.cy_scope.specs.Views.{are_sure_clauses, ends_with_return, has_aggregate, has_tests, is_kept_where, is_ordered, is_reading, is_sure_after, is_sure_before, is_sure_where, is_unbounded, is_update}
 use Rattle.cy_scope.proofs.KindedExpressions.{first_none}
 use Rattle.cy_scope.proofs.KindsKept.{paths_kept, scope_kept}
 use Rattle.cy_graph.specs.Graph.{Content}
 use Rattle.cy_queries.proofs.ScopeClauses.{clause_fits, projection_fits}
 use Rattle.cy_queries.specs.Projection.{projection_rows}
 use Rattle.cy_queries.specs.Queries.{rows_after}
-use Rattle.cy_clause_plans.specs.Matched.{IsTestKinded}
+use Rattle.cy_clause_plans.specs.Matched.{IsTestKinded, where_only}
 use Rattle.cy_clause_plans.specs.Projections.{expressions_in}
 use Rattle.cy_planner.specs.internal.ClausePlans.{Fits}
 use Rattle.cy_planner.specs.internal.ViewClauses.{AreViewClauses, IsViewClause}
 
 -- ---- a query
-
-past : {A : Type 0} (b : Bool) (x : A) (o : Option A) → cond b (Some x) o ≡ None → (b ≡ false) × (o ≡ None)
-past true x o is = cc
-past false x o is = (refl, is)
 
 none_of : (f : Clause → Bool) (c : Clause) (cs : List Clause) → list_any f (c ∷ cs) ≡ false → (f c ≡ false) × (list_any f cs ≡ false)
 none_of f c cs is = from (f c) (list_any f cs) is
@@ -81,35 +77,66 @@ view_clauses scope (c ∷ cs) good kinded sure reads alone unordered bounded =
           reading.1 groups.1 orders.1 lengths.1),
     )
 
-turned : (b : Bool) → not b ≡ false → b ≡ true
-turned true is = refl
-turned false is = absurd (true≢false is)
+-- none of the reasons against a query of a view
+pub no_reason : (a b c d e : Bool)
+    → cond (not a) (Some NotAReading) (cond b (Some OrderInView) (cond c (Some AggregateInView) (cond d (Some Unbounded) (cond (not e) (Some MayFail) None)))) ≡ None
+    → (a ≡ true) × (b ≡ false) × (c ≡ false) × (d ≡ false) × (e ≡ true)
+no_reason true false false false true none = (refl, refl, refl, refl, refl)
+no_reason true false false false false none = cc
+no_reason true false false true e none = cc
+no_reason true false true d e none = cc
+no_reason true true c d e none = cc
+no_reason false b c d e none = cc
+
+of_one : (b : Bool) → b || false ≡ false → b ≡ false
+of_one false is = refl
+of_one true is = is
 
 untold : (b : Bool) → not b ≡ true → b ≡ false
 untold true is = absurd (false≢true is)
 untold false is = refl
 
-pub view_query : ((tree : Statement) → IsChecked tree → ClausesAreKinded [] tree.clauses) → (query : Statement) → IsViewQuery query → AreViewClauses [] query.clauses
+-- a statement of one query comes of one query
+only_query : (q : Query) (qs : List Query) → q ∷ [] ≡ map resolved_query qs → (p : Query) × (qs ≡ p ∷ []) × (q ≡ resolved_query p)
+only_query q [] is = cc
+only_query q (p ∷ []) is = (p, refl, cc)
+only_query q (p ∷ r ∷ qs) is = cc
+
+pub view_query : ((q : Query) → IsChecked (single q) → ClausesAreKinded [] q.clauses) → (query : Query) → IsViewQuery (single query) → AreViewClauses [] query.clauses
 view_query kinds query (of, good) =
     let cs : List Clause = query.clauses in
-    let sure_part : Option ViewFault = cond (not (are_sure_clauses [] cs)) (Some MayFail) None in
-    let bounded_part : Option ViewFault = cond (list_any is_unbounded cs) (Some Unbounded) sure_part in
-    let alone_part : Option ViewFault = cond (list_any has_aggregate cs) (Some AggregateInView) bounded_part in
-    let ordered_part : Option ViewFault = cond (list_any is_ordered cs) (Some OrderInView) alone_part in
-    let reading = past (not (is_reading cs)) NotAReading ordered_part good in
-    let orders = past (list_any is_ordered cs) OrderInView alone_part reading.1 in
-    let groups = past (list_any has_aggregate cs) AggregateInView bounded_part orders.1 in
-    let lengths = past (list_any is_unbounded cs) Unbounded sure_part groups.1 in
-    let sure = past (not (are_sure_clauses [] cs)) MayFail None lengths.1 in
-    let reads : list_any is_update cs ≡ false =
-    untold (list_any is_update cs) (and_parts (ends_with_return cs) (not (list_any is_update cs)) (turned (is_reading cs) reading.0)).1 in
-    let are : cs ≡ resolved_clauses [] of.0.clauses = ap (λ (s : Statement). s.clauses) of.2 in
+    let facts =
+    no_reason (is_reading cs && true) (list_any is_ordered cs || false) (list_any has_aggregate cs || false) (list_any is_unbounded cs || false) (are_sure_clauses [] cs && true) good in
+    let reading = and_parts (is_reading cs) true facts.0 in
+    let reads : list_any is_update cs ≡ false = untold (list_any is_update cs) (and_parts (ends_with_return cs) (not (list_any is_update cs)) reading.0).1 in
+    let found = only_query query of.0.queries (ap (λ (s : Statement). s.queries) of.2) in
+    let written : List Clause = found.0.clauses in
+    let free : query_fault found.0 ≡ None = (first_none (query_fault found.0) None (ap queries_fault (sym found.1) ∙ of.1)).0 in
+    let are : cs ≡ resolved_clauses [] written = ap (λ (q : Query). q.clauses) found.2 in
     let kinded : ClausesAreKinded [] cs = kinds query of in
     subst (λ (l : List Clause). AreViewClauses [] l) (sym are)
-    (view_clauses [] of.0.clauses of.1 (subst (λ (l : List Clause). ClausesAreKinded [] l) are kinded)
-    (subst (λ (l : List Clause). are_sure_clauses [] l ≡ true) are (turned (are_sure_clauses [] cs) sure.0))
-    (subst (λ (l : List Clause). list_any is_update l ≡ false) are reads) (subst (λ (l : List Clause). list_any has_aggregate l ≡ false) are groups.0)
-    (subst (λ (l : List Clause). list_any is_ordered l ≡ false) are orders.0) (subst (λ (l : List Clause). list_any is_unbounded l ≡ false) are lengths.0))
+    (view_clauses [] written free (subst (λ (l : List Clause). ClausesAreKinded [] l) are kinded)
+    (subst (λ (l : List Clause). are_sure_clauses [] l ≡ true) are (and_parts (are_sure_clauses [] cs) true facts.4).0)
+    (subst (λ (l : List Clause). list_any is_update l ≡ false) are reads)
+    (subst (λ (l : List Clause). list_any has_aggregate l ≡ false) are (of_one (list_any has_aggregate cs) facts.2))
+    (subst (λ (l : List Clause). list_any is_ordered l ≡ false) are (of_one (list_any is_ordered cs) facts.1))
+    (subst (λ (l : List Clause). list_any is_unbounded l ≡ false) are (of_one (list_any is_unbounded cs) facts.3)))
+
+-- ---- a WHERE
+
+-- a view's is a condition alone, if there is one
+condition_alone : (scope : Scope) (w : Where) → is_kept_where scope w ≡ true → w ≡ where_only w.test
+condition_alone scope w kept = of w.paths refl (untold (has_tests w.paths) (and_parts (is_sure_where scope w) (not (has_tests w.paths)) kept).1)
+  where
+    of : (tests : List PathTest) → w.paths ≡ tests → has_tests w.paths ≡ false → w ≡ where_only w.test
+    of [] is none = ap (λ (tests : List PathTest). let v : Where = record { test = w.test; paths = tests } in v) is
+    of (t ∷ tests) is none = absurd (true≢false (sym (ap has_tests is) ∙ none))
+
+pub match_alone : (scope : Scope) (optional : Bool) (paths : List Path) (w : Where) → IsViewClause scope («match» optional paths w) → «match» optional paths w ≡ «match» optional paths (where_only w.test)
+match_alone scope optional paths w view = ap («match» optional paths) (condition_alone (with_paths scope paths) w view.sure_after)
+
+pub with_alone : (scope : Scope) (p : Projection) (w : Where) → IsViewClause scope («with» p w) → «with» p w ≡ «with» p (where_only w.test)
+with_alone scope p w view = ap («with» p) (condition_alone (columns_of scope p.items) w view.sure_after)
 
 -- ---- the rows after a clause
 
@@ -121,9 +148,9 @@ module _ (scope : Scope) (c : Clause) (view : IsViewClause scope c) where
   written_reads = of (scope_after scope view.written) view.written (ap is_update (sym view.is) ∙ view.reads)
     where
       of : (after : Scope) (w : Clause) → is_update (resolved_clause scope after w) ≡ false → is_update w ≡ false
-      of after («match» optional paths test) is = refl
+      of after («match» optional paths w) is = refl
       of after (unwind e v) is = refl
-      of after («with» p test) is = refl
+      of after («with» p w) is = refl
       of after («return» p) is = refl
       of after (create paths) is = is
       of after (set items) is = is
@@ -182,11 +209,11 @@ module _ (scope : Scope) where
   test_read (Some e) gives = (gives.0, gives.1)
 
   -- the rows of the projection of WITH, before its WHERE
-  pub projected_fit : (p : Projection) (test : Option Expression) (view : IsViewClause scope («with» p test)) (graph : Content) (rows : List (List Cell)) → AllByRecursion (Fits scope) rows
+  pub projected_fit : (p : Projection) (test : Option Expression) (view : IsViewClause scope («with» p (where_only test))) (graph : Content) (rows : List (List Cell)) → AllByRecursion (Fits scope) rows
       → IfOk (projection_rows graph p rows) (AllByRecursion (Fits (columns_of scope p.items)))
   projected_fit p test view graph rows each = of view.written view.good view.is
     where
-      of : (w : Clause) → clause_fault scope w ≡ None → «with» p test ≡ resolved_clause scope (scope_after scope w) w → IfOk (projection_rows graph p rows) (AllByRecursion (Fits (columns_of scope p.items)))
+      of : (w : Clause) → clause_fault scope w ≡ None → «with» p (where_only test) ≡ resolved_clause scope (scope_after scope w) w → IfOk (projection_rows graph p rows) (AllByRecursion (Fits (columns_of scope p.items)))
       of («with» q other) good is =
           let same : p ≡ resolved_projection scope (columns_of scope q.items) q = cc in
           let kept : columns_of scope q.items ≡ columns_of scope p.items = sym (scope_kept scope (columns_of scope q.items) («with» q other)) ∙ sym (ap (scope_after scope) is) in
@@ -207,10 +234,10 @@ module _ (scope : Scope) where
   abbrev pub WrittenPaths : List Path → Type 0
   WrittenPaths paths = (written : List Path) × (paths_fault false scope scope written ≡ None) × (paths ≡ map (resolved_path (with_paths scope written)) written)
 
-  pub written_paths : (optional : Bool) (paths : List Path) (test : Option Expression) → IsViewClause scope («match» optional paths test) → WrittenPaths paths
-  written_paths optional paths test view = of view.written view.good view.is
+  pub written_paths : (optional : Bool) (paths : List Path) (v : Where) → IsViewClause scope («match» optional paths v) → WrittenPaths paths
+  written_paths optional paths v view = of view.written view.good view.is
     where
-      of : (w : Clause) → clause_fault scope w ≡ None → «match» optional paths test ≡ resolved_clause scope (scope_after scope w) w → WrittenPaths paths
+      of : (w : Clause) → clause_fault scope w ≡ None → «match» optional paths v ≡ resolved_clause scope (scope_after scope w) w → WrittenPaths paths
       of («match» other ps filter) good is = (ps, (first_none (paths_fault false scope scope ps) (where_fault (with_paths scope ps) filter) good).0, (let e : paths ≡ map (resolved_path (with_paths scope ps)) ps = cc in e))
       of («with» q other) good is = cc
       of (unwind e v) good is = cc
@@ -222,10 +249,10 @@ module _ (scope : Scope) where
 
   -- the rows of MATCH, without its WHERE
   pub matched_fit : (paths : List Path) → WrittenPaths paths → (graph : Content) (rows : List (List Cell)) → AllByRecursion (Fits scope) rows
-      → IfOk (rows_after graph («match» false paths None) rows) (AllByRecursion (Fits (with_paths scope paths)))
+      → IfOk (rows_after graph («match» false paths (where_only None)) rows) (AllByRecursion (Fits (with_paths scope paths)))
   matched_fit paths (ps, good, is) graph rows each =
       let after : Scope = with_paths scope ps in
       let kept : after ≡ with_paths scope paths = sym (paths_kept after scope ps) ∙ sym (ap (with_paths scope) is) in
-      subst (λ (qs : List Path). IfOk (rows_after graph («match» false qs None) rows) (AllByRecursion (Fits (with_paths scope paths)))) (sym is)
-      (subst (λ (s : Scope). IfOk (rows_after graph («match» false (map (resolved_path after) ps) None) rows) (AllByRecursion (Fits s))) kept
-      (clause_fits graph scope («match» false ps None) rows (ap (λ (o : Option ScopeFault). first o None) good) refl each))
+      subst (λ (qs : List Path). IfOk (rows_after graph («match» false qs (where_only None)) rows) (AllByRecursion (Fits (with_paths scope paths)))) (sym is)
+      (subst (λ (s : Scope). IfOk (rows_after graph («match» false (map (resolved_path after) ps) (where_only None)) rows) (AllByRecursion (Fits s))) kept
+      (clause_fits graph scope («match» false ps (where_only None)) rows (ap (λ (o : Option ScopeFault). first o None) good) refl each))

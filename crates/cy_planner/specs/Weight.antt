@@ -1,6 +1,6 @@
 -- The weight of a query: how much of it there is to plan. One for each clause, place of a node, place of a relationship, label, type,
 -- entry of a map, item, WHERE, path of a WHERE and UNION; a place with a length m..n weighs 1 and the sum of the numbers m to n. (own)
-use Rattle.std.specs.Prelude.{ℕ, zero, suc, ◌+◌, ◌-◌, List, [], ◌∷◌, length, sum_by, Option, None, Some}
+use Rattle.std.specs.Prelude.{ℕ, zero, suc, ◌+◌, ◌-◌, List, [], length, sum_by, Option, None, Some}
 use Rattle.std.specs.Option.{option_map_or}
 use Rattle.cy_trees.specs.declared.clauses.Length.{Length}
 use Rattle.cy_trees.specs.Trees.{Expression, MapEntry, NodePattern, RelationshipPattern, Step, Path, PathTest, Where, Clause, «match», unwind, «with», «return», create, set, remove, delete, Query, Statement}

@@ -1,11 +1,13 @@
 //! The weight of a query: how much of it there is to plan (own). Sums stand still at the greatest u64, far above what is planned.
 
 ghost use Rattle.std.specs.Prelude.{◌≡◌, ◌<◌, ◌↔◌, ◌+◌, IsTrue, min, map, sum_by, length};
-ghost use Rattle.cy_trees.specs.Views.{statement_of, clause_of, path_of, step_of, node_of, relationship_of, properties_of, filter_of};
+ghost use Rattle.cy_trees.specs.Views.{statement_of, query_of, clause_of, path_of, path_test_of, step_of, node_of, relationship_of, properties_of, filter_of, where_of};
 ghost use Rattle.cy_planner.specs.Weight as spec;
 
 use cy_scope::ViewQuery;
-use cy_trees::{Clause, Expr, Length, MapEntry, NodePattern, Path, RelationshipPattern, Step};
+use cy_trees::{
+    Clause, Length, MapEntry, NodePattern, Path, PathTest, Query, RelationshipPattern, Step, Where,
+};
 
 /// The greatest weight of a query that is planned.
 const GREATEST_WEIGHT: u64 = 512;
@@ -21,7 +23,19 @@ pub fn is_too_large(query: &ViewQuery) -> bool
 pub fn weight_of(query: &ViewQuery) -> u64
     ensures { result ≡ min (spec.weight (statement_of query.now)) u64.MAX }
 {
-    clauses_weight(query.checked().statement().clauses.as_slice())
+    let queries = query.checked().statement().queries.as_slice();
+    let unions = (queries.len() as u64).saturating_sub(1);
+    queries_weight(queries).saturating_add(unions)
+}
+
+fn queries_weight(queries: &[Query]) -> u64
+    ensures { result ≡ min (sum_by spec.query_weight (map query_of queries.now)) u64.MAX }
+{
+    let mut total: u64 = 0;
+    for query in queries {
+        total = total.saturating_add(clauses_weight(&query.clauses));
+    }
+    total
 }
 
 fn clauses_weight(clauses: &[Clause]) -> u64
@@ -39,12 +53,12 @@ fn clause_weight(clause: &Clause) -> u64
 {
     match clause {
         Clause::Match(matching) => {
-            let paths = paths_weight(&matching.paths);
-            paths.saturating_add(1 + where_weight(&matching.filter))
+            let paths = paths_weight(&matching.paths).saturating_add(1);
+            paths.saturating_add(where_weight(&matching.filter))
         }
         Clause::With(with) => {
-            let items = with.projection.items.len() as u64;
-            items.saturating_add(1 + where_weight(&with.filter))
+            let items = (with.projection.items.len() as u64).saturating_add(1);
+            items.saturating_add(where_weight(&with.filter))
         }
         Clause::Return(projection) => (projection.items.len() as u64).saturating_add(1),
         Clause::Unwind(_)
@@ -55,14 +69,37 @@ fn clause_weight(clause: &Clause) -> u64
     }
 }
 
-fn where_weight(filter: &Option<Expr>) -> u64
-    ensures weight { result ≡ spec.where_weight (filter_of filter.now) }
-    ensures small { result < 2 }
+fn where_weight(filter: &Where) -> u64
+    ensures { result ≡ min (spec.where_weight (where_of filter.now)) u64.MAX }
 {
-    match filter {
-        Some(_) => 1,
-        None => 0,
+    path_tests_weight(&filter.paths).saturating_add(wheres(filter))
+}
+
+/// Whether there is a WHERE, as a number.
+fn wheres(filter: &Where) -> u64
+    ensures { result ≡ spec.wheres (filter_of filter.now.test) (map path_test_of filter.now.paths.items) }
+{
+    if filter.test.is_none() && filter.paths.is_empty() {
+        0
+    } else {
+        1
     }
+}
+
+fn path_tests_weight(tests: &[PathTest]) -> u64
+    ensures { result ≡ min (sum_by spec.path_test_weight (map path_test_of tests.now)) u64.MAX }
+{
+    let mut total: u64 = 0;
+    for test in tests {
+        total = total.saturating_add(path_test_weight(test));
+    }
+    total
+}
+
+fn path_test_weight(test: &PathTest) -> u64
+    ensures { result ≡ min (spec.path_test_weight (path_test_of test.now)) u64.MAX }
+{
+    path_weight(&test.path).saturating_add(1)
 }
 
 fn paths_weight(paths: &[Path]) -> u64

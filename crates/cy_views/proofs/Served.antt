@@ -14,7 +14,7 @@ use Rattle.cy_values.specs.Order.{row_cmp}
 use Rattle.cy_graph.specs.Graph.{Content, State}
 use Rattle.cy_expr.specs.declared.faults.EvalFault.{EvalFault}
 use Rattle.cy_patterns.specs.Outcomes.{IsSameOutcome}
-use Rattle.cy_queries.specs.Queries.{query_rows}
+use Rattle.cy_queries.specs.Queries.{statement_rows}
 use Rattle.cy_bags.specs.declared.changes.Change.{Change}
 use Rattle.cy_bags.specs.Difference.{IsDifference, is_nothing}
 use Rattle.cy_memory.specs.declared.faults.MemoryFault.{MemoryFault}
@@ -41,7 +41,7 @@ same_outcome rows (Err fault) same = absurd same
 
 pub same_rows : (plan : Plan) (query : Statement) (graph : Content) → Serves plan query → IsHeldByGraph graph → IsSameBag (plans.rows_of graph plan) (rows_of query graph)
 same_rows plan query graph serves (state, is, same) =
-    subst (λ (c : Content). IsSameBag (plans.rows_of c plan) (rows_of query c)) same (same_outcome (plans.rows_of state.content plan) (query_rows state.content query) (serves.rows state is))
+    subst (λ (c : Content). IsSameBag (plans.rows_of c plan) (rows_of query c)) same (same_outcome (plans.rows_of state.content plan) (statement_rows state.content query) (serves.rows state is))
 
 -- the difference of two bags is that of the same bags
 same_difference : (before after olds news : List (List Cell)) (change : Change) → IsSameBag before olds → IsSameBag after news → IsDifference before after change → IsDifference olds news change

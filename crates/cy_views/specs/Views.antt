@@ -7,7 +7,7 @@ use Rattle.cy_trees.specs.Trees.{Statement}
 use Rattle.cy_values.specs.declared.rows.Cell.{Cell}
 use Rattle.cy_values.specs.Bag.{IsBagOf, IsCanonical, IsSameBag}
 use Rattle.cy_graph.specs.Graph.{Content}
-use Rattle.cy_queries.specs.Queries.{query_columns, query_rows}
+use Rattle.cy_queries.specs.Queries.{statement_columns, statement_rows}
 use Rattle.cy_bags.specs.Difference.{IsDifference}
 use Rattle.cy_bags.specs.declared.changes.Entry.{Entry}
 use Rattle.cy_feeds.specs.Feeds.{History, pushed}
@@ -24,7 +24,7 @@ pub record View : Type 0 where
 -- The rows that the query of a view means on a graph, as a bag. Such a query has rows on every graph, and no fault: that is a law
 -- of queries (`view_queries`), and part of the headline.
 abbrev pub rows_of : Statement → Content → List (List Cell)
-rows_of query graph = result_unwrap_or (query_rows graph query) []
+rows_of query graph = result_unwrap_or (statement_rows graph query) []
 
 -- how many views there may be
 abbrev pub view_limit : ℕ
@@ -40,7 +40,7 @@ without name views = filter (λ v. not (bytes_eq name v.name)) views
 
 -- the columns, the tick made and the name of a view
 abbrev pub listed : View → ViewListing
-listed view = record { columns = query_columns view.query; made = view.made; name = view.name }
+listed view = record { columns = statement_columns view.query; made = view.made; name = view.name }
 
 -- the rows, each once, in canonical order, with their counts, that a view's query means on a graph
 pub record AreRowsOf (query : Statement) (graph : Content) (rows : List (List Cell × ℕ)) : Type 0 where

@@ -1,8 +1,9 @@
 //! The views in a list of them.
 
-ghost use Rattle.std.specs.Prelude.{◌≡◌, IfErr, IfOk, map};
-ghost use Rattle.cy_trees.specs.Views.{item_of, statement_of};
-ghost use Rattle.cy_queries.specs.Queries.{query_columns};
+ghost use Rattle.std.specs.Prelude.{◌≡◌, IfErr, IfOk, IsTrue, [], map};
+ghost use Rattle.cy_trees.specs.Views.{clause_of, item_of, statement_of};
+ghost use Rattle.cy_scope.specs.Views.{ends_with_return};
+ghost use Rattle.cy_queries.specs.Queries.{columns_after_all, statement_columns};
 
 use cy_scope::ViewQuery;
 use cy_trees::{Clause, Item};
@@ -18,12 +19,22 @@ pub struct ViewListing {
     pub name: Text,
 }
 
-/// The columns of a view's query, which are those of the RETURN at its end. Fails only when out of memory.
+/// The columns of a view's query: where UNION joins several, those of the first. Fails only when out of memory.
 pub fn columns_of(alloc: Global, query: &ViewQuery) -> Result<Vec<Text>, Fault>
-    ensures { IfOk result (λ columns. columns.items ≡ query_columns (statement_of query.now)) }
+    ensures { IfOk result (λ columns. columns.items ≡ statement_columns (statement_of query.now)) }
 {
-    let statement = query.checked().statement();
-    let Some(last) = statement.clauses.last() else {
+    let Some(first) = query.checked().statement().queries.first() else {
+        return Ok(Vec::new(alloc));
+    };
+    Ok(returned_columns(alloc, &first.clauses)?)
+}
+
+// The columns of clauses that end with RETURN: those of its items. Fails only when out of memory.
+fn returned_columns(alloc: Global, clauses: &[Clause]) -> Result<Vec<Text>, Fault>
+    requires { IsTrue (ends_with_return (map clause_of clauses.now)) }
+    ensures { IfOk result (λ columns. columns.items ≡ columns_after_all [] (map clause_of clauses.now)) }
+{
+    let Some(last) = clauses.last() else {
         return Ok(Vec::new(alloc));
     };
     match last {

@@ -177,6 +177,47 @@ fn open_levels_of_expressions(rt: HostRuntime) -> Result<(), Fail> {
     Ok(())
 }
 
+// What stands beside paths after WHERE is one expression, which is refused at its first token where it is too deep.
+#[test]
+fn depth_of_conditions_beside_paths(rt: HostRuntime) -> Result<(), Fail> {
+    let table = [
+        (
+            ("MATCH (n) WHERE x", " AND (n)--() RETURN n"),
+            63,
+            (0, None),
+        ),
+        (
+            ("MATCH (n) WHERE x", " AND (n)--() RETURN n"),
+            64,
+            (21, Some(16)),
+        ),
+        (
+            ("MATCH (n) WHERE (n)--() AND x", " RETURN n"),
+            63,
+            (0, None),
+        ),
+        (
+            ("MATCH (n) WHERE (n)--() AND x", " RETURN n"),
+            64,
+            (21, Some(28)),
+        ),
+        (
+            ("WITH n WHERE NOT ((n)--()) AND x", " AND (n)--() RETURN n"),
+            64,
+            (21, Some(31)),
+        ),
+    ];
+    for (clause, times, wanted) in table {
+        let around = Around {
+            clause,
+            nesting: ("", " AND y"),
+            times,
+        };
+        expect_fault(&rt, rt.alloc(), around, "", wanted)?;
+    }
+    Ok(())
+}
+
 // Levels that are open in the leaf count with the brackets around it, and those that are closed don't.
 #[test]
 fn levels_in_leaves(rt: HostRuntime) -> Result<(), Fail> {

@@ -360,7 +360,7 @@ fn returning(alloc: Global, expression: &str) -> Result<String, AllocError> {
 
 // The expression that a query returns first.
 fn returned(query: &Checked) -> Option<&Expr> {
-    match query.statement().clauses.last()? {
+    match query.statement().queries.first()?.clauses.last()? {
         Clause::Return(projection) => Some(&projection.items.first()?.expression),
         _ => None,
     }

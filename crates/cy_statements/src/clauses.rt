@@ -29,7 +29,11 @@ UNWIND [] AS x WITH count(*) AS c WHERE c = 0 RETURN c => | x 0 | c 1 | c [0]
 MATCH (a {k: 1 / 0}) WITH a RETURN a => | !43
 UNWIND [0, 'a'] AS x WITH 1 / x AS y RETURN y => | x 2 | !41
 UNWIND [1] AS x WITH x WHERE 1 / (x - 1) = 1 RETURN x => | x 1 | !43
-UNWIND [1, 2] AS x WITH x ORDER BY x LIMIT 1 RETURN 1 / (x - 1) AS y => | x 2 | x 1 | !43"#;
+UNWIND [1, 2] AS x WITH x ORDER BY x LIMIT 1 RETURN 1 / (x - 1) AS y => | x 2 | x 1 | !43
+MATCH (a:A) WHERE NOT (a)-->() WITH a RETURN id(a) AS n => | a 1 | a 1 | n [3]
+MATCH (a:A) WITH a WHERE (a)-->(:B) RETURN id(a) AS n => | a 2 | a 1 | n [1]
+MATCH (a:A) OPTIONAL MATCH (a)-->(b) WHERE NOT (a)-->(b) RETURN id(a) AS a, b => | a 2 | a b 2 | a b [1,null] [3,null]
+UNWIND [1, 2] AS x MATCH (a:A) WHERE (a)-->({k: 1 / (x - 1)}) RETURN x => | x 2 | !43"#;
 
 // Queries of MATCH and RETURN. The names that the one adds, and then the columns of the other.
 const NAMES: &str = "\
@@ -108,7 +112,8 @@ fn add_tables(
 fn tables(alloc: Global, store: &Store, line: &str) -> Result<String, Fail> {
     let query = query_of(alloc, line)?;
     let mut text = String::new(alloc);
-    add_tables(alloc, store, &query.statement().clauses, &mut text)?;
+    let query = query.statement().queries.first().ok_or("no query")?;
+    add_tables(alloc, store, &query.clauses, &mut text)?;
     Ok(text)
 }
 
@@ -134,8 +139,8 @@ fn clauses(rt: HostRuntime) -> Result<(), Fail> {
 // The names that MATCH adds, and the columns of RETURN.
 fn names(alloc: Global, line: &str) -> Result<String, Fail> {
     let query = query_of(alloc, line)?;
-    let [Clause::Match(pattern), Clause::Return(projection)] = query.statement().clauses.as_slice()
-    else {
+    let query = query.statement().queries.first().ok_or("no query")?;
+    let [Clause::Match(pattern), Clause::Return(projection)] = query.clauses.as_slice() else {
         return Err(Fail::from("not MATCH and RETURN"));
     };
     let mut columns = Vec::new(alloc);

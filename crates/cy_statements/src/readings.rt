@@ -1,8 +1,8 @@
 //! Queries that read no graph, and the rows that they give.
 
-ghost use Rattle.std.specs.Prelude.{◌≡◌, false};
+ghost use Rattle.std.specs.Prelude.{◌≡◌, false, map};
 ghost use Rattle.std.specs.List.{list_any};
-ghost use Rattle.cy_trees.specs.Views.{statement_of};
+ghost use Rattle.cy_trees.specs.Views.{query_of, statement_of};
 ghost use Rattle.cy_scope.specs.Views.{is_update};
 
 use cy_evaluations::add_cell;
@@ -12,6 +12,7 @@ use cy_lexer::lex;
 use cy_oneshot::{Table, answer};
 use cy_parser::parse;
 use cy_scope::{Checked, check, has_update};
+use cy_trees::Query;
 use cy_values::Row;
 use std::alloc::{AllocError, Global};
 use std::process::Abort;
@@ -69,7 +70,16 @@ UNWIND [1, 2] AS x WITH count(*) AS c, x % 3 AS k WHERE k = 2 RETURN k, c => k c
 UNWIND [1, 1, 2] AS x WITH DISTINCT x ORDER BY x DESC LIMIT 1 RETURN x => x [2]
 UNWIND [3, 1, 2] AS x WITH x ORDER BY x DESC LIMIT 2 RETURN x => x [2] [3]
 UNWIND [[1, 2], 'x', null] AS x RETURN x => !44
-WITH [1, 2] AS l UNWIND l AS x RETURN x, l ORDER BY x DESC => x l [2,[1,2]] [1,[1,2]]"#;
+WITH [1, 2] AS l UNWIND l AS x RETURN x, l ORDER BY x DESC => x l [2,[1,2]] [1,[1,2]]
+RETURN 1 AS x UNION RETURN 2 AS x => x [1] [2]
+RETURN 1 AS x UNION ALL RETURN 1 AS x UNION ALL RETURN null AS x => x [1] [1] [null]
+UNWIND [2, 1, 2] AS x RETURN x UNION UNWIND [null, 2] AS x RETURN x => x [1] [2] [null]
+UNWIND [3, 1, 2] AS x RETURN x ORDER BY x DESC LIMIT 2 UNION ALL RETURN 0 AS x => x [0] [2] [3]
+UNWIND [1, 0] AS x RETURN 1 / x AS y UNION RETURN 1 + 'a' AS y => !43
+RETURN 1 AS y UNION RETURN 1 / 0 AS y UNION RETURN 1 + 'a' AS y => !43
+WITH 1 AS a, 2 AS b WHERE (a)<--(b) OR false RETURN a => a [1]
+OPTIONAL MATCH (z:Z) WITH z WHERE NOT (z)--() RETURN z => z [null]
+OPTIONAL MATCH (z:Z) WITH z WHERE NOT (z)-->({k: 1 / 0}) RETURN z => !43"#;
 
 // Adds a row.
 fn add_row(text: &mut String, row: &Row) -> Result<(), AllocError> {
@@ -107,7 +117,7 @@ pub(crate) fn query_of(alloc: Global, line: &str) -> Result<Checked, Fail> {
 
 // What a query answers. Where it is refused memory, it is asked for once more.
 fn answer_of(alloc: Global, store: &Store, query: &Checked) -> Result<Table, EvalFault>
-    requires { list_any is_update (statement_of query.now).clauses ≡ false }
+    requires { list_any (λ q. list_any is_update q.clauses) (statement_of query.now).queries ≡ false }
 {
     match answer(alloc, store, query) {
         Err(EvalFault::NoMemory) => answer(alloc, store, query),
@@ -115,10 +125,22 @@ fn answer_of(alloc: Global, store: &Store, query: &Checked) -> Result<Table, Eva
     }
 }
 
+// Whether one of the queries has an updating clause.
+fn any_updates(queries: &[Query]) -> bool
+    ensures { result ≡ list_any (λ q. list_any is_update q.clauses) (map query_of queries.now) }
+{
+    for query in queries {
+        if has_update(&query.clauses) {
+            return true;
+        }
+    }
+    false
+}
+
 // The rows of a query on a graph, with its columns, or the number of its fault.
 pub(crate) fn answered(alloc: Global, store: &Store, line: &str) -> Result<String, Fail> {
     let query = query_of(alloc, line)?;
-    if has_update(&query.statement().clauses) {
+    if any_updates(&query.statement().queries) {
         return Err(Fail::from("no query"));
     }
     match answer_of(alloc, store, &query) {

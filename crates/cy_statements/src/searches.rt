@@ -63,7 +63,17 @@ A - - - B | 1T2 1T3 1T4 1T5 2U5 | MATCH (h:A), (n) MATCH (h)-[r*0..1]-(n) RETURN
 - - - - | 1T2 2T3 3T1 3T4 | MATCH (a)-->(b)-->(c)-->(a)-->(d) RETURN id(a) AS a, id(d) AS d => a d [3,4]
 - - - - | 1T2 2T3 3T1 3T4 | MATCH (d {k: 4})<-[r*3]-(a) RETURN id(a) AS a => a [1]
 - - - - | 1T2 2T3 3T1 3T4 | MATCH (a)-->(b)-->(c) WHERE b.k = 3 RETURN id(a) AS a, id(c) AS c => a c [2,1] [2,4]
-- - - - | 1T2 2T3 3T1 3T4 | MATCH (a)-->(b)-->(c) WHERE b.k = 'x' OR b.k = 3 AND c.j = 1 RETURN id(a) AS a => a"#;
+- - - - | 1T2 2T3 3T1 3T4 | MATCH (a)-->(b)-->(c) WHERE b.k = 'x' OR b.k = 3 AND c.j = 1 RETURN id(a) AS a => a
+A B - | 1T2 3U2 2T1 | MATCH (a) WHERE (a)-[:T]->(:B) RETURN id(a) AS a => a [1]
+A B - | 1T2 3U2 2T1 | MATCH (a) WHERE NOT (a)<--() RETURN id(a) AS a => a [3]
+A B - | 1T2 3U2 2T1 | MATCH (a)-->(b) WHERE (b)-->(a) AND a.k = 1 RETURN id(a) AS a, id(b) AS b => a b [1,2]
+A B - | 1T2 3U2 2T1 | MATCH (a:A) WHERE (a)-->({k: 1 / 0}) AND false RETURN a => !43
+A B - | 1T2 3U2 2T1 | MATCH (a) OPTIONAL MATCH (a)-[r]->(b) WHERE NOT (b)-->(a) RETURN id(a) AS a, id(b) AS b => a b [1,null] [2,null] [3,2]
+A B - | 1T2 3U2 2T1 | MATCH (a) WHERE (a)-->(:B) RETURN id(a) AS n UNION MATCH (a:A) RETURN id(a) AS n => n [1] [3]
+A A B | 1T3 2T3 | MATCH (n:A) WHERE (n)-->()<--(:A {k: 2}) RETURN id(n) AS n => n [1]
+A - - - B | 1T2 1T3 1T4 1T5 2U5 | MATCH (h:A), (n) WHERE (h)-[*2]->(n) RETURN id(n) AS n => n [5]
+A - - - B | 1T2 1T3 1T4 1T5 2U5 | MATCH (n) WHERE (:A)-->(n)-->(:B) RETURN id(n) AS n => n [2]
+- - - - | 1T2 2T3 3T1 3T4 | MATCH (a) WHERE (a)-[*3]->(a) RETURN id(a) AS a => a [1] [2] [3]"#;
 
 // Adds a node with a label, or with none.
 fn add_node(alloc: Global, store: &mut Store, label: &str, number: i64) -> Result<(), Fail>

@@ -86,7 +86,14 @@ const UPDATES: &str = r#". | CREATE () => 1,0,0,0 | (1)
 . | CREATE (:A), (:A)-[:T]->(:B) ; MATCH (n:A) CREATE (n)-[:U]->(:C) WITH n MATCH (n)-[r:U]->(c) DELETE r, c, n => !50 | (1:A) (2:A) (3:B) [1 2T3]
 . | CREATE (:A), (:A)-[:T]->(:B) ; MATCH (n:A) CREATE (n)-[:U]->(:C) WITH n MATCH (n)-[r:U]->(c) DELETE r, c, n ; CREATE (a)-[r:T]->(b) RETURN a, r, b => 2,0,1,0 a r b [node4,rel2,node5] | (1:A) (2:A) (3:B) (4) (5) [1 2T3] [2 4T5]
 . | CREATE (:A {k: 1}), (:A {k: 2}) ; MATCH (n:A) CREATE (m:B) SET m.k = n.k WITH n, m WHERE 1 / (n.k - 2) = 1 RETURN m => !43 | (1:A{k:1}) (2:A{k:2})
-. | CREATE (:A {k: 1}), (:A {k: 2}) ; MATCH (n:A) CREATE (m:B) SET m.k = n.k WITH n, m WHERE 1 / (n.k - 2) = 1 RETURN m ; MATCH (n:A) CREATE (m) RETURN n, m => 2,0,0,0 n m [node1,node3] [node2,node4] | (1:A{k:1}) (2:A{k:2}) (3) (4)"#;
+. | CREATE (:A {k: 1}), (:A {k: 2}) ; MATCH (n:A) CREATE (m:B) SET m.k = n.k WITH n, m WHERE 1 / (n.k - 2) = 1 RETURN m ; MATCH (n:A) CREATE (m) RETURN n, m => 2,0,0,0 n m [node1,node3] [node2,node4] | (1:A{k:1}) (2:A{k:2}) (3) (4)
+. | CREATE (:A)-[:T]->(:B), (:A) ; MATCH (a:A) WHERE NOT (a)-->() CREATE (a)-[:T]->(:B) => 1,0,1,0 | (1:A) (2:B) (3:A) (4:B) [1 1T2] [2 3T4]
+. | CREATE (:A) ; MATCH (n:A) WHERE (n)-->() DELETE n => 0,0,0,0 | (1:A)
+. | CREATE (:A)-[:T]->(:B) ; MATCH (n) WHERE NOT (n)-->() DETACH DELETE n => 0,1,0,1 | (1:A)
+. | CREATE (:A) ; MATCH (n) CREATE (n)-[:T]->(:B) WITH n WHERE (n)-->() RETURN n => 1,0,1,0 n [node1] | (1:A) (2:B) [1 1T2]
+. | CREATE (:A {k: 1}) ; MATCH (n:A) SET n.x = 1 WITH n WHERE (n)-->({k: 1 / 0}) RETURN n => !43 | (1:A{k:1})
+. | CREATE (:A), (:B) ; MATCH (n:A) RETURN n UNION MATCH (n:B) RETURN n => 0,0,0,0 n [node1] [node2] | (1:A) (2:B)
+. | CREATE (:A) ; RETURN 1 AS x UNION RETURN 1 / 0 AS x => !43 | (1:A)"#;
 
 // Adds the elements of a list.
 fn add_list(text: &mut String, elements: &[Scalar]) -> Result<(), AllocError> {

@@ -14,6 +14,9 @@ use std::io;
 /// A query of this many items and one place weighs three more. 512 is the most.
 const ITEMS: [u16; 3] = [508, 509, 510];
 
+/// Two such queries with UNION between weigh what both do, and one more.
+const ITEMS_OF_EACH: [u16; 2] = [252, 253];
+
 fn main(rt: HostRuntime) -> io::Result<()> {
     let text = io::read_to_string(rt.alloc(), rt.reader())?;
     for line in text.as_str().lines() {
@@ -26,7 +29,12 @@ fn main(rt: HostRuntime) -> io::Result<()> {
     }
     println!(rt; "// Queries that are too large\n")?;
     for count in ITEMS {
-        print_fault(&rt, count)?;
+        let line = items_query(rt.alloc(), count)?;
+        print_weighed(&rt, "items", count, line.as_str())?;
+    }
+    for count in ITEMS_OF_EACH {
+        let line = union_query(rt.alloc(), count)?;
+        print_weighed(&rt, "items in each of two queries", count, line.as_str())?;
     }
     Ok(())
 }
@@ -58,17 +66,27 @@ fn items_query(alloc: Global, count: u16) -> Result<String, AllocError> {
     Ok(line)
 }
 
-// Prints whether a query with this many items has a plan, or else the number of its fault.
-fn print_fault<R: Print + AllocGlobal>(rt: &R, count: u16) -> io::Result<()> {
-    let line = items_query(rt.alloc(), count)?;
-    let Some(query) = view_query(rt.alloc(), line.as_str()) else {
-        return println!(rt; "{count} items: no query of a view");
+// Two queries of so many items, with UNION between.
+fn union_query(alloc: Global, count: u16) -> Result<String, AllocError> {
+    let query = items_query(alloc, count)?;
+    format!(in alloc; "{query} UNION {query}")
+}
+
+// Prints whether a query has a plan, or else the number of its fault, after how many of what stand in it.
+fn print_weighed<R: Print + AllocGlobal>(
+    rt: &R,
+    what: &str,
+    count: u16,
+    line: &str,
+) -> io::Result<()> {
+    let Some(query) = view_query(rt.alloc(), line) else {
+        return println!(rt; "{count} {what}: no query of a view");
     };
     match plan(rt.alloc(), &query) {
-        Ok(_) => println!(rt; "{count} items: a plan"),
+        Ok(_) => println!(rt; "{count} {what}: a plan"),
         Err(fault) => {
             let code = fault.code();
-            println!(rt; "{count} items: {code}")
+            println!(rt; "{count} {what}: {code}")
         }
     }
 }

@@ -16,13 +16,14 @@ use std::rt::Files;
 use std::{fs, io};
 
 /// The transcripts, and whether entries follow the answers.
-const TRANSCRIPTS: [(&str, bool); 20] = [
+const TRANSCRIPTS: [(&str, bool); 23] = [
     ("start.session", true),
     ("commands.session", true),
     ("dashboard.session", true),
     ("access.session", true),
     ("dependencies.session", true),
     ("fraud.session", true),
+    ("ways.session", true),
     ("language.session", false),
     ("values.session", false),
     ("spellings.session", false),
@@ -35,6 +36,8 @@ const TRANSCRIPTS: [(&str, bool); 20] = [
     ("scope.session", false),
     ("views.session", false),
     ("clauses.session", false),
+    ("conditions.session", false),
+    ("unions.session", true),
     ("updates.session", true),
     ("feeds.session", true),
 ];

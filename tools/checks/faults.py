@@ -12,6 +12,8 @@ from checks.program import TOP, Ended, Failure, NotRun, expect, run
 SOURCE = Path(__file__).resolve().parent / "faults.c"
 # As many calls as come without an end.
 ENDLESS = 1 << 40
+# A call that is interrupted so often, one time after another, has failed.
+MOST_INTERRUPTIONS = 1000
 
 
 def compilers() -> List[List[List[str]]]:
@@ -95,25 +97,24 @@ def test_failing_moves(program: Path) -> str:
 
 
 def test_interrupted_moves(program: Path) -> str:
-    """A read or a write that was interrupted is asked for once more, and not for ever; or it counts as one that failed."""
+    """A read or a write that is interrupted is made again. One that is interrupted 1,000 times, one after another, has failed."""
     given = session()
     wanted = run(program, ["--feed"], given)
+    tried = 0
     with library() as faults:
-        first = run_with(faults, program, given, ["--feed"], FAULT_READ=f"1 1 {errno.EINTR}")
-        if first == Ended(3, b"", b""):
-            tried = sum(fail_each(faults, program, given, wanted, name, errno.EINTR) for name in ("READ", "WRITE"))
-            return f"{tried} runs in which a read or a write is interrupted, which counts as a failure: status 3"
         totals = count(faults, program, given, ["--feed"])
-        tried = 0
         for name in "READ", "WRITE":
-            for number in range(1, totals[f"{name.lower()}s"] + 1):
-                settings = {f"FAULT_{name}": f"{number} 1 {errno.EINTR}"}
-                expect(run_with(faults, program, given, ["--feed"], **settings), wanted, f"{name.lower()} {number} is interrupted")
+            cases = [(number, 1) for number in range(1, totals[f"{name.lower()}s"] + 1)] + [(1, MOST_INTERRUPTIONS - 1)]
+            for number, times in cases:
+                settings = {f"FAULT_{name}": f"{number} {times} {errno.EINTR}"}
+                what = f"{name.lower()} {number} is interrupted {times} times"
+                expect(run_with(faults, program, given, ["--feed"], **settings), wanted, what)
                 tried += 1
-            settings = {f"FAULT_{name}": f"1 {ENDLESS} {errno.EINTR}"}
-            ended = run_with(faults, program, given, ["--feed"], **settings)
-            expect(ended, Ended(3, b"", b""), f"each {name.lower()} is interrupted, without an end")
-    return f"{tried} runs in which a read or a write is interrupted: the same output"
+            for times in MOST_INTERRUPTIONS, ENDLESS:
+                settings = {f"FAULT_{name}": f"1 {times} {errno.EINTR}"}
+                ended = run_with(faults, program, given, ["--feed"], **settings)
+                expect(ended, Ended(3, b"", b""), f"the first {name.lower()} is interrupted {times} times")
+    return f"{tried} runs in which a read or a write is interrupted: the same output; at {MOST_INTERRUPTIONS} times it has failed"
 
 
 def test_no_memory(program: Path) -> str:

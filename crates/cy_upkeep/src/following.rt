@@ -1,6 +1,9 @@
 //! A network of a view's query, which follows the statements that change the graph.
 
-ghost use Rattle.std.specs.Prelude.{◌≡◌, Some, IsNone, IsSome, IfOk, OnOk};
+ghost use Rattle.std.specs.Prelude.{◌≡◌, Some, IsNone, IsSome, IfOk, OnOk, map};
+ghost use Rattle.std.specs.List.{list_any};
+ghost use Rattle.cy_trees.specs.Views.{query_of};
+ghost use Rattle.cy_scope.specs.Views.{is_update};
 ghost use Rattle.cy_graph.specs.Graph.{Content};
 ghost use Rattle.cy_touches.specs.Changes.{before_change};
 ghost use Rattle.cy_plans.specs.Sure.{IsSure};
@@ -19,6 +22,7 @@ use cy_planner::plan;
 use cy_plans::Plan;
 use cy_scope::{Checked, ViewQuery, check, check_view, has_update};
 use cy_touches::GraphChange;
+use cy_trees::Query;
 use cy_updates::execute;
 use cy_values::Row;
 use std::alloc::{AllocError, Global};
@@ -88,9 +92,21 @@ fn rows_built<M: Memory>(alloc: Global, query: &ViewQuery, store: &Store) -> Res
     rows_text(alloc, &network)
 }
 
+// Whether one of the queries has an updating clause.
+fn any_updates(queries: &[Query]) -> bool
+    ensures { result ≡ list_any (λ q. list_any is_update q.clauses) (map query_of queries.now) }
+{
+    for query in queries {
+        if has_update(&query.clauses) {
+            return true;
+        }
+    }
+    false
+}
+
 // The rows that a query answers.
 fn rows_answered(alloc: Global, query: &ViewQuery, store: &Store) -> Result<String, Fail> {
-    if has_update(&query.checked().statement().clauses) {
+    if any_updates(&query.checked().statement().queries) {
         return Err(Fail::from("no query"));
     }
     let table = answer(alloc, store, query.checked())?;

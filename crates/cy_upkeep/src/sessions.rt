@@ -5,7 +5,7 @@ use cy_memory::{KeyedMemory, ListMemory};
 use std::test::Fail;
 
 // The query of a view; then statements, each with the rows that are removed and added, and the rows after it.
-const SESSIONS: [&str; 13] = [
+const SESSIONS: [&str; 15] = [
     "\
 MATCH (a:A) OPTIONAL MATCH (a)-[:T]->(b:B) RETURN a, b
 CREATE (:A) => - + [node1,null]x1 = [node1,null]x1
@@ -89,6 +89,18 @@ MATCH (a)-[r]->(b)-[s]->(c)-[t]->(d) RETURN r, s, t
 CREATE (a)-[:T]->(b)-[:T]->(a) => - + =
 MATCH (a)-[r]->(b) WHERE id(r) = 2 CREATE (b)-[:T]->(b) => - + [rel1,rel2,rel3]x1 [rel2,rel3,rel1]x1 [rel3,rel1,rel2]x1 \
 = [rel1,rel2,rel3]x1 [rel2,rel3,rel1]x1 [rel3,rel1,rel2]x1",
+    "\
+MATCH (n:A) RETURN n UNION MATCH (n:B) RETURN n
+CREATE (:A:B) => - + [node1]x1 = [node1]x1
+MATCH (n:A) REMOVE n:A => - + = [node1]x1
+CREATE (:A) => - + [node2]x1 = [node1]x1 [node2]x1
+MATCH (n:B) DELETE n => - [node1]x1 + = [node2]x1",
+    "\
+MATCH (n:A) RETURN n UNION ALL MATCH (n:B) RETURN n
+CREATE (:A:B) => - + [node1]x2 = [node1]x2
+MATCH (n:A) REMOVE n:A => - [node1]x1 + = [node1]x1
+CREATE (:A) => - + [node2]x1 = [node1]x1 [node2]x1
+MATCH (n:A) SET n:B => - + [node2]x1 = [node1]x1 [node2]x2",
 ];
 
 // What changes in the rows of all nodes twice.

@@ -1,4 +1,4 @@
-//! Forty queries of views on all small graphs: a network that follows from graph to graph has the rows that the query answers there.
+//! Forty-two queries of views on all small graphs: a network that follows from graph to graph has the rows that the query answers there.
 
 use crate::following::expect_query;
 use cy_memory::KeyedMemory;
@@ -57,6 +57,8 @@ MATCH (a) OPTIONAL MATCH (a)-[:U]->(b) WITH a, b WHERE b IS NULL RETURN a
 MATCH (a) WITH a.k = 1 AS f WHERE f RETURN f
 MATCH (n) RETURN CASE WHEN n:A THEN 'a' WHEN n:B THEN 'b' END AS c
 MATCH (n) RETURN coalesce(n.k, 0) AS k, labels(n) AS l
+MATCH (n:A) RETURN n.k AS k UNION MATCH (n) RETURN n.k AS k
+MATCH (a)-[:T]->(b) RETURN a, b UNION ALL MATCH (a)<-[:U]-(b) RETURN a, b
 RETURN 1 AS x";
 
 // The two nodes in one of the four orders.

@@ -1,4 +1,4 @@
--- The graph of a run is the one that its statements make.
+-- The graph of a run is the one that its statements make, and its tick rises with them and with each view that is made.
 use Rattle.std.proofs.Common.{◌≡◌, ℕ, List, [], ◌∷◌, Option, None, Some, Result, Ok, Err, refl, sym, ap, subst, ◌∙◌, inl, inr}
 use Rattle.cy_lexer.specs.declared.faults.LexFault.{LexFault}
 use Rattle.cy_lexer.specs.declared.tokens.Token.{Token}
@@ -18,14 +18,15 @@ use Rattle.cy_effects.specs.Statements.{Outcome, statement_outcome}
 use Rattle.cy_engine.specs.Faults.{of_update}
 use Rattle.cy_engine.specs.declared.faults.Fault.{Fault}
 use Rattle.cy_engine.specs.declared.faults.Fault.TheVariants as fault
-use Rattle.cy_engine.specs.Headline.{Builds, Leads}
+use Rattle.cy_engine.specs.Headline.{Builds, Leads, Moment, moment_of}
 use Rattle.cy_engine.specs.Requests.{Asks, Request, Nothing, StatementOf, ViewOf, RowsOf, SinceOf, ListOfViews, ListOfSteps, DropOf, IndexOf, Refused, request}
 use Rattle.cy_engine.specs.Runs.{Event, Run}
 use Rattle.cy_engine.specs.State.{EngineState}
 use Rattle.cy_views.specs.Views.{Entries, View}
 use Rattle.cy_engine.specs.Step.{Answer, Answers, Executes, Drops, Follows, Indexes, Lexed, Makes, Shows, Step, Tells}
 use Rattle.cy_engine.specs.Verdicts.{Executed, execution_verdict, index_verdict, or_fault, rows_verdict, scope_verdict, since_verdict, statement_verdict, tick_after, passes, view_verdict}
-use Rattle.cy_engine.proofs.Queries.{bind_ok, same_ok}
+use Rattle.cy_engine.proofs.Effects.{statement_timed}
+use Rattle.cy_engine.proofs.Queries.{bind_ok, same_ok, view_made}
 
 -- what a statement that is executed means
 pub scoped : (tree resolved : Statement) → scope_verdict tree ≡ Ok resolved → resolved ≡ resolved_statement tree
@@ -54,22 +55,22 @@ executed_means tree old executed is =
 
 module _ (line : List ℕ) (old : EngineState) (answer : Answer) (entries : Entries) (new : EngineState) where
   abbrev LeadsOn : Type 0
-  LeadsOn = Leads line answer old.graph new.graph
+  LeadsOn = Leads line answer (moment_of old) (moment_of new)
 
-  -- an answer that is no statement's
-  as_answered : (given : Answer) → answer ≡ given → new.graph ≡ old.graph → (new.graph ≡ old.graph → Leads line given old.graph new.graph) → LeadsOn
-  as_answered given is same leads = subst (λ (a : Answer). Leads line a old.graph new.graph) (sym is) (leads same)
+  -- an answer that leaves graph and tick
+  as_answered : (given : Answer) → answer ≡ given → moment_of new ≡ moment_of old → (moment_of new ≡ moment_of old → Leads line given (moment_of old) (moment_of new)) → LeadsOn
+  as_answered given is same leads = subst (λ (a : Answer). Leads line a (moment_of old) (moment_of new)) (sym is) (leads same)
 
-  graph_of : new ≡ old → new.graph ≡ old.graph
-  graph_of left = ap (λ (s : EngineState). s.graph) left
+  moment_left : new ≡ old → moment_of new ≡ moment_of old
+  moment_left left = ap moment_of left
 
   refused_leads : (why : Fault) → answer ≡ Err why → new ≡ old → LeadsOn
-  refused_leads why is left = as_answered (Err why) is (graph_of left) (λ same. same)
+  refused_leads why is left = as_answered (Err why) is (moment_left left) (λ same. same)
 
   executes_leads : (tokens : List Token) (tree : Statement) → Asks line (StatementOf tokens) → SpellsStatement line tree tokens → (v : Result Executed Fault) → statement_verdict tree old ≡ v → Executes v old answer entries new → LeadsOn
   executes_leads tokens tree asked spelt (Err why) is a = refused_leads why a.answered a.state
   executes_leads tokens tree asked spelt (Ok executed) is a =
-      subst (λ (given : Answer). Leads line given old.graph new.graph) (sym a.answered)
+      subst (λ (given : Answer). Leads line given (moment_of old) (moment_of new)) (sym a.answered)
       (record {
         tokens = tokens;
         tree = tree;
@@ -78,43 +79,46 @@ module _ (line : List ℕ) (old : EngineState) (answer : Answer) (entries : Entr
         spelt = spelt;
         means = executed_means tree old executed is;
         answered = refl;
-        state = ap (λ (s : EngineState). s.graph) a.state;
+        graph = ap (λ (s : EngineState). s.graph) a.state;
+        tick = subst (λ (m : Moment). tick_after old.graph.content m.graph.content old.tick ≡ Ok m.tick) (sym (ap moment_of a.state)) (statement_timed tree old executed is);
       })
 
-  makes_leads : (v : Result View Fault) → Makes v old answer entries new → LeadsOn
-  makes_leads (Err why) a = refused_leads why a.answered a.state
-  makes_leads (Ok view) a = as_answered _ a.answered (ap (λ (s : EngineState). s.graph) a.state) (λ same. same)
+  makes_leads : (tree : Statement) (name : List ℕ) (v : Result View Fault) → view_verdict tree name old ≡ v → Makes v old answer entries new → LeadsOn
+  makes_leads tree name (Err why) is a = refused_leads why a.answered a.state
+  makes_leads tree name (Ok view) is a =
+      subst (λ (given : Answer). Leads line given (moment_of old) (moment_of new)) (sym a.answered)
+      (ap moment_of a.state ∙ ap (λ (tick : ℕ). let m : Moment = record { graph = old.graph; tick = tick } in m) (view_made tree name old view is).made)
 
   shows_leads : (name : List ℕ) (v : Result View Fault) → Shows name v old answer entries new → LeadsOn
   shows_leads name (Err why) a = refused_leads why a.answered a.state
-  shows_leads name (Ok view) (rows, are, a) = as_answered _ a.answered (graph_of a.state) (λ same. same)
+  shows_leads name (Ok view) (rows, are, a) = as_answered _ a.answered (moment_left a.state) (λ same. same)
 
   tells_leads : (name : List ℕ) (tick : ℕ) (v : Result View Fault) → Tells name tick v old answer entries new → LeadsOn
   tells_leads name tick (Err why) a = refused_leads why a.answered a.state
   tells_leads name tick (Ok view) a = from (answer_since tick view.feed) a
     where
       from : (told : feeds.Answer) → Follows name view told old answer entries new → LeadsOn
-      from (Since changes) a = as_answered _ a.answered (graph_of a.state) (λ same. same)
+      from (Since changes) a = as_answered _ a.answered (moment_left a.state) (λ same. same)
       from Lagged a = shows_leads name (Ok view) a
 
   drops_leads : (v : Result View Fault) → Drops v old answer entries new → LeadsOn
   drops_leads (Err why) a = refused_leads why a.answered a.state
-  drops_leads (Ok view) a = as_answered _ a.answered (ap (λ (s : EngineState). s.graph) a.state) (λ same. same)
+  drops_leads (Ok view) a = as_answered _ a.answered (ap moment_of a.state) (λ same. same)
 
   indexes_leads : (v : Result Pair Fault) → Indexes v old answer entries new → LeadsOn
   indexes_leads (Err why) a = refused_leads why a.answered a.state
-  indexes_leads (Ok pair) a = as_answered _ a.answered (ap (λ (s : EngineState). s.graph) a.state) (λ same. same)
+  indexes_leads (Ok pair) a = as_answered _ a.answered (ap moment_of a.state) (λ same. same)
 
   answers_leads : (tokens : List Token) → tokens_of line ≡ Ok tokens → (asked : Request) → request line tokens ≡ asked → Answers line asked old answer entries new → LeadsOn
-  answers_leads tokens made Nothing of a = as_answered _ a.answered (graph_of a.state) (λ same. same)
+  answers_leads tokens made Nothing of a = as_answered _ a.answered (moment_left a.state) (λ same. same)
   answers_leads tokens made (StatementOf ts) of (inl (tree, spelt, a)) = executes_leads ts tree (record { tokens = tokens; lexed = made; is = of }) spelt (statement_verdict tree old) refl a
   answers_leads tokens made (StatementOf ts) of (inr (why, unspelt, a)) = refused_leads (fault.Parse why) a.answered a.state
-  answers_leads tokens made (ViewOf name ts) of (inl (tree, spelt, a)) = makes_leads (view_verdict tree name old) a
+  answers_leads tokens made (ViewOf name ts) of (inl (tree, spelt, a)) = makes_leads tree name (view_verdict tree name old) refl a
   answers_leads tokens made (ViewOf name ts) of (inr (why, unspelt, a)) = refused_leads (fault.Parse why) a.answered a.state
   answers_leads tokens made (RowsOf name) of a = shows_leads name (rows_verdict name old) a
   answers_leads tokens made (SinceOf name tick) of a = tells_leads name tick (since_verdict name tick old) a
-  answers_leads tokens made ListOfViews of a = as_answered _ a.answered (graph_of a.state) (λ same. same)
-  answers_leads tokens made ListOfSteps of a = as_answered _ a.answered (graph_of a.state) (λ same. same)
+  answers_leads tokens made ListOfViews of a = as_answered _ a.answered (moment_left a.state) (λ same. same)
+  answers_leads tokens made ListOfSteps of a = as_answered _ a.answered (moment_left a.state) (λ same. same)
   answers_leads tokens made (DropOf name) of a = drops_leads (rows_verdict name old) a
   answers_leads tokens made (IndexOf label key) of a = indexes_leads (index_verdict label key old) a
   answers_leads tokens made (Refused why) of a = refused_leads why a.answered a.state
@@ -127,6 +131,6 @@ module _ (line : List ℕ) (old : EngineState) (answer : Answer) (entries : Entr
   step_leads (inl (why, lacks, a)) = refused_leads why a.answered a.state
   step_leads (inr a) = lexed_leads (tokens_of line) refl a
 
-pub run_builds : (old new : EngineState) (events : List Event) → Run old events new → Builds old.graph events new.graph
-run_builds old new [] run = ap (λ (s : EngineState). s.graph) run
-run_builds old new (e ∷ events) (mid, step, run) = (mid.graph, step_leads e.line old e.answer e.entries mid step, run_builds mid new events run)
+pub run_builds : (old new : EngineState) (events : List Event) → Run old events new → Builds (moment_of old) events (moment_of new)
+run_builds old new [] run = ap moment_of run
+run_builds old new (e ∷ events) (mid, step, run) = (moment_of mid, step_leads e.line old e.answer e.entries mid step, run_builds mid new events run)

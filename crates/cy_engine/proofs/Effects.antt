@@ -28,7 +28,7 @@ abbrev pub IsTimed : EngineState → Executed → Type 0
 IsTimed old executed = tick_after old.graph.content executed.outcome.graph.content old.tick ≡ Ok executed.tick
 
 -- the tick of a statement that is executed
-statement_timed : (tree : Statement) (old : EngineState) (executed : Executed) → statement_verdict tree old ≡ Ok executed → IsTimed old executed
+pub statement_timed : (tree : Statement) (old : EngineState) (executed : Executed) → statement_verdict tree old ≡ Ok executed → IsTimed old executed
 statement_timed tree old executed is =
     let scoped = bind_ok (scope_verdict tree) (λ resolved. execution_verdict resolved old.graph old.tick) executed is in
     let meant =

@@ -10,11 +10,11 @@ use Rattle.cy_graph.specs.Graph.{Content, State}
 use Rattle.cy_expr.specs.declared.faults.EvalFault.{EvalFault}
 use Rattle.cy_trees.specs.Trees.{Statement}
 use Rattle.cy_scope.specs.Checked.{IsViewQuery}
-use Rattle.cy_queries.specs.Queries.{query_columns, query_rows}
+use Rattle.cy_queries.specs.Queries.{statement_columns, statement_rows}
 use Rattle.cy_bags.specs.declared.changes.Entry.{Entry}
 use Rattle.cy_feeds.specs.Feeds.{History, new_history}
 use Rattle.cy_engine.specs.declared.replies.Reply.TheVariants as reply
-use Rattle.cy_engine.specs.Headline.{AreItsEntries, AsksForView, HeadlineHolds, IsItsEntry, IsMaintained, Leads, Serves, counts_in, entries_of, followed, with_entries, with_entry}
+use Rattle.cy_engine.specs.Headline.{AreItsEntries, AsksForView, HeadlineHolds, IsItsEntry, IsMaintained, Leads, Moment, Serves, counts_in, entries_of, followed, moment_of, with_entries, with_entry}
 use Rattle.cy_engine.specs.Model.{Machine, state_of}
 use Rattle.cy_engine.specs.Runs.{Event, OnlySo, Run, Runs, accepted}
 use Rattle.cy_engine.specs.State.{EngineState, empty_engine}
@@ -39,12 +39,12 @@ followed_alike f g (e ∷ es) same row =
     (λ r. ap (λ n. (n - weight_of r e.change.removed) + weight_of r e.change.added) (same r)) row
 
 -- a line, and then what follows
-then_followed : (query : Statement) (old mid : State) (first : Option Entry) (rest : List Entry) → IsItsEntry query old.content mid.content first → (row : List Cell)
-    → followed (counts_in query mid) rest row ≡ followed (counts_in query old) (with_entry first rest) row
-then_followed query old mid None rest is row = followed_alike (counts_in query mid) (counts_in query old) rest (λ r. sym (is r)) row
+then_followed : (query : Statement) (old mid : Moment) (first : Option Entry) (rest : List Entry) → IsItsEntry query old mid first → (row : List Cell)
+    → followed (counts_in query mid.graph) rest row ≡ followed (counts_in query old.graph) (with_entry first rest) row
+then_followed query old mid None rest is row = followed_alike (counts_in query mid.graph) (counts_in query old.graph) rest (λ r. sym (is r)) row
 then_followed query old mid (Some e) rest is row =
-    followed_alike (counts_in query mid) (λ r. (counts_in query old r - weight_of r e.change.removed) + weight_of r e.change.added) rest
-    (λ r. omega (arith, is.1.removed.counts r, is.1.added.counts r)) row
+    followed_alike (counts_in query mid.graph) (λ r. (counts_in query old.graph r - weight_of r e.change.removed) + weight_of r e.change.added) rest
+    (λ r. omega (arith, is.difference.removed.counts r, is.difference.added.counts r)) row
 
 -- ---- what a view was before a line
 
@@ -57,7 +57,7 @@ record Stood (old : EngineState) (entries : Entries) (mid : EngineState) (view :
   feed : History
   there : Among (fed_with view feed) old.views
   feeds : view.feed ≡ with_entries (with_entry (entry_at view.name entries) []) feed
-  entry : IsItsEntry view.query old.graph.content mid.graph.content (entry_at view.name entries)
+  entry : IsItsEntry view.query (moment_of old) (moment_of mid) (entry_at view.name entries)
 
 among_holds : (P : View → Type 0) (view : View) (views : List View) → AllByRecursion P views → Among view views → P view
 among_holds P view [] all here = absurd here
@@ -99,7 +99,7 @@ module _ (old : EngineState) (answer : Answer) (entries : Entries) (mid : Engine
         feed = view.feed;
         there = there;
         feeds = ap (λ (o : Option Entry). with_entries (with_entry o []) view.feed) (sym no_entry);
-        entry = subst (IsItsEntry view.query old.graph.content mid.graph.content) (sym no_entry) (λ row. ap (λ (g : State). count_of row (rows_of view.query g.content)) (sym same));
+        entry = subst (IsItsEntry view.query (moment_of old) (moment_of mid)) (sym no_entry) (λ row. ap (λ (g : State). count_of row (rows_of view.query g.content)) (sym same));
       }
 
   executed_stood : AreNamed old.views → AreEntries old.views old.graph.content mid.graph.content mid.tick entries → (was : View) → Among was old.views → fed entries was ≡ view → Stood old entries mid view
@@ -107,15 +107,15 @@ module _ (old : EngineState) (answer : Answer) (entries : Entries) (mid : Engine
       let o = entry_at was.name entries in
       let named_so : was.name ≡ view.name = sym (fed_name entries was) ∙ ap (λ (v : View). v.name) is in
       let asks : was.query ≡ view.query = sym (fed_query entries was) ∙ ap (λ (v : View). v.query) is in
-      let all = each_entry old.graph.content mid.graph.content mid.tick (λ v o. IsItsEntry v.query old.graph.content mid.graph.content o) (λ v same. same) (λ v e is. (is.differs, is.difference)) old.views entries named are in
-      let its : IsItsEntry was.query old.graph.content mid.graph.content o = among_holds (λ v. IsItsEntry v.query old.graph.content mid.graph.content (entry_at v.name entries)) was old.views all there in
+      let all = each_entry old.graph.content mid.graph.content mid.tick (λ v o. IsItsEntry v.query (moment_of old) (moment_of mid) o) (λ v same. same) (λ v e is. is) old.views entries named are in
+      let its : IsItsEntry was.query (moment_of old) (moment_of mid) o = among_holds (λ v. IsItsEntry v.query (moment_of old) (moment_of mid) (entry_at v.name entries)) was old.views all there in
       record {
         feed = was.feed;
         there = subst (λ (v : View). Among v old.views) (sym (ap (λ (v : View). fed_with v was.feed) (sym is) ∙ unfed was o)) there;
         feeds = ap (λ (v : View). v.feed) (sym is) ∙ feed_after was o ∙ ap (λ (n : List ℕ). with_entries (with_entry (entry_at n entries) []) was.feed) named_so;
         entry =
-            subst (λ (n : List ℕ). IsItsEntry view.query old.graph.content mid.graph.content (entry_at n entries)) named_so
-            (subst (λ (q : Statement). IsItsEntry q old.graph.content mid.graph.content o) asks its);
+            subst (λ (n : List ℕ). IsItsEntry view.query (moment_of old) (moment_of mid) (entry_at n entries)) named_so
+            (subst (λ (q : Statement). IsItsEntry q (moment_of old) (moment_of mid) o) asks its);
       }
 
   -- the line asked for the view, and made it
@@ -123,7 +123,8 @@ module _ (old : EngineState) (answer : Answer) (entries : Entries) (mid : Engine
     asks : AsksForView line view.name view.query
     checked : IsViewQuery view.query
     feeds : view.feed ≡ new_history old.history view.made
-    answered : answer ≡ Ok (reply.Made (query_columns view.query) view.made view.name)
+    ticks : mid.tick ≡ view.made
+    answered : answer ≡ Ok (reply.Made (statement_columns view.query) view.made view.name)
 
   stood_or_made : (line : List ℕ) → Step old line answer entries mid → Effects old answer entries mid → AreNamed old.views → Among view mid.views → Stood old entries mid view ⊎ WasMade line
   stood_or_made line step (inl (left, none)) named there = inl (quiet_stood none (ap (λ (s : EngineState). s.graph) left) (subst (λ (s : EngineState). Among view s.views) left there))
@@ -138,7 +139,8 @@ module _ (old : EngineState) (answer : Answer) (entries : Entries) (mid : Engine
         asks = subst (λ (v : View). AsksForView line v.name v.query) is (step_asked line old answer entries mid made a step);
         checked = subst (λ (v : View). IsViewQuery v.query) is fresh.query;
         feeds = subst (λ (v : View). v.feed ≡ new_history old.history v.made) is fresh.feed;
-        answered = a.answered ∙ ap (λ (v : View). Ok (reply.Made (query_columns v.query) v.made v.name)) is;
+        ticks = ap (λ (s : EngineState). s.tick) a.state ∙ ap (λ (v : View). v.made) is;
+        answered = a.answered ∙ ap (λ (v : View). Ok (reply.Made (statement_columns v.query) v.made v.name)) is;
       })
   stood_or_made line step (inr (inr (inr (inl (gone, at, a))))) named there =
       inl (quiet_stood a.no_entries (ap (λ (s : EngineState). s.graph) a.state) (among_without gone.name view old.views (subst (λ (s : EngineState). Among view s.views) a.state there)))
@@ -156,7 +158,7 @@ module _ (old : EngineState) (answer : Answer) (entries : Entries) (mid : Engine
 
 -- the queries of views have rows
 abbrev pub HaveRows : Type 0
-HaveRows = (graph : Content) (query : Statement) → IsViewQuery query → IsOk (query_rows graph query)
+HaveRows = (graph : Content) (query : Statement) → IsViewQuery query → IsOk (statement_rows graph query)
 
 has_rows : (r : Result (List (List Cell)) EvalFault) → IsOk r → r ≡ Ok (result_unwrap_or r [])
 has_rows (Ok rows) is = refl
@@ -167,7 +169,7 @@ record Kept (old : EngineState) (events : List Event) (new : EngineState) (view 
   feed : History
   there : Among (fed_with view feed) old.views
   feeds : view.feed ≡ with_entries (entries_of view.name events) feed
-  entries : AreItsEntries view old.graph events new.graph
+  entries : AreItsEntries view (moment_of old) events (moment_of new)
   replayed : (row : List Cell) → counts_in view.query new.graph row ≡ followed (counts_in view.query old.graph) (entries_of view.name events) row
 
 more_entries : (o : Option Entry) (rest : List Entry) (feed : History) → with_entries rest (with_entries (with_entry o []) feed) ≡ with_entries (with_entry o rest) feed
@@ -176,12 +178,12 @@ more_entries (Some e) rest feed = refl
 
 module _ (have : HaveRows) (view : View) where
   kept_or_made : (history : ℕ) (old new : EngineState) (events : List Event) → Run old events new → old.history ≡ history → AreNamed old.views → Among view new.views
-      → Kept old events new view ⊎ IsMaintained old.graph history events new view
+      → Kept old events new view ⊎ IsMaintained (moment_of old) history events new view
   kept_or_made history old new [] run same named here = inl (record {
     feed = view.feed;
     there = subst (λ (s : EngineState). Among view s.views) run here;
     feeds = refl;
-    entries = ap (λ (s : EngineState). s.graph) run;
+    entries = ap moment_of run;
     replayed = λ row. ap (λ (s : EngineState). counts_in view.query s.graph row) run;
   })
   kept_or_made history old new (e ∷ events) (mid, step, run) same named here =
@@ -190,7 +192,7 @@ module _ (have : HaveRows) (view : View) where
       does : Effects old e.answer e.entries mid
       does = effects old e.answer e.entries mid e.line step
 
-      leads : Leads e.line e.answer old.graph mid.graph
+      leads : Leads e.line e.answer (moment_of old) (moment_of mid)
       leads = step_leads e.line old e.answer e.entries mid step
 
       now_kept : (kept : Kept mid events new view) → Stood old e.entries mid (fed_with view kept.feed) → Kept old (e ∷ events) new view
@@ -198,11 +200,15 @@ module _ (have : HaveRows) (view : View) where
         feed = stood.feed;
         there = stood.there;
         feeds = kept.feeds ∙ ap (with_entries (entries_of view.name events)) stood.feeds ∙ more_entries (entry_at view.name e.entries) (entries_of view.name events) stood.feed;
-        entries = (mid.graph, leads, stood.entry, kept.entries);
-        replayed = λ row. kept.replayed row ∙ then_followed view.query old.graph mid.graph (entry_at view.name e.entries) (entries_of view.name events) stood.entry row;
+        entries = (moment_of mid, leads, stood.entry, kept.entries);
+        replayed = λ row. kept.replayed row ∙ then_followed view.query (moment_of old) (moment_of mid) (entry_at view.name e.entries) (entries_of view.name events) stood.entry row;
       }
 
-      now_made : (kept : Kept mid events new view) → WasMade old e.answer e.entries mid (fed_with view kept.feed) e.line → IsMaintained old.graph history (e ∷ events) new view
+      -- the moment at which it was made
+      made_at : (kept : Kept mid events new view) → WasMade old e.answer e.entries mid (fed_with view kept.feed) e.line → (let m : Moment = record { graph = mid.graph; tick = view.made } in m) ≡ moment_of mid
+      made_at kept made = ap (λ (tick : ℕ). let m : Moment = record { graph = mid.graph; tick = tick } in m) (sym made.ticks)
+
+      now_made : (kept : Kept mid events new view) → WasMade old e.answer e.entries mid (fed_with view kept.feed) e.line → IsMaintained (moment_of old) history (e ∷ events) new view
       now_made kept made = record {
         before = [];
         making = e;
@@ -211,20 +217,20 @@ module _ (have : HaveRows) (view : View) where
         are = refl;
         asks = made.asks;
         answered = made.answered;
-        made_on = (mid.graph, leads, refl);
-        means = has_rows (query_rows new.graph.content view.query) (have new.graph.content view.query made.checked);
+        made_on = (moment_of mid, leads, made_at kept made);
+        means = has_rows (statement_rows new.graph.content view.query) (have new.graph.content view.query made.checked);
         shown = λ rows are row. are.bag row;
-        entries = kept.entries;
+        entries = subst (λ (m : Moment). AreItsEntries view m events (moment_of new)) (sym (made_at kept made)) kept.entries;
         feed = kept.feeds ∙ ap (with_entries (entries_of view.name events)) (made.feeds ∙ ap (λ (h : ℕ). new_history h view.made) same);
         replayed = kept.replayed;
       }
 
       one : (kept : Kept mid events new view) → Stood old e.entries mid (fed_with view kept.feed) ⊎ WasMade old e.answer e.entries mid (fed_with view kept.feed) e.line
-          → Kept old (e ∷ events) new view ⊎ IsMaintained old.graph history (e ∷ events) new view
+          → Kept old (e ∷ events) new view ⊎ IsMaintained (moment_of old) history (e ∷ events) new view
       one kept (inl stood) = inl (now_kept kept stood)
       one kept (inr made) = inr (now_made kept made)
 
-      from : Kept mid events new view ⊎ IsMaintained mid.graph history events new view → Kept old (e ∷ events) new view ⊎ IsMaintained old.graph history (e ∷ events) new view
+      from : Kept mid events new view ⊎ IsMaintained (moment_of mid) history events new view → Kept old (e ∷ events) new view ⊎ IsMaintained (moment_of old) history (e ∷ events) new view
       from (inl kept) = one kept (stood_or_made old e.answer e.entries mid (fed_with view kept.feed) e.line step does named kept.there)
       from (inr was) = inr (record {
         before = e ∷ was.before;
@@ -234,7 +240,7 @@ module _ (have : HaveRows) (view : View) where
         are = ap (λ (es : List Event). e ∷ es) was.are;
         asks = was.asks;
         answered = was.answered;
-        made_on = (mid.graph, leads, was.made_on);
+        made_on = (moment_of mid, leads, was.made_on);
         means = was.means;
         shown = was.shown;
         entries = was.entries;
@@ -256,7 +262,7 @@ module _ (have : HaveRows) (no_trace : (old new : EngineState) (events : List Ev
     no_trace = no_trace (empty_engine history) now events run;
   }
     where
-      made : (view : View) → Kept (empty_engine history) events now view ⊎ IsMaintained (empty_engine history).graph history events now view → IsMaintained (empty_engine history).graph history events now view
+      made : (view : View) → Kept (empty_engine history) events now view ⊎ IsMaintained (moment_of (empty_engine history)) history events now view → IsMaintained (moment_of (empty_engine history)) history events now view
       made view (inl kept) = absurd kept.there
       made view (inr was) = was
 

@@ -9,7 +9,7 @@ use Rattle.cy_kinds.specs.declared.faults.ViewFault.{ViewFault}
 use Rattle.cy_scope.specs.Resolved.{resolved_statement}
 use Rattle.cy_scope.specs.Views.{view_fault}
 use Rattle.cy_index.specs.declared.keys.Pair.{Pair}
-use Rattle.cy_queries.specs.Queries.{query_columns}
+use Rattle.cy_queries.specs.Queries.{statement_columns}
 use Rattle.cy_feeds.specs.declared.feeds.Answer as feeds
 use Rattle.cy_feeds.specs.declared.feeds.Answer.TheVariants.{Entries as Since, Lagged}
 use Rattle.cy_feeds.specs.Feeds.{answer_since}
@@ -50,7 +50,7 @@ module _ (line : List ℕ) (old : EngineState) (answer : Answer) (entries : Entr
   IsAsked = AsksForView line view.name view.query
 
   abbrev made_answer : Answer
-  made_answer = Ok (reply.Made (query_columns view.query) view.made view.name)
+  made_answer = Ok (reply.Made (statement_columns view.query) view.made view.name)
 
   -- whatever is answered otherwise makes no view
   otherwise : (given : Answer) → answer ≡ given → (made_answer ≡ given → ⊥) → IsAsked

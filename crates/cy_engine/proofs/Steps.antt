@@ -9,7 +9,7 @@ use Rattle.cy_graph.specs.Graph.{State}
 use Rattle.cy_index.specs.Index.{StoreState, has_pair}
 use Rattle.cy_index.specs.declared.faults.IndexFault.{IndexFault}
 use Rattle.cy_index.specs.declared.faults.IndexFault.TheVariants as index
-use Rattle.cy_queries.specs.Queries.{query_columns}
+use Rattle.cy_queries.specs.Queries.{statement_columns}
 use Rattle.cy_feeds.specs.Feeds.{new_history}
 use Rattle.cy_plans.specs.declared.operators.Operator.{Operator}
 use Rattle.cy_plans.specs.Views.{plan_of}
@@ -149,7 +149,7 @@ module _ (line : List ℕ) (tokens : List Token) (store : StoreState) (views : V
         rw (tree.that, may, few) refl
 
     pub view_done : (left : Views) (plan : Operator) (entries after : Entries) (answer : Reply) → weight (statement_of query) ≤ greatest_weight → Serves (plan_of plan) (statement_of query) → entries ≡ []
-        → answer ≡ reply.Made (query_columns (statement_of query)) made name → held_in left ≡ held_in views ++ new_held name query plan made history ∷ [] → StandFor left store.graph.now.content made
+        → answer ≡ reply.Made (statement_columns (statement_of query)) made name → held_in left ≡ held_in views ++ new_held name query plan made history ∷ [] → StandFor left store.graph.now.content made
         → AnswersOrWants line (ViewOf name tokens) start (Ok answer) entries (state_of (machine_of store left made history after))
     view_done left plan entries after answer light serves none answered added stand =
         let is : IsMade view start (Ok answer) entries (state_of (machine_of store left made history after)) = record {

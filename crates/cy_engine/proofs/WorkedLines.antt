@@ -14,11 +14,11 @@ use Rattle.cy_lexer.specs.Keywords.{keyword_of}
 use Rattle.cy_lexer.specs.Symbols.{symbol}
 use Rattle.cy_lexer.specs.Tokens.{piece, tokens_from, tokens_of}
 use Rattle.cy_trees.specs.declared.expressions.Variable.{Variable}
-use Rattle.cy_trees.specs.Trees.{Name, Expression, null, integer, variable, property, MapEntry, NodePattern, Path, Item, Projection, set_property, Clause, «match», «return», create, set, delete, Statement}
+use Rattle.cy_trees.specs.Trees.{Name, Expression, null, integer, variable, property, MapEntry, NodePattern, Path, Item, Projection, set_property, Where, Clause, «match», «return», create, set, delete, Statement}
 use Rattle.cy_grammar.specs.Words.{denotes, slice_in}
 use Rattle.cy_lexer.specs.Numbers.{greatest_number}
 use Rattle.cy_grammar.specs.Spells as spell
-use Rattle.cy_grammar.specs.SpellsClauses.{SpellsStatement, SpellsClause, SpellsClauses, SpellsExpression, SpellsNode, most_levels, reading, updating, ended}
+use Rattle.cy_grammar.specs.SpellsClauses.{SpellsStatement, SpellsClause, SpellsQuery, SpellsExpression, SpellsNode, most_levels, reading, updating, ended}
 use Rattle.cy_grammar.specs.SpellsClauses as spelt
 use Rattle.cy_grammar.proofs.ShownExpressions.{as_whole}
 
@@ -50,9 +50,20 @@ alone n = record { start = n; steps = [] } ∷ []
 abbrev pub named_node : Name → Name → NodePattern
 named_node n label = record { variable = Some (unbound n); labels = label ∷ []; properties = None }
 
+-- no WHERE
+abbrev no_where : Where
+no_where = record { test = None; paths = [] }
+
 -- `MATCH (n:label)`
 abbrev pub matching : Name → Name → Clause
-matching n label = «match» false (alone (named_node n label)) None
+matching n label = «match» false (alone (named_node n label)) no_where
+
+-- a statement of one query
+abbrev one_query : List Clause → Statement
+one_query clauses = record { queries = (record { clauses = clauses }) ∷ []; all = false }
+
+as_statement : (line : List ℕ) (clauses : List Clause) (tokens : List Token) → SpellsQuery line reading clauses tokens [] → SpellsStatement line (one_query clauses) tokens
+as_statement line clauses tokens is = spelt.one_query (record { clauses = clauses }) tokens [] is spelt.nothing_more
 
 -- ---- what one rule after another spells
 
@@ -103,7 +114,7 @@ match_spelt line at rest =
     let n = denotes line (letter (at + 7)) in
     let l = denotes line (letter (at + 9)) in
     let closed = mark sign.RightParenthesis (at + 10) ∷ rest in
-    spelt.match_ (alone (named_node n l)) None (keyword word.Match at (at + 5)) node rest rest refl
+    spelt.match_ (alone (named_node n l)) no_where (keyword word.Match at (at + 5)) node rest rest refl
     (spelt.last _ node rest
     (spelt.path (named_node n l) [] node rest rest
     (spelt.node (Some (unbound n)) (l ∷ []) None (mark sign.LeftParenthesis (at + 6)) (mark sign.RightParenthesis (at + 10)) names labels closed rest refl
@@ -111,7 +122,7 @@ match_spelt line at rest =
     (spelt.labels (l ∷ []) (mark sign.Colon (at + 8)) label closed refl (spell.last_label (letter (at + 9)) closed refl))
     (spelt.no_map closed) refl)
     (spelt.no_steps rest)))
-    (spelt.no_filter rest)
+    (spelt.no_where rest)
 
 -- ---- `CREATE (:A {k: 7})`
 
@@ -141,7 +152,7 @@ abbrev created_node : NodePattern
 created_node = record { variable = None; labels = codes "A" ∷ []; properties = Some (seven ∷ []) }
 
 abbrev pub create_tree : Statement
-create_tree = record { clauses = create (alone created_node) ∷ [] }
+create_tree = one_query (create (alone created_node) ∷ [])
 
 created_spelt : SpellsNode create_line created_node (mark sign.LeftParenthesis 7 ∷ created_tokens) []
 unfolding denotes chars encode_utf8
@@ -160,10 +171,10 @@ created_spelt =
 pub create_spelt : SpellsStatement create_line create_tree create_tokens
 create_spelt =
     let node = mark sign.LeftParenthesis 7 ∷ created_tokens in
-    spelt.next_clause reading (create (alone created_node)) [] create_tokens [] refl
+    as_statement create_line (create (alone created_node) ∷ []) create_tokens (spelt.next_clause reading (create (alone created_node)) [] create_tokens [] [] refl
     (spelt.create_ (alone created_node) (keyword word.Create 0 6) node [] refl
     (spelt.last _ node [] (spelt.path created_node [] node [] [] created_spelt (spelt.no_steps []))))
-    (spelt.no_more_clauses updating [] refl spelt.nothing_more)
+    (spelt.no_more_clauses updating [] refl))
 
 -- ---- `:view v MATCH (n:A) RETURN n.k`
 
@@ -196,21 +207,23 @@ abbrev returned : Projection
 returned = record { distinct = false; items = item ∷ []; order = []; skip = None; limit = None }
 
 abbrev pub query_tree : Statement
-query_tree = record { clauses = matching (codes "n") (codes "A") ∷ «return» returned ∷ [] }
+query_tree = one_query (matching (codes "n") (codes "A") ∷ «return» returned ∷ [])
 
-returned_spelt : SpellsClauses view_line reading («return» returned ∷ []) return_tokens
+returned_spelt : SpellsQuery view_line reading («return» returned ∷ []) return_tokens []
 unfolding denotes slice_in chars encode_utf8
 returned_spelt =
-    spelt.next_clause reading («return» returned) [] return_tokens [] refl
+    spelt.next_clause reading («return» returned) [] return_tokens [] [] refl
     (spelt.return_ returned (keyword word.Return 20 26) item_tokens [] refl
     (spelt.projection false (item ∷ []) [] None None item_tokens item_tokens [] [] [] [] (spelt.not_distinct item_tokens)
     (spelt.last item item_tokens [] (spelt.item key item_tokens [] (property_spelt view_line 27 28 29 [])))
     (spelt.no_order []) (spelt.no_count []) (spelt.no_count [])))
-    (spelt.no_more_clauses ended [] refl spelt.nothing_more)
+    (spelt.no_more_clauses ended [] refl)
 
 pub query_spelt : SpellsStatement view_line query_tree query_tokens
 unfolding denotes chars encode_utf8
-query_spelt = spelt.next_clause reading (matching (codes "n") (codes "A")) («return» returned ∷ []) query_tokens return_tokens refl (match_spelt view_line 8 return_tokens) returned_spelt
+query_spelt =
+    as_statement view_line (matching (codes "n") (codes "A") ∷ «return» returned ∷ []) query_tokens
+    (spelt.next_clause reading (matching (codes "n") (codes "A")) («return» returned ∷ []) query_tokens return_tokens [] refl (match_spelt view_line 8 return_tokens) returned_spelt)
 
 -- ---- `:rows v`
 
@@ -256,41 +269,44 @@ null_lexed = refl
 
 -- `MATCH (n:A) SET v.k = value`
 abbrev pub set_tree : Name → Expression → Statement
-set_tree v value = record { clauses = matching (codes "n") (codes "A") ∷ set (set_property (unbound v) (codes "k") value ∷ []) ∷ [] }
+set_tree v value = one_query (matching (codes "n") (codes "A") ∷ set (set_property (unbound v) (codes "k") value ∷ []) ∷ [])
 
 -- the clause SET, by what its letters and its value spell
 set_clause_spelt : (line : List ℕ) (value : Expression) (tokens : List Token) → SpellsExpression line value tokens []
-    → SpellsClauses line reading (set (set_property (unbound (denotes line (letter 16))) (denotes line (letter 18)) value ∷ []) ∷ []) (keyword word.Set 12 15 ∷ set_item_tokens tokens)
+    → SpellsQuery line reading (set (set_property (unbound (denotes line (letter 16))) (denotes line (letter 18)) value ∷ []) ∷ []) (keyword word.Set 12 15 ∷ set_item_tokens tokens) []
 set_clause_spelt line value tokens is =
     let item = set_property (unbound (denotes line (letter 16))) (denotes line (letter 18)) value in
     let ts = set_item_tokens tokens in
-    spelt.next_clause reading (set (item ∷ [])) [] (keyword word.Set 12 15 ∷ ts) [] refl
+    spelt.next_clause reading (set (item ∷ [])) [] (keyword word.Set 12 15 ∷ ts) [] [] refl
     (spelt.set_ (item ∷ []) (keyword word.Set 12 15) ts [] refl
     (spelt.last item ts []
     (spelt.set_property_to (unbound (denotes line (letter 16))) value (mark sign.Dot 17) (letter 18) (mark sign.Equal 20) ts tokens []
     (spelt.variable (letter 16) (mark sign.Dot 17 ∷ letter 18 ∷ mark sign.Equal 20 ∷ tokens) refl) refl refl refl is)))
-    (spelt.no_more_clauses updating [] refl spelt.nothing_more)
+    (spelt.no_more_clauses updating [] refl)
 
 pub set_spelt : SpellsStatement set_line (set_tree (codes "n") (integer (pos 8))) (set_tokens (digit 8 22 ∷ []))
 unfolding denotes chars encode_utf8
 set_spelt =
     let ts = keyword word.Set 12 15 ∷ set_item_tokens (digit 8 22 ∷ []) in
-    spelt.next_clause reading (matching (codes "n") (codes "A")) (set (set_property (unbound (codes "n")) (codes "k") (integer (pos 8)) ∷ []) ∷ []) (match_tokens 0 ts) ts refl
-    (match_spelt set_line 0 ts) (set_clause_spelt set_line (integer (pos 8)) (digit 8 22 ∷ []) (number_spelt set_line 8 22 [] (omega arith)))
+    as_statement set_line (matching (codes "n") (codes "A") ∷ set (set_property (unbound (codes "n")) (codes "k") (integer (pos 8)) ∷ []) ∷ []) (match_tokens 0 ts)
+    (spelt.next_clause reading (matching (codes "n") (codes "A")) (set (set_property (unbound (codes "n")) (codes "k") (integer (pos 8)) ∷ []) ∷ []) (match_tokens 0 ts) ts [] refl
+    (match_spelt set_line 0 ts) (set_clause_spelt set_line (integer (pos 8)) (digit 8 22 ∷ []) (number_spelt set_line 8 22 [] (omega arith))))
 
 pub unknown_spelt : SpellsStatement unknown_line (set_tree (codes "m") (integer (pos 9))) (set_tokens (digit 9 22 ∷ []))
 unfolding denotes chars encode_utf8
 unknown_spelt =
     let ts = keyword word.Set 12 15 ∷ set_item_tokens (digit 9 22 ∷ []) in
-    spelt.next_clause reading (matching (codes "n") (codes "A")) (set (set_property (unbound (codes "m")) (codes "k") (integer (pos 9)) ∷ []) ∷ []) (match_tokens 0 ts) ts refl
-    (match_spelt unknown_line 0 ts) (set_clause_spelt unknown_line (integer (pos 9)) (digit 9 22 ∷ []) (number_spelt unknown_line 9 22 [] (omega arith)))
+    as_statement unknown_line (matching (codes "n") (codes "A") ∷ set (set_property (unbound (codes "m")) (codes "k") (integer (pos 9)) ∷ []) ∷ []) (match_tokens 0 ts)
+    (spelt.next_clause reading (matching (codes "n") (codes "A")) (set (set_property (unbound (codes "m")) (codes "k") (integer (pos 9)) ∷ []) ∷ []) (match_tokens 0 ts) ts [] refl
+    (match_spelt unknown_line 0 ts) (set_clause_spelt unknown_line (integer (pos 9)) (digit 9 22 ∷ []) (number_spelt unknown_line 9 22 [] (omega arith))))
 
 pub null_spelt_whole : SpellsStatement null_line (set_tree (codes "n") null) (set_tokens (keyword word.Null 22 26 ∷ []))
 unfolding denotes chars encode_utf8
 null_spelt_whole =
     let ts = keyword word.Set 12 15 ∷ set_item_tokens (keyword word.Null 22 26 ∷ []) in
-    spelt.next_clause reading (matching (codes "n") (codes "A")) (set (set_property (unbound (codes "n")) (codes "k") null ∷ []) ∷ []) (match_tokens 0 ts) ts refl
-    (match_spelt null_line 0 ts) (set_clause_spelt null_line null (keyword word.Null 22 26 ∷ []) (null_spelt null_line 22 26 []))
+    as_statement null_line (matching (codes "n") (codes "A") ∷ set (set_property (unbound (codes "n")) (codes "k") null ∷ []) ∷ []) (match_tokens 0 ts)
+    (spelt.next_clause reading (matching (codes "n") (codes "A")) (set (set_property (unbound (codes "n")) (codes "k") null ∷ []) ∷ []) (match_tokens 0 ts) ts [] refl
+    (match_spelt null_line 0 ts) (set_clause_spelt null_line null (keyword word.Null 22 26 ∷ []) (null_spelt null_line 22 26 [])))
 
 -- ---- `MATCH (n:A) DETACH DELETE n`
 
@@ -308,19 +324,21 @@ unfolding tokens_of tokens_from piece symbol keyword_of chars encode_utf8 unicod
 delete_lexed = refl
 
 abbrev pub delete_tree : Statement
-delete_tree = record { clauses = matching (codes "n") (codes "A") ∷ delete true (unbound (codes "n") ∷ []) ∷ [] }
+delete_tree = one_query (matching (codes "n") (codes "A") ∷ delete true (unbound (codes "n") ∷ []) ∷ [])
 
-detach_spelt : SpellsClauses delete_line reading (delete true (unbound (denotes delete_line (letter 26)) ∷ []) ∷ []) detach_tokens
+detach_spelt : SpellsQuery delete_line reading (delete true (unbound (denotes delete_line (letter 26)) ∷ []) ∷ []) detach_tokens []
 detach_spelt =
     let v = unbound (denotes delete_line (letter 26)) in
-    spelt.next_clause reading (delete true (v ∷ [])) [] detach_tokens [] refl
+    spelt.next_clause reading (delete true (v ∷ [])) [] detach_tokens [] [] refl
     (spelt.detach_delete (v ∷ []) (keyword word.Detach 12 18) (keyword word.Delete 19 25) (letter 26 ∷ []) [] refl refl
     (spelt.last v (letter 26 ∷ []) [] (spelt.variable (letter 26) [] refl)))
-    (spelt.no_more_clauses ended [] refl spelt.nothing_more)
+    (spelt.no_more_clauses ended [] refl)
 
 pub delete_spelt : SpellsStatement delete_line delete_tree delete_tokens
 unfolding denotes chars encode_utf8
-delete_spelt = spelt.next_clause reading (matching (codes "n") (codes "A")) (delete true (unbound (codes "n") ∷ []) ∷ []) delete_tokens detach_tokens refl (match_spelt delete_line 0 detach_tokens) detach_spelt
+delete_spelt =
+    as_statement delete_line (matching (codes "n") (codes "A") ∷ delete true (unbound (codes "n") ∷ []) ∷ []) delete_tokens
+    (spelt.next_clause reading (matching (codes "n") (codes "A")) (delete true (unbound (codes "n") ∷ []) ∷ []) delete_tokens detach_tokens [] refl (match_spelt delete_line 0 detach_tokens) detach_spelt)
 
 -- ---- `CREATE (:A)`
 
@@ -341,7 +359,7 @@ abbrev bare_node : NodePattern
 bare_node = record { variable = None; labels = codes "A" ∷ []; properties = None }
 
 abbrev pub bare_tree : Statement
-bare_tree = record { clauses = create (alone bare_node) ∷ [] }
+bare_tree = one_query (create (alone bare_node) ∷ [])
 
 bare_node_spelt : SpellsNode bare_line bare_node (mark sign.LeftParenthesis 7 ∷ bare_node_tokens) []
 unfolding denotes chars encode_utf8
@@ -356,7 +374,7 @@ bare_node_spelt =
 pub bare_spelt : SpellsStatement bare_line bare_tree bare_tokens
 bare_spelt =
     let node = mark sign.LeftParenthesis 7 ∷ bare_node_tokens in
-    spelt.next_clause reading (create (alone bare_node)) [] bare_tokens [] refl
+    as_statement bare_line (create (alone bare_node) ∷ []) bare_tokens (spelt.next_clause reading (create (alone bare_node)) [] bare_tokens [] [] refl
     (spelt.create_ (alone bare_node) (keyword word.Create 0 6) node [] refl
     (spelt.last _ node [] (spelt.path bare_node [] node [] [] bare_node_spelt (spelt.no_steps []))))
-    (spelt.no_more_clauses updating [] refl spelt.nothing_more)
+    (spelt.no_more_clauses updating [] refl))

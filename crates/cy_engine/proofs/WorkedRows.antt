@@ -1,5 +1,5 @@
 -- Worked rows of the definitions, computed.
-use Rattle.std.proofs.Common.{◌≡◌, ℕ, pos, List, [], ◌∷◌, Some, None, Ok, Err, refl}
+use Rattle.std.proofs.Common.{◌≡◌, ℕ, pos, Bool, true, false, List, [], ◌∷◌, ◌++◌, Some, None, Ok, Err, refl}
 use Rattle.std.specs.Prelude.{codes}
 use Rattle.std.specs.Str.{chars}
 use Rattle.std.specs.Char.{encode_utf8}
@@ -118,6 +118,16 @@ seven_counts_twice = refl
 
 null_where_none : rows_of keys (graph_of ((record { 0 = 1 }, bare) ∷ []) 2).content ≡ (cell.Value value.Null ∷ []) ∷ []
 null_where_none = refl
+
+-- the query twice, with UNION or UNION ALL between
+abbrev twice : Bool → Statement
+twice all = record { queries = keys.queries ++ keys.queries; all = all }
+
+each_once_by_union : rows_of (twice false) three.content ≡ row 7 ∷ []
+each_once_by_union = refl
+
+all_by_union_all : rows_of (twice true) three.content ≡ row 7 ∷ row 7 ∷ row 7 ∷ row 7 ∷ []
+all_by_union_all = refl
 
 -- what a statement without RETURN leaves that made this many nodes
 abbrev left : State → ℕ → Outcome

@@ -192,7 +192,7 @@ module _ (p : Plan) (serves : Serves p keys) (within : (before after : State) �
   made : Step (one 1 (node (int 7)) 1 []) view_line (Ok (reply.Made (codes "n.k" ∷ []) 2 (codes "v"))) [] (one 1 (node (int 7)) 2 (view [] ∷ []))
   unfolding denotes slice_in chars encode_utf8
   made = lexed (one 1 (node (int 7)) 1 []) (one 1 (node (int 7)) 2 (view [] ∷ [])) view_line view_tokens (Ok (reply.Made (codes "n.k" ∷ []) 2 (codes "v"))) [] view_lexed
-      (inl (query_tree, query_spelt, record { answered = refl; no_entries = refl; plan = p; serves = serves; bounded = (one_bounded (int 7), tt); within = few_within _ (int_graph 7) (omega arith, (omega arith, tt)); state = refl }))
+      (inl (query_tree, query_spelt, record { answered = refl; no_entries = refl; plan = p; serves = serves; bounded = (one_bounded (int 7), tt); within = few_within _ (int_graph 7) (omega arith, (omega arith, (omega arith, tt))); state = refl }))
 
   -- `MATCH (n:A) SET m.k = 9`
   unknown : (tick : ℕ) (views : List View) → Step (one 1 (node (int 8)) tick views) unknown_line (Err (fault.Scope scope.UnknownVariable)) [] (one 1 (node (int 8)) tick views)
@@ -256,7 +256,7 @@ module _ (p : Plan) (serves : Serves p keys) (within : (before after : State) �
             );
             upkeep = (0, [], refl, within _ _ (int_graph 7) (int_graph 8), refl);
             bounded = (one_bounded (int 8), tt);
-            within = few_within _ (int_graph 8) (omega arith, (omega arith, tt));
+            within = few_within _ (int_graph 8) (omega arith, (omega arith, (omega arith, tt)));
             state = refl;
           },
         ))
@@ -264,7 +264,7 @@ module _ (p : Plan) (serves : Serves p keys) (within : (before after : State) �
     -- the same again
     set_again : Step (one 1 (node (int 8)) 3 (view fed_set ∷ [])) set_line (statement 0 0) [] (one 1 (node (int 8)) 3 (view fed_set ∷ []))
     set_again = lexed (one 1 (node (int 8)) 3 (view fed_set ∷ [])) (one 1 (node (int 8)) 3 (view fed_set ∷ [])) set_line (set_tokens (digit 8 22 ∷ [])) (statement 0 0) [] set_lexed
-        (inl (set_tree (codes "n") (integer (pos 8)), set_spelt, record { answered = refl; entries_are = inl ((λ r. refl), refl); upkeep = refl; bounded = (one_bounded (int 8), tt); within = few_within _ (int_graph 8) (omega arith, (omega arith, tt)); state = refl }))
+        (inl (set_tree (codes "n") (integer (pos 8)), set_spelt, record { answered = refl; entries_are = inl ((λ r. refl), refl); upkeep = refl; bounded = (one_bounded (int 8), tt); within = few_within _ (int_graph 8) (omega arith, (omega arith, (omega arith, tt))); state = refl }))
 
     -- `MATCH (n:A) SET n.k = null`
     set_null : Step (one 1 (node (int 8)) 3 (view fed_set ∷ [])) null_line (statement 0 0) (entry 4 (counted (int 8)) (counted value.Null)) (one 1 bare 4 (view fed_null ∷ []))
@@ -287,7 +287,7 @@ module _ (p : Plan) (serves : Serves p keys) (within : (before after : State) �
             );
             upkeep = (0, [], refl, within _ _ (int_graph 8) bare_graph, refl);
             bounded = (one_bounded value.Null, tt);
-            within = few_within _ bare_graph (omega arith, (omega arith, tt));
+            within = few_within _ bare_graph (omega arith, (omega arith, (omega arith, tt)));
             state = refl;
           },
         ))
@@ -313,7 +313,7 @@ module _ (p : Plan) (serves : Serves p keys) (within : (before after : State) �
             );
             upkeep = (0, [], refl, within _ _ bare_graph none_graph, refl);
             bounded = (λ r. omega arith, tt);
-            within = few_within _ none_graph (omega arith, (omega arith, tt));
+            within = few_within _ none_graph (omega arith, (omega arith, (omega arith, tt)));
             state = refl;
           },
         ))
@@ -339,7 +339,7 @@ module _ (p : Plan) (serves : Serves p keys) (within : (before after : State) �
             );
             upkeep = (0, [], refl, within _ _ none_graph next_graph, refl);
             bounded = (one_bounded value.Null, tt);
-            within = few_within _ next_graph (omega arith, (omega arith, tt));
+            within = few_within _ next_graph (omega arith, (omega arith, (omega arith, tt)));
             state = refl;
           },
         ))

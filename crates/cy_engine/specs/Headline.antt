@@ -6,10 +6,9 @@ use Rattle.cy_trees.specs.Trees.{Statement}
 use Rattle.cy_scope.specs.Resolved.{resolved_statement}
 use Rattle.cy_values.specs.declared.rows.Cell.{Cell}
 use Rattle.cy_values.specs.Bag.{IsSameBag, count_of, weight_of}
-use Rattle.cy_graph.specs.Graph.{Content, State, empty_state}
-use Rattle.cy_queries.specs.Queries.{query_columns, query_rows}
+use Rattle.cy_graph.specs.Graph.{State, empty_state}
+use Rattle.cy_queries.specs.Queries.{statement_columns, statement_rows}
 use Rattle.cy_effects.specs.Statements.{Outcome, statement_outcome}
-use Rattle.cy_bags.specs.Difference.{IsDifference}
 use Rattle.cy_bags.specs.declared.changes.Entry.{Entry}
 use Rattle.cy_feeds.specs.Feeds.{History, new_history, pushed}
 use Rattle.cy_engine.specs.declared.replies.Reply.TheVariants as reply
@@ -17,44 +16,61 @@ use Rattle.cy_engine.specs.Model.{Machine, new_machine, state_of}
 use Rattle.cy_engine.specs.Requests.{Asks, StatementOf, ViewOf}
 use Rattle.cy_engine.specs.Runs.{Event, OnlySo, Run, Runs, accepted}
 use Rattle.cy_engine.specs.State.{EngineState, empty_engine, view_at}
-use Rattle.cy_views.specs.Views.{AreEntries, Entries, View, entry_at, rows_of}
+use Rattle.cy_views.specs.Views.{AreEntries, Entries, IsEntry, View, entry_at, rows_of}
 use Rattle.cy_engine.specs.Step.{Answer, AreRows, Step, changed_by}
+use Rattle.cy_engine.specs.Verdicts.{tick_after}
 
--- ---- the graph
+-- ---- the graph and the tick
 
--- a line is a statement that was executed: it leads to the graph that its meaning leaves, and its answer says what its meaning says
-pub record IsStatement (line : List ℕ) (answer : Answer) (before after : State) : Type 0 where
+-- a graph at a tick
+pub record Moment : Type 0 where
+  pub graph : State
+  pub tick : ℕ
+
+-- where lines begin that a new engine is sent
+abbrev pub beginning : Moment
+beginning = record { graph = empty_state 1 1; tick = 0 }
+
+-- where a state stands
+abbrev pub moment_of : EngineState → Moment
+moment_of state = record { graph = state.graph; tick = state.tick }
+
+-- a line is a statement that was executed: it leads to the graph that its meaning leaves, and its answer says what its meaning says;
+-- the tick rises where the content of the graph differs
+pub record IsStatement (line : List ℕ) (answer : Answer) (before after : Moment) : Type 0 where
   pub tokens : List Token
   pub tree : Statement
   pub outcome : Outcome
   pub asked : Asks line (StatementOf tokens)
   pub spelt : SpellsStatement line tree tokens
-  pub means : statement_outcome before (resolved_statement tree) ≡ Ok outcome
+  pub means : statement_outcome before.graph (resolved_statement tree) ≡ Ok outcome
   pub answered : answer ≡ Ok (reply.Statement (changed_by outcome.counts) outcome.columns outcome.rows)
-  pub state : after ≡ outcome.graph
+  pub graph : after.graph ≡ outcome.graph
+  pub tick : tick_after before.graph.content after.graph.content before.tick ≡ Ok after.tick
 
--- every other line leaves the graph as it was
-abbrev pub Leads : List ℕ → Answer → State → State → Type 0
+-- every other line leaves the graph as it was; the tick rises with each view that is made
+abbrev pub Leads : List ℕ → Answer → Moment → Moment → Type 0
 Leads line (Ok (reply.Statement changed columns rows)) before after = IsStatement line (Ok (reply.Statement changed columns rows)) before after
+Leads line (Ok (reply.Made columns tick name)) before after = after ≡ record before { tick = before.tick + 1 }
 Leads line answer before after = after ≡ before
 
--- the graph that lines make of a graph: the statements among them that were executed, one after another
-abbrev pub Builds : State → List Event → State → Type 0
+-- the graph and the tick that lines lead to: the statements among them that were executed, one after another, and the views that were made
+abbrev pub Builds : Moment → List Event → Moment → Type 0
 Builds before [] after = after ≡ before
-Builds before (e ∷ events) after = (mid : State) × Leads e.line e.answer before mid × Builds mid events after
+Builds before (e ∷ events) after = (mid : Moment) × Leads e.line e.answer before mid × Builds mid events after
 
 -- ---- the entries of a view
 
--- what a line adds to the feed of a view: nothing where its rows are the same bag, else the exact difference
-abbrev pub IsItsEntry : Statement → Content → Content → Option Entry → Type 0
-IsItsEntry query before after None = IsSameBag (rows_of query before) (rows_of query after)
-IsItsEntry query before after (Some entry) = (¬ (IsSameBag (rows_of query before) (rows_of query after))) × IsDifference (rows_of query before) (rows_of query after) entry.change
+-- what a line adds to the feed of a view: nothing where its rows are the same bag, else the exact difference, with the tick after the line
+abbrev pub IsItsEntry : Statement → Moment → Moment → Option Entry → Type 0
+IsItsEntry query before after None = IsSameBag (rows_of query before.graph.content) (rows_of query after.graph.content)
+IsItsEntry query before after (Some entry) = IsEntry query before.graph.content after.graph.content after.tick entry
 
--- each line from one graph to another adds that to the feed of a view, and nothing else
-abbrev pub AreItsEntries : View → State → List Event → State → Type 0
+-- each line from one graph and tick to others adds that to the feed of a view, and nothing else
+abbrev pub AreItsEntries : View → Moment → List Event → Moment → Type 0
 AreItsEntries view before [] after = after ≡ before
 AreItsEntries view before (e ∷ events) after =
-    (mid : State) × Leads e.line e.answer before mid × IsItsEntry view.query before.content mid.content (entry_at view.name e.entries) × AreItsEntries view mid events after
+    (mid : Moment) × Leads e.line e.answer before mid × IsItsEntry view.query before mid (entry_at view.name e.entries) × AreItsEntries view mid events after
 
 abbrev pub with_entry : Option Entry → List Entry → List Entry
 with_entry None entries = entries
@@ -92,28 +108,29 @@ pub record AsksForView (line name : List ℕ) (query : Statement) : Type 0 where
 -- One of the lines asked for the view, and made it. Its query has rows on the graph, and no fault; these are the rows that are shown
 -- of it; and they are the rows that it had when it was made, changed by its entries, which are the exact differences that the lines
 -- since then made. Its feed has the last of these entries.
-pub record IsMaintained (start : State) (history : ℕ) (events : List Event) (now : EngineState) (view : View) : Type 0 where
+pub record IsMaintained (start : Moment) (history : ℕ) (events : List Event) (now : EngineState) (view : View) : Type 0 where
   pub before : List Event
   pub making : Event
   pub after : List Event
   pub graph : State
   pub are : events ≡ before ++ making ∷ after
   pub asks : AsksForView making.line view.name view.query
-  pub answered : making.answer ≡ Ok (reply.Made (query_columns view.query) view.made view.name)
-  pub made_on : Builds start (before ++ making ∷ []) graph
-  pub means : query_rows now.graph.content view.query ≡ Ok (rows_of view.query now.graph.content)
+  pub answered : making.answer ≡ Ok (reply.Made (statement_columns view.query) view.made view.name)
+  pub made_on : Builds start (before ++ making ∷ []) (record { graph = graph; tick = view.made })
+  pub means : statement_rows now.graph.content view.query ≡ Ok (rows_of view.query now.graph.content)
   pub shown : (rows : List (List Cell × ℕ)) → AreRows now view rows → (row : List Cell) → weight_of row rows ≡ counts_in view.query now.graph row
-  pub entries : AreItsEntries view graph after now.graph
+  pub entries : AreItsEntries view (record { graph = graph; tick = view.made }) after (moment_of now)
   pub feed : view.feed ≡ with_entries (entries_of view.name after) (new_history history view.made)
   pub replayed : (row : List Cell) → counts_in view.query now.graph row ≡ followed (counts_in view.query graph) (entries_of view.name after) row
 
 -- ---- the headline
 
--- Of lines that a new engine was sent: the graph is the one that the statements among them that were executed make of the empty one;
--- each view is found by its name, and is maintained; and without the refused lines all other answers, entries and the state are the same.
+-- Of lines that a new engine was sent: the graph is the one that the statements among them that were executed make of the empty one, and the
+-- tick has risen with each of them that changed its content and with each view that was made; each view is found by its name, and is
+-- maintained; and without the refused lines all other answers, entries and the state are the same.
 pub record Headline (history : ℕ) (events : List Event) (now : EngineState) : Type 0 where
-  pub graph : Builds (empty_state 1 1) events now.graph
-  pub views : (view : View) → Contains now.views view → (view_at view.name now ≡ Some view) × IsMaintained (empty_state 1 1) history events now view
+  pub graph : Builds beginning events (moment_of now)
+  pub views : (view : View) → Contains now.views view → (view_at view.name now ≡ Some view) × IsMaintained beginning history events now view
   pub no_trace : OnlySo (empty_engine history) (accepted events) now
 
 -- lines may be answered so; and where a new engine answers them, the headline holds

@@ -15,7 +15,7 @@ use Rattle.cy_values.specs.declared.rows.Cell.{Cell}
 use Rattle.cy_values.specs.Bag.{count_of}
 use Rattle.cy_graph.specs.Graph.{Content, State}
 use Rattle.cy_index.specs.declared.keys.Pair.{Pair}
-use Rattle.cy_queries.specs.Queries.{query_columns}
+use Rattle.cy_queries.specs.Queries.{statement_columns}
 use Rattle.cy_effects.specs.Counts.{Counts}
 use Rattle.cy_feeds.specs.declared.feeds.Answer as feeds
 use Rattle.cy_feeds.specs.declared.feeds.Answer.TheVariants.{Entries as Since, Lagged}
@@ -81,7 +81,7 @@ pub record IsExecuted (executed : Executed) (old : EngineState) (answer : Answer
   pub state : new ≡ record old { graph = executed.outcome.graph; views = map (fed entries) old.views; upkeep = new.upkeep; tick = executed.tick }
 
 pub record IsMade (view : View) (old : EngineState) (answer : Answer) (entries : Entries) (new : EngineState) : Type 0 where
-  pub answered : answer ≡ Ok (reply.Made (query_columns view.query) view.made view.name)
+  pub answered : answer ≡ Ok (reply.Made (statement_columns view.query) view.made view.name)
   pub no_entries : entries ≡ []
   -- kept up by a plan that serves its query; which one, the engine may choose
   pub plan : Plan

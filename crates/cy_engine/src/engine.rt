@@ -3,7 +3,7 @@
 ghost use Rattle.std.specs.Prelude.{◌≡◌, ◌≤◌, ◌⊎◌, [], IfErr, IfOk, IsOk, IsSome, OnErr, Ok, Err};
 ghost use Rattle.std.specs.Option.{option_copied};
 ghost use Rattle.cy_trees.specs.Views.{statement_of};
-ghost use Rattle.cy_queries.specs.Queries.{query_columns};
+ghost use Rattle.cy_queries.specs.Queries.{statement_columns};
 ghost use Rattle.cy_updates.specs.Answers.{outcome_seen};
 ghost use Rattle.cy_graph.specs.Graph.{State};
 ghost use Rattle.cy_touches.specs.Changes.{before_change};
@@ -336,7 +336,7 @@ fn statement_reply(outcome: StatementAnswer) -> Reply
 
 // The answer to `:view`, where the view is made.
 fn made_reply(alloc: Global, query: &ViewQuery, tick: u64, name: &str) -> Result<Reply, Fault>
-    ensures reply { IfOk result (λ reply. reply ≡ Reply.Made (query_columns (statement_of query.now)) tick name.now) }
+    ensures reply { IfOk result (λ reply. reply ≡ Reply.Made (statement_columns (statement_of query.now)) tick name.now) }
     ensures memory { IfErr result (λ fault. fault ≡ Fault.NoMemory) }
 {
     Ok(Reply::Made {

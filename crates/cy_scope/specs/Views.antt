@@ -110,14 +110,10 @@ is_sure_before scope («with» p w) = are_sure_items scope p.items
 is_sure_before scope («return» p) = are_sure_items scope p.items
 is_sure_before scope _ = false
 
--- a WHERE that a view keeps: it is sure and holds no path
-abbrev pub is_kept_where : Scope → Where → Bool
-is_kept_where scope w = is_sure_where scope w && not (has_tests w.paths)
-
--- what it reads in the scope after it: WHERE
+-- what it reads in the scope after it: WHERE, which holds no path in OPTIONAL MATCH
 abbrev pub is_sure_after : Scope → Clause → Bool
-is_sure_after scope («match» optional paths w) = is_kept_where scope w
-is_sure_after scope («with» p w) = is_kept_where scope w
+is_sure_after scope («match» optional paths w) = is_sure_where scope w && not (optional && has_tests w.paths)
+is_sure_after scope («with» p w) = is_sure_where scope w
 is_sure_after scope _ = true
 
 -- each clause is sure, where the first one begins with the scope

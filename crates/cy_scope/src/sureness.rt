@@ -96,11 +96,12 @@ fn is_sure_where(scope: &Scope, filter: &Where) -> bool
     is_sure_condition(scope, &filter.test) && are_sure_tests(scope, &filter.paths)
 }
 
-/// Whether a view can be kept as far as a WHERE goes: it is sure and holds no path.
-fn is_kept_where(scope: &Scope, filter: &Where) -> bool
-    ensures { result ≡ spec.is_kept_where scope.now (where_of filter.now) }
+/// Whether a MATCH can be kept as far as its WHERE goes: that of OPTIONAL MATCH holds no path.
+fn is_sure_match(scope: &Scope, matching: &Match) -> bool
+    ensures { result ≡ spec.is_sure_after scope.now (match_of matching.now) }
 {
-    is_sure_where(scope, filter) && filter.paths.is_empty()
+    is_sure_where(scope, &matching.filter)
+        && !(matching.optional && !matching.filter.paths.is_empty())
 }
 
 /// Whether what the clause reads before it makes its columns is sure.
@@ -120,8 +121,8 @@ fn is_sure_after(scope: &Scope, clause: &Clause) -> bool
     ensures { result ≡ spec.is_sure_after scope.now (clause_of clause.now) }
 {
     match clause {
-        Clause::Match(matching) => is_kept_where(scope, &matching.filter),
-        Clause::With(with) => is_kept_where(scope, &with.filter),
+        Clause::Match(matching) => is_sure_match(scope, matching),
+        Clause::With(with) => is_sure_where(scope, &with.filter),
         _ => true,
     }
 }

@@ -9,7 +9,7 @@ and so does a query that isn't answered as it should be.
 """
 import sys
 
-from graph_cost import GROUP, SIZES, built, graph, hub, index, joined
+from graph_cost import GROUP, SIZES, built, graph, hub, index, joined, statement
 from session import Session, peak, report
 
 LIMIT = 1.3
@@ -105,7 +105,8 @@ def costs(program, size):
 
 
 def hub_costs(program, size):
-    """Names of costs of what leads from a hub with a relationship to each node to one of these, where both are found before it."""
+    """Names of costs of what leads from a hub with a relationship to each node to one of these, where both are found before it, and of
+    whether anything does."""
     some = [size // TIMES * time + size // 50 for time in range(TIMES)]
     with Session(program) as session:
         session.give(list(hub(size)))
@@ -117,6 +118,16 @@ def hub_costs(program, size):
         ):
             text = f"MATCH (h:Hub), (n:L {{k: @}}) MATCH (h){step}(n) RETURN count(*) AS n"
             yield name, session.count([answer(text.replace("@", str(k)), ["n"], [1]) for k in some]), True
+        session.give([statement("CREATE (:One)-[:T]->(:Leaf)", made=2, rels_made=1)])
+        for name, found, condition, count in (
+            ("whether anything leads from a hub", "(h:Hub)", "(h)-[:T]->()", 1),
+            ("whether nothing leads from a hub", "(h:Hub)", "NOT (h)-[:T]->()", 0),
+            ("the same at a node with a single relationship", "(h:One)", "NOT (h)-[:T]->()", 0),
+            ("whether nothing of another type leads from a hub to a node", "(h:Hub), (n:L {k: @})", "NOT (h)-[:U]->(n)", 1),
+            ("whether nothing does in either direction", "(h:Hub), (n:L {k: @})", "NOT (n)-[:U]-(h)", 1),
+        ):
+            text = f"MATCH {found} WHERE {condition} RETURN count(*) AS n"
+            yield name, session.count([answer(text.replace("@", str(k)), ["n"], [count]) for k in some]), True
 
 
 def row_costs(program, size):

@@ -1,0 +1,6 @@
+//! Copies of plans.
+#![tactic(auto)]
+
+mod copies;
+
+pub use copies::copied;

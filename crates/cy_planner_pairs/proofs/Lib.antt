@@ -1,0 +1,15 @@
+pub mod Tested
+pub mod Anys
+pub mod PairTests
+pub mod Partners
+pub mod NullRows
+pub mod Within
+pub mod Inside
+pub mod LoneRows
+pub mod ToldValues
+pub mod ToldKeys
+pub mod Alike
+pub mod Apart
+pub mod CodeSteps
+pub mod LoneSteps
+pub mod ApartSteps

@@ -1,0 +1,11 @@
+pub mod Equal
+pub mod Meets
+pub mod Ranges
+pub mod ValueKeys
+pub mod Partners
+pub mod KeysInside
+pub mod SemiRows
+pub mod PathRows
+pub mod PathSteps
+pub mod SideSteps
+pub mod FilterSteps

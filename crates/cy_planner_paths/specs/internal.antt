@@ -1,0 +1,3 @@
+-- What proofs and private functions alone need.
+pub mod Keys
+pub mod Patterns

@@ -134,7 +134,7 @@ unselected_reads (set items) reads = reads
 unselected_reads (remove items) reads = reads
 unselected_reads (delete detach variables) reads = reads
 
-if_ok_value : (P : List (List Cell) → Type 0) (o : Outcome) (rows : List (List Cell)) → o ≡ Ok rows → IfOk o P → P rows
+pub if_ok_value : (P : List (List Cell) → Type 0) (o : Outcome) (rows : List (List Cell)) → o ≡ Ok rows → IfOk o P → P rows
 if_ok_value P o rows is here = subst (λ (q : Outcome). IfOk q P) is here
 
 module _ (total : IsTotalOrder row_cmp) (bags : (graph : Content) (clause : Clause) (rows others : List (List Cell)) → is_update clause ≡ false → IsSameBag rows others → IsSameOutcome (rows_after graph clause rows) (rows_after graph clause others))

@@ -1,5 +1,6 @@
 pub mod ClausePlans
 pub mod ClauseSteps
+pub mod ConditionAlone
 pub mod GoingOn
 pub mod OptionalSteps
 pub mod PatternPremises
@@ -9,3 +10,4 @@ pub mod Sums
 pub mod UnderWay
 pub mod Unions
 pub mod ViewClauses
+pub mod WherePaths

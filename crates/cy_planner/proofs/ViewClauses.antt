@@ -6,7 +6,7 @@ use Rattle.std.proofs.lemmas.Bool.{and_parts, false≢true, true≢false}
 use Rattle.std.proofs.lemmas.List.{length-map}
 use Rattle.std.proofs.lemmas.List.Elements.{recursion_from_All}
 use Rattle.cy_values.specs.declared.rows.Cell.{Cell}
-use Rattle.cy_trees.specs.Trees.{Expression, null, boolean, integer, text, variable, property, has_labels, unary, binary, comparison, list, case, call, call_star, Path, Item, Projection, Clause, «match», unwind, «with», «return», create, set, remove, delete, PathTest, Query, Statement, Where}
+use Rattle.cy_trees.specs.Trees.{Expression, null, boolean, integer, text, variable, property, has_labels, unary, binary, comparison, list, case, call, call_star, Path, Item, Projection, Clause, «match», unwind, «with», «return», create, set, remove, delete, Query, Statement, Where}
 use Rattle.cy_kinds.specs.declared.functions.Function.{Function}
 use Rattle.cy_kinds.specs.declared.kinds.Kind.{Kind}
 use Rattle.cy_kinds.specs.Aggregates.{has_aggregates, is_aggregate_call, is_aggregate_if}
@@ -22,7 +22,7 @@ use Rattle.cy_scope.specs.Resolved.{resolved_clause, resolved_clauses, resolved_
 use Rattle.cy_kinds.specs.Faults.{first}
 use Rattle.cy_kinds.specs.declared.faults.ScopeFault.{ScopeFault}
 use Rattle.cy_kinds.specs.declared.faults.ViewFault.TheVariants.{AggregateInView, MayFail, NotAReading, OrderInView, Unbounded}
-use Rattle.cy_scope.specs.Views.{are_sure_clauses, ends_with_return, has_aggregate, has_tests, is_kept_where, is_ordered, is_reading, is_sure_after, is_sure_before, is_sure_where, is_unbounded, is_update}
+use Rattle.cy_scope.specs.Views.{are_sure_clauses, ends_with_return, has_aggregate, is_ordered, is_reading, is_sure_after, is_sure_before, is_unbounded, is_update}
 use Rattle.cy_scope.proofs.KindedExpressions.{first_none}
 use Rattle.cy_scope.proofs.KindsKept.{paths_kept, scope_kept}
 use Rattle.cy_graph.specs.Graph.{Content}
@@ -92,7 +92,7 @@ of_one : (b : Bool) → b || false ≡ false → b ≡ false
 of_one false is = refl
 of_one true is = is
 
-untold : (b : Bool) → not b ≡ true → b ≡ false
+pub untold : (b : Bool) → not b ≡ true → b ≡ false
 untold true is = absurd (false≢true is)
 untold false is = refl
 
@@ -121,22 +121,6 @@ view_query kinds query (of, good) =
     (subst (λ (l : List Clause). list_any has_aggregate l ≡ false) are (of_one (list_any has_aggregate cs) facts.2))
     (subst (λ (l : List Clause). list_any is_ordered l ≡ false) are (of_one (list_any is_ordered cs) facts.1))
     (subst (λ (l : List Clause). list_any is_unbounded l ≡ false) are (of_one (list_any is_unbounded cs) facts.3)))
-
--- ---- a WHERE
-
--- a view's is a condition alone, if there is one
-condition_alone : (scope : Scope) (w : Where) → is_kept_where scope w ≡ true → w ≡ where_only w.test
-condition_alone scope w kept = of w.paths refl (untold (has_tests w.paths) (and_parts (is_sure_where scope w) (not (has_tests w.paths)) kept).1)
-  where
-    of : (tests : List PathTest) → w.paths ≡ tests → has_tests w.paths ≡ false → w ≡ where_only w.test
-    of [] is none = ap (λ (tests : List PathTest). let v : Where = record { test = w.test; paths = tests } in v) is
-    of (t ∷ tests) is none = absurd (true≢false (sym (ap has_tests is) ∙ none))
-
-pub match_alone : (scope : Scope) (optional : Bool) (paths : List Path) (w : Where) → IsViewClause scope («match» optional paths w) → «match» optional paths w ≡ «match» optional paths (where_only w.test)
-match_alone scope optional paths w view = ap («match» optional paths) (condition_alone (with_paths scope paths) w view.sure_after)
-
-pub with_alone : (scope : Scope) (p : Projection) (w : Where) → IsViewClause scope («with» p w) → «with» p w ≡ «with» p (where_only w.test)
-with_alone scope p w view = ap («with» p) (condition_alone (columns_of scope p.items) w view.sure_after)
 
 -- ---- the rows after a clause
 

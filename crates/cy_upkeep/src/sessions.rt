@@ -5,7 +5,7 @@ use cy_memory::{KeyedMemory, ListMemory};
 use std::test::Fail;
 
 // The query of a view; then statements, each with the rows that are removed and added, and the rows after it.
-const SESSIONS: [&str; 15] = [
+const SESSIONS: [&str; 19] = [
     "\
 MATCH (a:A) OPTIONAL MATCH (a)-[:T]->(b:B) RETURN a, b
 CREATE (:A) => - + [node1,null]x1 = [node1,null]x1
@@ -101,6 +101,42 @@ CREATE (:A:B) => - + [node1]x2 = [node1]x2
 MATCH (n:A) REMOVE n:A => - [node1]x1 + = [node1]x1
 CREATE (:A) => - + [node2]x1 = [node1]x1 [node2]x1
 MATCH (n:A) SET n:B => - + [node2]x1 = [node1]x1 [node2]x2",
+    "\
+MATCH (a:A) WHERE (a)-[:T]->(:B) RETURN a
+CREATE (:A)-[:T]->(:B) => - + [node1]x1 = [node1]x1
+MATCH (a:A)-[r:T]->() CREATE (a)-[:T]->(:B) DELETE r => - + = [node1]x1
+MATCH (a:A) CREATE (a)-[:T]->(:B) => - + = [node1]x1
+MATCH (b:B) WHERE id(b) = 3 DETACH DELETE b => - + = [node1]x1
+MATCH (b:B) REMOVE b:B => - [node1]x1 + =
+MATCH (b) WHERE id(b) = 4 SET b:B => - + [node1]x1 = [node1]x1
+MATCH (b:B) CREATE (:A)-[:T]->(:B) DETACH DELETE b => - [node1]x1 + [node5]x1 = [node5]x1
+MATCH (a:A) WHERE id(a) = 5 DETACH DELETE a => - [node5]x1 + =",
+    "\
+MATCH (a:A) WHERE NOT (a)-[:T]->(:B) RETURN a
+CREATE (:A)-[:T]->(:B) => - + =
+CREATE (:A) => - + [node3]x1 = [node3]x1
+MATCH (a:A)-[r:T]->() CREATE (a)-[:T]->(:B) DELETE r => - + = [node3]x1
+MATCH (a:A) WHERE id(a) = 3 CREATE (a)-[:T]->(:B) => - [node3]x1 + =
+MATCH (b:B) DETACH DELETE b => - + [node1]x1 [node3]x1 = [node1]x1 [node3]x1
+MATCH (n) CREATE (:A)-[:T]->(:B) DETACH DELETE n => - [node1]x1 [node3]x1 + =
+MATCH (b:B) REMOVE b:B SET b:A => - + [node6]x1 [node7]x1 [node8]x1 [node9]x1 = [node6]x1 [node7]x1 [node8]x1 [node9]x1",
+    "\
+MATCH (a:A)-[:U]->() WITH a WHERE (a)-[:T]->() RETURN a
+CREATE (a:A)-[:U]->(b), (a)-[:U]->(b) => - + =
+MATCH (a:A), (b) WHERE id(b) = 2 CREATE (a)-[:T]->(b) => - + [node1]x2 = [node1]x2
+MATCH (a:A), (b) WHERE id(b) = 2 CREATE (a)-[:T]->(b), (a)-[:U]->(b) => - + [node1]x1 = [node1]x3
+MATCH ()-[r]->() WHERE id(r) = 3 DELETE r => - + = [node1]x3
+MATCH ()-[r]->() WHERE id(r) = 1 DELETE r => - [node1]x1 + = [node1]x2
+MATCH ()-[r:T]->() DELETE r => - [node1]x2 + =",
+    "\
+MATCH (a:A) WHERE (a)-[*0..1 {k: a.k}]->(:B) RETURN a
+CREATE (:A {k: 1})-[:T]->(:B) => - + =
+MATCH ()-[r]->() SET r.k = 1 => - + [node1]x1 = [node1]x1
+MATCH (a:A) SET a.k = 2 => - [node1]x1 + =
+MATCH (a:A) SET a:B => - + [node1]x1 = [node1]x1
+MATCH (a:A) REMOVE a.k => - + = [node1]x1
+MATCH (a:A) REMOVE a:B => - [node1]x1 + =
+MATCH (a:A) SET a.k = 1 => - + [node1]x1 = [node1]x1",
 ];
 
 // What changes in the rows of all nodes twice.

@@ -1,9 +1,11 @@
-//! Forty-two queries of views on all small graphs: a network that follows from graph to graph has the rows that the query answers there.
+//! Sixty-five queries of views on all small graphs, twenty-three of them with paths as conditions and unions: a network that follows from
+//! graph to graph has the rows that the query answers there.
 
 use crate::following::expect_query;
-use cy_memory::KeyedMemory;
+use cy_memory::{KeyedMemory, ListMemory, Memory};
 use std::alloc::{AllocError, Global};
 use std::fmt::Write;
+use std::process::Abort;
 use std::test::Fail;
 
 // What makes graphs of fewer nodes and relationships, and of more, one out of the other.
@@ -61,6 +63,32 @@ MATCH (n:A) RETURN n.k AS k UNION MATCH (n) RETURN n.k AS k
 MATCH (a)-[:T]->(b) RETURN a, b UNION ALL MATCH (a)<-[:U]-(b) RETURN a, b
 RETURN 1 AS x";
 
+// Queries with paths as conditions, and several queries together.
+const CONDITIONS: &str = "\
+MATCH (n) WHERE (n)-->() RETURN n
+MATCH (n) WHERE NOT (n)-->() RETURN n
+MATCH (a:A) WHERE (a)-[:T]->(:B) RETURN a.k AS k
+MATCH (a) WHERE NOT (a)-[:U]-() AND a.k = 1 RETURN a
+MATCH (a), (b) WHERE (a)-->(b) AND NOT (b)-[:T]->(a) RETURN a, b
+MATCH (a)-[r]->(b) WHERE (a)-[:T]->(b) RETURN a, r, b
+MATCH (a) WHERE (a)-->()-->(a) RETURN a
+MATCH (a) WHERE NOT (a)--()--(a) RETURN a
+MATCH (a) WHERE (a)-[*1..2]->(:B) RETURN a
+MATCH (a) WHERE NOT (a)-[*0..1 {k: 1}]->(:B) RETURN a
+MATCH (a) WHERE (a)-[*0..1 {k: a.k}]->(:B) RETURN a
+MATCH (a) WHERE NOT (a)-[*0..2 {k: a.k}]-(:B) RETURN a
+MATCH (a) WHERE (a)-[*0..1 {k: a.l}]->(:B) RETURN a
+MATCH (a) WHERE (a)-[{k: a.k}]->({k: a.k}) RETURN a
+MATCH (a), (b) WHERE NOT (a)-[*1..2 {k: b.k}]->() RETURN a, b
+MATCH (a) OPTIONAL MATCH (a)-[:U]->(b) WITH a, b WHERE (b)-->() RETURN a, b
+MATCH (a) OPTIONAL MATCH (a)-[:U]->(b) WITH a, b WHERE NOT (b)-->() RETURN a, b
+MATCH (n) WHERE ()-[:U]->() RETURN n
+MATCH (a)-->(b) WITH DISTINCT b WHERE (b)<--(:A) AND b.k IS NOT NULL MATCH (b)-->(c) RETURN b, c
+MATCH (n) WHERE (n)-[:T]->() RETURN n UNION MATCH (n) WHERE NOT (n)<-[:U]-() RETURN n
+MATCH (n) WHERE (n)-->() RETURN n.k AS k UNION MATCH (n:A) RETURN n.k AS k
+MATCH (n:A) RETURN n UNION ALL MATCH (n) WHERE (n)--(:B) RETURN n
+MATCH (a)-[:T]->(b) RETURN a, b UNION MATCH (a)<-[:U]-(b) RETURN a, b UNION MATCH (a), (b) WHERE NOT (a)--(b) RETURN a, b";
+
 // The two nodes in one of the four orders.
 fn ends(number: u64) -> (&'static str, &'static str) {
     match number % 4 {
@@ -106,11 +134,26 @@ fn changes(alloc: Global) -> Result<String, AllocError> {
     Ok(lines)
 }
 
-#[test]
-fn rows_on_small_graphs(rt: HostRuntime) -> Result<(), Fail> {
-    let lines = changes(rt.alloc())?;
-    for query in QUERIES.lines() {
-        expect_query::<KeyedMemory>(&rt, rt.alloc(), query, lines.as_str())?;
+// A network of each query, each a line, follows from graph to graph.
+fn expect_queries<M: Memory>(rt: &impl Abort, alloc: Global, queries: &str) -> Result<(), Fail> {
+    let lines = changes(alloc)?;
+    for query in queries.lines() {
+        expect_query::<M>(rt, alloc, query, lines.as_str())?;
     }
     Ok(())
+}
+
+#[test]
+fn rows_on_small_graphs(rt: HostRuntime) -> Result<(), Fail> {
+    expect_queries::<KeyedMemory>(&rt, rt.alloc(), QUERIES)
+}
+
+#[test]
+fn paths_and_unions_over_keyed_memories(rt: HostRuntime) -> Result<(), Fail> {
+    expect_queries::<KeyedMemory>(&rt, rt.alloc(), CONDITIONS)
+}
+
+#[test]
+fn paths_and_unions_over_list_memories(rt: HostRuntime) -> Result<(), Fail> {
+    expect_queries::<ListMemory>(&rt, rt.alloc(), CONDITIONS)
 }

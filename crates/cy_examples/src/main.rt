@@ -36,7 +36,7 @@ const TRANSCRIPTS: [(&str, bool); 23] = [
     ("scope.session", false),
     ("views.session", false),
     ("clauses.session", false),
-    ("conditions.session", false),
+    ("conditions.session", true),
     ("unions.session", true),
     ("updates.session", true),
     ("feeds.session", true),

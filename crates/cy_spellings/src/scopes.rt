@@ -108,7 +108,10 @@ MATCH (a)-[r:T*0..5]-(b) RETURN r, a, b
 MATCH (a), (b) RETURN a = b AS x, a IS NULL AS y
 MATCH (n:A) RETURN n UNION MATCH (n:B) RETURN n
 MATCH (n:A) RETURN n UNION ALL MATCH (n:B) RETURN n
-MATCH (a)-[*1..8]->(b) WITH DISTINCT a RETURN a, 1 AS b UNION MATCH (b) RETURN b AS a, b.k IS NULL AS b";
+MATCH (a)-[*1..8]->(b) WITH DISTINCT a RETURN a, 1 AS b UNION MATCH (b) RETURN b AS a, b.k IS NULL AS b
+MATCH (a:A) WHERE NOT (a)-[:T]->() RETURN a
+MATCH (a) WHERE (a)-[:T*1..8]->({k: a.k}) AND a.k = 1 RETURN a
+OPTIONAL MATCH (z:Z) WITH z WHERE NOT (z)--() RETURN z";
 
 /// Each line after the columns of the variables that stand alone as items of its RETURN, and then as keys. A key that repeats
 /// an item is read as that item, another one in the columns and then in the variables before.

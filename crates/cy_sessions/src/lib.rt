@@ -1,7 +1,9 @@
-//! What no transcript holds of sessions: calls of the engine, bags and feeds, invalid UTF-8, very long lines, options, and streams
-//! that fail. Only tests stand here.
+//! What no transcript holds of sessions: calls of the engine, bags and feeds, invalid UTF-8, very long lines, lines that are cut short, options,
+//! and streams that fail or are interrupted. Only tests stand here.
 #![tactic(auto)]
 
+#[cfg(test)]
+mod cuts;
 #[cfg(test)]
 mod engine;
 #[cfg(test)]

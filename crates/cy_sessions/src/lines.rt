@@ -80,6 +80,22 @@ fn answers_long_lines(rt: HostRuntime) -> Result<(), Fail> {
     Ok(())
 }
 
+// A line of 65,536 blanks has no reply, and one of 65,537 is too long, with LF and without.
+#[test]
+fn answers_lines_of_blanks(rt: HostRuntime) -> Result<(), Fail> {
+    let too_long = r#"{"at":65536,"code":17,"error":"LineTooLong"}
+"#;
+    let table = [(65_536, ""), (65_537, too_long)];
+    for (count, output) in table {
+        let mut input = Vec::new(rt.alloc());
+        input.resize(count, b' ')?;
+        expect_written(&rt, rt.alloc(), input.as_slice(), output)?;
+        input.push(b'\n')?;
+        expect_written(&rt, rt.alloc(), input.as_slice(), output)?;
+    }
+    Ok(())
+}
+
 const AFTER_ALL_VIEWS: &str = r#":view w MATCH (n:A) RETURN n.k
 :rows w
 CREATE (:A)

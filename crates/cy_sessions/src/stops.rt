@@ -1,8 +1,8 @@
-//! A session over streams that move a byte at a time, and of which each call fails in turn.
+//! A session over streams that move a byte at a time, and of which each call fails in turn, or is interrupted.
 
-use crate::streams::{TestReader, TestWriter};
+use crate::streams::{Calls, TestReader, TestWriter};
 use cy_shell::{InputSource, OutputSink, RunFault, Settings, run};
-use std::alloc::Global;
+use std::alloc::{AllocError, Global};
 use std::process::Abort;
 use std::test::Fail;
 
@@ -42,22 +42,33 @@ const SESSION: [(&[u8], &[u8]); 7] = [
     ),
 ];
 
-// The input is read by this many calls, and written for by this many: the run ends so, once this is written.
+// What is sent in the session, and what is answered.
+fn session(alloc: Global) -> Result<(Vec<u8>, Vec<u8>), AllocError> {
+    let mut input = Vec::new(alloc);
+    let mut output = Vec::new(alloc);
+    for (line, answer) in SESSION {
+        input.extend_from_slice(line)?;
+        output.extend_from_slice(answer)?;
+    }
+    Ok((input, output))
+}
+
+// The input is read and written for by such calls: the run ends so, once this is written.
 fn expect_run(
     rt: &impl Abort,
     alloc: Global,
     input: &[u8],
-    (reads, writes): (usize, usize),
+    (reads, writes): (Calls, Calls),
     outcome: Result<(), RunFault>,
     output: &[u8],
 ) {
     let mut writer = TestWriter {
         written: Vec::new(alloc),
-        calls_left: writes,
+        calls: writes,
     };
     let mut source = InputSource::new(TestReader {
         left: input,
-        calls_left: reads,
+        calls: reads,
     });
     let mut sink = OutputSink::new(&mut writer);
     let settings = Settings {
@@ -65,31 +76,25 @@ fn expect_run(
         feed: true,
     };
     let ended = run(alloc, &mut source, &mut sink, settings);
-    assert!(rt; ended == outcome, "{reads} reads, {writes} writes");
-    assert!(rt;
-        writer.written.as_slice() == output,
-        "{reads} reads, {writes} writes"
-    );
+    let count = writer.written.len();
+    assert!(rt; ended == outcome, "{count} bytes");
+    assert!(rt; writer.written.as_slice() == output, "{count} bytes");
 }
 
-// The read of each byte fails in turn, and the one at the end: the lines that have ended are answered.
+// The read of each byte fails in turn, and the one at the end: the lines that have ended are answered, and it isn't made again.
 #[test]
 fn stops_at_a_read_that_fails(rt: HostRuntime) -> Result<(), Fail> {
     let alloc = rt.alloc();
-    let mut input = Vec::new(alloc);
-    for (line, _) in SESSION {
-        input.extend_from_slice(line)?;
-    }
-    let input = input.as_slice();
+    let (input, whole) = session(alloc)?;
     let mut output = Vec::new(alloc);
     let mut reads = 0usize;
     for (line, answer) in SESSION {
         for _byte in line {
-            let calls = (reads, usize::MAX);
+            let calls = (Calls::failing_after(reads), Calls::good());
             expect_run(
                 &rt,
                 alloc,
-                input,
+                input.as_slice(),
                 calls,
                 Err(RunFault::Read),
                 output.as_slice(),
@@ -98,39 +103,40 @@ fn stops_at_a_read_that_fails(rt: HostRuntime) -> Result<(), Fail> {
         }
         output.extend_from_slice(answer)?;
     }
-    let calls = (reads, usize::MAX);
+    let calls = (Calls::failing_after(reads), Calls::good());
     expect_run(
         &rt,
         alloc,
-        input,
+        input.as_slice(),
         calls,
         Err(RunFault::Read),
         output.as_slice(),
     );
-    let calls = (usize::MAX, usize::MAX);
-    expect_run(&rt, alloc, input, calls, Ok(()), output.as_slice());
+    let calls = (Calls::good(), Calls::good());
+    expect_run(
+        &rt,
+        alloc,
+        input.as_slice(),
+        calls,
+        Ok(()),
+        whole.as_slice(),
+    );
     Ok(())
 }
 
-// The write of each byte, and the flush after each object, fails in turn: what was taken before is written.
+// The write of each byte, and the flush after each object, fails in turn: what was taken before is written, and it isn't made again.
 #[test]
 fn stops_at_a_write_that_fails(rt: HostRuntime) -> Result<(), Fail> {
     let alloc = rt.alloc();
-    let mut input = Vec::new(alloc);
-    let mut output = Vec::new(alloc);
-    for (line, answer) in SESSION {
-        input.extend_from_slice(line)?;
-        output.extend_from_slice(answer)?;
-    }
-    let input = input.as_slice();
+    let (input, output) = session(alloc)?;
     let mut written = Vec::new(alloc);
     let mut writes = 0usize;
     for byte in &output {
-        let calls = (usize::MAX, writes);
+        let calls = (Calls::good(), Calls::failing_after(writes));
         expect_run(
             &rt,
             alloc,
-            input,
+            input.as_slice(),
             calls,
             Err(RunFault::Write),
             written.as_slice(),
@@ -138,11 +144,11 @@ fn stops_at_a_write_that_fails(rt: HostRuntime) -> Result<(), Fail> {
         written.push(*byte)?;
         writes = writes.saturating_add(1);
         if *byte == b'\n' {
-            let calls = (usize::MAX, writes);
+            let calls = (Calls::good(), Calls::failing_after(writes));
             expect_run(
                 &rt,
                 alloc,
-                input,
+                input.as_slice(),
                 calls,
                 Err(RunFault::Write),
                 written.as_slice(),
@@ -150,5 +156,38 @@ fn stops_at_a_write_that_fails(rt: HostRuntime) -> Result<(), Fail> {
             writes = writes.saturating_add(1);
         }
     }
+    Ok(())
+}
+
+// Each read, write and flush is interrupted so many times: up to 999 times it is made again, and after 1,000 it has failed.
+#[test]
+fn asks_again_after_an_interruption(rt: HostRuntime) -> Result<(), Fail> {
+    let alloc = rt.alloc();
+    let (input, output) = session(alloc)?;
+    let input = input.as_slice();
+    for times in [1, 999] {
+        let calls = (Calls::interrupted(times), Calls::interrupted(times));
+        expect_run(&rt, alloc, input, calls, Ok(()), output.as_slice());
+    }
+    let calls = (Calls::interrupted(1_000), Calls::good());
+    expect_run(&rt, alloc, input, calls, Err(RunFault::Read), &[]);
+    let calls = (Calls::good(), Calls::interrupted(1_000));
+    expect_run(&rt, alloc, input, calls, Err(RunFault::Write), &[]);
+    Ok(())
+}
+
+// A line of 65,536 blanks has no reply, and one of 65,537 is too long, also where a byte comes with each read.
+#[test]
+fn reads_lines_of_blanks_a_byte_at_a_time(rt: HostRuntime) -> Result<(), Fail> {
+    let alloc = rt.alloc();
+    let mut input = Vec::new(alloc);
+    input.resize(65_536, b' ')?;
+    input.push(b'\n')?;
+    input.resize(131_074, b' ')?;
+    input.extend_from_slice(b"\nCREATE (:A)")?;
+    let output = b"{\"at\":65536,\"code\":17,\"error\":\"LineTooLong\"}\n\
+        {\"changed\":[1,0,0,0],\"columns\":[],\"rows\":[]}\n";
+    let calls = (Calls::good(), Calls::good());
+    expect_run(&rt, alloc, input.as_slice(), calls, Ok(()), output);
     Ok(())
 }

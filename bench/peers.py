@@ -3,9 +3,9 @@
 
 Run it at the top of the repository, with Debian's package sqlite3. It builds the program by `rt run` in crates/cypher_live, or
 takes the one that is named after it. Both load 100,000 nodes and 300,000 relationships, a line each, and answer the same
-questions; SQLite has its database in memory, with an index for each column that is looked up. For each part the script
-prints how many instructions a line takes in both, and their ratio. It has no limit: it says how things stand. It ends with
-status 1 where one of them answers otherwise than it should.
+questions, some of them with paths as conditions and with UNION; SQLite has its database in memory, with an index for each column that
+is looked up. For each part the script prints how many instructions a line takes in both, and their ratio. It has no limit: it says how
+things stand. It ends with status 1 where one of them answers otherwise than it should.
 """
 import random
 import re
@@ -18,7 +18,9 @@ from session import Session
 
 NODES, RELS, TIMES, GROUPS = 100_000, 300_000, 1_000, 100
 AT_ONCE = 50
-SCHEMA = """CREATE TABLE node (id INTEGER PRIMARY KEY, k INTEGER, g INTEGER);
+# How many nodes are blocked, and how long a way to one of them may be.
+BLOCKED, LONGEST = 100, 3
+SCHEMA = """CREATE TABLE node (id INTEGER PRIMARY KEY, k INTEGER, g INTEGER, blocked INTEGER);
 CREATE INDEX node_k ON node (k);
 CREATE TABLE rel (id INTEGER PRIMARY KEY, source INTEGER, target INTEGER);
 CREATE INDEX rel_source ON rel (source);
@@ -27,6 +29,29 @@ CREATE INDEX rel_target ON rel (target);
 HOPS = (
     "SELECT count(*) FROM node a JOIN rel r ON r.source = a.id JOIN rel s ON s.source = r.target AND s.id <> r.id WHERE a.k = {};"
 )
+
+
+EITHER = (
+    "SELECT b.g FROM node a JOIN rel r ON r.source = a.id JOIN node b ON b.id = r.target WHERE a.k = {0} "
+    "UNION SELECT b.g FROM node a JOIN rel r ON r.target = a.id JOIN node b ON b.id = r.source WHERE a.k = {0};"
+)
+WAYS = """SELECT count(*) FROM node a WHERE EXISTS (SELECT 1 FROM rel r JOIN node n ON n.id = r.target WHERE r.source = a.id AND (n.blocked
+OR EXISTS (SELECT 1 FROM rel s JOIN node m ON m.id = s.target WHERE s.source = n.id AND s.id <> r.id AND (m.blocked
+OR EXISTS (SELECT 1 FROM rel t JOIN node l ON l.id = t.target WHERE t.source = m.id AND t.id <> r.id AND t.id <> s.id AND l.blocked)))));"""
+
+
+def reaching(out, marked, node):
+    """Whether a way leads from a node to one that is marked."""
+    ways = [(node, ())]
+    for _ in range(LONGEST):
+        ways = [(target, (*passed, rel)) for via, passed in ways for rel, target in out[via] if rel not in passed]
+        if any(target in marked for target, _ in ways):
+            return True
+    return False
+
+
+def listed(rows):
+    return ",".join(f"[{row}]" for row in rows)
 
 
 def counted(number):
@@ -46,11 +71,16 @@ def parts():
     out = [[] for _ in range(NODES)]
     for rel, (source, target) in enumerate(ends):
         out[source].append((rel, target))
+    into = [set() for _ in range(NODES)]
+    for source, target in ends:
+        into[target].add(source)
+    blocked = set(chance.sample(range(NODES), BLOCKED))
+    either = [sorted({via % GROUPS for via in into[k]} | {target % GROUPS for _, target in out[k]}) for k in some]
     hops = [sum(second != first for first, via in out[k] for second, _ in out[via]) for k in some]
     yield (
         "a node made",
         [(f"CREATE (:A {{k: {k}, g: {k % GROUPS}}})", changed(1, 0, 0)) for k in range(NODES)],
-        [f"INSERT INTO node (k, g) VALUES ({k}, {k % GROUPS});" for k in range(NODES)],
+        [f"INSERT INTO node (k, g, blocked) VALUES ({k}, {k % GROUPS}, 0);" for k in range(NODES)],
         [],
     )
     yield (
@@ -84,6 +114,37 @@ def parts():
         ],
         ["SELECT g, count(*) FROM node GROUP BY g;"],
         [f"{g}|{NODES // GROUPS}" for g in range(GROUPS)],
+    )
+    yield (
+        "nodes that no relationship leads to",
+        [("MATCH (a:A) WHERE NOT (a)<-[:T]-(:A) RETURN count(*) AS n", counted(sum(not it for it in into)))],
+        ["SELECT count(*) FROM node a WHERE NOT EXISTS (SELECT 1 FROM rel r JOIN node b ON b.id = r.source WHERE r.target = a.id);"],
+        [str(sum(not it for it in into))],
+    )
+    yield (
+        "a node blocked, found by its key",
+        [(f"MATCH (n:A {{k: {k}}}) SET n:Blocked", changed(0, 0, 0)) for k in blocked],
+        [f"UPDATE node SET blocked = 1 WHERE k = {k};" for k in blocked],
+        [],
+    )
+    ways = sum(reaching(out, blocked, node) for node in range(NODES))
+    yield (
+        "nodes with a way of up to three to one that is blocked",
+        [("MATCH (a:A) WHERE (a)-[:T*1..3]->(:Blocked) RETURN count(*) AS n", counted(ways))],
+        [WAYS],
+        [str(ways)],
+    )
+    yield (
+        "neighbours either way, by UNION",
+        [
+            (
+                f"MATCH (:A {{k: {k}}})-[:T]->(b) RETURN b.g AS g UNION MATCH (:A {{k: {k}}})<-[:T]-(b) RETURN b.g AS g",
+                f'{{"changed":[0,0,0,0],"columns":["g"],"rows":[{listed(groups)}]}}',
+            )
+            for k, groups in zip(some, either, strict=True)
+        ],
+        [EITHER.format(k) for k in some],
+        [str(group) for groups in either for group in groups],
     )
     yield (
         "a property changed, found by its key",

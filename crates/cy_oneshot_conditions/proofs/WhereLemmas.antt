@@ -111,6 +111,44 @@ module _ (graph : Content) (row : List Cell) where
       ap (both (path_truth graph row asked u)) (paths_more asked ts t)
       ∙ sym (both_three (path_truth graph row asked u) (paths_truth graph row asked ts) (path_truth graph row asked t))
 
+-- ---- paths after one that isn't met are not asked for
+
+module _ (graph : Content) (row : List Cell) (asked : Bool) (t : PathTest) where
+  -- the answer for a path, where it is looked for and where its maps alone are evaluated
+  abbrev sought : Result (List Cell) EvalFault → Bool → Result Bool EvalFault
+  sought maps still = on_one (λ (vs : List Cell). Ok (still && is_met graph row t)) maps
+
+  after_unmet : (maps : Result (List Cell) EvalFault) (still : Bool) → both (Ok false) (sought maps still) ≡ both (Ok false) (sought maps asked)
+  after_unmet (Ok vs) still = refl
+  after_unmet (Err fault) still = refl
+
+  after_fault : (f : EvalFault) (maps : Result (List Cell) EvalFault) (still : Bool) → both (Err f) (sought maps still) ≡ both (Err f) (sought maps asked)
+  after_fault f (Ok vs) still = refl
+  after_fault f (Err fault) still = refl
+
+  -- the answers so far and one more, which is asked for only where all so far are met
+  pub one_more : (met next result so_far : Result Bool EvalFault) → IsAnswer met (λ x. x) so_far
+      → IsAnswer next (λ x. x) (path_truth graph row (asked && is_asked met) t)
+      → ((a b : Result Bool EvalFault) → IsAnswer met (λ x. x) a → IsAnswer next (λ x. x) b → IsAnswer result (λ x. x) (both a b))
+      → ((met ≡ Err NoMemory) ⊎ (next ≡ Err NoMemory) → result ≡ Err NoMemory)
+      → IsAnswer result (λ x. x) (both so_far (path_truth graph row asked t))
+  one_more (Ok true) next result so_far is also answers memory =
+      subst (λ on. IsAnswer result (λ x. x) (both so_far (path_truth graph row on t))) (and_last asked) (answers so_far (path_truth graph row (asked && true) t) is also)
+  one_more (Ok false) next result so_far is also answers memory =
+      subst (λ o. IsAnswer result (λ x. x) o)
+      (ap (λ o. both o (path_truth graph row (asked && false) t)) is
+      ∙ after_unmet (map_values graph (t.path ∷ []) row) (asked && false)
+      ∙ ap (λ o. both o (path_truth graph row asked t)) (sym is))
+      (answers so_far (path_truth graph row (asked && false) t) is also)
+  one_more (Err f) next result so_far (inl is) also answers memory =
+      subst (λ o. IsAnswer result (λ x. x) o)
+      (ap (λ o. both o (path_truth graph row (asked && false) t)) is
+      ∙ after_fault f (map_values graph (t.path ∷ []) row) (asked && false)
+      ∙ ap (λ o. both o (path_truth graph row asked t)) (sym is))
+      (answers so_far (path_truth graph row (asked && false) t) (inl is) also)
+  one_more (Err f) next result so_far (inr none) also answers memory =
+      subst (λ o. IsAnswer o (λ x. x) (both so_far (path_truth graph row asked t))) (sym (memory (inl (ap Err none)))) (inr refl)
+
 -- ---- the whole
 
 true_both : (maps : Result (List Cell) EvalFault) (on : Bool) → both (on_one (λ (vs : List Cell). Ok on) maps) (Ok true) ≡ and_also maps (Ok on)

@@ -29,13 +29,13 @@ CRATES = {
     "cy_values": "thiserror",
     "cy_lexer": "thiserror unicode_ident",
     "cy_trees": "cy_lexer cy_values",
-    "cy_grammar": "cy_lexer cy_trees cy_values",
-    "cy_parser": "cy_grammar cy_lexer cy_trees cy_values thiserror",
-    "cy_kinds": "cy_trees cy_values thiserror",
-    "cy_scope": "cy_kinds cy_trees cy_values thiserror",
+    "cy_parser_grammar": "cy_lexer cy_trees cy_values",
+    "cy_parser": "cy_parser_grammar cy_lexer cy_trees cy_values thiserror",
+    "cy_scope_kinds": "cy_trees cy_values thiserror",
+    "cy_scope": "cy_scope_kinds cy_trees cy_values thiserror",
     "cy_graph": "cy_values indexmap smallvec thiserror",
     "cy_index": "cy_graph cy_values indexmap thiserror",
-    "cy_expr": "cy_graph cy_index cy_kinds cy_trees cy_values thiserror",
+    "cy_expr": "cy_graph cy_index cy_scope_kinds cy_trees cy_values thiserror",
 }
 LIBRARIES = "cy_expr cy_lexer cy_parser cy_scope cy_trees cy_values"
 # Reads a number and a statement, and evaluates what the statement returns so many times. Prints the last value.

@@ -7,7 +7,7 @@ there, and then it is changed by statements, of which each is counted by itself.
 subtracted, so what is counted is the upkeep, with the entry of the view's feed. A statement that concerns no part of a view is counted
 so too. The script prints the medians of both sizes with their ratio, what the dearest statement takes, in which a table of the view
 grows, and the most steps of a statement. Beside these stands what the contract of a network allows the first statement at the smaller
-size, worked out from the plan that crates/cy_plan_tests prints. Then it builds a program over a copy of the crates of memories in a
+size, worked out from the plan that crates/cy_tests_plans prints. Then it builds a program over a copy of the crates of memories in a
 temporary folder, which puts rows into a memory and looks them up, and prints what a look-up takes at both sizes, and the bytes of a row
 in each kind. A ratio or a count above its limit ends the script with status 1, and so does a line that isn't answered as it should be.
 """
@@ -41,7 +41,7 @@ KEYED_LIMIT = 3 * 2 * 32 + 64
 # reads numbers of nodes, looks up the rows of each, and prints how many there are.
 PROGRAM = """#![tactic(auto)]
 
-use cy_memory::{KeyedMemory, ListMemory, Memory, MemoryFault};
+use cy_network_memory::{KeyedMemory, ListMemory, Memory, MemoryFault};
 use cy_values::{Cell, NodeId, Row, Sequence, Value};
 use std::alloc::{AllocError, Global};
 use std::io::{self, BufRead, BufReader};
@@ -130,7 +130,7 @@ fn main(rt: HostRuntime) -> io::Result<()> {
 """
 
 # Prints the plans of queries.
-PLANS = "crates/cy_plan_tests"
+PLANS = "crates/cy_tests_plans"
 # The properties of the graphs, and what shows all nodes and relationships with them.
 KEYS = ("k", "name", "open", "text", "role", "amount")
 NODES = f"MATCH (n) RETURN n, labels(n) AS l, {', '.join(f'n.{key} AS {key}' for key in KEYS)}"
@@ -317,7 +317,7 @@ def look_up(program, nodes):
 
 def memory_program(folder):
     """The program that puts rows into memories, built in a folder."""
-    crates = {"cy_values": "thiserror", "cy_memory": "cy_values indexmap slab thiserror"}
+    crates = {"cy_values": "thiserror", "cy_network_memory": "cy_values indexmap slab thiserror"}
     for name, below in crates.items():
         shutil.copytree(f"crates/{name}", f"{folder}/crates/{name}", symlinks=True)
         with open(f"{folder}/crates.txt", "a") as it:

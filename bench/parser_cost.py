@@ -27,8 +27,8 @@ CRATES = {
     "cy_values": "thiserror",
     "cy_lexer": "thiserror unicode_ident",
     "cy_trees": "cy_lexer cy_values",
-    "cy_grammar": "cy_lexer cy_trees cy_values",
-    "cy_parser": "cy_grammar cy_lexer cy_trees cy_values thiserror",
+    "cy_parser_grammar": "cy_lexer cy_trees cy_values",
+    "cy_parser": "cy_parser_grammar cy_lexer cy_trees cy_values thiserror",
 }
 LIBRARIES = "cy_lexer cy_parser"
 # Prints how many of its lines are statements, after the number and the offset of each fault.

@@ -27,10 +27,10 @@ CRATES = {
     "cy_values": "thiserror",
     "cy_lexer": "thiserror unicode_ident",
     "cy_trees": "cy_lexer cy_values",
-    "cy_grammar": "cy_lexer cy_trees cy_values",
-    "cy_parser": "cy_grammar cy_lexer cy_trees cy_values thiserror",
-    "cy_kinds": "cy_trees cy_values thiserror",
-    "cy_scope": "cy_kinds cy_trees cy_values thiserror",
+    "cy_parser_grammar": "cy_lexer cy_trees cy_values",
+    "cy_parser": "cy_parser_grammar cy_lexer cy_trees cy_values thiserror",
+    "cy_scope_kinds": "cy_trees cy_values thiserror",
+    "cy_scope": "cy_scope_kinds cy_trees cy_values thiserror",
 }
 LIBRARIES = "cy_lexer cy_parser cy_scope"
 # Reads a word and a line. Prints the number of the fault of the statement or of the query, or 0; where the word is `parse`, the

@@ -4,7 +4,7 @@ use Rattle.cy_graph.specs.Graph.{Content}
 use Rattle.cy_engine.specs.Runs.{Event, Run, Runs, last_entries}
 use Rattle.cy_engine.specs.Model.{Machine, state_of}
 use Rattle.cy_engine.specs.State.{EngineState}
-use Rattle.cy_views.specs.Views.{AreEntries, Entries, View}
+use Rattle.cy_engine_views.specs.Views.{AreEntries, Entries, View}
 use Rattle.cy_engine.specs.Step.{Answer, Step}
 
 -- where the content stays, no view gets an entry

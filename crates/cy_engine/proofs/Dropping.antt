@@ -2,9 +2,9 @@
 use Rattle.std.proofs.Common.{◌≡◌, ℕ, true, false, cond, not, List, [], ◌∷◌, map, filter, Option, Some, None, Ok, Err, is_some, refl, ap, ◌∙◌}
 use Rattle.std.specs.Str.{bytes_eq}
 use Rattle.cy_index.specs.Index.{StoreState}
-use Rattle.cy_views.specs.declared.views.Views.{Views}
-use Rattle.cy_views.specs.Upkeep.{Held, held_in, upkeep_of, view_of, views_in}
-use Rattle.cy_views.specs.Views.{Entries, View, view_among, without}
+use Rattle.cy_engine_views.specs.declared.views.Views.{Views}
+use Rattle.cy_engine_views.specs.Upkeep.{Held, held_in, upkeep_of, view_of, views_in}
+use Rattle.cy_engine_views.specs.Views.{Entries, View, view_among, without}
 use Rattle.cy_engine.specs.Model.{machine_of, state_of}
 use Rattle.cy_engine.specs.State.{EngineState}
 use Rattle.cy_engine.specs.Step.{Answer, Drops, IsDropped, IsRefused, unkept}

@@ -6,9 +6,9 @@ use Rattle.std.specs.Str.{bytes_eq}
 use Rattle.cy_values.specs.Bag.{IsSameBag}
 use Rattle.cy_graph.specs.Graph.{Content}
 use Rattle.cy_bags.specs.declared.changes.Entry.{Entry}
-use Rattle.cy_views.specs.Views.{AreEntries, Entries, IsEntry, View, entry_at, rows_of}
-use Rattle.cy_views.specs.Upkeep.{AreNamed, IsNew}
-use Rattle.cy_views.proofs.Named.{itself, turned}
+use Rattle.cy_engine_views.specs.Views.{AreEntries, Entries, IsEntry, View, entry_at, rows_of}
+use Rattle.cy_engine_views.specs.Upkeep.{AreNamed, IsNew}
+use Rattle.cy_engine_views.proofs.Named.{itself, turned}
 
 abbrev at_name : List ℕ → Entries → Option (List ℕ × Entry)
 at_name name es = find (λ e. bytes_eq name e.0) es

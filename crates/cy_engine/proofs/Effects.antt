@@ -9,15 +9,15 @@ use Rattle.cy_trees.specs.Trees.{Statement}
 use Rattle.cy_feeds.specs.declared.feeds.Answer as feeds
 use Rattle.cy_feeds.specs.declared.feeds.Answer.TheVariants.{Entries as Since, Lagged}
 use Rattle.cy_feeds.specs.Feeds.{answer_since}
-use Rattle.cy_effects.specs.Faults.{◌>>=◌}
-use Rattle.cy_effects.specs.Statements.{statement_outcome}
+use Rattle.cy_updates_meaning.specs.Faults.{◌>>=◌}
+use Rattle.cy_updates_meaning.specs.Statements.{statement_outcome}
 use Rattle.cy_index.specs.declared.keys.Pair.{Pair}
 use Rattle.cy_engine.specs.Faults.{of_update}
 use Rattle.cy_engine.specs.declared.faults.Fault.{Fault}
 use Rattle.cy_engine.specs.declared.faults.Fault.TheVariants.{NoSuchView}
 use Rattle.cy_engine.specs.Requests.{Request, Nothing, StatementOf, ViewOf, RowsOf, SinceOf, ListOfViews, ListOfSteps, DropOf, IndexOf, Refused, request}
 use Rattle.cy_engine.specs.State.{EngineState, view_at}
-use Rattle.cy_views.specs.Views.{AreEntries, Entries, View}
+use Rattle.cy_engine_views.specs.Views.{AreEntries, Entries, View}
 use Rattle.cy_engine.specs.Step.{Answer, IsExecuted, IsMade, IsDropped, IsIndexed, Executes, Makes, Drops, Indexes, Shows, Follows, Tells, Answers, Lexed, Step}
 use Rattle.cy_engine.specs.Verdicts.{Executed, execution_verdict, index_verdict, or_fault, rows_verdict, scope_verdict, since_verdict, statement_verdict, there, tick_after, view_verdict}
 use Rattle.cy_engine.proofs.Chains.{nothing_changed}

@@ -10,7 +10,7 @@ use Rattle.cy_graph.specs.Graph.{Content, State}
 use Rattle.cy_expr.specs.declared.faults.EvalFault.{EvalFault}
 use Rattle.cy_trees.specs.Trees.{Statement}
 use Rattle.cy_scope.specs.Checked.{IsViewQuery}
-use Rattle.cy_queries.specs.Queries.{statement_columns, statement_rows}
+use Rattle.cy_oneshot_meaning.specs.Queries.{statement_columns, statement_rows}
 use Rattle.cy_bags.specs.declared.changes.Entry.{Entry}
 use Rattle.cy_feeds.specs.Feeds.{History, new_history}
 use Rattle.cy_engine.specs.declared.replies.Reply.TheVariants as reply
@@ -18,9 +18,9 @@ use Rattle.cy_engine.specs.Headline.{AreItsEntries, AsksForView, HeadlineHolds, 
 use Rattle.cy_engine.specs.Model.{Machine, state_of}
 use Rattle.cy_engine.specs.Runs.{Event, OnlySo, Run, Runs, accepted}
 use Rattle.cy_engine.specs.State.{EngineState, empty_engine}
-use Rattle.cy_views.specs.Views.{AreEntries, Entries, View, entry_at, fed, rows_of, without}
+use Rattle.cy_engine_views.specs.Views.{AreEntries, Entries, View, entry_at, fed, rows_of, without}
 use Rattle.cy_engine.specs.Step.{Answer, Step}
-use Rattle.cy_views.specs.Upkeep.{AreNamed}
+use Rattle.cy_engine_views.specs.Upkeep.{AreNamed}
 use Rattle.cy_engine.proofs.Building.{run_builds, step_leads}
 use Rattle.cy_engine.proofs.EachEntry.{each_entry}
 use Rattle.cy_engine.proofs.Effects.{Effects, effects, exact}

@@ -10,11 +10,11 @@ use Rattle.cy_lexer.specs.declared.faults.LexFault.TheVariants as lex
 use Rattle.cy_parser.specs.declared.faults.ParseFault.{ParseFault}
 use Rattle.cy_parser.specs.declared.faults.ParseFault.TheVariants as parse
 use Rattle.cy_parser.specs.Faults.{PointsAtPlace}
-use Rattle.cy_grammar.specs.SpellsClauses.{SpellsStatement}
-use Rattle.cy_kinds.specs.declared.faults.ScopeFault.{ScopeFault}
-use Rattle.cy_kinds.specs.declared.faults.ScopeFault.TheVariants as scope
-use Rattle.cy_kinds.specs.declared.faults.ViewFault.{ViewFault}
-use Rattle.cy_kinds.specs.declared.faults.ViewFault.TheVariants as view
+use Rattle.cy_parser_grammar.specs.SpellsClauses.{SpellsStatement}
+use Rattle.cy_scope_kinds.specs.declared.faults.ScopeFault.{ScopeFault}
+use Rattle.cy_scope_kinds.specs.declared.faults.ScopeFault.TheVariants as scope
+use Rattle.cy_scope_kinds.specs.declared.faults.ViewFault.{ViewFault}
+use Rattle.cy_scope_kinds.specs.declared.faults.ViewFault.TheVariants as view
 use Rattle.cy_scope.specs.ClauseFaults.{statement_fault}
 use Rattle.cy_scope.specs.Resolved.{resolved_statement}
 use Rattle.cy_scope.specs.Views.{view_fault}

@@ -8,16 +8,16 @@ use Rattle.cy_values.specs.declared.rows.Cell.{Cell}
 use Rattle.cy_values.specs.Bag.{count_of}
 use Rattle.cy_graph.specs.Graph.{Content}
 use Rattle.cy_feeds.specs.Following.{last_count}
-use Rattle.cy_plans.specs.Meaning as plans
-use Rattle.cy_plans.specs.Plans.{Plan}
-use Rattle.cy_plan_parts.specs.Memories.{AreWithin}
+use Rattle.cy_planner_algebra.specs.Meaning as plans
+use Rattle.cy_planner_algebra.specs.Plans.{Plan}
+use Rattle.cy_network_parts.specs.Memories.{AreWithin}
 use Rattle.cy_network.specs.Networks.{HasTooManyRows}
-use Rattle.cy_plan_parts.proofs.Steps.{own_within}
-use Rattle.cy_views.specs.declared.registered.Registered.{Registered}
-use Rattle.cy_views.specs.declared.views.Views.{Views}
-use Rattle.cy_views.specs.Upkeep.{Registry, Rests, SomeHasTooManyRows, StandFor, StandsFor, held, network_of, upkeep_in, upkeep_of, view_of, views_in}
-use Rattle.cy_views.specs.Views.{rows_of}
-use Rattle.cy_views.proofs.Served.{same_rows}
+use Rattle.cy_network_parts.proofs.Steps.{own_within}
+use Rattle.cy_engine_views.specs.declared.registered.Registered.{Registered}
+use Rattle.cy_engine_views.specs.declared.views.Views.{Views}
+use Rattle.cy_engine_views.specs.Upkeep.{Registry, Rests, SomeHasTooManyRows, StandFor, StandsFor, held, network_of, upkeep_in, upkeep_of, view_of, views_in}
+use Rattle.cy_engine_views.specs.Views.{rows_of}
+use Rattle.cy_engine_views.proofs.Served.{same_rows}
 use Rattle.cy_engine.specs.Step.{AreBounded}
 
 -- a part that counts too much is a part, and so it doesn't

@@ -16,7 +16,7 @@ use Rattle.cy_engine.specs.Faults.{of_lexer}
 use Rattle.cy_engine.specs.internal.Stages.{AnswersOrWants, ListsSteps, ListsViews, ShowsChanges, ShowsRows, ShowsSince}
 use Rattle.cy_engine.specs.Requests.{Request, Nothing, RowsOf, SinceOf, ListOfViews, ListOfSteps, Refused, request}
 use Rattle.cy_engine.specs.State.{EngineState}
-use Rattle.cy_views.specs.Views.{Entries, View}
+use Rattle.cy_engine_views.specs.Views.{Entries, View}
 use Rattle.cy_engine.specs.Step.{Answer, Answers, Follows, IsRefused, IsReplied, Lexed, Shows, Step, Tells}
 use Rattle.cy_engine.proofs.FromTokens.{lexed}
 

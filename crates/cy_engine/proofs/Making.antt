@@ -3,24 +3,24 @@ use Rattle.std.proofs.Common.{◌≡◌, ℕ, List, [], ◌∷◌, ◌++◌, Opt
 use Rattle.cy_lexer.specs.declared.faults.LexFault.{LexFault}
 use Rattle.cy_lexer.specs.declared.tokens.Token.{Token}
 use Rattle.cy_lexer.specs.Tokens.{tokens_of}
-use Rattle.cy_grammar.specs.SpellsClauses.{SpellsStatement}
+use Rattle.cy_parser_grammar.specs.SpellsClauses.{SpellsStatement}
 use Rattle.cy_trees.specs.Trees.{Statement}
-use Rattle.cy_kinds.specs.declared.faults.ViewFault.{ViewFault}
+use Rattle.cy_scope_kinds.specs.declared.faults.ViewFault.{ViewFault}
 use Rattle.cy_scope.specs.Resolved.{resolved_statement}
 use Rattle.cy_scope.specs.Views.{view_fault}
 use Rattle.cy_index.specs.declared.keys.Pair.{Pair}
-use Rattle.cy_queries.specs.Queries.{statement_columns}
+use Rattle.cy_oneshot_meaning.specs.Queries.{statement_columns}
 use Rattle.cy_feeds.specs.declared.feeds.Answer as feeds
 use Rattle.cy_feeds.specs.declared.feeds.Answer.TheVariants.{Entries as Since, Lagged}
 use Rattle.cy_feeds.specs.Feeds.{answer_since}
-use Rattle.cy_effects.specs.Faults.{◌>>=◌}
+use Rattle.cy_updates_meaning.specs.Faults.{◌>>=◌}
 use Rattle.cy_engine.specs.declared.faults.Fault.{Fault}
 use Rattle.cy_engine.specs.declared.faults.Fault.TheVariants as fault
 use Rattle.cy_engine.specs.declared.replies.Reply.TheVariants as reply
 use Rattle.cy_engine.specs.Headline.{AsksForView}
 use Rattle.cy_engine.specs.Requests.{Asks, Request, Nothing, StatementOf, ViewOf, RowsOf, SinceOf, ListOfViews, ListOfSteps, DropOf, IndexOf, Refused, request}
 use Rattle.cy_engine.specs.State.{EngineState}
-use Rattle.cy_views.specs.Views.{Entries, View}
+use Rattle.cy_engine_views.specs.Views.{Entries, View}
 use Rattle.cy_engine.specs.Step.{Answer, Answers, Executes, Drops, Follows, Indexes, IsMade, Lexed, Makes, Shows, Step, Tells}
 use Rattle.cy_engine.specs.Verdicts.{Executed, index_verdict, query_verdict, rows_verdict, scope_verdict, since_verdict, statement_verdict, passes, view_verdict}
 use Rattle.cy_engine.proofs.Building.{scoped}

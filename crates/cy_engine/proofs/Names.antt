@@ -1,9 +1,9 @@
 -- Views keep names of their own.
 use Rattle.std.proofs.Common.{◌≡◌, ◌⊎◌, ◌<◌, ℕ, zero, suc, false, cond, List, [], ◌∷◌, ◌++◌, find, length, get_or, Some, sym, ap, ◌∙◌, arith, inl, inr}
 use Rattle.std.specs.Str.{bytes_eq}
-use Rattle.cy_views.specs.Views.{View}
-use Rattle.cy_views.specs.Upkeep.{AreNamed, IsNew}
-use Rattle.cy_views.proofs.Named.{itself}
+use Rattle.cy_engine_views.specs.Views.{View}
+use Rattle.cy_engine_views.specs.Upkeep.{AreNamed, IsNew}
+use Rattle.cy_engine_views.proofs.Named.{itself}
 
 -- one of these views
 abbrev pub Among : View → List View → Type 0

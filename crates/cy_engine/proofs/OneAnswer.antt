@@ -6,7 +6,7 @@ use Rattle.std.specs.Cmp.{IsTotalOrder}
 use Rattle.cy_lexer.specs.declared.faults.LexFault.{LexFault}
 use Rattle.cy_lexer.specs.declared.tokens.Token.{Token}
 use Rattle.cy_lexer.specs.Tokens.{tokens_of}
-use Rattle.cy_grammar.specs.SpellsClauses.{SpellsStatement}
+use Rattle.cy_parser_grammar.specs.SpellsClauses.{SpellsStatement}
 use Rattle.cy_trees.specs.Trees.{Statement}
 use Rattle.cy_values.specs.declared.rows.Cell.{Cell}
 use Rattle.cy_values.specs.Bag.{IsSurplus}
@@ -14,8 +14,8 @@ use Rattle.cy_values.specs.Order.{row_cmp}
 use Rattle.cy_values.proofs.Identity.{same_rows}
 use Rattle.cy_graph.specs.Graph.{Content, State}
 use Rattle.cy_parser.specs.declared.faults.ParseFault.{ParseFault}
-use Rattle.cy_plans.specs.Plans as plan
-use Rattle.cy_views.specs.Upkeep.{AreKeptUp, Upkeep}
+use Rattle.cy_planner_algebra.specs.Plans as plan
+use Rattle.cy_engine_views.specs.Upkeep.{AreKeptUp, Upkeep}
 use Rattle.cy_index.specs.declared.keys.Pair.{Pair}
 use Rattle.cy_bags.specs.declared.changes.Change.{Change}
 use Rattle.cy_bags.specs.declared.changes.Entry.{Entry}
@@ -30,7 +30,7 @@ use Rattle.cy_bags.specs.Difference.{IsDifference}
 use Rattle.cy_engine.specs.Requests.{Request, Nothing, StatementOf, ViewOf, RowsOf, SinceOf, ListOfViews, ListOfSteps, DropOf, IndexOf, Refused, request}
 use Rattle.cy_engine.specs.Runs.{Agree, IsBound, is_choice, is_want, seen_answer}
 use Rattle.cy_engine.specs.State.{EngineState, seen, unplanned}
-use Rattle.cy_views.specs.Views.{AreEntries, Entries, IsEntry, View, fed, listed, rows_of, without}
+use Rattle.cy_engine_views.specs.Views.{AreEntries, Entries, IsEntry, View, fed, listed, rows_of, without}
 use Rattle.cy_engine.specs.Step.{Answer, AreRows, IsRefused, IsReplied, Executes, KeepsUp, Lacks, Makes, Drops, Indexes, Shows, Follows, Tells, Answers, Lexed, Step, unkept}
 use Rattle.cy_engine.specs.Verdicts.{Executed, index_verdict, rows_verdict, same_content, since_verdict, statement_verdict, view_verdict}
 use Rattle.cy_bags.proofs.Surpluses.{same_pairs}

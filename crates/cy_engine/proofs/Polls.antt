@@ -11,7 +11,7 @@ use Rattle.cy_graph.specs.Graph.{Content}
 use Rattle.cy_feeds.specs.declared.feeds.Answer.TheVariants.{Entries as Since, Lagged}
 use Rattle.cy_feeds.specs.Feeds.{History, entries_after}
 use Rattle.cy_feeds.specs.Following.{FollowersGoOn, IsCopy, NewFeedsTell, PushedFeedsTell, QuietFeedsTell}
-use Rattle.cy_effects.specs.Faults.{◌>>=◌}
+use Rattle.cy_updates_meaning.specs.Faults.{◌>>=◌}
 use Rattle.cy_engine.specs.declared.faults.Fault.{Fault}
 use Rattle.cy_engine.specs.declared.faults.Fault.TheVariants as fault
 use Rattle.cy_engine.specs.declared.replies.Reply.TheVariants as reply
@@ -19,10 +19,10 @@ use Rattle.cy_engine.specs.Followers.{Copy, FollowersAgree, IsCurrent, IsLedBy, 
 use Rattle.cy_engine.specs.Requests.{Asks, Request, RowsOf, SinceOf}
 use Rattle.cy_engine.specs.Runs.{Event, Run}
 use Rattle.cy_engine.specs.State.{EngineState, empty_engine, view_at}
-use Rattle.cy_views.specs.Views.{Entries, View, entry_at, fed, rows_of, without}
+use Rattle.cy_engine_views.specs.Views.{Entries, View, entry_at, fed, rows_of, without}
 use Rattle.cy_engine.specs.Step.{Answer, Answers, AreRows, Follows, IsRefused, Lexed, Shows, Step, Tells}
 use Rattle.cy_engine.specs.Verdicts.{needs, there}
-use Rattle.cy_views.specs.Upkeep.{AreNamed}
+use Rattle.cy_engine_views.specs.Upkeep.{AreNamed}
 use Rattle.cy_trees.specs.Trees.{Statement}
 use Rattle.cy_engine.proofs.Bounds.{AllLimited, IsLater, base_rises, later_entries, limited_step}
 use Rattle.cy_engine.proofs.Effects.{Effects, effects}

@@ -1,19 +1,19 @@
 -- The queries of views: what the verdicts say of them.
 use Rattle.std.proofs.Common.{◌≡◌, ℕ, ◌+◌, ◌==◌, List, Bool, true, false, cond, nat_le, nat_lt, length, Option, Some, None, Result, Ok, Err, refl, sym, subst}
 use Rattle.cy_trees.specs.Trees.{Statement}
-use Rattle.cy_kinds.specs.declared.faults.ScopeFault.{ScopeFault}
-use Rattle.cy_kinds.specs.declared.faults.ViewFault.{ViewFault}
+use Rattle.cy_scope_kinds.specs.declared.faults.ScopeFault.{ScopeFault}
+use Rattle.cy_scope_kinds.specs.declared.faults.ViewFault.{ViewFault}
 use Rattle.cy_scope.specs.Checked.{IsChecked, IsViewQuery}
 use Rattle.cy_scope.specs.ClauseFaults.{statement_fault}
 use Rattle.cy_scope.specs.Resolved.{resolved_statement}
 use Rattle.cy_scope.specs.Views.{view_fault}
 use Rattle.cy_feeds.specs.Feeds.{new_history}
-use Rattle.cy_effects.specs.Faults.{◌>>=◌}
+use Rattle.cy_updates_meaning.specs.Faults.{◌>>=◌}
 use Rattle.cy_planner.specs.Weight.{greatest_weight, weight}
 use Rattle.cy_engine.specs.declared.faults.Fault.{Fault}
 use Rattle.cy_engine.specs.declared.faults.Fault.TheVariants as fault
 use Rattle.cy_engine.specs.State.{EngineState, last_tick, view_at}
-use Rattle.cy_views.specs.Views.{View, view_limit}
+use Rattle.cy_engine_views.specs.Views.{View, view_limit}
 use Rattle.cy_engine.specs.Verdicts.{making_verdict, needs, next_tick, query_verdict, scope_verdict, passes, view_verdict}
 
 pub bind_ok : {A B : Type 0} (r : Result A Fault) (f : A → Result B Fault) (y : B) → (r >>= f) ≡ Ok y → (x : A) × (r ≡ Ok x) × (f x ≡ Ok y)

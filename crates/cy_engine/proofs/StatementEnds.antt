@@ -4,11 +4,11 @@ use Rattle.cy_graph.specs.Graph.{Content, State, Versions}
 use Rattle.cy_index.specs.Index.{StoreState}
 use Rattle.cy_lexer.specs.declared.tokens.Token.{Token}
 use Rattle.cy_trees.specs.Trees.{Statement}
-use Rattle.cy_effects.specs.Statements.{Outcome, statement_outcome}
-use Rattle.cy_touches.specs.Changes.{before_change}
-use Rattle.cy_views.specs.declared.views.Views.{Views}
-use Rattle.cy_views.specs.Upkeep.{AreKeptUp, Held, SomeHasTooManyRows, StandFor, Upkeep, held_in, upkeep_in, upkeep_of, view_of, views_in}
-use Rattle.cy_views.specs.Views.{Entries, View, fed}
+use Rattle.cy_updates_meaning.specs.Statements.{Outcome, statement_outcome}
+use Rattle.cy_network_touches.specs.Changes.{before_change}
+use Rattle.cy_engine_views.specs.declared.views.Views.{Views}
+use Rattle.cy_engine_views.specs.Upkeep.{AreKeptUp, Held, SomeHasTooManyRows, StandFor, Upkeep, held_in, upkeep_in, upkeep_of, view_of, views_in}
+use Rattle.cy_engine_views.specs.Views.{Entries, View, fed}
 use Rattle.cy_engine.specs.declared.engine.Effect.{Effect}
 use Rattle.cy_engine.specs.declared.faults.Fault.{Fault}
 use Rattle.cy_engine.specs.declared.replies.Reply.{Reply}

@@ -5,11 +5,11 @@ use Rattle.std.specs.Str.{bytes_eq}
 use Rattle.cy_bags.specs.declared.changes.Entry.{Entry}
 use Rattle.cy_feeds.specs.Feeds.{pushed}
 use Rattle.cy_engine.specs.State.{EngineState}
-use Rattle.cy_views.specs.Views.{Entries, View, entry_at, fed, without}
+use Rattle.cy_engine_views.specs.Views.{Entries, View, entry_at, fed, without}
 use Rattle.cy_engine.specs.Step.{Answer}
-use Rattle.cy_views.specs.Upkeep.{AreNamed, IsNew}
+use Rattle.cy_engine_views.specs.Upkeep.{AreNamed, IsNew}
 use Rattle.cy_engine.proofs.Effects.{Effects}
-use Rattle.cy_views.proofs.Named.{new_last}
+use Rattle.cy_engine_views.proofs.Named.{new_last}
 
 -- a view that is taken out
 pub new_without : (name other : List ℕ) (views : List View) → IsNew other views → IsNew other (without name views)

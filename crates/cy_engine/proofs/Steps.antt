@@ -9,21 +9,21 @@ use Rattle.cy_graph.specs.Graph.{State}
 use Rattle.cy_index.specs.Index.{StoreState, has_pair}
 use Rattle.cy_index.specs.declared.faults.IndexFault.{IndexFault}
 use Rattle.cy_index.specs.declared.faults.IndexFault.TheVariants as index
-use Rattle.cy_queries.specs.Queries.{statement_columns}
+use Rattle.cy_oneshot_meaning.specs.Queries.{statement_columns}
 use Rattle.cy_feeds.specs.Feeds.{new_history}
-use Rattle.cy_plans.specs.declared.operators.Operator.{Operator}
-use Rattle.cy_plans.specs.Views.{plan_of}
+use Rattle.cy_planner_algebra.specs.declared.operators.Operator.{Operator}
+use Rattle.cy_planner_algebra.specs.Views.{plan_of}
 use Rattle.cy_planner.specs.Serves.{Serves}
 use Rattle.cy_planner.specs.Weight.{greatest_weight, weight}
-use Rattle.cy_effects.specs.Faults.{◌>>=◌}
-use Rattle.cy_effects.specs.Statements.{Outcome, statement_outcome}
-use Rattle.cy_effects.specs.declared.faults.UpdateFault.{UpdateFault}
-use Rattle.cy_effects.specs.declared.faults.UpdateFault.TheVariants as update
-use Rattle.cy_views.specs.declared.faults.UpkeepFault.{UpkeepFault}
-use Rattle.cy_views.specs.declared.faults.UpkeepFault.TheVariants as upkeep
-use Rattle.cy_views.specs.declared.views.Views.{Views}
-use Rattle.cy_views.specs.Upkeep.{IsUnkept, StandFor, held_in, new_held, upkeep_of, view_of}
-use Rattle.cy_views.specs.Views.{Entries, View, view_limit}
+use Rattle.cy_updates_meaning.specs.Faults.{◌>>=◌}
+use Rattle.cy_updates_meaning.specs.Statements.{Outcome, statement_outcome}
+use Rattle.cy_updates_meaning.specs.declared.faults.UpdateFault.{UpdateFault}
+use Rattle.cy_updates_meaning.specs.declared.faults.UpdateFault.TheVariants as update
+use Rattle.cy_engine_views.specs.declared.faults.UpkeepFault.{UpkeepFault}
+use Rattle.cy_engine_views.specs.declared.faults.UpkeepFault.TheVariants as upkeep
+use Rattle.cy_engine_views.specs.declared.views.Views.{Views}
+use Rattle.cy_engine_views.specs.Upkeep.{IsUnkept, StandFor, held_in, new_held, upkeep_of, view_of}
+use Rattle.cy_engine_views.specs.Views.{Entries, View, view_limit}
 use Rattle.cy_engine.specs.Faults.{of_index, of_update, of_upkeep}
 use Rattle.cy_engine.specs.declared.faults.Fault.{Fault}
 use Rattle.cy_engine.specs.declared.faults.Fault.TheVariants as fault

@@ -9,8 +9,8 @@ use Rattle.cy_feeds.specs.declared.feeds.Answer.TheVariants.{Entries as Since, L
 use Rattle.cy_feeds.specs.Feeds.{IsRising, entries_after}
 use Rattle.cy_feeds.specs.Following.{FollowersGoOn, IsCopy, NewFeedsTell, PushedFeedsTell, QuietFeedsTell, count_after, has_tick, last_count}
 use Rattle.cy_feeds.proofs.GoingOn.{Differ, InTime, Silent, copies_change, goes_on_after, other_tick}
-use Rattle.cy_effects.specs.Faults.{◌>>=◌}
-use Rattle.cy_views.specs.Views.{View}
+use Rattle.cy_updates_meaning.specs.Faults.{◌>>=◌}
+use Rattle.cy_engine_views.specs.Views.{View}
 use Rattle.cy_engine.specs.declared.faults.Fault.{Fault}
 use Rattle.cy_engine.specs.declared.faults.Fault.TheVariants as fault
 use Rattle.cy_engine.specs.declared.replies.Reply.TheVariants as reply

@@ -13,7 +13,7 @@ use Rattle.cy_engine.specs.declared.replies.Reply.{Reply}
 use Rattle.cy_engine.specs.Requests.{Request, Nothing, StatementOf, ViewOf, RowsOf, SinceOf, ListOfViews, ListOfSteps, DropOf, IndexOf, Refused, request}
 use Rattle.cy_engine.specs.Runs.{Event, Run, Agree, IsBound, IsDetermined, OnlySo, accepted, accepted_before, is_choice, is_want, seen_answer, seen_event}
 use Rattle.cy_engine.specs.State.{EngineState, seen}
-use Rattle.cy_views.specs.Views.{Entries, View}
+use Rattle.cy_engine_views.specs.Views.{Entries, View}
 use Rattle.cy_engine.specs.Step.{Answer, Executes, Makes, Drops, Indexes, Shows, Follows, Tells, Answers, Lexed, Step}
 use Rattle.cy_engine.specs.Verdicts.{Executed, index_verdict, rows_verdict, since_verdict, statement_verdict, view_verdict}
 

@@ -15,12 +15,12 @@ use Rattle.cy_lexer.specs.Symbols.{symbol}
 use Rattle.cy_lexer.specs.Tokens.{piece, tokens_from, tokens_of}
 use Rattle.cy_trees.specs.declared.expressions.Variable.{Variable}
 use Rattle.cy_trees.specs.Trees.{Name, Expression, null, integer, variable, property, MapEntry, NodePattern, Path, Item, Projection, set_property, Where, Clause, «match», «return», create, set, delete, Statement}
-use Rattle.cy_grammar.specs.Words.{denotes, slice_in}
+use Rattle.cy_parser_grammar.specs.Words.{denotes, slice_in}
 use Rattle.cy_lexer.specs.Numbers.{greatest_number}
-use Rattle.cy_grammar.specs.Spells as spell
-use Rattle.cy_grammar.specs.SpellsClauses.{SpellsStatement, SpellsClause, SpellsQuery, SpellsExpression, SpellsNode, most_levels, reading, updating, ended}
-use Rattle.cy_grammar.specs.SpellsClauses as spelt
-use Rattle.cy_grammar.proofs.ShownExpressions.{as_whole}
+use Rattle.cy_parser_grammar.specs.Spells as spell
+use Rattle.cy_parser_grammar.specs.SpellsClauses.{SpellsStatement, SpellsClause, SpellsQuery, SpellsExpression, SpellsNode, most_levels, reading, updating, ended}
+use Rattle.cy_parser_grammar.specs.SpellsClauses as spelt
+use Rattle.cy_parser_grammar.proofs.ShownExpressions.{as_whole}
 
 -- ---- tokens and trees
 

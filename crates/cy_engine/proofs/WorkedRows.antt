@@ -7,9 +7,9 @@ use Rattle.cy_lexer.specs.declared.faults.LexFault.TheVariants as lex
 use Rattle.cy_lexer.specs.declared.symbols.Symbol.TheVariants as sign
 use Rattle.cy_lexer.specs.declared.tokens.TokenKind.TheVariants as kind
 use Rattle.cy_lexer.specs.declared.tokens.Token.{Token}
-use Rattle.cy_grammar.specs.Words.{denotes, slice_in}
-use Rattle.cy_kinds.specs.declared.faults.ScopeFault.TheVariants as scope
-use Rattle.cy_kinds.specs.declared.faults.ViewFault.TheVariants as view_fault
+use Rattle.cy_parser_grammar.specs.Words.{denotes, slice_in}
+use Rattle.cy_scope_kinds.specs.declared.faults.ScopeFault.TheVariants as scope
+use Rattle.cy_scope_kinds.specs.declared.faults.ViewFault.TheVariants as view_fault
 use Rattle.cy_scope.specs.Resolved.{resolved_statement}
 use Rattle.cy_trees.specs.Trees.{integer, Statement}
 use Rattle.cy_values.specs.declared.numbers.NodeId.{NodeId}
@@ -20,8 +20,8 @@ use Rattle.cy_values.specs.declared.rows.Cell.TheVariants as cell
 use Rattle.cy_values.specs.Bag.{count_of}
 use Rattle.cy_graph.specs.Graph.{State, empty_state, number_end}
 use Rattle.cy_graph.specs.declared.nodes.Node.{Node}
-use Rattle.cy_effects.specs.declared.faults.UpdateFault.TheVariants as update
-use Rattle.cy_effects.specs.Statements.{Outcome}
+use Rattle.cy_updates_meaning.specs.declared.faults.UpdateFault.TheVariants as update
+use Rattle.cy_updates_meaning.specs.Statements.{Outcome}
 use Rattle.cy_bags.specs.declared.changes.Entry.{Entry}
 use Rattle.cy_engine.specs.declared.faults.Fault.TheVariants as fault
 use Rattle.cy_engine.specs.declared.replies.Reply.TheVariants as reply
@@ -30,10 +30,10 @@ use Rattle.cy_feeds.specs.Feeds.{new_history}
 use Rattle.cy_engine.specs.Requests.{request, StatementOf, ViewOf, RowsOf, IndexOf, Refused, without_end}
 use Rattle.cy_engine.specs.Model.{machine_of, new_machine, state_of}
 use Rattle.cy_engine.specs.State.{EngineState, last_tick, seen, view_at}
-use Rattle.cy_plans.specs.Plans as plan
-use Rattle.cy_views.specs.declared.views.Views.{Views}
-use Rattle.cy_views.specs.Upkeep.{Upkeep, held_in, upkeep_in, views_in}
-use Rattle.cy_views.specs.Views.{Entries, View, entry_at, rows_of}
+use Rattle.cy_planner_algebra.specs.Plans as plan
+use Rattle.cy_engine_views.specs.declared.views.Views.{Views}
+use Rattle.cy_engine_views.specs.Upkeep.{Upkeep, held_in, upkeep_in, views_in}
+use Rattle.cy_engine_views.specs.Views.{Entries, View, entry_at, rows_of}
 use Rattle.cy_engine.specs.Headline.{entries_of}
 use Rattle.cy_engine.specs.Runs.{Event, accepted}
 use Rattle.cy_engine.specs.Verdicts.{execution_verdict, statement_verdict, query_verdict, rows_verdict, since_verdict, index_verdict, view_verdict}

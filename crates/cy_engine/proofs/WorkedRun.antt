@@ -12,8 +12,8 @@ use Rattle.cy_lexer.specs.declared.faults.LexFault.{LexFault}
 use Rattle.cy_lexer.specs.declared.keywords.Keyword.TheVariants as word
 use Rattle.cy_lexer.specs.declared.tokens.Token.{Token}
 use Rattle.cy_lexer.specs.Tokens.{tokens_of}
-use Rattle.cy_grammar.specs.Words.{denotes, slice_in}
-use Rattle.cy_kinds.specs.declared.faults.ScopeFault.TheVariants as scope
+use Rattle.cy_parser_grammar.specs.Words.{denotes, slice_in}
+use Rattle.cy_scope_kinds.specs.declared.faults.ScopeFault.TheVariants as scope
 use Rattle.cy_scope.specs.Resolved.{resolved_statement}
 use Rattle.cy_trees.specs.Trees.{integer, null, Statement}
 use Rattle.cy_values.specs.declared.scalars.Value.{Value}
@@ -31,16 +31,16 @@ use Rattle.cy_engine.specs.Requests.{request}
 use Rattle.cy_engine.specs.Runs.{Event, Run}
 use Rattle.cy_engine.specs.State.{EngineState, empty_engine}
 use Rattle.cy_feeds.specs.Following.{last_count}
-use Rattle.cy_plans.specs.Meaning as plans
-use Rattle.cy_plans.specs.Plans.{Plan}
-use Rattle.cy_plans.specs.Within.{CountsWithin, IsWithin}
+use Rattle.cy_planner_algebra.specs.Meaning as plans
+use Rattle.cy_planner_algebra.specs.Plans.{Plan}
+use Rattle.cy_planner_algebra.specs.Within.{CountsWithin, IsWithin}
 use Rattle.cy_planner.specs.Serves.{Serves}
 use Rattle.cy_planner.specs.WideTables.{wide_tables}
 use Rattle.cy_graph.specs.Graph.{State, IsGraph, number_end}
 use Rattle.cy_graph.specs.Maps.{rises}
 use Rattle.cy_graph.specs.Stored.{IsStorable}
-use Rattle.cy_views.specs.Upkeep.{IsWithinCost, SomeHasTooManyRows, Upkeep}
-use Rattle.cy_views.specs.Views.{Entries, View}
+use Rattle.cy_engine_views.specs.Upkeep.{IsWithinCost, SomeHasTooManyRows, Upkeep}
+use Rattle.cy_engine_views.specs.Views.{Entries, View}
 use Rattle.cy_engine.specs.Step.{Answer, Answers, Lexed, Step}
 use Rattle.cy_bags.specs.internal.Counting.{counted_rows}
 use Rattle.cy_bags.specs.internal.Surplus.{surplus_of}

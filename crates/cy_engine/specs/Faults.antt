@@ -6,20 +6,20 @@ use Rattle.cy_lexer.specs.Faults as lexer
 use Rattle.cy_parser.specs.declared.faults.ParseFault.{ParseFault}
 use Rattle.cy_parser.specs.declared.faults.ParseFault.TheVariants as parse
 use Rattle.cy_parser.specs.Faults as parser
-use Rattle.cy_kinds.specs.declared.faults.ScopeFault.{ScopeFault}
-use Rattle.cy_kinds.specs.declared.faults.ScopeFault.TheVariants as scope
-use Rattle.cy_kinds.specs.declared.faults.ViewFault.{ViewFault}
-use Rattle.cy_kinds.specs.declared.faults.ViewFault.TheVariants as view
-use Rattle.cy_kinds.specs.Faults.{scope_code, view_code}
+use Rattle.cy_scope_kinds.specs.declared.faults.ScopeFault.{ScopeFault}
+use Rattle.cy_scope_kinds.specs.declared.faults.ScopeFault.TheVariants as scope
+use Rattle.cy_scope_kinds.specs.declared.faults.ViewFault.{ViewFault}
+use Rattle.cy_scope_kinds.specs.declared.faults.ViewFault.TheVariants as view
+use Rattle.cy_scope_kinds.specs.Faults.{scope_code, view_code}
 use Rattle.cy_graph.specs.declared.faults.GraphFault.{GraphFault}
 use Rattle.cy_index.specs.declared.faults.IndexFault.{IndexFault}
 use Rattle.cy_index.specs.declared.faults.IndexFault.TheVariants as index
 use Rattle.cy_expr.specs.declared.faults.EvalFault.{EvalFault}
-use Rattle.cy_effects.specs.declared.faults.UpdateFault.{UpdateFault}
-use Rattle.cy_effects.specs.declared.faults.UpdateFault.TheVariants as update
-use Rattle.cy_effects.specs.Faults as updates
-use Rattle.cy_views.specs.declared.faults.UpkeepFault.{UpkeepFault}
-use Rattle.cy_views.specs.declared.faults.UpkeepFault.TheVariants as upkeep
+use Rattle.cy_updates_meaning.specs.declared.faults.UpdateFault.{UpdateFault}
+use Rattle.cy_updates_meaning.specs.declared.faults.UpdateFault.TheVariants as update
+use Rattle.cy_updates_meaning.specs.Faults as updates
+use Rattle.cy_engine_views.specs.declared.faults.UpkeepFault.{UpkeepFault}
+use Rattle.cy_engine_views.specs.declared.faults.UpkeepFault.TheVariants as upkeep
 use Rattle.cy_engine.specs.declared.faults.Fault.{Fault}
 use Rattle.cy_engine.specs.declared.faults.Fault.TheVariants.{Lex, Parse, Scope, View, Update, Full, ViewNameTaken, NoSuchView, PlanTooLarge, TooManyViews, TooManyRows, UnknownCommand, IndexThere, BadArgument, FutureTick, NoMemory}
 

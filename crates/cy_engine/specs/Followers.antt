@@ -9,7 +9,7 @@ use Rattle.cy_engine.specs.declared.replies.Reply.TheVariants as reply
 use Rattle.cy_engine.specs.Requests.{Asks, RowsOf, SinceOf}
 use Rattle.cy_engine.specs.Runs.{Event, Run}
 use Rattle.cy_engine.specs.State.{EngineState, empty_engine, view_at}
-use Rattle.cy_views.specs.Views.{View}
+use Rattle.cy_engine_views.specs.Views.{View}
 use Rattle.cy_engine.specs.Step.{Answer, AreRows, Step}
 
 -- ---- what a follower has

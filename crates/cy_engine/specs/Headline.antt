@@ -1,14 +1,14 @@
 -- The headline: what holds of the views, their entries and the graph after any list of lines (own).
 use Rattle.std.specs.Prelude.{◌≡◌, ℕ, ◌+◌, ◌-◌, List, [], ◌∷◌, ◌++◌, Contains, Option, Some, None, Ok}
 use Rattle.cy_lexer.specs.declared.tokens.Token.{Token}
-use Rattle.cy_grammar.specs.SpellsClauses.{SpellsStatement}
+use Rattle.cy_parser_grammar.specs.SpellsClauses.{SpellsStatement}
 use Rattle.cy_trees.specs.Trees.{Statement}
 use Rattle.cy_scope.specs.Resolved.{resolved_statement}
 use Rattle.cy_values.specs.declared.rows.Cell.{Cell}
 use Rattle.cy_values.specs.Bag.{IsSameBag, count_of, weight_of}
 use Rattle.cy_graph.specs.Graph.{State, empty_state}
-use Rattle.cy_queries.specs.Queries.{statement_columns, statement_rows}
-use Rattle.cy_effects.specs.Statements.{Outcome, statement_outcome}
+use Rattle.cy_oneshot_meaning.specs.Queries.{statement_columns, statement_rows}
+use Rattle.cy_updates_meaning.specs.Statements.{Outcome, statement_outcome}
 use Rattle.cy_bags.specs.declared.changes.Entry.{Entry}
 use Rattle.cy_feeds.specs.Feeds.{History, new_history, pushed}
 use Rattle.cy_engine.specs.declared.replies.Reply.TheVariants as reply
@@ -16,7 +16,7 @@ use Rattle.cy_engine.specs.Model.{Machine, new_machine, state_of}
 use Rattle.cy_engine.specs.Requests.{Asks, StatementOf, ViewOf}
 use Rattle.cy_engine.specs.Runs.{Event, OnlySo, Run, Runs, accepted}
 use Rattle.cy_engine.specs.State.{EngineState, empty_engine, view_at}
-use Rattle.cy_views.specs.Views.{AreEntries, Entries, IsEntry, View, entry_at, rows_of}
+use Rattle.cy_engine_views.specs.Views.{AreEntries, Entries, IsEntry, View, entry_at, rows_of}
 use Rattle.cy_engine.specs.Step.{Answer, AreRows, Step, changed_by}
 use Rattle.cy_engine.specs.Verdicts.{tick_after}
 

@@ -3,9 +3,9 @@ use Rattle.std.specs.Prelude.{ℕ, List, [], map}
 use Rattle.cy_graph.specs.Graph.{State, empty_state}
 use Rattle.cy_index.specs.Index.{StoreState}
 use Rattle.cy_index.specs.declared.keys.Pair.{Pair}
-use Rattle.cy_views.specs.declared.views.Views.{Views}
-use Rattle.cy_views.specs.Upkeep.{Held, held_in, upkeep_of, view_of}
-use Rattle.cy_views.specs.Views.{Entries}
+use Rattle.cy_engine_views.specs.declared.views.Views.{Views}
+use Rattle.cy_engine_views.specs.Upkeep.{Held, held_in, upkeep_of, view_of}
+use Rattle.cy_engine_views.specs.Views.{Entries}
 use Rattle.cy_engine.specs.State.{EngineState}
 
 -- an engine between two lines, with the entries that the last line made

@@ -6,7 +6,7 @@ use Rattle.cy_lexer.specs.declared.tokens.Token.{Token}
 use Rattle.cy_lexer.specs.declared.symbols.Symbol.TheVariants as sign
 use Rattle.cy_lexer.specs.Keywords.{same_word}
 use Rattle.cy_lexer.specs.Tokens.{tokens_of}
-use Rattle.cy_grammar.specs.Words.{is_word, denotes, slice_in}
+use Rattle.cy_parser_grammar.specs.Words.{is_word, denotes, slice_in}
 use Rattle.cy_lexer.specs.Numbers.{greatest_number}
 use Rattle.cy_engine.specs.declared.faults.Fault.{Fault}
 use Rattle.cy_engine.specs.declared.faults.Fault.TheVariants.{UnknownCommand, BadArgument}

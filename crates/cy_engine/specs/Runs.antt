@@ -5,7 +5,7 @@ use Rattle.cy_engine.specs.declared.faults.Fault.TheVariants as fault
 use Rattle.cy_engine.specs.Model.{Machine, state_of}
 use Rattle.cy_engine.specs.declared.replies.Reply.TheVariants as reply
 use Rattle.cy_engine.specs.State.{EngineState, seen}
-use Rattle.cy_views.specs.Views.{Entries}
+use Rattle.cy_engine_views.specs.Views.{Entries}
 use Rattle.cy_engine.specs.Step.{Answer, Step}
 
 -- a line, its answer and the entries that it made

@@ -9,23 +9,23 @@ use Rattle.cy_lexer.specs.Tokens.{tokens_of}
 use Rattle.cy_parser.specs.declared.faults.ParseFault.{ParseFault}
 use Rattle.cy_parser.specs.declared.faults.ParseFault.TheVariants as parse
 use Rattle.cy_parser.specs.Faults.{PointsAtPlace}
-use Rattle.cy_grammar.specs.SpellsClauses.{SpellsStatement}
+use Rattle.cy_parser_grammar.specs.SpellsClauses.{SpellsStatement}
 use Rattle.cy_trees.specs.Trees.{Statement}
 use Rattle.cy_values.specs.declared.rows.Cell.{Cell}
 use Rattle.cy_values.specs.Bag.{count_of}
 use Rattle.cy_graph.specs.Graph.{Content, State}
 use Rattle.cy_index.specs.declared.keys.Pair.{Pair}
-use Rattle.cy_queries.specs.Queries.{statement_columns}
-use Rattle.cy_effects.specs.Counts.{Counts}
+use Rattle.cy_oneshot_meaning.specs.Queries.{statement_columns}
+use Rattle.cy_updates_meaning.specs.Counts.{Counts}
 use Rattle.cy_feeds.specs.declared.feeds.Answer as feeds
 use Rattle.cy_feeds.specs.declared.feeds.Answer.TheVariants.{Entries as Since, Lagged}
 use Rattle.cy_feeds.specs.Feeds.{answer_since}
 use Rattle.cy_feeds.specs.Following.{last_count}
-use Rattle.cy_plans.specs.Plans.{Plan}
+use Rattle.cy_planner_algebra.specs.Plans.{Plan}
 use Rattle.cy_network.specs.Networks.{HasTooManyRows}
 use Rattle.cy_planner.specs.Serves.{Serves}
-use Rattle.cy_views.specs.Upkeep.{AreKeptUp, SomeHasTooManyRows, Upkeep}
-use Rattle.cy_views.specs.Views.{AreEntries, AreRowsOf, Entries, View, fed, listed, rows_of, without}
+use Rattle.cy_engine_views.specs.Upkeep.{AreKeptUp, SomeHasTooManyRows, Upkeep}
+use Rattle.cy_engine_views.specs.Views.{AreEntries, AreRowsOf, Entries, View, fed, listed, rows_of, without}
 use Rattle.cy_engine.specs.declared.faults.Fault.{Fault}
 use Rattle.cy_engine.specs.declared.faults.Fault.TheVariants as fault
 use Rattle.cy_engine.specs.declared.replies.Changed.{Changed}

@@ -3,12 +3,12 @@
 ghost use Rattle.std.specs.Prelude.{◌≡◌, ◌≤◌, ◌⊎◌, [], IfErr, IfOk, IsOk, IsSome, OnErr, Ok, Err};
 ghost use Rattle.std.specs.Option.{option_copied};
 ghost use Rattle.cy_trees.specs.Views.{statement_of};
-ghost use Rattle.cy_queries.specs.Queries.{statement_columns};
+ghost use Rattle.cy_oneshot_meaning.specs.Queries.{statement_columns};
 ghost use Rattle.cy_updates.specs.Answers.{outcome_seen};
 ghost use Rattle.cy_graph.specs.Graph.{State};
-ghost use Rattle.cy_touches.specs.Changes.{before_change};
-ghost use Rattle.cy_views.specs.Upkeep.{StandFor, held_in, upkeep_in};
-ghost use Rattle.cy_views.specs.Views.{View, entry_at};
+ghost use Rattle.cy_network_touches.specs.Changes.{before_change};
+ghost use Rattle.cy_engine_views.specs.Upkeep.{StandFor, held_in, upkeep_in};
+ghost use Rattle.cy_engine_views.specs.Views.{View, entry_at};
 ghost use Rattle.cy_engine.specs.Model.{new_machine, state_of};
 ghost use Rattle.cy_engine.specs.Requests.{StatementOf, ViewOf};
 ghost use Rattle.cy_engine.specs.State.{last_tick};
@@ -21,6 +21,7 @@ use crate::reading::{read_query, read_statement};
 use crate::replies::{Changed, Reply};
 use crate::requests::{Request, read_request};
 use cy_bags::Entry;
+use cy_engine_views::{Views, columns_of};
 use cy_feeds::Answer;
 use cy_index::Store;
 use cy_lexer::{Token, lex};
@@ -28,7 +29,6 @@ use cy_oneshot::Table;
 use cy_scope::ViewQuery;
 use cy_updates::{StatementAnswer, execute};
 use cy_values::{Duplicate, Row, Sequence, Text};
-use cy_views::{Views, columns_of};
 use std::alloc::Global;
 use std::marker::Model;
 
@@ -60,7 +60,7 @@ struct Effect {
 impl Model for Engine {
     ghost use Rattle.std.specs.Coded.{codes};
     ghost use Rattle.cy_trees.specs.contracts.expressions.Expr as expr;
-    ghost use Rattle.cy_plans.specs.contracts.operators.Operator as operator;
+    ghost use Rattle.cy_planner_algebra.specs.contracts.operators.Operator as operator;
     ghost use Rattle.cy_engine.specs.Model.{Machine};
 
     ghost Value = { Machine };

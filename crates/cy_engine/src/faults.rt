@@ -4,14 +4,14 @@ ghost use Rattle.std.specs.Prelude.{◌≡◌};
 ghost use Rattle.cy_engine.specs.Faults.{code_of, offset_of, of_evaluation, of_graph, of_index, of_lexer, of_parser, of_scope, of_update, of_upkeep, of_view};
 ghost use Rattle.cy_engine.specs.declared.faults.Fault.TheVariants.{NoMemory};
 
-use cy_effects::UpdateFault;
+use cy_engine_views::UpkeepFault;
 use cy_expr::EvalFault;
 use cy_graph::GraphFault;
 use cy_index::IndexFault;
-use cy_kinds::{ScopeFault, ViewFault};
 use cy_lexer::LexFault;
 use cy_parser::ParseFault;
-use cy_views::UpkeepFault;
+use cy_scope_kinds::{ScopeFault, ViewFault};
+use cy_updates_meaning::UpdateFault;
 use std::alloc::{AllocError, AllocFailed};
 use thiserror::Error;
 

@@ -5,8 +5,8 @@ ghost use Rattle.cy_engine.specs.Headline.{EntriesAreExact, HeadlineHolds};
 ghost use Rattle.cy_engine.specs.Runs.{IsDetermined, RefusedLinesLeaveNoTrace};
 
 use cy_feeds::laws::{feeds_tell, followers_go_on};
+use cy_oneshot_meaning::laws::view_queries;
 use cy_parser::trees_and_texts;
-use cy_queries::laws::view_queries;
 use cy_values::row_order_laws;
 
 /// What becomes of a line is determined, but for what is free: whether memory runs out, too many rows in a part of a plan, the parser's choice among

@@ -10,7 +10,7 @@ mod requests;
 mod runs;
 
 pub use cy_bags::{Change, Entry};
-pub use cy_views::ViewListing;
+pub use cy_engine_views::ViewListing;
 pub use engine::Engine;
 pub use faults::Fault;
 pub use replies::{Changed, Reply};

@@ -1,8 +1,8 @@
 //! What a line is answered with.
 
 use cy_bags::Entry;
+use cy_engine_views::ViewListing;
 use cy_values::{Row, Sequence, Text};
-use cy_views::ViewListing;
 
 /// How many nodes and relationships a line made and removed.
 #[derive(Clone, Copy, Debug, PartialEq, Eq)]

@@ -18,16 +18,16 @@ use Rattle.cy_trees.specs.declared.expressions.UnaryOperator.TheVariants.{Not, P
 use Rattle.cy_trees.specs.declared.expressions.BinaryOperator.{BinaryOperator}
 use Rattle.cy_trees.specs.declared.expressions.BinaryOperator.TheVariants.{Or, Xor, And, In, Contains, StartsWith, EndsWith, Add, Subtract, Multiply, Divide, Remainder}
 use Rattle.cy_trees.specs.Trees.{Name, Expression, null, boolean, integer, text, variable, property, has_labels, unary, binary, comparison, list, case, call, call_star, Expressions, no_more, more, Arms, no_arms, arm, Otherwise, nothing, otherwise}
-use Rattle.cy_kinds.specs.declared.functions.Function.{Function}
-use Rattle.cy_kinds.specs.declared.functions.Function.TheVariants as function
-use Rattle.cy_kinds.specs.declared.kinds.Kind.{Kind}
-use Rattle.cy_kinds.specs.declared.kinds.Kind.TheVariants as kind
-use Rattle.cy_kinds.specs.Functions.{function_named}
-use Rattle.cy_kinds.specs.Kinds.{is_flag, flag_if}
-use Rattle.cy_kinds.specs.Scopes.{Scope, find_column, find_kind, kind_in}
-use Rattle.cy_kinds.specs.Rows.{row_fits, is_cell_of}
-use Rattle.cy_kinds.specs.ExpressionKinds.{are_flags, binary_kind, call_kind, gives_flags, is_flag_otherwise, kind_of, unary_kind}
-use Rattle.cy_kinds.specs.ResolvedExpressions.{resolved, resolved_arms, resolved_expressions, resolved_links, resolved_otherwise}
+use Rattle.cy_scope_kinds.specs.declared.functions.Function.{Function}
+use Rattle.cy_scope_kinds.specs.declared.functions.Function.TheVariants as function
+use Rattle.cy_scope_kinds.specs.declared.kinds.Kind.{Kind}
+use Rattle.cy_scope_kinds.specs.declared.kinds.Kind.TheVariants as kind
+use Rattle.cy_scope_kinds.specs.Functions.{function_named}
+use Rattle.cy_scope_kinds.specs.Kinds.{is_flag, flag_if}
+use Rattle.cy_scope_kinds.specs.Scopes.{Scope, find_column, find_kind, kind_in}
+use Rattle.cy_scope_kinds.specs.Rows.{row_fits, is_cell_of}
+use Rattle.cy_scope_kinds.specs.ExpressionKinds.{are_flags, binary_kind, call_kind, gives_flags, is_flag_otherwise, kind_of, unary_kind}
+use Rattle.cy_scope_kinds.specs.ResolvedExpressions.{resolved, resolved_arms, resolved_expressions, resolved_links, resolved_otherwise}
 use Rattle.cy_expr.specs.declared.faults.EvalFault.{EvalFault}
 use Rattle.cy_expr.specs.Faults.{on_one, on_two}
 use Rattle.cy_expr.specs.Logic.{conjunction, disjunction, exclusive_disjunction, negation, truth_of, value_of}

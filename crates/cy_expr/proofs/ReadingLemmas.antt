@@ -14,9 +14,9 @@ use Rattle.cy_values.specs.Truth.{both}
 use Rattle.cy_values.specs.declared.rows.Cell.{Cell}
 use Rattle.cy_values.specs.declared.rows.Cell.TheVariants as cell
 use Rattle.cy_trees.specs.Trees.{Name, Expression, null, boolean, integer, text, variable, property, has_labels, unary, binary, comparison, list, case, call, call_star, Expressions, no_more, more, Links, no_links, link, Arms, no_arms, arm, Otherwise, nothing, otherwise}
-use Rattle.cy_kinds.specs.declared.functions.Function.{Function}
-use Rattle.cy_kinds.specs.declared.functions.Function.TheVariants as function
-use Rattle.cy_kinds.specs.Functions.{function_named}
+use Rattle.cy_scope_kinds.specs.declared.functions.Function.{Function}
+use Rattle.cy_scope_kinds.specs.declared.functions.Function.TheVariants as function
+use Rattle.cy_scope_kinds.specs.Functions.{function_named}
 use Rattle.cy_expr.specs.declared.faults.EvalFault.{EvalFault}
 use Rattle.cy_expr.specs.declared.faults.EvalFault.TheVariants.{NoMemory}
 use Rattle.cy_expr.specs.Faults.{on_one, on_two}

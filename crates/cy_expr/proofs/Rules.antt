@@ -16,8 +16,8 @@ use Rattle.cy_values.specs.declared.truth.Truth.{Truth}
 use Rattle.cy_values.specs.declared.truth.Truth.TheVariants.{No, Unknown, Yes}
 use Rattle.cy_values.specs.Truth.{both, one_at_least, is_yes}
 use Rattle.cy_values.specs.Compare.{value_in, equality}
-use Rattle.cy_kinds.specs.declared.functions.Function.{Function}
-use Rattle.cy_kinds.specs.declared.functions.Function.TheVariants as function
+use Rattle.cy_scope_kinds.specs.declared.functions.Function.{Function}
+use Rattle.cy_scope_kinds.specs.declared.functions.Function.TheVariants as function
 use Rattle.cy_expr.specs.declared.faults.EvalFault.{EvalFault}
 use Rattle.cy_expr.specs.Faults.{on_one, on_two}
 use Rattle.cy_expr.specs.Lists.{element, elements, list_of, equals_one, membership}

@@ -24,22 +24,22 @@ use Rattle.cy_trees.specs.declared.expressions.BinaryOperator.TheVariants.{Or, X
 use Rattle.cy_trees.specs.declared.expressions.Comparator.{Comparator}
 use Rattle.cy_trees.specs.declared.expressions.Comparator.TheVariants.{Equal, NotEqual, Less, LessOrEqual, Greater, GreaterOrEqual}
 use Rattle.cy_trees.specs.Trees.{Expression, null, boolean, integer, text, variable, property, has_labels, unary, binary, comparison, list, case, call, call_star, Expressions, no_more, more, Links, no_links, link, Arms, no_arms, arm, Otherwise, nothing, otherwise}
-use Rattle.cy_kinds.specs.declared.functions.Function.{Function}
-use Rattle.cy_kinds.specs.declared.functions.Function.TheVariants as function
-use Rattle.cy_kinds.specs.declared.faults.ScopeFault.{ScopeFault}
-use Rattle.cy_kinds.specs.declared.faults.ScopeFault.TheVariants.{WrongKind, AggregateHere, WrongArguments}
-use Rattle.cy_kinds.specs.declared.kinds.Kind.{Kind}
-use Rattle.cy_kinds.specs.declared.kinds.Kind.TheVariants as kind
-use Rattle.cy_kinds.specs.Functions.{function_named, fit, is_aggregate, is_one, is_property, takes}
-use Rattle.cy_kinds.specs.Faults.{first, unless}
-use Rattle.cy_kinds.specs.Kinds.{is_entity, is_flag, is_node, is_relationship, is_relationships, is_value}
-use Rattle.cy_kinds.specs.Scopes.{Scope, find_column, kind_in}
-use Rattle.cy_kinds.specs.Rows.{row_fits, is_cell_of}
-use Rattle.cy_kinds.specs.ExpressionKinds.{kind_of}
-use Rattle.cy_kinds.specs.ExpressionFaults.{are_compared, are_taken, are_values, arms_fault, call_fault, expression_fault, expressions_fault, have_values, is_value_otherwise, links_fault, otherwise_fault}
-use Rattle.cy_kinds.specs.Operands.{compares, takes_unary}
-use Rattle.cy_kinds.specs.ResolvedExpressions.{resolved, resolved_arms, resolved_expressions, resolved_links, resolved_otherwise}
-use Rattle.cy_kinds.specs.Sure.{are_sure, are_sure_arms, are_sure_elements, are_sure_links, gives_labels, has_size, have_size, is_known_list, is_literal, is_sure, is_sure_binary, is_sure_call, is_sure_otherwise, is_sure_unary}
+use Rattle.cy_scope_kinds.specs.declared.functions.Function.{Function}
+use Rattle.cy_scope_kinds.specs.declared.functions.Function.TheVariants as function
+use Rattle.cy_scope_kinds.specs.declared.faults.ScopeFault.{ScopeFault}
+use Rattle.cy_scope_kinds.specs.declared.faults.ScopeFault.TheVariants.{WrongKind, AggregateHere, WrongArguments}
+use Rattle.cy_scope_kinds.specs.declared.kinds.Kind.{Kind}
+use Rattle.cy_scope_kinds.specs.declared.kinds.Kind.TheVariants as kind
+use Rattle.cy_scope_kinds.specs.Functions.{function_named, fit, is_aggregate, is_one, is_property, takes}
+use Rattle.cy_scope_kinds.specs.Faults.{first, unless}
+use Rattle.cy_scope_kinds.specs.Kinds.{is_entity, is_flag, is_node, is_relationship, is_relationships, is_value}
+use Rattle.cy_scope_kinds.specs.Scopes.{Scope, find_column, kind_in}
+use Rattle.cy_scope_kinds.specs.Rows.{row_fits, is_cell_of}
+use Rattle.cy_scope_kinds.specs.ExpressionKinds.{kind_of}
+use Rattle.cy_scope_kinds.specs.ExpressionFaults.{are_compared, are_taken, are_values, arms_fault, call_fault, expression_fault, expressions_fault, have_values, is_value_otherwise, links_fault, otherwise_fault}
+use Rattle.cy_scope_kinds.specs.Operands.{compares, takes_unary}
+use Rattle.cy_scope_kinds.specs.ResolvedExpressions.{resolved, resolved_arms, resolved_expressions, resolved_links, resolved_otherwise}
+use Rattle.cy_scope_kinds.specs.Sure.{are_sure, are_sure_arms, are_sure_elements, are_sure_links, gives_labels, has_size, have_size, is_known_list, is_literal, is_sure, is_sure_binary, is_sure_call, is_sure_otherwise, is_sure_unary}
 use Rattle.cy_expr.specs.declared.faults.EvalFault.{EvalFault}
 use Rattle.cy_expr.specs.Faults.{on_one, on_two}
 use Rattle.cy_expr.specs.Logic.{negation, truth_of, value_of}

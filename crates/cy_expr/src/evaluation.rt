@@ -23,7 +23,7 @@ use crate::lists::{equals_also, list_of};
 use crate::logic::value_of;
 use crate::lookups::Lookups;
 use crate::simple::{column, simple_cell};
-use cy_kinds::Function;
+use cy_scope_kinds::Function;
 use cy_trees::{Arm, BinaryOperator, Expr, Link};
 use cy_values::{Cell, Truth, ValueRef};
 use std::alloc::Global;

@@ -13,7 +13,7 @@ use crate::lists::size;
 use crate::lookups::{Lookups, labels_in, number_in, type_in};
 use crate::operators::value_in;
 use crate::views::CellView;
-use cy_kinds::Function;
+use cy_scope_kinds::Function;
 use std::alloc::Global;
 
 /// What a function gives for its argument. `WrongType` for a name that is no function's.

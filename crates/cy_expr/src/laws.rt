@@ -3,12 +3,12 @@
 ghost use Rattle.std.specs.Prelude.{◌≡◌, ◌++◌, List, length, All, IsTrue, IsOk, IfOk, None};
 ghost use Rattle.cy_values.specs.declared.rows.Cell.{Cell};
 ghost use Rattle.cy_trees.specs.Trees.{Expression};
-ghost use Rattle.cy_kinds.specs.Scopes.{Scope};
-ghost use Rattle.cy_kinds.specs.ExpressionKinds.{kind_of};
-ghost use Rattle.cy_kinds.specs.ExpressionFaults.{expression_fault};
-ghost use Rattle.cy_kinds.specs.ResolvedExpressions.{resolved};
-ghost use Rattle.cy_kinds.specs.Rows.{row_fits, is_cell_of};
-ghost use Rattle.cy_kinds.specs.Sure.{is_sure};
+ghost use Rattle.cy_scope_kinds.specs.Scopes.{Scope};
+ghost use Rattle.cy_scope_kinds.specs.ExpressionKinds.{kind_of};
+ghost use Rattle.cy_scope_kinds.specs.ExpressionFaults.{expression_fault};
+ghost use Rattle.cy_scope_kinds.specs.ResolvedExpressions.{resolved};
+ghost use Rattle.cy_scope_kinds.specs.Rows.{row_fits, is_cell_of};
+ghost use Rattle.cy_scope_kinds.specs.Sure.{is_sure};
 ghost use Rattle.cy_expr.specs.Lookups.{Lookups};
 ghost use Rattle.cy_expr.specs.Evaluation.{cell_of};
 ghost use Rattle.cy_expr.specs.Reading.{AgreeAt, reads_below, reads_columns};

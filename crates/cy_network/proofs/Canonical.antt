@@ -12,8 +12,8 @@ use Rattle.std.proofs.lemmas.List.Sums.{sum_by-cons}
 use Rattle.cy_values.specs.declared.rows.Cell.{Cell}
 use Rattle.cy_values.specs.Bag.{IsCanonical}
 use Rattle.cy_values.specs.Order.{row_cmp}
-use Rattle.cy_memory.specs.Counts.{is_row}
-use Rattle.cy_memory.proofs.RowMaps.{row_itself}
+use Rattle.cy_network_memory.specs.Counts.{is_row}
+use Rattle.cy_network_memory.proofs.RowMaps.{row_itself}
 use Rattle.cy_network.specs.internal.Roots.{AreOnce}
 
 first_lt : (o then : Ordering) → is_lt (ordering_then o then) ≡ false → is_lt o ≡ false

@@ -7,11 +7,11 @@ use Rattle.std.proofs.lemmas.List.Elements.{All-append, All-cons, All-nil}
 use Rattle.std.proofs.lemmas.List.Sums.{sum_by-append, sum_by-cons}
 use Rattle.cy_values.specs.declared.rows.Cell.{Cell}
 use Rattle.cy_values.specs.Bag.{weight_of}
-use Rattle.cy_memory.specs.Counts.{Counts, is_row}
-use Rattle.cy_deltas.specs.declared.shifts.Shift.{Shift}
-use Rattle.cy_deltas.specs.Deltas.{IsDelta, counts_after, shift_between, shifts_of}
-use Rattle.cy_deltas.proofs.Same.{row_itself}
-use Rattle.cy_plan_parts.specs.Counted.{written}
+use Rattle.cy_network_memory.specs.Counts.{Counts, is_row}
+use Rattle.cy_network_operators.specs.declared.shifts.Shift.{Shift}
+use Rattle.cy_network_operators.specs.Deltas.{IsDelta, counts_after, shift_between, shifts_of}
+use Rattle.cy_network_operators.proofs.Same.{row_itself}
+use Rattle.cy_network_parts.specs.Counted.{written}
 use Rattle.cy_network.specs.internal.Roots.{AreOnce, excess}
 
 nothing_added : (n : ℕ) → 0 + n ≡ n

@@ -3,20 +3,20 @@ use Rattle.std.proofs.Common.{◌≡◌, ℕ, ◌+◌, ◌-◌, ◌*◌, ◌≤�
 use Rattle.std.specs.List.{All}
 use Rattle.std.proofs.lemmas.List.Elements.{All-cons, All-nil}
 use Rattle.cy_graph.specs.Graph.{Content, State}
-use Rattle.cy_memory.specs.Counts.{Counts}
-use Rattle.cy_plans.specs.Plans.{Plan}
-use Rattle.cy_plans.specs.Parts.{parts}
-use Rattle.cy_plans.specs.Meaning.{rows_of}
-use Rattle.cy_deltas.specs.declared.shifts.Shift.{Shift}
-use Rattle.cy_deltas.specs.Deltas.{IsDelta, counts, rows_at}
-use Rattle.cy_deltas.proofs.Staging.{after_delta}
-use Rattle.cy_merges.specs.Merges.{AreBounded}
-use Rattle.cy_touches.specs.Changes.{IsChange, Touches}
-use Rattle.cy_costs.specs.Costs.{cost}
-use Rattle.cy_plan_parts.specs.Counted.{written}
-use Rattle.cy_plan_parts.specs.Memories.{AreHeld, contents, keys}
-use Rattle.cy_plan_parts.specs.internal.Upkeep.{IsDone, IsUpkeep}
-use Rattle.cy_costs.specs.Work.{all_reads, all_steps, asked_reads}
+use Rattle.cy_network_memory.specs.Counts.{Counts}
+use Rattle.cy_planner_algebra.specs.Plans.{Plan}
+use Rattle.cy_planner_algebra.specs.Parts.{parts}
+use Rattle.cy_planner_algebra.specs.Meaning.{rows_of}
+use Rattle.cy_network_operators.specs.declared.shifts.Shift.{Shift}
+use Rattle.cy_network_operators.specs.Deltas.{IsDelta, counts, rows_at}
+use Rattle.cy_network_operators.proofs.Staging.{after_delta}
+use Rattle.cy_network_merges.specs.Merges.{AreBounded}
+use Rattle.cy_network_touches.specs.Changes.{IsChange, Touches}
+use Rattle.cy_network_cost.specs.Costs.{cost}
+use Rattle.cy_network_parts.specs.Counted.{written}
+use Rattle.cy_network_parts.specs.Memories.{AreHeld, contents, keys}
+use Rattle.cy_network_parts.specs.internal.Upkeep.{IsDone, IsUpkeep}
+use Rattle.cy_network_cost.specs.Work.{all_reads, all_steps, asked_reads}
 use Rattle.cy_network.proofs.Excess.{written_shifts}
 
 -- what was staged for a graph is held there

@@ -1,9 +1,9 @@
 -- Counts of rows that are written over others.
 use Rattle.std.proofs.Common.{◌≡◌, ℕ, Bool, true, false, cond, List, [], ◌∷◌, ◌++◌, Option, unwrap_or, refl, sym, ap, subst, ◌∙◌}
 use Rattle.cy_values.specs.declared.rows.Cell.{Cell}
-use Rattle.cy_memory.specs.Counts.{Counts, is_row, with_count}
-use Rattle.cy_memory.specs.internal.Maps.{at_row}
-use Rattle.cy_plan_parts.specs.Counted.{ArePositive, IsPositive, counted, written}
+use Rattle.cy_network_memory.specs.Counts.{Counts, is_row, with_count}
+use Rattle.cy_network_memory.specs.internal.Maps.{at_row}
+use Rattle.cy_network_parts.specs.Counted.{ArePositive, IsPositive, counted, written}
 
 -- one more is written over those
 pub written_more : (next : List (List Cell × ℕ)) (e : List Cell × ℕ) (before : Counts) → written (next ++ e ∷ []) before ≡ with_count e.0 e.1 (written next before)

@@ -7,17 +7,17 @@ use Rattle.cy_values.specs.declared.rows.Cell.{Cell}
 use Rattle.cy_bags.specs.declared.changes.Change.{Change}
 use Rattle.cy_bags.specs.Difference.{IsDifference}
 use Rattle.cy_graph.specs.Graph.{Content}
-use Rattle.cy_memory.specs.Counts.{Counts}
-use Rattle.cy_plans.specs.declared.operators.Operator.{Operator}
-use Rattle.cy_plans.specs.Plans.{Plan}
-use Rattle.cy_plans.specs.Meaning.{rows_of}
-use Rattle.cy_plans.specs.Sure.{IsSure}
-use Rattle.cy_plans.specs.Views.{plan_of}
-use Rattle.cy_deltas.specs.Deltas.{counts}
+use Rattle.cy_network_memory.specs.Counts.{Counts}
+use Rattle.cy_planner_algebra.specs.declared.operators.Operator.{Operator}
+use Rattle.cy_planner_algebra.specs.Plans.{Plan}
+use Rattle.cy_planner_algebra.specs.Meaning.{rows_of}
+use Rattle.cy_planner_algebra.specs.Sure.{IsSure}
+use Rattle.cy_planner_algebra.specs.Views.{plan_of}
+use Rattle.cy_network_operators.specs.Deltas.{counts}
 use Rattle.cy_network.specs.declared.networks.Network.{Network}
-use Rattle.cy_plan_parts.specs.Counted.{ArePositive, counted, written}
-use Rattle.cy_plan_parts.specs.Memories.{AreHeld}
-pub use Rattle.cy_plan_parts.specs.Limits.{HasTooManyRows}
+use Rattle.cy_network_parts.specs.Counted.{ArePositive, counted, written}
+use Rattle.cy_network_parts.specs.Memories.{AreHeld}
+pub use Rattle.cy_network_parts.specs.Limits.{HasTooManyRows}
 
 -- A network: its plan; of its memories the key columns, how often each row counts as it was and as it is staged, and how many steps they took
 -- since they were made; the rows that count, and how many there is room for beside them; the counts that are written over these when the change

@@ -4,13 +4,13 @@ ghost use Rattle.std.specs.Prelude.{◌≡◌, ◌≤◌, List, [], IfOk, flat_m
 ghost use Rattle.indexmap.specs.IndexMap.{spare};
 ghost use Rattle.cy_values.specs.declared.rows.Cell.{Cell};
 ghost use Rattle.cy_bags.specs.Difference.{IsDifference};
-ghost use Rattle.cy_deltas.specs.Deltas.{IsDelta, counts};
-ghost use Rattle.cy_plan_parts.specs.Counted.{ArePositive, counted, written};
+ghost use Rattle.cy_network_operators.specs.Deltas.{IsDelta, counts};
+ghost use Rattle.cy_network_parts.specs.Counted.{ArePositive, counted, written};
 ghost use Rattle.cy_network.specs.internal.Roots.{excess};
 
 use crate::rows::{sorted, write_counts};
 use cy_bags::Change;
-use cy_deltas::Shift;
+use cy_network_operators::Shift;
 use cy_values::{Duplicate, Fault, Row, Sequence};
 use indexmap::IndexMap;
 use std::alloc::Global;

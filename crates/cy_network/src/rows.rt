@@ -5,11 +5,11 @@ ghost use Rattle.std.specs.List.{All};
 ghost use Rattle.indexmap.specs.IndexMap.{IsUnique, spare};
 ghost use Rattle.cy_values.specs.declared.rows.Cell.{Cell};
 ghost use Rattle.cy_values.specs.Bag.{IsCanonical, weight_of};
-ghost use Rattle.cy_memory.specs.Counts.{is_row, with_count};
-ghost use Rattle.cy_plan_parts.specs.Counted.{ArePositive, counted, written};
+ghost use Rattle.cy_network_memory.specs.Counts.{is_row, with_count};
+ghost use Rattle.cy_network_parts.specs.Counted.{ArePositive, counted, written};
 ghost use Rattle.cy_network.specs.internal.Roots.{AreOnce};
 
-use cy_memory::rows_equal;
+use cy_network_memory::rows_equal;
 use cy_values::{Duplicate, Fault, Row, row_order_laws};
 use indexmap::IndexMap;
 use std::alloc::Global;

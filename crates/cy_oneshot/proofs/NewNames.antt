@@ -4,9 +4,9 @@ use Rattle.std.specs.Prelude.{Option, None, Some, flat_map, length, if◌then◌
 use Rattle.cy_trees.specs.declared.clauses.Length.{Length}
 use Rattle.cy_trees.specs.declared.expressions.Variable.{Variable}
 use Rattle.cy_trees.specs.Trees.{Name, Path, RelationshipPattern, Step}
-use Rattle.cy_patterns.specs.Fits.{is_new}
-use Rattle.cy_patterns.specs.Places.{Place, link_place, path_places, places, step_places, variable_at}
-use Rattle.cy_queries.specs.Queries.{name_of, with_new_names}
+use Rattle.cy_oneshot_patterns.specs.Fits.{is_new}
+use Rattle.cy_oneshot_patterns.specs.Places.{Place, link_place, path_places, places, step_places, variable_at}
+use Rattle.cy_oneshot_meaning.specs.Queries.{name_of, with_new_names}
 use Rattle.cy_oneshot.specs.internal.Names.{with_name, with_step_names, with_steps_names}
 
 names_append : (columns : List Name) (ps qs : List Place) → with_new_names columns (ps ++ qs) ≡ with_new_names (with_new_names columns ps) qs

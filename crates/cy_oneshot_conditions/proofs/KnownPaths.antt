@@ -11,13 +11,13 @@ use Rattle.cy_trees.specs.Trees.{Path, PathTest}
 use Rattle.cy_graph.specs.Graph.{Content}
 use Rattle.cy_expr.specs.declared.faults.EvalFault.{EvalFault}
 use Rattle.cy_expr.specs.Faults.{on_one}
-use Rattle.cy_patterns.specs.Fits.{fits}
-use Rattle.cy_patterns.specs.Matching.{assigned, is_there, map_values}
-use Rattle.cy_patterns.specs.Places.{path_places, places}
-use Rattle.cy_queries.specs.Reading.{IsInGraph}
-use Rattle.cy_unwinding.specs.Carried.{ArePlacesRead, carried_from, is_needed}
-use Rattle.cy_unwinding.proofs.Carried.{from_long}
-use Rattle.cy_unwinding.proofs.CarriedMatch.{path_less}
+use Rattle.cy_oneshot_patterns.specs.Fits.{fits}
+use Rattle.cy_oneshot_patterns.specs.Matching.{assigned, is_there, map_values}
+use Rattle.cy_oneshot_patterns.specs.Places.{path_places, places}
+use Rattle.cy_oneshot_meaning.specs.Reading.{IsInGraph}
+use Rattle.cy_oneshot_unwinding.specs.Carried.{ArePlacesRead, carried_from, is_needed}
+use Rattle.cy_oneshot_unwinding.proofs.Carried.{from_long}
+use Rattle.cy_oneshot_unwinding.proofs.CarriedMatch.{path_less}
 use Rattle.cy_oneshot_conditions.specs.internal.Conditions.{IsKnown, path_truth, presence}
 
 -- ---- a row of nulls

@@ -14,11 +14,11 @@ use Rattle.cy_expr.specs.declared.faults.EvalFault.TheVariants.{NoMemory}
 use Rattle.cy_expr.specs.Evaluation.{cell_of}
 use Rattle.cy_expr.specs.Faults.{on_one}
 use Rattle.cy_expr.specs.Graphs.{lookups}
-use Rattle.cy_patterns.specs.Matching.{is_met, map_values, test_truth, where_truth}
-use Rattle.cy_patterns.specs.Outcomes.{and_also, gathered, smaller, together}
-use Rattle.cy_patterns.specs.Places.{entries_at, path_places, places}
-use Rattle.cy_queries.specs.internal.Answers.{IsAnswer}
-use Rattle.cy_queries.proofs.Together.{single, together_first, together_three}
+use Rattle.cy_oneshot_patterns.specs.Matching.{is_met, map_values, test_truth, where_truth}
+use Rattle.cy_oneshot_patterns.specs.Outcomes.{and_also, gathered, smaller, together}
+use Rattle.cy_oneshot_patterns.specs.Places.{entries_at, path_places, places}
+use Rattle.cy_oneshot_meaning.specs.internal.Answers.{IsAnswer}
+use Rattle.cy_oneshot_meaning.proofs.Together.{single, together_first, together_three}
 use Rattle.cy_oneshot_conditions.specs.internal.Conditions.{both, is_asked, path_truth, paths_truth}
 
 -- ---- two together

@@ -3,9 +3,9 @@ use Rattle.std.proofs.Common.{◌≡◌, List, [], ◌∷◌, ◌++◌, map, rev
 use Rattle.std.proofs.lemmas.List.{reverse-append}
 use Rattle.cy_lexer.specs.declared.tokens.Token.{Token}
 use Rattle.cy_trees.specs.Trees.{Expression, PathTest, Where}
-use Rattle.cy_grammar.specs.SpellsClauses as spells
-use Rattle.cy_grammar.specs.internal.Reader.{Outcome, and_then}
-use Rattle.cy_grammar.specs.internal.Clauses.{conjoined, where_from}
+use Rattle.cy_parser_grammar.specs.SpellsClauses as spells
+use Rattle.cy_parser_grammar.specs.internal.Reader.{Outcome, and_then}
+use Rattle.cy_parser_grammar.specs.internal.Clauses.{conjoined, where_from}
 use Rattle.cy_parser.specs.declared.conditions.Part.{Part}
 use Rattle.cy_parser.specs.internal.Parts.{part_of}
 

@@ -1,7 +1,7 @@
 -- What is refused where a reader answers.
 use Rattle.std.proofs.Common.{◌≡◌, ◌≢◌, List, Some, None, refl}
 use Rattle.cy_lexer.specs.declared.tokens.Token.{Token}
-use Rattle.cy_grammar.specs.internal.Reader.{Outcome}
+use Rattle.cy_parser_grammar.specs.internal.Reader.{Outcome}
 use Rattle.cy_parser.specs.declared.refusals.Refusal.{Refusal}
 use Rattle.cy_parser.specs.declared.refusals.Refusal.TheVariants.{NoMemory}
 

@@ -6,7 +6,7 @@ ghost use Rattle.cy_trees.specs.Depth as spec;
 ghost use Rattle.cy_trees.specs.Trees as tree;
 ghost use Rattle.cy_trees.specs.Views.{expression_of, expressions_of, links_of, arms_of};
 ghost use Rattle.cy_parser.specs.internal.Operands.{operand_of, otherwise_of, elements_of, arms_in, links_in, AreMeasured, ArmsAreMeasured, LinksAreMeasured};
-ghost use Rattle.cy_grammar.specs.internal.Reader.{checked};
+ghost use Rattle.cy_parser_grammar.specs.internal.Reader.{checked};
 ghost use Rattle.cy_parser.specs.internal.Reads.{Reads};
 
 use crate::cursor::Cursor;
@@ -39,7 +39,7 @@ pub(crate) fn leaf(tree: Expr) -> Operand
     Operand { tree, depth: 1 }
 }
 
-#[tactic(auto, unfolding(cy_grammar::specs::internal::Reader::checked))]
+#[tactic(auto, unfolding(cy_parser_grammar::specs::internal::Reader::checked))]
 pub(crate) fn unary(
     alloc: Global,
     tokens: &Cursor<'_>,
@@ -53,7 +53,7 @@ pub(crate) fn unary(
     Ok(Operand { tree, depth })
 }
 
-#[tactic(auto, unfolding(cy_grammar::specs::internal::Reader::checked))]
+#[tactic(auto, unfolding(cy_parser_grammar::specs::internal::Reader::checked))]
 pub(crate) fn binary(
     alloc: Global,
     tokens: &Cursor<'_>,
@@ -69,7 +69,7 @@ pub(crate) fn binary(
     Ok(Operand { tree, depth })
 }
 
-#[tactic(auto, unfolding(cy_grammar::specs::internal::Reader::checked))]
+#[tactic(auto, unfolding(cy_parser_grammar::specs::internal::Reader::checked))]
 pub(crate) fn property(
     alloc: Global,
     tokens: &Cursor<'_>,
@@ -83,7 +83,7 @@ pub(crate) fn property(
     Ok(Operand { tree, depth })
 }
 
-#[tactic(auto, unfolding(cy_grammar::specs::internal::Reader::checked))]
+#[tactic(auto, unfolding(cy_parser_grammar::specs::internal::Reader::checked))]
 pub(crate) fn has_labels(
     alloc: Global,
     tokens: &Cursor<'_>,
@@ -97,7 +97,7 @@ pub(crate) fn has_labels(
     Ok(Operand { tree, depth })
 }
 
-#[tactic(auto, unfolding(cy_grammar::specs::internal::Reader::checked))]
+#[tactic(auto, unfolding(cy_parser_grammar::specs::internal::Reader::checked))]
 pub(crate) fn comparison(
     alloc: Global,
     tokens: &Cursor<'_>,
@@ -112,7 +112,7 @@ pub(crate) fn comparison(
     Ok(Operand { tree, depth })
 }
 
-#[tactic(auto, unfolding(cy_grammar::specs::internal::Reader::checked))]
+#[tactic(auto, unfolding(cy_parser_grammar::specs::internal::Reader::checked))]
 pub(crate) fn list(tokens: &Cursor<'_>, elements: Gathered<Expr>) -> Result<Operand, Refusal>
     requires { AreMeasured elements }
     ensures { Reads operand_of (checked (tree.list (expressions_of elements.items)) tokens.now) result tokens.now }
@@ -122,7 +122,7 @@ pub(crate) fn list(tokens: &Cursor<'_>, elements: Gathered<Expr>) -> Result<Oper
     Ok(Operand { tree, depth })
 }
 
-#[tactic(auto, unfolding(cy_grammar::specs::internal::Reader::checked))]
+#[tactic(auto, unfolding(cy_parser_grammar::specs::internal::Reader::checked))]
 pub(crate) fn call(
     tokens: &Cursor<'_>,
     function: Text,
@@ -138,7 +138,7 @@ pub(crate) fn call(
 }
 
 /// A CASE of its arms and what stands after ELSE.
-#[tactic(auto, using(cy_trees::proofs::ViewsLemmas::case_otherwise), unfolding(cy_grammar::specs::internal::Reader::checked))]
+#[tactic(auto, using(cy_trees::proofs::ViewsLemmas::case_otherwise), unfolding(cy_parser_grammar::specs::internal::Reader::checked))]
 pub(crate) fn case(
     alloc: Global,
     tokens: &Cursor<'_>,

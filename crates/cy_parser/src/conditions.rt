@@ -2,8 +2,8 @@
 
 ghost use Rattle.std.specs.Prelude.{◌≡◌, map, option_map, reverse};
 ghost use Rattle.cy_trees.specs.Views.{path_of, path_test_of, where_of};
-ghost use Rattle.cy_grammar.specs.SpellsClauses as spells;
-ghost use Rattle.cy_grammar.specs.internal.Clauses as spec;
+ghost use Rattle.cy_parser_grammar.specs.SpellsClauses as spells;
+ghost use Rattle.cy_parser_grammar.specs.internal.Clauses as spec;
 ghost use Rattle.cy_parser.specs.internal.Parts.{condition_of, part_of};
 ghost use Rattle.cy_parser.specs.internal.Reads.{Reads};
 
@@ -13,8 +13,8 @@ use crate::nesting::nesting;
 use crate::operands::Operand;
 use crate::refusals::Refusal;
 use crate::source::{MOST_LEVELS, Source};
-use cy_grammar::Nested;
 use cy_lexer::{Keyword, Symbol};
+use cy_parser_grammar::Nested;
 use cy_trees::{BinaryOperator, Path, PathTest, Where};
 
 /// An expression of a WHERE, and how many tokens are left from the first of its expressions on.
@@ -55,7 +55,7 @@ fn is_path_among(parts: &[Part]) -> bool
 
 impl<'l> Source<'l> {
     /// A path with a relationship.
-    #[tactic(auto, unfolding(cy_grammar::specs::internal::Reader::and_then, cy_grammar::specs::internal::Clauses::stepped))]
+    #[tactic(auto, unfolding(cy_parser_grammar::specs::internal::Reader::and_then, cy_parser_grammar::specs::internal::Clauses::stepped))]
     fn stepped(&self, tokens: &mut Cursor<'_>) -> Result<Path, Refusal>
         ensures { Reads path_of (spec.stepped self.now.line.now tokens.old) result tokens.new }
     {
@@ -66,7 +66,7 @@ impl<'l> Source<'l> {
         Ok(path)
     }
 
-    #[tactic(auto, unfolding(cy_grammar::specs::internal::Reader::and_then, cy_grammar::specs::internal::Clauses::bracketed_path))]
+    #[tactic(auto, unfolding(cy_parser_grammar::specs::internal::Reader::and_then, cy_parser_grammar::specs::internal::Clauses::bracketed_path))]
     fn bracketed_path(&self, tokens: &mut Cursor<'_>) -> Result<Path, Refusal>
         ensures { Reads path_of (spec.bracketed_path self.now.line.now tokens.old) result tokens.new }
     {
@@ -77,7 +77,7 @@ impl<'l> Source<'l> {
     }
 
     /// A path after NOT.
-    #[tactic(auto, unfolding(cy_grammar::specs::internal::Reader::and_then, cy_grammar::specs::internal::Clauses::denied_path))]
+    #[tactic(auto, unfolding(cy_parser_grammar::specs::internal::Reader::and_then, cy_parser_grammar::specs::internal::Clauses::denied_path))]
     fn denied_path(&self, tokens: &mut Cursor<'_>) -> Result<Path, Refusal>
         ensures { Reads path_of (spec.denied_path self.now.line.now tokens.old) result tokens.new }
     {
@@ -89,7 +89,7 @@ impl<'l> Source<'l> {
     }
 
     /// A path as a condition.
-    #[tactic(auto, unfolding(cy_grammar::specs::internal::Reader::and_then, cy_grammar::specs::internal::Clauses::path_test))]
+    #[tactic(auto, unfolding(cy_parser_grammar::specs::internal::Reader::and_then, cy_parser_grammar::specs::internal::Clauses::path_test))]
     fn path_test(&self, tokens: &mut Cursor<'_>) -> Result<PathTest, Refusal>
         ensures { Reads path_test_of (spec.path_test self.now.line.now tokens.old) result tokens.new }
     {
@@ -105,7 +105,7 @@ impl<'l> Source<'l> {
     }
 
     /// A part that is a path.
-    #[tactic(auto, unfolding(cy_grammar::specs::internal::Reader::and_then, cy_grammar::specs::internal::Clauses::path_part))]
+    #[tactic(auto, unfolding(cy_parser_grammar::specs::internal::Reader::and_then, cy_parser_grammar::specs::internal::Clauses::path_part))]
     fn path_part(&self, tokens: &mut Cursor<'_>) -> Result<Part, Refusal>
         ensures { Reads part_of (spec.path_part self.now.line.now tokens.old) result tokens.new }
     {
@@ -117,7 +117,7 @@ impl<'l> Source<'l> {
     }
 
     /// A part that is an expression, where so many tokens are left from the first such part on.
-    #[tactic(auto, unfolding(cy_grammar::specs::internal::Reader::and_then, cy_grammar::specs::internal::Clauses::condition_part))]
+    #[tactic(auto, unfolding(cy_parser_grammar::specs::internal::Reader::and_then, cy_parser_grammar::specs::internal::Clauses::condition_part))]
     fn condition_part(&self, tokens: &mut Cursor<'_>, first: usize) -> Result<Part, Refusal>
         ensures { Reads part_of (spec.condition_part self.now.line.now tokens.old) result tokens.new }
     {
@@ -133,7 +133,7 @@ impl<'l> Source<'l> {
     }
 
     /// A part: a path where one stands up to the part's end, else an expression.
-    #[tactic(auto, unfolding(cy_grammar::specs::internal::Reader::or_else, cy_grammar::specs::internal::Clauses::part))]
+    #[tactic(auto, unfolding(cy_parser_grammar::specs::internal::Reader::or_else, cy_parser_grammar::specs::internal::Clauses::part))]
     fn part(&self, tokens: &mut Cursor<'_>, first: usize) -> Result<Part, Refusal>
         ensures { Reads part_of (spec.part self.now.line.now tokens.old) result tokens.new }
     {
@@ -169,7 +169,7 @@ impl<'l> Source<'l> {
     }
 
     /// Parts of which one is a path.
-    #[tactic(auto, unfolding(cy_grammar::specs::internal::Reader::and_then, cy_grammar::specs::internal::Clauses::conjuncts))]
+    #[tactic(auto, unfolding(cy_parser_grammar::specs::internal::Reader::and_then, cy_parser_grammar::specs::internal::Clauses::conjuncts))]
     fn conjuncts(&self, tokens: &mut Cursor<'_>) -> Result<Vec<Part>, Refusal>
         ensures { Reads (λ ps. map part_of ps.items) (spec.conjuncts self.now.line.now tokens.old) result tokens.new }
     {
@@ -182,7 +182,7 @@ impl<'l> Source<'l> {
     }
 
     /// The condition before, if there is one, and another one.
-    #[tactic(auto, unfolding(cy_grammar::specs::internal::Clauses::conjoined))]
+    #[tactic(auto, unfolding(cy_parser_grammar::specs::internal::Clauses::conjoined))]
     fn conjoined(
         &self,
         tokens: &Cursor<'_>,
@@ -231,7 +231,7 @@ impl<'l> Source<'l> {
     }
 
     /// An expression alone.
-    #[tactic(auto, unfolding(cy_grammar::specs::internal::Reader::and_then))]
+    #[tactic(auto, unfolding(cy_parser_grammar::specs::internal::Reader::and_then))]
     fn test_alone(&self, tokens: &mut Cursor<'_>) -> Result<Where, Refusal>
         ensures { Reads where_of (spec.where_by self.now.line.now None tokens.old) result tokens.new }
     {
@@ -243,7 +243,7 @@ impl<'l> Source<'l> {
     }
 
     /// What stands after WHERE: parts of which one is a path, else an expression.
-    #[tactic(auto, unfolding(cy_grammar::specs::internal::Clauses::condition_read))]
+    #[tactic(auto, unfolding(cy_parser_grammar::specs::internal::Clauses::condition_read))]
     fn condition(&self, tokens: &mut Cursor<'_>) -> Result<Where, Refusal>
         ensures { Reads where_of (spec.condition_read self.now.line.now tokens.old) result tokens.new }
     {
@@ -263,7 +263,7 @@ impl<'l> Source<'l> {
     }
 
     /// What stands after WHERE, if that comes next.
-    #[tactic(auto, unfolding(cy_grammar::specs::internal::Reader::and_then, cy_grammar::specs::internal::Clauses::filter_if_any))]
+    #[tactic(auto, unfolding(cy_parser_grammar::specs::internal::Reader::and_then, cy_parser_grammar::specs::internal::Clauses::filter_if_any))]
     pub(crate) fn filter_if_any(&self, tokens: &mut Cursor<'_>) -> Result<Where, Refusal>
         ensures { Reads where_of (spec.filter_if_any self.now.line.now tokens.old) result tokens.new }
     {

@@ -1,7 +1,7 @@
 //! The operators between truth values.
 
 ghost use Rattle.std.specs.Prelude.{◌≡◌};
-ghost use Rattle.cy_grammar.specs.internal.Chains as spec;
+ghost use Rattle.cy_parser_grammar.specs.internal.Chains as spec;
 
 use cy_lexer::{Keyword, TokenKind};
 use cy_trees::BinaryOperator;

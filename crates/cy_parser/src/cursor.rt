@@ -2,18 +2,18 @@
 
 ghost use Rattle.cy_parser.specs.declared.refusals.Refusal.TheVariants.{NoMemory};
 ghost use Rattle.std.specs.Prelude.{◌≡◌, ◌≢◌, ◌<◌, ◌≤◌, pos, MatchResult, length, List, Some, None, [], ◌∷◌};
-ghost use Rattle.cy_grammar.specs.Words.{negated};
+ghost use Rattle.cy_parser_grammar.specs.Words.{negated};
 ghost use Rattle.cy_lexer.specs.Numbers.{greatest_number};
-ghost use Rattle.cy_grammar.specs.SpellsClauses.{ends_part};
-ghost use Rattle.cy_grammar.specs.internal.Clauses as clauses;
-ghost use Rattle.cy_grammar.specs.internal.Expressions as spec;
-ghost use Rattle.cy_grammar.specs.internal.Reader as reader;
+ghost use Rattle.cy_parser_grammar.specs.SpellsClauses.{ends_part};
+ghost use Rattle.cy_parser_grammar.specs.internal.Clauses as clauses;
+ghost use Rattle.cy_parser_grammar.specs.internal.Expressions as spec;
+ghost use Rattle.cy_parser_grammar.specs.internal.Reader as reader;
 ghost use Rattle.cy_parser.specs.internal.Reads.{Reads};
 
 use crate::order::is_after_part;
 use crate::refusals::Refusal;
-use cy_grammar::{denoted_text, is_name, is_word};
 use cy_lexer::{Keyword, Symbol, Token, TokenKind};
+use cy_parser_grammar::{denoted_text, is_name, is_word};
 use cy_values::Text;
 use std::alloc::Global;
 use std::marker::Model;
@@ -88,7 +88,7 @@ impl<'a> Cursor<'a> {
     }
 
     /// Passes the keyword, if it comes next.
-    #[tactic(auto, unfolding(cy_grammar::specs::internal::Reader::sees_keyword))]
+    #[tactic(auto, unfolding(cy_parser_grammar::specs::internal::Reader::sees_keyword))]
     pub(crate) fn eat_keyword(&mut self, keyword: Keyword) -> bool
         ensures { reader.eat_keyword keyword self.old ≡ Some (result, self.new) }
     {
@@ -102,7 +102,7 @@ impl<'a> Cursor<'a> {
     }
 
     /// Passes the symbol, if it comes next.
-    #[tactic(auto, unfolding(cy_grammar::specs::internal::Reader::sees_symbol))]
+    #[tactic(auto, unfolding(cy_parser_grammar::specs::internal::Reader::sees_symbol))]
     pub(crate) fn eat_symbol(&mut self, symbol: Symbol) -> bool
         ensures { reader.eat_symbol symbol self.old ≡ Some (result, self.new) }
     {
@@ -116,7 +116,7 @@ impl<'a> Cursor<'a> {
     }
 
     /// Passes the keyword, which has to come next.
-    #[tactic(auto, unfolding(cy_grammar::specs::internal::Reader::expect_keyword))]
+    #[tactic(auto, unfolding(cy_parser_grammar::specs::internal::Reader::expect_keyword))]
     pub(crate) fn expect_keyword(&mut self, keyword: Keyword) -> Result<(), Refusal>
         ensures { Reads (λ u. u) (reader.expect_keyword keyword self.old) result self.new }
     {
@@ -128,7 +128,7 @@ impl<'a> Cursor<'a> {
     }
 
     /// Passes the symbol, which has to come next.
-    #[tactic(auto, unfolding(cy_grammar::specs::internal::Reader::expect_symbol))]
+    #[tactic(auto, unfolding(cy_parser_grammar::specs::internal::Reader::expect_symbol))]
     pub(crate) fn expect_symbol(&mut self, symbol: Symbol) -> Result<(), Refusal>
         ensures { Reads (λ u. u) (reader.expect_symbol symbol self.old) result self.new }
     {
@@ -140,7 +140,7 @@ impl<'a> Cursor<'a> {
     }
 
     /// Whether two brackets open next.
-    #[tactic(auto, unfolding(cy_grammar::specs::internal::Clauses::sees_two_brackets))]
+    #[tactic(auto, unfolding(cy_parser_grammar::specs::internal::Clauses::sees_two_brackets))]
     pub(crate) fn sees_two_brackets(&self) -> bool
         ensures { result ≡ clauses.sees_two_brackets self.now }
     {
@@ -166,7 +166,7 @@ impl<'a> Cursor<'a> {
     }
 
     /// What a name denotes, which has to come next and be no keyword.
-    #[tactic(auto, unfolding(cy_grammar::specs::internal::Reader::denoting))]
+    #[tactic(auto, unfolding(cy_parser_grammar::specs::internal::Reader::denoting))]
     pub(crate) fn name(&mut self, alloc: Global, line: &str) -> Result<Text, Refusal>
         ensures { Reads (λ t. t) (reader.name line.now self.old) result self.new }
     {
@@ -182,7 +182,7 @@ impl<'a> Cursor<'a> {
     }
 
     /// What a name denotes, which has to come next and may be a keyword.
-    #[tactic(auto, unfolding(cy_grammar::specs::internal::Reader::denoting))]
+    #[tactic(auto, unfolding(cy_parser_grammar::specs::internal::Reader::denoting))]
     pub(crate) fn word(&mut self, alloc: Global, line: &str) -> Result<Text, Refusal>
         ensures { Reads (λ t. t) (reader.word line.now self.old) result self.new }
     {
@@ -198,7 +198,7 @@ impl<'a> Cursor<'a> {
     }
 
     /// The number as an integer, if one holds it.
-    #[tactic(auto, unfolding(cy_grammar::specs::internal::Reader::and_then, cy_grammar::specs::internal::Expressions::counted))]
+    #[tactic(auto, unfolding(cy_parser_grammar::specs::internal::Reader::and_then, cy_parser_grammar::specs::internal::Expressions::counted))]
     pub(crate) fn integer(&self, number: u64) -> Result<i64, Refusal>
         ensures { MatchResult result (λ n. (number < greatest_number) × (n ≡ pos number)) (λ e. (e ≢ NoMemory) × (greatest_number ≤ number)) }
     {
@@ -220,7 +220,7 @@ impl<'a> Cursor<'a> {
     }
 
     /// What a text denotes, which comes next.
-    #[tactic(auto, unfolding(cy_grammar::specs::internal::Reader::and_then, cy_grammar::specs::internal::Expressions::quoted))]
+    #[tactic(auto, unfolding(cy_parser_grammar::specs::internal::Reader::and_then, cy_parser_grammar::specs::internal::Expressions::quoted))]
     pub(crate) fn quoted(&mut self, alloc: Global, line: &str) -> Result<Text, Refusal>
         ensures { Reads (λ t. t) (spec.quoted line.now self.old) result self.new }
     {

@@ -3,13 +3,13 @@
 
 ghost use Rattle.cy_parser.specs.internal.Operands.{operand_of};
 ghost use Rattle.cy_parser.specs.internal.Reads.{Reads};
-ghost use Rattle.cy_grammar.specs.internal.Expressions as spec;
+ghost use Rattle.cy_parser_grammar.specs.internal.Expressions as spec;
 ghost use Rattle.cy_parser.specs.internal.Nests.{Nests};
 
 use crate::cursor::Cursor;
 use crate::operands::Operand;
 use crate::refusals::Refusal;
-use cy_grammar::Nested;
+use cy_parser_grammar::Nested;
 use std::alloc::Global;
 
 /// A reader of expressions in a line, and of what stands inside of one more level.
@@ -27,7 +27,7 @@ impl<'l, F: Fn(Global, &str, &mut Cursor<'_>, usize, Nested) -> Result<Operand, 
     F,
 > {
     /// Opens one more level, if it may.
-    #[tactic(auto, unfolding(cy_grammar::specs::internal::Expressions::opened))]
+    #[tactic(auto, unfolding(cy_parser_grammar::specs::internal::Expressions::opened))]
     pub(crate) fn open_level(&self, tokens: &Cursor<'_>) -> Result<(), Refusal>
         ensures { Reads (λ u. u) (spec.opened self.now.levels tokens.now) result tokens.now }
     {

@@ -1,7 +1,7 @@
 //! Numbers that stand in clauses and patterns, and the lengths that they bound.
 
 ghost use Rattle.std.specs.Prelude.{◌≡◌, ◌≢◌, ◌≤◌, ◌<◌};
-ghost use Rattle.cy_grammar.specs.internal.Clauses as spec;
+ghost use Rattle.cy_parser_grammar.specs.internal.Clauses as spec;
 ghost use Rattle.cy_parser.specs.internal.Reads.{Reads};
 
 use crate::cursor::{Cursor, NUMBER_LIMIT};
@@ -11,7 +11,7 @@ use cy_trees::Length;
 
 impl<'a> Cursor<'a> {
     /// A number, if one comes next.
-    #[tactic(auto, unfolding(cy_grammar::specs::internal::Reader::and_then, cy_grammar::specs::internal::Clauses::number_if_any))]
+    #[tactic(auto, unfolding(cy_parser_grammar::specs::internal::Reader::and_then, cy_parser_grammar::specs::internal::Clauses::number_if_any))]
     pub(crate) fn number_if_any(&mut self) -> Result<Option<u64>, Refusal>
         ensures { Reads (λ n. n) (spec.number_if_any self.old) result self.new }
     {
@@ -26,7 +26,7 @@ impl<'a> Cursor<'a> {
     }
 
     /// A number, which has to come next.
-    #[tactic(auto, unfolding(cy_grammar::specs::internal::Reader::and_then, cy_grammar::specs::internal::Clauses::count))]
+    #[tactic(auto, unfolding(cy_parser_grammar::specs::internal::Reader::and_then, cy_parser_grammar::specs::internal::Clauses::count))]
     pub(crate) fn number(&mut self) -> Result<u64, Refusal>
         ensures { Reads (λ n. n) (spec.count self.old) result self.new }
     {
@@ -41,7 +41,7 @@ impl<'a> Cursor<'a> {
     }
 
     /// The number after the keyword, if that comes next.
-    #[tactic(auto, unfolding(cy_grammar::specs::internal::Reader::and_then, cy_grammar::specs::internal::Clauses::number_after))]
+    #[tactic(auto, unfolding(cy_parser_grammar::specs::internal::Reader::and_then, cy_parser_grammar::specs::internal::Clauses::number_after))]
     pub(crate) fn number_after(&mut self, keyword: Keyword) -> Result<Option<u64>, Refusal>
         ensures { Reads (λ n. n) (spec.number_after keyword self.old) result self.new }
     {
@@ -53,7 +53,7 @@ impl<'a> Cursor<'a> {
     }
 
     /// The bounds of a length, after its `*`. Bad ones are refused at the last that is written.
-    #[tactic(auto, unfolding(cy_grammar::specs::internal::Reader::and_then, cy_grammar::specs::internal::Clauses::bounds))]
+    #[tactic(auto, unfolding(cy_parser_grammar::specs::internal::Reader::and_then, cy_parser_grammar::specs::internal::Clauses::bounds))]
     fn bounds(&mut self) -> Result<Length, Refusal>
         ensures { Reads (λ l. l) (spec.bounds self.old) result self.new }
     {
@@ -74,7 +74,7 @@ impl<'a> Cursor<'a> {
     }
 
     /// A length, if a `*` comes next.
-    #[tactic(auto, unfolding(cy_grammar::specs::internal::Reader::and_then, cy_grammar::specs::internal::Clauses::length_if_any))]
+    #[tactic(auto, unfolding(cy_parser_grammar::specs::internal::Reader::and_then, cy_parser_grammar::specs::internal::Clauses::length_if_any))]
     pub(crate) fn length_if_any(&mut self) -> Result<Option<Length>, Refusal>
         ensures { Reads (λ l. l) (spec.length_if_any self.old) result self.new }
     {

@@ -2,9 +2,9 @@
 //! takes none of these by its name.
 
 ghost use Rattle.std.specs.Prelude.{◌≡◌, ◌∷◌, [], IfOk};
-ghost use Rattle.cy_grammar.specs.Words as words;
-ghost use Rattle.cy_grammar.specs.internal.Chains as chains;
-ghost use Rattle.cy_grammar.specs.internal.Expressions as spec;
+ghost use Rattle.cy_parser_grammar.specs.Words as words;
+ghost use Rattle.cy_parser_grammar.specs.internal.Chains as chains;
+ghost use Rattle.cy_parser_grammar.specs.internal.Expressions as spec;
 ghost use Rattle.cy_parser.specs.internal.Nests.{Nests};
 ghost use Rattle.cy_parser.specs.internal.Operands.{operand_of, links_in, LinksAreMeasured};
 ghost use Rattle.cy_parser.specs.internal.Reads.{Reads};
@@ -16,8 +16,8 @@ use crate::grammar::Grammar;
 use crate::operands::{Gathered, Operand};
 use crate::operations::chain_after;
 use crate::refusals::Refusal;
-use cy_grammar::{Nested, comparator_of, product_operator, sum_operator};
 use cy_lexer::{Keyword, Symbol, TokenKind};
+use cy_parser_grammar::{Nested, comparator_of, product_operator, sum_operator};
 use cy_trees::{BinaryOperator, Expr, Link, UnaryOperator};
 use std::alloc::Global;
 
@@ -26,7 +26,7 @@ impl<'l, F: Fn(Global, &str, &mut Cursor<'_>, usize, Nested) -> Result<Operand, 
     F,
 > {
     /// What stands after a sign `-`, which directly before a number makes a literal of it.
-    #[tactic(auto, unfolding(cy_grammar::specs::internal::Reader::and_then, cy_grammar::specs::internal::Expressions::minus))]
+    #[tactic(auto, unfolding(cy_parser_grammar::specs::internal::Reader::and_then, cy_parser_grammar::specs::internal::Expressions::minus))]
     fn minus(&self, tokens: &mut Cursor<'_>) -> Result<Operand, Refusal>
         requires { Nests self.now.levels (F.pre self.now.inner) (F.post self.now.inner) }
         ensures { Reads operand_of (spec.minus self.now.line.now (spec.nesting self.now.line.now self.now.levels) tokens.old) result tokens.new }
@@ -41,7 +41,7 @@ impl<'l, F: Fn(Global, &str, &mut Cursor<'_>, usize, Nested) -> Result<Operand, 
     }
 
     /// What stands after a sign `+`.
-    #[tactic(auto, unfolding(cy_grammar::specs::internal::Reader::and_then, cy_grammar::specs::internal::Expressions::plus))]
+    #[tactic(auto, unfolding(cy_parser_grammar::specs::internal::Reader::and_then, cy_parser_grammar::specs::internal::Expressions::plus))]
     fn plus(&self, tokens: &mut Cursor<'_>) -> Result<Operand, Refusal>
         requires { Nests self.now.levels (F.pre self.now.inner) (F.post self.now.inner) }
         ensures { Reads operand_of (spec.plus self.now.line.now (spec.nesting self.now.line.now self.now.levels) tokens.old) result tokens.new }
@@ -51,7 +51,7 @@ impl<'l, F: Fn(Global, &str, &mut Cursor<'_>, usize, Nested) -> Result<Operand, 
     }
 
     /// Signs, and what they stand before.
-    #[tactic(auto, unfolding(cy_grammar::specs::internal::Reader::and_then, cy_grammar::specs::internal::Expressions::signed))]
+    #[tactic(auto, unfolding(cy_parser_grammar::specs::internal::Reader::and_then, cy_parser_grammar::specs::internal::Expressions::signed))]
     pub(crate) fn signed(&self, tokens: &mut Cursor<'_>) -> Result<Operand, Refusal>
         requires { Nests self.now.levels (F.pre self.now.inner) (F.post self.now.inner) }
         ensures { Reads operand_of (spec.signed self.now.line.now self.now.levels (spec.nesting self.now.line.now self.now.levels) tokens.old) result tokens.new }
@@ -80,7 +80,7 @@ impl<'l, F: Fn(Global, &str, &mut Cursor<'_>, usize, Nested) -> Result<Operand, 
     }
 
     /// Operands of `*`, `/` and `%`.
-    #[tactic(auto, unfolding(cy_grammar::specs::internal::Reader::and_then, cy_grammar::specs::internal::Expressions::product))]
+    #[tactic(auto, unfolding(cy_parser_grammar::specs::internal::Reader::and_then, cy_parser_grammar::specs::internal::Expressions::product))]
     fn product(&self, tokens: &mut Cursor<'_>) -> Result<Operand, Refusal>
         requires { Nests self.now.levels (F.pre self.now.inner) (F.post self.now.inner) }
         ensures { Reads operand_of (spec.product self.now.line.now self.now.levels (spec.nesting self.now.line.now self.now.levels) tokens.old) result tokens.new }
@@ -104,7 +104,7 @@ impl<'l, F: Fn(Global, &str, &mut Cursor<'_>, usize, Nested) -> Result<Operand, 
     }
 
     /// Operands of `+` and `-`.
-    #[tactic(auto, unfolding(cy_grammar::specs::internal::Reader::and_then, cy_grammar::specs::internal::Expressions::sum))]
+    #[tactic(auto, unfolding(cy_parser_grammar::specs::internal::Reader::and_then, cy_parser_grammar::specs::internal::Expressions::sum))]
     fn sum(&self, tokens: &mut Cursor<'_>) -> Result<Operand, Refusal>
         requires { Nests self.now.levels (F.pre self.now.inner) (F.post self.now.inner) }
         ensures { Reads operand_of (spec.sum self.now.line.now self.now.levels (spec.nesting self.now.line.now self.now.levels) tokens.old) result tokens.new }
@@ -114,7 +114,7 @@ impl<'l, F: Fn(Global, &str, &mut Cursor<'_>, usize, Nested) -> Result<Operand, 
     }
 
     /// A test for null, after IS.
-    #[tactic(auto, unfolding(cy_grammar::specs::internal::Reader::and_then, cy_grammar::specs::internal::Expressions::null_test))]
+    #[tactic(auto, unfolding(cy_parser_grammar::specs::internal::Reader::and_then, cy_parser_grammar::specs::internal::Expressions::null_test))]
     fn null_test(&self, tokens: &mut Cursor<'_>, left: Operand) -> Result<Operand, Refusal>
         ensures { Reads operand_of (spec.null_test (operand_of left) tokens.old) result tokens.new }
     {
@@ -128,7 +128,7 @@ impl<'l, F: Fn(Global, &str, &mut Cursor<'_>, usize, Nested) -> Result<Operand, 
     }
 
     /// A predicate's right side, after its words.
-    #[tactic(auto, unfolding(cy_grammar::specs::internal::Reader::and_then, cy_grammar::specs::internal::Expressions::tested))]
+    #[tactic(auto, unfolding(cy_parser_grammar::specs::internal::Reader::and_then, cy_parser_grammar::specs::internal::Expressions::tested))]
     fn tested(
         &self,
         tokens: &mut Cursor<'_>,
@@ -143,7 +143,7 @@ impl<'l, F: Fn(Global, &str, &mut Cursor<'_>, usize, Nested) -> Result<Operand, 
     }
 
     /// The predicate that the next token begins.
-    #[tactic(auto, unfolding(cy_grammar::specs::internal::Reader::and_then, cy_grammar::specs::internal::Expressions::predicate_step))]
+    #[tactic(auto, unfolding(cy_parser_grammar::specs::internal::Reader::and_then, cy_parser_grammar::specs::internal::Expressions::predicate_step))]
     fn predicate_step(&self, tokens: &mut Cursor<'_>, left: Operand) -> Result<Operand, Refusal>
         requires { Nests self.now.levels (F.pre self.now.inner) (F.post self.now.inner) }
         ensures { Reads operand_of (spec.predicate_step self.now.line.now self.now.levels (spec.nesting self.now.line.now self.now.levels) (operand_of left) tokens.old) result tokens.new }
@@ -191,7 +191,7 @@ impl<'l, F: Fn(Global, &str, &mut Cursor<'_>, usize, Nested) -> Result<Operand, 
     }
 
     /// What arithmetic and predicates make of a first operand and what comes after it.
-    #[tactic(auto, unfolding(cy_grammar::specs::internal::Reader::and_then, cy_grammar::specs::internal::Expressions::predicate_from))]
+    #[tactic(auto, unfolding(cy_parser_grammar::specs::internal::Reader::and_then, cy_parser_grammar::specs::internal::Expressions::predicate_from))]
     fn predicate_of(&self, tokens: &mut Cursor<'_>, first: Operand) -> Result<Operand, Refusal>
         requires { Nests self.now.levels (F.pre self.now.inner) (F.post self.now.inner) }
         ensures { Reads operand_of (spec.predicate_from self.now.line.now self.now.levels (spec.nesting self.now.line.now self.now.levels) (operand_of first) tokens.old) result tokens.new }
@@ -202,7 +202,7 @@ impl<'l, F: Fn(Global, &str, &mut Cursor<'_>, usize, Nested) -> Result<Operand, 
     }
 
     /// What arithmetic and predicates make of a first operand, where an operator may be missing.
-    #[tactic(auto, using(cy_grammar::proofs::Continues::predicate_stops))]
+    #[tactic(auto, using(cy_parser_grammar::proofs::Continues::predicate_stops))]
     fn predicate_from(&self, tokens: &mut Cursor<'_>, first: Operand) -> Result<Operand, Refusal>
         requires { Nests self.now.levels (F.pre self.now.inner) (F.post self.now.inner) }
         ensures { Reads operand_of (spec.predicate_from self.now.line.now self.now.levels (spec.nesting self.now.line.now self.now.levels) (operand_of first) tokens.old) result tokens.new }
@@ -214,7 +214,7 @@ impl<'l, F: Fn(Global, &str, &mut Cursor<'_>, usize, Nested) -> Result<Operand, 
     }
 
     /// A sum with the predicates after it.
-    #[tactic(auto, unfolding(cy_grammar::specs::internal::Reader::and_then, cy_grammar::specs::internal::Expressions::predicate, cy_grammar::specs::internal::Expressions::sum, cy_grammar::specs::internal::Expressions::product, cy_grammar::specs::internal::Expressions::predicate_from))]
+    #[tactic(auto, unfolding(cy_parser_grammar::specs::internal::Reader::and_then, cy_parser_grammar::specs::internal::Expressions::predicate, cy_parser_grammar::specs::internal::Expressions::sum, cy_parser_grammar::specs::internal::Expressions::product, cy_parser_grammar::specs::internal::Expressions::predicate_from))]
     fn predicate(&self, tokens: &mut Cursor<'_>) -> Result<Operand, Refusal>
         requires { Nests self.now.levels (F.pre self.now.inner) (F.post self.now.inner) }
         ensures { Reads operand_of (spec.predicate self.now.line.now self.now.levels (spec.nesting self.now.line.now self.now.levels) tokens.old) result tokens.new }
@@ -241,7 +241,7 @@ impl<'l, F: Fn(Global, &str, &mut Cursor<'_>, usize, Nested) -> Result<Operand, 
     }
 
     /// An operand, or the chain of comparisons that it begins.
-    #[tactic(auto, unfolding(cy_grammar::specs::internal::Reader::and_then))]
+    #[tactic(auto, unfolding(cy_parser_grammar::specs::internal::Reader::and_then))]
     fn comparisons_after(&self, tokens: &mut Cursor<'_>, first: Operand) -> Result<Operand, Refusal>
         requires { Nests self.now.levels (F.pre self.now.inner) (F.post self.now.inner) }
         ensures { Reads operand_of (spec.comparisons_after self.now.line.now self.now.levels (spec.nesting self.now.line.now self.now.levels) (operand_of first) tokens.old) result tokens.new }
@@ -254,7 +254,7 @@ impl<'l, F: Fn(Global, &str, &mut Cursor<'_>, usize, Nested) -> Result<Operand, 
     }
 
     /// A chain of comparisons, or its first operand, from the part of it that was read first.
-    #[tactic(auto, unfolding(cy_grammar::specs::internal::Reader::and_then))]
+    #[tactic(auto, unfolding(cy_parser_grammar::specs::internal::Reader::and_then))]
     fn comparisons_from(&self, tokens: &mut Cursor<'_>, first: Operand) -> Result<Operand, Refusal>
         requires { Nests self.now.levels (F.pre self.now.inner) (F.post self.now.inner) }
         ensures { Reads operand_of (spec.comparisons_from self.now.line.now self.now.levels (spec.nesting self.now.line.now self.now.levels) (operand_of first) tokens.old) result tokens.new }
@@ -264,7 +264,7 @@ impl<'l, F: Fn(Global, &str, &mut Cursor<'_>, usize, Nested) -> Result<Operand, 
     }
 
     /// An operand, or a chain of comparisons.
-    #[tactic(auto, using(cy_grammar::proofs::Continues::comparison_stops), unfolding(cy_grammar::specs::internal::Reader::and_then, cy_grammar::specs::internal::Expressions::comparisons, cy_grammar::specs::internal::Expressions::predicate, cy_grammar::specs::internal::Expressions::sum, cy_grammar::specs::internal::Expressions::product, cy_grammar::specs::internal::Expressions::predicate_from))]
+    #[tactic(auto, using(cy_parser_grammar::proofs::Continues::comparison_stops), unfolding(cy_parser_grammar::specs::internal::Reader::and_then, cy_parser_grammar::specs::internal::Expressions::comparisons, cy_parser_grammar::specs::internal::Expressions::predicate, cy_parser_grammar::specs::internal::Expressions::sum, cy_parser_grammar::specs::internal::Expressions::product, cy_parser_grammar::specs::internal::Expressions::predicate_from))]
     fn comparisons(&self, tokens: &mut Cursor<'_>) -> Result<Operand, Refusal>
         requires { Nests self.now.levels (F.pre self.now.inner) (F.post self.now.inner) }
         ensures { Reads operand_of (spec.comparisons self.now.line.now self.now.levels (spec.nesting self.now.line.now self.now.levels) tokens.old) result tokens.new }
@@ -277,7 +277,7 @@ impl<'l, F: Fn(Global, &str, &mut Cursor<'_>, usize, Nested) -> Result<Operand, 
     }
 
     /// What stands after NOT.
-    #[tactic(auto, unfolding(cy_grammar::specs::internal::Reader::and_then))]
+    #[tactic(auto, unfolding(cy_parser_grammar::specs::internal::Reader::and_then))]
     fn denied(&self, tokens: &mut Cursor<'_>) -> Result<Operand, Refusal>
         requires { Nests self.now.levels (F.pre self.now.inner) (F.post self.now.inner) }
         ensures { Reads operand_of (spec.denied self.now.line.now (spec.nesting self.now.line.now self.now.levels) tokens.old) result tokens.new }
@@ -287,7 +287,7 @@ impl<'l, F: Fn(Global, &str, &mut Cursor<'_>, usize, Nested) -> Result<Operand, 
     }
 
     /// NOT and what it denies, or a comparison.
-    #[tactic(auto, unfolding(cy_grammar::specs::internal::Reader::and_then, cy_grammar::specs::internal::Expressions::negation))]
+    #[tactic(auto, unfolding(cy_parser_grammar::specs::internal::Reader::and_then, cy_parser_grammar::specs::internal::Expressions::negation))]
     pub(crate) fn negation(&self, tokens: &mut Cursor<'_>) -> Result<Operand, Refusal>
         requires { Nests self.now.levels (F.pre self.now.inner) (F.post self.now.inner) }
         ensures { Reads operand_of (spec.negation self.now.line.now self.now.levels (spec.nesting self.now.line.now self.now.levels) tokens.old) result tokens.new }
@@ -309,7 +309,7 @@ impl<'l, F: Fn(Global, &str, &mut Cursor<'_>, usize, Nested) -> Result<Operand, 
     }
 
     /// Operands of AND.
-    #[tactic(auto, unfolding(cy_grammar::specs::internal::Reader::and_then, cy_grammar::specs::internal::Expressions::conjunction))]
+    #[tactic(auto, unfolding(cy_parser_grammar::specs::internal::Reader::and_then, cy_parser_grammar::specs::internal::Expressions::conjunction))]
     fn conjunction(&self, tokens: &mut Cursor<'_>) -> Result<Operand, Refusal>
         requires { Nests self.now.levels (F.pre self.now.inner) (F.post self.now.inner) }
         ensures { Reads operand_of (spec.conjunction self.now.line.now self.now.levels (spec.nesting self.now.line.now self.now.levels) tokens.old) result tokens.new }
@@ -329,7 +329,7 @@ impl<'l, F: Fn(Global, &str, &mut Cursor<'_>, usize, Nested) -> Result<Operand, 
     }
 
     /// Operands of XOR.
-    #[tactic(auto, unfolding(cy_grammar::specs::internal::Reader::and_then, cy_grammar::specs::internal::Expressions::exclusion))]
+    #[tactic(auto, unfolding(cy_parser_grammar::specs::internal::Reader::and_then, cy_parser_grammar::specs::internal::Expressions::exclusion))]
     fn exclusion(&self, tokens: &mut Cursor<'_>) -> Result<Operand, Refusal>
         requires { Nests self.now.levels (F.pre self.now.inner) (F.post self.now.inner) }
         ensures { Reads operand_of (spec.exclusion self.now.line.now self.now.levels (spec.nesting self.now.line.now self.now.levels) tokens.old) result tokens.new }
@@ -349,7 +349,7 @@ impl<'l, F: Fn(Global, &str, &mut Cursor<'_>, usize, Nested) -> Result<Operand, 
     }
 
     /// A whole expression, from the first operand of AND, XOR and OR on.
-    #[tactic(auto, unfolding(cy_grammar::specs::internal::Reader::and_then))]
+    #[tactic(auto, unfolding(cy_parser_grammar::specs::internal::Reader::and_then))]
     fn disjunction_from(&self, tokens: &mut Cursor<'_>, first: Operand) -> Result<Operand, Refusal>
         requires { Nests self.now.levels (F.pre self.now.inner) (F.post self.now.inner) }
         ensures { Reads operand_of (spec.disjunction_from self.now.line.now self.now.levels (spec.nesting self.now.line.now self.now.levels) (operand_of first) tokens.old) result tokens.new }
@@ -360,7 +360,7 @@ impl<'l, F: Fn(Global, &str, &mut Cursor<'_>, usize, Nested) -> Result<Operand, 
     }
 
     /// Operands of OR: a whole expression.
-    #[tactic(auto, using(cy_grammar::proofs::Continues::whole_stops), unfolding(cy_grammar::specs::internal::Reader::and_then, cy_grammar::specs::internal::Expressions::disjunction, cy_grammar::specs::internal::Expressions::exclusion, cy_grammar::specs::internal::Expressions::conjunction))]
+    #[tactic(auto, using(cy_parser_grammar::proofs::Continues::whole_stops), unfolding(cy_parser_grammar::specs::internal::Reader::and_then, cy_parser_grammar::specs::internal::Expressions::disjunction, cy_parser_grammar::specs::internal::Expressions::exclusion, cy_parser_grammar::specs::internal::Expressions::conjunction))]
     fn disjunction(&self, tokens: &mut Cursor<'_>) -> Result<Operand, Refusal>
         requires { Nests self.now.levels (F.pre self.now.inner) (F.post self.now.inner) }
         ensures { Reads operand_of (spec.disjunction self.now.line.now self.now.levels (spec.nesting self.now.line.now self.now.levels) tokens.old) result tokens.new }

@@ -22,7 +22,7 @@ mod source;
 mod statements;
 mod updates;
 
-pub use cy_grammar::{denoted_text, is_word, slice_in, trees_and_texts};
+pub use cy_parser_grammar::{denoted_text, is_word, slice_in, trees_and_texts};
 pub use cy_trees::{
     Arm, BinaryOperator, Clause, Comparator, Delete, Direction, Expr, Item, Key, Length, Link,
     MapEntry, Match, NodePattern, Path, PathTest, Projection, Query, RelationshipPattern,

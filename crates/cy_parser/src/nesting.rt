@@ -1,6 +1,6 @@
 //! Whole expressions, with a bound on the levels that are open at one place.
 
-ghost use Rattle.cy_grammar.specs.internal.Expressions as spec;
+ghost use Rattle.cy_parser_grammar.specs.internal.Expressions as spec;
 ghost use Rattle.cy_parser.specs.internal.Operands.{operand_of};
 ghost use Rattle.cy_parser.specs.internal.Reads.{Reads};
 
@@ -8,7 +8,7 @@ use crate::cursor::Cursor;
 use crate::grammar::Grammar;
 use crate::operands::Operand;
 use crate::refusals::Refusal;
-use cy_grammar::Nested;
+use cy_parser_grammar::Nested;
 use std::alloc::Global;
 
 /// An expression with this many levels, its own counted, open at most.

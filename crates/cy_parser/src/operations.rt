@@ -4,10 +4,10 @@ ghost use Rattle.std.specs.Prelude.{◌≡◌, Option};
 ghost use Rattle.cy_lexer.specs.declared.tokens.TokenKind.{TokenKind};
 ghost use Rattle.cy_trees.specs.declared.expressions.BinaryOperator.{BinaryOperator};
 ghost use Rattle.cy_trees.specs.Trees.{Expression};
-ghost use Rattle.cy_grammar.specs.internal.Expressions.{chain_after};
+ghost use Rattle.cy_parser_grammar.specs.internal.Expressions.{chain_after};
 ghost use Rattle.cy_parser.specs.internal.ReadsOperations.{ReadsOperations};
 ghost use Rattle.cy_parser.specs.internal.Operands.{operand_of};
-ghost use Rattle.cy_grammar.specs.internal.Reader.{Reader};
+ghost use Rattle.cy_parser_grammar.specs.internal.Reader.{Reader};
 ghost use Rattle.cy_parser.specs.internal.Reads.{Reads};
 
 use crate::building::binary;

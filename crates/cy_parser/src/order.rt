@@ -1,12 +1,12 @@
 //! The order of clauses.
 
 ghost use Rattle.std.specs.Prelude.{◌≡◌};
-ghost use Rattle.cy_grammar.specs.SpellsClauses as spells;
-ghost use Rattle.cy_grammar.specs.internal.Clauses as spec;
+ghost use Rattle.cy_parser_grammar.specs.SpellsClauses as spells;
+ghost use Rattle.cy_parser_grammar.specs.internal.Clauses as spec;
 ghost use Rattle.cy_trees.specs.Views.{clause_of};
 
-use cy_grammar::{ClausePhase, Opening};
 use cy_lexer::{Keyword, Symbol, TokenKind};
+use cy_parser_grammar::{ClausePhase, Opening};
 use cy_trees::Clause;
 
 /// The clause that the token begins.

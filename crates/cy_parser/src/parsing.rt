@@ -7,13 +7,13 @@ ghost use Rattle.cy_lexer.specs.Line.{longest_line};
 ghost use Rattle.cy_lexer.specs.Tokens.{tokens_of};
 ghost use Rattle.cy_parser.specs.declared.faults.ParseFault.TheVariants.{NoMemory, Unexpected};
 ghost use Rattle.cy_parser.specs.Faults.{PointsAtPlace, IsPlace};
-ghost use Rattle.cy_grammar.specs.SpellsClauses.{SpellsStatement};
+ghost use Rattle.cy_parser_grammar.specs.SpellsClauses.{SpellsStatement};
 ghost use Rattle.cy_parser.specs.declared.refusals.Refusal.TheVariants as refusals;
-ghost use Rattle.cy_grammar.specs.Shown.{AreAlike, AreNeighbours, with_columns};
+ghost use Rattle.cy_parser_grammar.specs.Shown.{AreAlike, AreNeighbours, with_columns};
 ghost use Rattle.cy_trees.specs.Show as shown;
 ghost use Rattle.cy_trees.specs.Trees as tree;
 ghost use Rattle.cy_trees.specs.Views.{statement_of};
-ghost use Rattle.cy_grammar.specs.internal.Clauses as spec;
+ghost use Rattle.cy_parser_grammar.specs.internal.Clauses as spec;
 
 use crate::cursor::Cursor;
 use crate::faults::ParseFault;

@@ -2,8 +2,8 @@
 
 ghost use Rattle.std.specs.Prelude.{◌≡◌, ◌∷◌, [], ◌≤◌, ◌<◌, ◌≢◌, map, option_map, IfOk};
 ghost use Rattle.cy_trees.specs.Views.{expression_of, entry_of, properties_of, node_of, relationship_of, step_of, path_of, paths_of};
-ghost use Rattle.cy_grammar.specs.SpellsClauses as spells;
-ghost use Rattle.cy_grammar.specs.internal.Clauses as spec;
+ghost use Rattle.cy_parser_grammar.specs.SpellsClauses as spells;
+ghost use Rattle.cy_parser_grammar.specs.internal.Clauses as spec;
 ghost use Rattle.cy_parser.specs.internal.Reads.{Reads};
 
 use crate::cursor::Cursor;
@@ -29,7 +29,7 @@ fn direction_of(is_left: bool, is_right: bool) -> Direction
 
 impl<'l> Source<'l> {
     /// A variable, if a name comes next.
-    #[tactic(auto, unfolding(cy_grammar::specs::internal::Reader::and_then, cy_grammar::specs::internal::Clauses::variable_if_any))]
+    #[tactic(auto, unfolding(cy_parser_grammar::specs::internal::Reader::and_then, cy_parser_grammar::specs::internal::Clauses::variable_if_any))]
     fn variable_if_any(&self, tokens: &mut Cursor<'_>) -> Result<Option<Variable>, Refusal>
         ensures { Reads (λ v. v) (spec.variable_if_any self.now.line.now tokens.old) result tokens.new }
     {
@@ -40,7 +40,7 @@ impl<'l> Source<'l> {
     }
 
     /// Labels, if a `:` comes next.
-    #[tactic(auto, unfolding(cy_grammar::specs::internal::Reader::and_then, cy_grammar::specs::internal::Clauses::labels_if_any))]
+    #[tactic(auto, unfolding(cy_parser_grammar::specs::internal::Reader::and_then, cy_parser_grammar::specs::internal::Clauses::labels_if_any))]
     fn labels_if_any(&self, tokens: &mut Cursor<'_>) -> Result<Vec<Text>, Refusal>
         ensures { Reads (λ ls. ls.items) (spec.labels_if_any self.now.line.now tokens.old) result tokens.new }
     {
@@ -52,7 +52,7 @@ impl<'l> Source<'l> {
     }
 
     /// An entry of a map.
-    #[tactic(auto, unfolding(cy_grammar::specs::internal::Reader::and_then, cy_grammar::specs::internal::Clauses::entry))]
+    #[tactic(auto, unfolding(cy_parser_grammar::specs::internal::Reader::and_then, cy_parser_grammar::specs::internal::Clauses::entry))]
     fn entry(&self, tokens: &mut Cursor<'_>) -> Result<MapEntry, Refusal>
         ensures { Reads entry_of (spec.entry self.now.line.now tokens.old) result tokens.new }
     {
@@ -77,7 +77,7 @@ impl<'l> Source<'l> {
     }
 
     /// A map, after its `{`.
-    #[tactic(auto, unfolding(cy_grammar::specs::internal::Reader::and_then, cy_grammar::specs::internal::Clauses::map_read))]
+    #[tactic(auto, unfolding(cy_parser_grammar::specs::internal::Reader::and_then, cy_parser_grammar::specs::internal::Clauses::map_read))]
     #[inline(never)]
     fn map_read(&self, tokens: &mut Cursor<'_>) -> Result<Vec<MapEntry>, Refusal>
         ensures { Reads (λ es. map entry_of es.items) (spec.map_read self.now.line.now tokens.old) result tokens.new }
@@ -91,7 +91,7 @@ impl<'l> Source<'l> {
     }
 
     /// A map, if a `{` comes next.
-    #[tactic(auto, unfolding(cy_grammar::specs::internal::Reader::and_then, cy_grammar::specs::internal::Clauses::map_if_any))]
+    #[tactic(auto, unfolding(cy_parser_grammar::specs::internal::Reader::and_then, cy_parser_grammar::specs::internal::Clauses::map_if_any))]
     fn map_if_any(&self, tokens: &mut Cursor<'_>) -> Result<Option<Vec<MapEntry>>, Refusal>
         ensures { Reads properties_of (spec.map_if_any self.now.line.now tokens.old) result tokens.new }
     {
@@ -103,7 +103,7 @@ impl<'l> Source<'l> {
     }
 
     /// A node of a pattern.
-    #[tactic(auto, unfolding(cy_grammar::specs::internal::Reader::and_then, cy_grammar::specs::internal::Clauses::node))]
+    #[tactic(auto, unfolding(cy_parser_grammar::specs::internal::Reader::and_then, cy_parser_grammar::specs::internal::Clauses::node))]
     fn node(&self, tokens: &mut Cursor<'_>) -> Result<NodePattern, Refusal>
         ensures { Reads node_of (spec.node self.now.line.now tokens.old) result tokens.new }
     {
@@ -135,7 +135,7 @@ impl<'l> Source<'l> {
     }
 
     /// Types, if a `:` comes next.
-    #[tactic(auto, unfolding(cy_grammar::specs::internal::Reader::and_then, cy_grammar::specs::internal::Clauses::types_if_any))]
+    #[tactic(auto, unfolding(cy_parser_grammar::specs::internal::Reader::and_then, cy_parser_grammar::specs::internal::Clauses::types_if_any))]
     fn types_if_any(&self, tokens: &mut Cursor<'_>) -> Result<Vec<Text>, Refusal>
         ensures { Reads (λ ts. ts.items) (spec.types_if_any self.now.line.now tokens.old) result tokens.new }
     {
@@ -147,7 +147,7 @@ impl<'l> Source<'l> {
     }
 
     /// What stands in the square brackets of a relationship, after the opening one.
-    #[tactic(auto, unfolding(cy_grammar::specs::internal::Reader::and_then, cy_grammar::specs::internal::Clauses::relationship_body))]
+    #[tactic(auto, unfolding(cy_parser_grammar::specs::internal::Reader::and_then, cy_parser_grammar::specs::internal::Clauses::relationship_body))]
     fn relationship_body(
         &self,
         tokens: &mut Cursor<'_>,
@@ -170,7 +170,7 @@ impl<'l> Source<'l> {
     }
 
     /// The square brackets of a relationship, if they come next.
-    #[tactic(auto, unfolding(cy_grammar::specs::internal::Reader::and_then, cy_grammar::specs::internal::Clauses::relationship_if_any))]
+    #[tactic(auto, unfolding(cy_parser_grammar::specs::internal::Reader::and_then, cy_parser_grammar::specs::internal::Clauses::relationship_if_any))]
     fn relationship_if_any(&self, tokens: &mut Cursor<'_>) -> Result<RelationshipPattern, Refusal>
         ensures { Reads relationship_of (spec.relationship_if_any self.now.line.now tokens.old) result tokens.new }
     {
@@ -187,7 +187,7 @@ impl<'l> Source<'l> {
     }
 
     /// A relationship, from its left arrow or first `-` on.
-    #[tactic(auto, unfolding(cy_grammar::specs::internal::Reader::and_then, cy_grammar::specs::internal::Clauses::relationship))]
+    #[tactic(auto, unfolding(cy_parser_grammar::specs::internal::Reader::and_then, cy_parser_grammar::specs::internal::Clauses::relationship))]
     fn relationship(&self, tokens: &mut Cursor<'_>) -> Result<RelationshipPattern, Refusal>
         ensures { Reads relationship_of (spec.relationship self.now.line.now tokens.old) result tokens.new }
     {
@@ -201,7 +201,7 @@ impl<'l> Source<'l> {
     }
 
     /// A relationship and the node at its other end.
-    #[tactic(auto, unfolding(cy_grammar::specs::internal::Reader::and_then, cy_grammar::specs::internal::Clauses::step))]
+    #[tactic(auto, unfolding(cy_parser_grammar::specs::internal::Reader::and_then, cy_parser_grammar::specs::internal::Clauses::step))]
     fn step(&self, tokens: &mut Cursor<'_>) -> Result<Step, Refusal>
         ensures { Reads step_of (spec.step self.now.line.now tokens.old) result tokens.new }
     {
@@ -225,7 +225,7 @@ impl<'l> Source<'l> {
     }
 
     /// A path of a pattern.
-    #[tactic(auto, unfolding(cy_grammar::specs::internal::Reader::and_then, cy_grammar::specs::internal::Clauses::path))]
+    #[tactic(auto, unfolding(cy_parser_grammar::specs::internal::Reader::and_then, cy_parser_grammar::specs::internal::Clauses::path))]
     pub(crate) fn path(&self, tokens: &mut Cursor<'_>) -> Result<Path, Refusal>
         ensures { Reads path_of (spec.path self.now.line.now tokens.old) result tokens.new }
     {

@@ -3,8 +3,8 @@
 ghost use Rattle.std.specs.Prelude.{◌≡◌, ◌∷◌, [], ◌≤◌, map, IfOk, pos};
 ghost use Rattle.cy_trees.specs.Depth.{deepest, arms_depth};
 ghost use Rattle.cy_trees.specs.Views.{expression_of, expressions_of, arm_of, arms_of};
-ghost use Rattle.cy_grammar.specs.Words.{negated};
-ghost use Rattle.cy_grammar.specs.internal.Expressions as spec;
+ghost use Rattle.cy_parser_grammar.specs.Words.{negated};
+ghost use Rattle.cy_parser_grammar.specs.internal.Expressions as spec;
 ghost use Rattle.cy_parser.specs.internal.Nests.{Nests};
 ghost use Rattle.cy_parser.specs.internal.Operands.{operand_of, otherwise_of, elements_of, arms_in, AreMeasured, ArmsAreMeasured};
 ghost use Rattle.cy_parser.specs.internal.Reads.{Reads};
@@ -14,8 +14,8 @@ use crate::cursor::Cursor;
 use crate::grammar::Grammar;
 use crate::operands::{Gathered, Operand};
 use crate::refusals::Refusal;
-use cy_grammar::{Nested, lowered};
 use cy_lexer::{Keyword, Symbol, TokenKind};
+use cy_parser_grammar::{Nested, lowered};
 use cy_trees::{Arm, Expr, Variable};
 use cy_values::Text;
 use std::alloc::Global;
@@ -59,7 +59,7 @@ impl<'l, F: Fn(Global, &str, &mut Cursor<'_>, usize, Nested) -> Result<Operand, 
     }
 
     /// A list, after its `[`.
-    #[tactic(auto, unfolding(cy_grammar::specs::internal::Reader::and_then, cy_grammar::specs::internal::Expressions::listed))]
+    #[tactic(auto, unfolding(cy_parser_grammar::specs::internal::Reader::and_then, cy_parser_grammar::specs::internal::Expressions::listed))]
     fn listed(&self, tokens: &mut Cursor<'_>) -> Result<Operand, Refusal>
         requires { Nests self.now.levels (F.pre self.now.inner) (F.post self.now.inner) }
         ensures { Reads operand_of (spec.listed self.now.line.now (spec.nesting self.now.line.now self.now.levels) tokens.old) result tokens.new }
@@ -73,7 +73,7 @@ impl<'l, F: Fn(Global, &str, &mut Cursor<'_>, usize, Nested) -> Result<Operand, 
     }
 
     /// An expression in brackets, after the opening one.
-    #[tactic(auto, unfolding(cy_grammar::specs::internal::Reader::and_then, cy_grammar::specs::internal::Expressions::bracketed))]
+    #[tactic(auto, unfolding(cy_parser_grammar::specs::internal::Reader::and_then, cy_parser_grammar::specs::internal::Expressions::bracketed))]
     fn bracketed(&self, tokens: &mut Cursor<'_>) -> Result<Operand, Refusal>
         requires { Nests self.now.levels (F.pre self.now.inner) (F.post self.now.inner) }
         ensures { Reads operand_of (spec.bracketed self.now.line.now (spec.nesting self.now.line.now self.now.levels) tokens.old) result tokens.new }
@@ -84,7 +84,7 @@ impl<'l, F: Fn(Global, &str, &mut Cursor<'_>, usize, Nested) -> Result<Operand, 
     }
 
     /// The arguments of a call that has no `*`.
-    #[tactic(auto, unfolding(cy_grammar::specs::internal::Reader::and_then, cy_grammar::specs::internal::Expressions::arguments))]
+    #[tactic(auto, unfolding(cy_parser_grammar::specs::internal::Reader::and_then, cy_parser_grammar::specs::internal::Expressions::arguments))]
     fn arguments(&self, tokens: &mut Cursor<'_>, function: Text) -> Result<Operand, Refusal>
         requires { Nests self.now.levels (F.pre self.now.inner) (F.post self.now.inner) }
         ensures { Reads operand_of (spec.arguments self.now.line.now (spec.nesting self.now.line.now self.now.levels) function tokens.old) result tokens.new }
@@ -99,7 +99,7 @@ impl<'l, F: Fn(Global, &str, &mut Cursor<'_>, usize, Nested) -> Result<Operand, 
     }
 
     /// A call, after the function's name and the opening bracket.
-    #[tactic(auto, unfolding(cy_grammar::specs::internal::Reader::and_then, cy_grammar::specs::internal::Expressions::called))]
+    #[tactic(auto, unfolding(cy_parser_grammar::specs::internal::Reader::and_then, cy_parser_grammar::specs::internal::Expressions::called))]
     fn called(&self, tokens: &mut Cursor<'_>, function: Text) -> Result<Operand, Refusal>
         requires { Nests self.now.levels (F.pre self.now.inner) (F.post self.now.inner) }
         ensures { Reads operand_of (spec.called self.now.line.now (spec.nesting self.now.line.now self.now.levels) function tokens.old) result tokens.new }
@@ -112,7 +112,7 @@ impl<'l, F: Fn(Global, &str, &mut Cursor<'_>, usize, Nested) -> Result<Operand, 
     }
 
     /// A variable, or a call.
-    #[tactic(auto, unfolding(cy_grammar::specs::internal::Reader::and_then, cy_grammar::specs::internal::Expressions::named))]
+    #[tactic(auto, unfolding(cy_parser_grammar::specs::internal::Reader::and_then, cy_parser_grammar::specs::internal::Expressions::named))]
     fn named(&self, tokens: &mut Cursor<'_>) -> Result<Operand, Refusal>
         requires { Nests self.now.levels (F.pre self.now.inner) (F.post self.now.inner) }
         ensures { Reads operand_of (spec.named self.now.line.now self.now.levels (spec.nesting self.now.line.now self.now.levels) tokens.old) result tokens.new }
@@ -144,7 +144,7 @@ impl<'l, F: Fn(Global, &str, &mut Cursor<'_>, usize, Nested) -> Result<Operand, 
     }
 
     /// What stands after ELSE, if that comes next.
-    #[tactic(auto, unfolding(cy_grammar::specs::internal::Reader::and_then, cy_grammar::specs::internal::Expressions::else_read))]
+    #[tactic(auto, unfolding(cy_parser_grammar::specs::internal::Reader::and_then, cy_parser_grammar::specs::internal::Expressions::else_read))]
     fn otherwise(&self, tokens: &mut Cursor<'_>) -> Result<Option<Operand>, Refusal>
         requires { Nests self.now.levels (F.pre self.now.inner) (F.post self.now.inner) }
         ensures { Reads otherwise_of (spec.else_read self.now.line.now (spec.nesting self.now.line.now self.now.levels) tokens.old) result tokens.new }
@@ -157,7 +157,7 @@ impl<'l, F: Fn(Global, &str, &mut Cursor<'_>, usize, Nested) -> Result<Operand, 
     }
 
     /// A CASE, after that word.
-    #[tactic(auto, unfolding(cy_grammar::specs::internal::Reader::and_then, cy_grammar::specs::internal::Expressions::cases))]
+    #[tactic(auto, unfolding(cy_parser_grammar::specs::internal::Reader::and_then, cy_parser_grammar::specs::internal::Expressions::cases))]
     fn cases(&self, tokens: &mut Cursor<'_>) -> Result<Operand, Refusal>
         requires { Nests self.now.levels (F.pre self.now.inner) (F.post self.now.inner) }
         ensures { Reads operand_of (spec.cases self.now.line.now (spec.nesting self.now.line.now self.now.levels) tokens.old) result tokens.new }
@@ -184,7 +184,7 @@ impl<'l, F: Fn(Global, &str, &mut Cursor<'_>, usize, Nested) -> Result<Operand, 
     }
 
     /// The test for labels after the node, if one comes next.
-    #[tactic(auto, unfolding(cy_grammar::specs::internal::Reader::and_then, cy_grammar::specs::internal::Expressions::labelled))]
+    #[tactic(auto, unfolding(cy_parser_grammar::specs::internal::Reader::and_then, cy_parser_grammar::specs::internal::Expressions::labelled))]
     fn labelled(&self, tokens: &mut Cursor<'_>, node: Operand) -> Result<Operand, Refusal>
         ensures { Reads operand_of (spec.labelled self.now.line.now (operand_of node) tokens.old) result tokens.new }
     {
@@ -196,7 +196,7 @@ impl<'l, F: Fn(Global, &str, &mut Cursor<'_>, usize, Nested) -> Result<Operand, 
     }
 
     /// The properties after the owner, and the test for labels after these.
-    #[tactic(auto, unfolding(cy_grammar::specs::internal::Reader::and_then, cy_grammar::specs::internal::Expressions::attributes))]
+    #[tactic(auto, unfolding(cy_parser_grammar::specs::internal::Reader::and_then, cy_parser_grammar::specs::internal::Expressions::attributes))]
     fn attributes_of(&self, tokens: &mut Cursor<'_>, owner: Operand) -> Result<Operand, Refusal>
         ensures { Reads operand_of (spec.attributes self.now.line.now (operand_of owner) tokens.old) result tokens.new }
     {
@@ -205,7 +205,7 @@ impl<'l, F: Fn(Global, &str, &mut Cursor<'_>, usize, Nested) -> Result<Operand, 
     }
 
     /// What may stand after a name, a call and a bracket.
-    #[tactic(auto, using(cy_grammar::proofs::Continues::attributes_stop))]
+    #[tactic(auto, using(cy_parser_grammar::proofs::Continues::attributes_stop))]
     fn attributes(&self, tokens: &mut Cursor<'_>, owner: Operand) -> Result<Operand, Refusal>
         ensures { Reads operand_of (spec.attributes self.now.line.now (operand_of owner) tokens.old) result tokens.new }
     {
@@ -216,7 +216,7 @@ impl<'l, F: Fn(Global, &str, &mut Cursor<'_>, usize, Nested) -> Result<Operand, 
     }
 
     /// A variable or a call, with what follows it.
-    #[tactic(auto, unfolding(cy_grammar::specs::internal::Reader::and_then))]
+    #[tactic(auto, unfolding(cy_parser_grammar::specs::internal::Reader::and_then))]
     fn named_owner(&self, tokens: &mut Cursor<'_>) -> Result<Operand, Refusal>
         requires { Nests self.now.levels (F.pre self.now.inner) (F.post self.now.inner) }
         ensures { Reads operand_of (spec.named_owner self.now.line.now self.now.levels (spec.nesting self.now.line.now self.now.levels) tokens.old) result tokens.new }
@@ -226,7 +226,7 @@ impl<'l, F: Fn(Global, &str, &mut Cursor<'_>, usize, Nested) -> Result<Operand, 
     }
 
     /// An expression in brackets, after the opening one, with what follows it.
-    #[tactic(auto, unfolding(cy_grammar::specs::internal::Reader::and_then))]
+    #[tactic(auto, unfolding(cy_parser_grammar::specs::internal::Reader::and_then))]
     fn bracketed_owner(&self, tokens: &mut Cursor<'_>) -> Result<Operand, Refusal>
         requires { Nests self.now.levels (F.pre self.now.inner) (F.post self.now.inner) }
         ensures { Reads operand_of (spec.bracketed_owner self.now.line.now (spec.nesting self.now.line.now self.now.levels) tokens.old) result tokens.new }
@@ -236,7 +236,7 @@ impl<'l, F: Fn(Global, &str, &mut Cursor<'_>, usize, Nested) -> Result<Operand, 
     }
 
     /// What stands without an operator: a literal, a list, a CASE, or a name, call or bracket with what follows it.
-    #[tactic(auto, unfolding(cy_grammar::specs::internal::Reader::and_then, cy_grammar::specs::internal::Expressions::postfix))]
+    #[tactic(auto, unfolding(cy_parser_grammar::specs::internal::Reader::and_then, cy_parser_grammar::specs::internal::Expressions::postfix))]
     pub(crate) fn postfix(&self, tokens: &mut Cursor<'_>) -> Result<Operand, Refusal>
         requires { Nests self.now.levels (F.pre self.now.inner) (F.post self.now.inner) }
         ensures { Reads operand_of (spec.postfix self.now.line.now self.now.levels (spec.nesting self.now.line.now self.now.levels) tokens.old) result tokens.new }
@@ -263,7 +263,7 @@ impl<'l, F: Fn(Global, &str, &mut Cursor<'_>, usize, Nested) -> Result<Operand, 
 }
 
 /// A literal that has no `-` before it.
-#[tactic(auto, unfolding(cy_grammar::specs::internal::Reader::and_then, cy_grammar::specs::internal::Expressions::literal, cy_grammar::specs::internal::Expressions::counted))]
+#[tactic(auto, unfolding(cy_parser_grammar::specs::internal::Reader::and_then, cy_parser_grammar::specs::internal::Expressions::literal, cy_parser_grammar::specs::internal::Expressions::counted))]
 fn literal(alloc: Global, line: &str, tokens: &mut Cursor<'_>) -> Result<Operand, Refusal>
     ensures { Reads operand_of (spec.literal line.now tokens.old) result tokens.new }
 {

@@ -2,22 +2,22 @@
 
 ghost use Rattle.std.specs.Prelude.{◌≡◌, ◌-◌, Some, take, length, map, option_map, IfOk, IfErr};
 ghost use Rattle.cy_parser.specs.declared.refusals.Refusal.TheVariants.{NoMemory};
-ghost use Rattle.cy_grammar.specs.Words as words;
+ghost use Rattle.cy_parser_grammar.specs.Words as words;
 ghost use Rattle.cy_trees.specs.Views.{expression_of, item_of, key_of, projection_of};
-ghost use Rattle.cy_grammar.specs.SpellsClauses as spells;
-ghost use Rattle.cy_grammar.specs.internal.Clauses as spec;
+ghost use Rattle.cy_parser_grammar.specs.SpellsClauses as spells;
+ghost use Rattle.cy_parser_grammar.specs.internal.Clauses as spec;
 ghost use Rattle.cy_parser.specs.internal.Reads.{Reads};
 
 use crate::cursor::Cursor;
 use crate::refusals::Refusal;
 use crate::source::Source;
-use cy_grammar::slice_in;
 use cy_lexer::{Keyword, Symbol, Token, TokenKind};
+use cy_parser_grammar::slice_in;
 use cy_trees::{Expr, Item, Key, Projection};
 use cy_values::Text;
 
 /// Whether a key's order falls, by the word after it.
-#[tactic(auto, unfolding(cy_grammar::specs::internal::Reader::and_then, cy_grammar::specs::internal::Clauses::is_descending))]
+#[tactic(auto, unfolding(cy_parser_grammar::specs::internal::Reader::and_then, cy_parser_grammar::specs::internal::Clauses::is_descending))]
 fn is_descending(tokens: &mut Cursor<'_>) -> bool
     ensures { spec.is_descending tokens.old ≡ Some (result, tokens.new) }
 {
@@ -69,7 +69,7 @@ impl<'l> Source<'l> {
     }
 
     /// An item of a projection.
-    #[tactic(auto, unfolding(cy_grammar::specs::internal::Reader::and_then, cy_grammar::specs::internal::Clauses::item, cy_grammar::specs::internal::Clauses::column))]
+    #[tactic(auto, unfolding(cy_parser_grammar::specs::internal::Reader::and_then, cy_parser_grammar::specs::internal::Clauses::item, cy_parser_grammar::specs::internal::Clauses::column))]
     fn item(&self, tokens: &mut Cursor<'_>) -> Result<Item, Refusal>
         ensures { Reads item_of (spec.item self.now.line.now tokens.old) result tokens.new }
     {
@@ -107,7 +107,7 @@ impl<'l> Source<'l> {
     }
 
     /// A key of ORDER BY.
-    #[tactic(auto, unfolding(cy_grammar::specs::internal::Reader::and_then, cy_grammar::specs::internal::Clauses::key))]
+    #[tactic(auto, unfolding(cy_parser_grammar::specs::internal::Reader::and_then, cy_parser_grammar::specs::internal::Clauses::key))]
     fn key(&self, tokens: &mut Cursor<'_>) -> Result<Key, Refusal>
         ensures { Reads key_of (spec.key self.now.line.now tokens.old) result tokens.new }
     {
@@ -134,7 +134,7 @@ impl<'l> Source<'l> {
     }
 
     /// ORDER BY and its keys, if they come next.
-    #[tactic(auto, unfolding(cy_grammar::specs::internal::Reader::and_then, cy_grammar::specs::internal::Clauses::keys_if_any))]
+    #[tactic(auto, unfolding(cy_parser_grammar::specs::internal::Reader::and_then, cy_parser_grammar::specs::internal::Clauses::keys_if_any))]
     fn keys_if_any(&self, tokens: &mut Cursor<'_>) -> Result<Vec<Key>, Refusal>
         ensures { Reads (λ ks. map key_of ks.items) (spec.keys_if_any self.now.line.now tokens.old) result tokens.new }
     {
@@ -146,7 +146,7 @@ impl<'l> Source<'l> {
     }
 
     /// What WITH and RETURN say but for WHERE.
-    #[tactic(auto, unfolding(cy_grammar::specs::internal::Reader::and_then, cy_grammar::specs::internal::Clauses::projection))]
+    #[tactic(auto, unfolding(cy_parser_grammar::specs::internal::Reader::and_then, cy_parser_grammar::specs::internal::Clauses::projection))]
     pub(crate) fn projection(&self, tokens: &mut Cursor<'_>) -> Result<Projection, Refusal>
         ensures { Reads projection_of (spec.projection self.now.line.now tokens.old) result tokens.new }
     {

@@ -2,15 +2,15 @@
 
 ghost use Rattle.std.specs.Prelude.{◌≡◌};
 ghost use Rattle.cy_trees.specs.Views.{expression_of};
-ghost use Rattle.cy_grammar.specs.internal.Clauses as clauses;
-ghost use Rattle.cy_grammar.specs.internal.Expressions as spec;
+ghost use Rattle.cy_parser_grammar.specs.internal.Clauses as clauses;
+ghost use Rattle.cy_parser_grammar.specs.internal.Expressions as spec;
 ghost use Rattle.cy_parser.specs.internal.Operands.{operand_of};
 ghost use Rattle.cy_parser.specs.internal.Reads.{Reads};
 
 use crate::cursor::Cursor;
 use crate::nesting::nesting;
 use crate::refusals::Refusal;
-use cy_grammar::Nested;
+use cy_parser_grammar::Nested;
 use cy_trees::{Expr, Variable};
 use std::alloc::Global;
 
@@ -37,7 +37,7 @@ impl<'l> Source<'l> {
     }
 
     /// A variable.
-    #[tactic(auto, unfolding(cy_grammar::specs::internal::Reader::and_then))]
+    #[tactic(auto, unfolding(cy_parser_grammar::specs::internal::Reader::and_then))]
     pub(crate) fn variable(&self, tokens: &mut Cursor<'_>) -> Result<Variable, Refusal>
         ensures { Reads (λ v. v) (clauses.variable_read self.now.line.now tokens.old) result tokens.new }
     {

@@ -2,21 +2,21 @@
 
 ghost use Rattle.std.specs.Prelude.{◌≡◌, map, length};
 ghost use Rattle.cy_trees.specs.Views.{clause_of, query_of, statement_of};
-ghost use Rattle.cy_grammar.specs.SpellsClauses as spells;
-ghost use Rattle.cy_grammar.specs.internal.Clauses as spec;
+ghost use Rattle.cy_parser_grammar.specs.SpellsClauses as spells;
+ghost use Rattle.cy_parser_grammar.specs.internal.Clauses as spec;
 ghost use Rattle.cy_parser.specs.internal.Reads.{Reads};
 
 use crate::cursor::Cursor;
 use crate::order::{is_allowed, may_end, opening_of, phase_after, updates};
 use crate::refusals::Refusal;
 use crate::source::Source;
-use cy_grammar::{ClausePhase, Opening};
 use cy_lexer::{Keyword, Symbol, TokenKind};
+use cy_parser_grammar::{ClausePhase, Opening};
 use cy_trees::{Clause, Delete, Match, Query, Statement, Unwind, With};
 
 impl<'l> Source<'l> {
     /// A MATCH, after that word.
-    #[tactic(auto, unfolding(cy_grammar::specs::internal::Reader::and_then, cy_grammar::specs::internal::Clauses::match_read))]
+    #[tactic(auto, unfolding(cy_parser_grammar::specs::internal::Reader::and_then, cy_parser_grammar::specs::internal::Clauses::match_read))]
     fn match_read(&self, tokens: &mut Cursor<'_>, optional: bool) -> Result<Clause, Refusal>
         ensures { Reads clause_of (spec.match_read self.now.line.now optional tokens.old) result tokens.new }
     {
@@ -30,7 +30,7 @@ impl<'l> Source<'l> {
     }
 
     /// An UNWIND, after that word.
-    #[tactic(auto, unfolding(cy_grammar::specs::internal::Reader::and_then, cy_grammar::specs::internal::Clauses::unwind_read))]
+    #[tactic(auto, unfolding(cy_parser_grammar::specs::internal::Reader::and_then, cy_parser_grammar::specs::internal::Clauses::unwind_read))]
     fn unwind_read(&self, tokens: &mut Cursor<'_>) -> Result<Clause, Refusal>
         ensures { Reads clause_of (spec.unwind_read self.now.line.now tokens.old) result tokens.new }
     {
@@ -41,7 +41,7 @@ impl<'l> Source<'l> {
     }
 
     /// A WITH, after that word.
-    #[tactic(auto, unfolding(cy_grammar::specs::internal::Reader::and_then, cy_grammar::specs::internal::Clauses::with_read))]
+    #[tactic(auto, unfolding(cy_parser_grammar::specs::internal::Reader::and_then, cy_parser_grammar::specs::internal::Clauses::with_read))]
     fn with_read(&self, tokens: &mut Cursor<'_>) -> Result<Clause, Refusal>
         ensures { Reads clause_of (spec.with_read self.now.line.now tokens.old) result tokens.new }
     {
@@ -51,7 +51,7 @@ impl<'l> Source<'l> {
     }
 
     /// A DELETE, after that word.
-    #[tactic(auto, unfolding(cy_grammar::specs::internal::Reader::and_then, cy_grammar::specs::internal::Clauses::delete_read))]
+    #[tactic(auto, unfolding(cy_parser_grammar::specs::internal::Reader::and_then, cy_parser_grammar::specs::internal::Clauses::delete_read))]
     fn delete_read(&self, tokens: &mut Cursor<'_>, detach: bool) -> Result<Clause, Refusal>
         ensures { Reads clause_of (spec.delete_read self.now.line.now detach tokens.old) result tokens.new }
     {
@@ -60,7 +60,7 @@ impl<'l> Source<'l> {
     }
 
     /// The clause after its first word.
-    #[tactic(auto, unfolding(cy_grammar::specs::internal::Reader::and_then))]
+    #[tactic(auto, unfolding(cy_parser_grammar::specs::internal::Reader::and_then))]
     fn clause(&self, tokens: &mut Cursor<'_>, opening: Opening) -> Result<Clause, Refusal>
         ensures { Reads clause_of (spec.clause_by self.now.line.now opening tokens.old) result tokens.new }
     {
@@ -85,7 +85,7 @@ impl<'l> Source<'l> {
     }
 
     /// The clause that the next token begins, if it may stand here; in a query after UNION, if it is a later one.
-    #[tactic(auto, unfolding(cy_grammar::specs::internal::Reader::and_then, cy_grammar::specs::internal::Clauses::clause_in))]
+    #[tactic(auto, unfolding(cy_parser_grammar::specs::internal::Reader::and_then, cy_parser_grammar::specs::internal::Clauses::clause_in))]
     fn clause_in(
         &self,
         tokens: &mut Cursor<'_>,
@@ -121,7 +121,7 @@ impl<'l> Source<'l> {
     }
 
     /// A query.
-    #[tactic(auto, unfolding(cy_grammar::specs::internal::Reader::and_then, cy_grammar::specs::internal::Clauses::query))]
+    #[tactic(auto, unfolding(cy_parser_grammar::specs::internal::Reader::and_then, cy_parser_grammar::specs::internal::Clauses::query))]
     fn query(&self, tokens: &mut Cursor<'_>, is_later: bool) -> Result<Query, Refusal>
         ensures { Reads query_of (spec.query self.now.line.now is_later tokens.old) result tokens.new }
     {
@@ -150,7 +150,7 @@ impl<'l> Source<'l> {
     }
 
     /// The queries of a union, after its first one and the first UNION.
-    #[tactic(auto, unfolding(cy_grammar::specs::internal::Reader::and_then, cy_grammar::specs::internal::Clauses::union_read))]
+    #[tactic(auto, unfolding(cy_parser_grammar::specs::internal::Reader::and_then, cy_parser_grammar::specs::internal::Clauses::union_read))]
     fn union_read(&self, tokens: &mut Cursor<'_>, first: Query) -> Result<Statement, Refusal>
         ensures { Reads statement_of (spec.union_read self.now.line.now (query_of first) tokens.old) result tokens.new }
     {
@@ -164,7 +164,7 @@ impl<'l> Source<'l> {
     }
 
     /// A query, or several with UNION between each two.
-    #[tactic(auto, unfolding(cy_grammar::specs::internal::Reader::and_then, cy_grammar::specs::internal::Clauses::queries, cy_grammar::specs::internal::Clauses::union_of))]
+    #[tactic(auto, unfolding(cy_parser_grammar::specs::internal::Reader::and_then, cy_parser_grammar::specs::internal::Clauses::queries, cy_parser_grammar::specs::internal::Clauses::union_of))]
     fn queries(&self, tokens: &mut Cursor<'_>) -> Result<Statement, Refusal>
         ensures { Reads statement_of (spec.queries self.now.line.now tokens.old) result tokens.new }
     {
@@ -185,7 +185,7 @@ impl<'l> Source<'l> {
     }
 
     /// A statement: all that is left.
-    #[tactic(auto, unfolding(cy_grammar::specs::internal::Reader::and_then, cy_grammar::specs::internal::Clauses::statement))]
+    #[tactic(auto, unfolding(cy_parser_grammar::specs::internal::Reader::and_then, cy_parser_grammar::specs::internal::Clauses::statement))]
     pub(crate) fn statement(&self, tokens: &mut Cursor<'_>) -> Result<Statement, Refusal>
         ensures { Reads statement_of (spec.statement self.now.line.now tokens.old) result tokens.new }
     {
@@ -209,7 +209,7 @@ fn reads_alone(clauses: &[Clause]) -> bool
 
 impl<'a> Cursor<'a> {
     /// The end of a query, after clauses that lead to the phase, or none.
-    #[tactic(auto, unfolding(cy_grammar::specs::internal::Clauses::query_ended))]
+    #[tactic(auto, unfolding(cy_parser_grammar::specs::internal::Clauses::query_ended))]
     fn query_end(&self, phase: ClausePhase, is_empty: bool) -> Result<(), Refusal>
         ensures { Reads (λ u. u) (spec.query_ended phase self.now) result self.now }
     {
@@ -225,7 +225,7 @@ impl<'a> Cursor<'a> {
     }
 
     /// ALL, or none, after a later UNION, as after the first one.
-    #[tactic(auto, unfolding(cy_grammar::specs::internal::Clauses::same_union))]
+    #[tactic(auto, unfolding(cy_parser_grammar::specs::internal::Clauses::same_union))]
     fn same_union(&mut self, all: bool) -> Result<(), Refusal>
         ensures { Reads (λ u. u) (spec.same_union all self.old) result self.new }
     {
@@ -237,7 +237,7 @@ impl<'a> Cursor<'a> {
     }
 
     /// The end of a statement, which a `;` may stand before.
-    #[tactic(auto, unfolding(cy_grammar::specs::internal::Reader::and_then, cy_grammar::specs::internal::Clauses::end_read))]
+    #[tactic(auto, unfolding(cy_parser_grammar::specs::internal::Reader::and_then, cy_parser_grammar::specs::internal::Clauses::end_read))]
     fn end(&mut self) -> Result<(), Refusal>
         ensures { Reads (λ u. u) (spec.end_read self.old) result self.new }
     {

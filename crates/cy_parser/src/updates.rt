@@ -2,7 +2,7 @@
 
 ghost use Rattle.std.specs.Prelude.{◌≡◌, map};
 ghost use Rattle.cy_trees.specs.Views.{expression_of, set_item_of, remove_item_of};
-ghost use Rattle.cy_grammar.specs.internal.Clauses as spec;
+ghost use Rattle.cy_parser_grammar.specs.internal.Clauses as spec;
 ghost use Rattle.cy_parser.specs.internal.Reads.{Reads};
 
 use crate::cursor::Cursor;
@@ -14,7 +14,7 @@ use cy_trees::{RemoveItem, SetItem, Variable};
 
 impl<'l> Source<'l> {
     /// A property and its value, after the variable and the `.`.
-    #[tactic(auto, unfolding(cy_grammar::specs::internal::Reader::and_then, cy_grammar::specs::internal::Clauses::assignment))]
+    #[tactic(auto, unfolding(cy_parser_grammar::specs::internal::Reader::and_then, cy_parser_grammar::specs::internal::Clauses::assignment))]
     fn assignment(&self, tokens: &mut Cursor<'_>, variable: Variable) -> Result<SetItem, Refusal>
         ensures { Reads set_item_of (spec.assignment self.now.line.now variable tokens.old) result tokens.new }
     {
@@ -25,7 +25,7 @@ impl<'l> Source<'l> {
     }
 
     /// An item of SET.
-    #[tactic(auto, unfolding(cy_grammar::specs::internal::Reader::and_then, cy_grammar::specs::internal::Clauses::set_item))]
+    #[tactic(auto, unfolding(cy_parser_grammar::specs::internal::Reader::and_then, cy_parser_grammar::specs::internal::Clauses::set_item))]
     fn set_item(&self, tokens: &mut Cursor<'_>) -> Result<SetItem, Refusal>
         ensures { Reads set_item_of (spec.set_item self.now.line.now tokens.old) result tokens.new }
     {
@@ -53,7 +53,7 @@ impl<'l> Source<'l> {
     }
 
     /// An item of REMOVE.
-    #[tactic(auto, unfolding(cy_grammar::specs::internal::Reader::and_then, cy_grammar::specs::internal::Clauses::remove_item))]
+    #[tactic(auto, unfolding(cy_parser_grammar::specs::internal::Reader::and_then, cy_parser_grammar::specs::internal::Clauses::remove_item))]
     fn remove_item(&self, tokens: &mut Cursor<'_>) -> Result<RemoveItem, Refusal>
         ensures { Reads remove_item_of (spec.remove_item self.now.line.now tokens.old) result tokens.new }
     {

@@ -8,24 +8,24 @@ use Rattle.cy_values.specs.declared.rows.Cell.{Cell}
 use Rattle.cy_values.specs.Bag.{count_of, IsSameBag}
 use Rattle.cy_values.specs.Order.{row_cmp}
 use Rattle.cy_trees.specs.Trees.{Clause, «match», unwind, «with», «return», create, set, remove, delete, Query}
-use Rattle.cy_kinds.specs.Scopes.{Scope}
+use Rattle.cy_scope_kinds.specs.Scopes.{Scope}
 use Rattle.cy_scope.specs.ClauseScopes.{query_scope}
 use Rattle.cy_scope.specs.Views.{is_update}
 use Rattle.cy_graph.specs.Graph.{Content, State, IsGraph}
 use Rattle.cy_expr.specs.declared.faults.EvalFault.{EvalFault}
 use Rattle.cy_expr.specs.Faults.{on_one}
-use Rattle.cy_patterns.specs.Outcomes.{IsSameOutcome}
-use Rattle.cy_queries.proofs.BagLemmas.{permuted_bag}
-use Rattle.cy_queries.proofs.BagOutcomes.{same_both}
-use Rattle.cy_queries.proofs.SeenRows.{each_permuted}
-use Rattle.cy_queries.specs.Queries.{query_rows, rows_after, rows_after_all}
-use Rattle.cy_plans.specs.Plans as plan
-use Rattle.cy_plans.specs.Plans.{Plan}
-use Rattle.cy_plans.specs.Parts.{parts}
-use Rattle.cy_plans.specs.Meaning.{rows_of}
-use Rattle.cy_plans.specs.WellFormed.{IsWellFormed}
-use Rattle.cy_plans.specs.Within.{IsWithin}
-use Rattle.cy_plans.proofs.Counts.{count_cons, same}
+use Rattle.cy_oneshot_patterns.specs.Outcomes.{IsSameOutcome}
+use Rattle.cy_oneshot_meaning.proofs.BagLemmas.{permuted_bag}
+use Rattle.cy_oneshot_meaning.proofs.BagOutcomes.{same_both}
+use Rattle.cy_oneshot_meaning.proofs.SeenRows.{each_permuted}
+use Rattle.cy_oneshot_meaning.specs.Queries.{query_rows, rows_after, rows_after_all}
+use Rattle.cy_planner_algebra.specs.Plans as plan
+use Rattle.cy_planner_algebra.specs.Plans.{Plan}
+use Rattle.cy_planner_algebra.specs.Parts.{parts}
+use Rattle.cy_planner_algebra.specs.Meaning.{rows_of}
+use Rattle.cy_planner_algebra.specs.WellFormed.{IsWellFormed}
+use Rattle.cy_planner_algebra.specs.Within.{IsWithin}
+use Rattle.cy_planner_algebra.proofs.Counts.{count_cons, same}
 use Rattle.cy_planner.specs.WideTables.{query_tables, rows_or_none, tables_after, unselected}
 use Rattle.cy_planner.specs.internal.ClausePlans.{Fits, IsClausePlan}
 use Rattle.cy_planner.specs.internal.QueryPlans.{IsQueryPlan}

@@ -11,8 +11,8 @@ use Rattle.cy_trees.specs.Trees.{Clause, Expression, Query, unwind}
 use Rattle.cy_trees.specs.Views.{clause_of, query_of}
 use Rattle.cy_scope.specs.Checked.{IsViewQuery, single}
 use Rattle.cy_scope.specs.Views.{is_update}
-use Rattle.cy_plans.specs.Plans.{Plan}
-use Rattle.cy_clause_plans.proofs.PlaceColumns.{next_of}
+use Rattle.cy_planner_algebra.specs.Plans.{Plan}
+use Rattle.cy_planner_clauses.proofs.PlaceColumns.{next_of}
 use Rattle.cy_planner.specs.internal.ClausePlans.{CanBePlanned}
 use Rattle.cy_planner.specs.internal.QueryPlans.{AreViewQueries}
 use Rattle.cy_planner.proofs.GoingOn.{first_there, later_there}

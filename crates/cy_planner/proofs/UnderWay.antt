@@ -10,11 +10,11 @@ use Rattle.cy_scope.specs.Checked.{ClausesAreKinded, IsChecked, IsViewQuery, sin
 use Rattle.cy_scope.specs.ClauseScopes.{scope_after}
 use Rattle.cy_scope.specs.Views.{is_update}
 use Rattle.cy_graph.specs.Graph.{Content, State, IsGraph}
-use Rattle.cy_patterns.specs.Outcomes.{IsSameOutcome}
-use Rattle.cy_queries.specs.Queries.{query_rows, rows_after}
-use Rattle.cy_plans.specs.Plans as plan
-use Rattle.cy_plans.specs.Plans.{Plan}
-use Rattle.cy_plans.specs.WellFormed.{IsWellFormed}
+use Rattle.cy_oneshot_patterns.specs.Outcomes.{IsSameOutcome}
+use Rattle.cy_oneshot_meaning.specs.Queries.{query_rows, rows_after}
+use Rattle.cy_planner_algebra.specs.Plans as plan
+use Rattle.cy_planner_algebra.specs.Plans.{Plan}
+use Rattle.cy_planner_algebra.specs.WellFormed.{IsWellFormed}
 use Rattle.cy_planner.specs.internal.ClausePlans.{CanBePlanned, IsPlanned}
 use Rattle.cy_planner.specs.internal.QueryPlans.{IsQueryPlan}
 use Rattle.cy_planner.specs.internal.Stands.{IsUnderWay, Stands}

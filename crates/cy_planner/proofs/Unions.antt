@@ -12,24 +12,24 @@ use Rattle.cy_values.specs.declared.rows.Cell.{Cell}
 use Rattle.cy_values.specs.Bag.{count_of, IsSameBag}
 use Rattle.cy_values.specs.Order.{row_cmp}
 use Rattle.cy_trees.specs.Trees.{Query, Statement}
-use Rattle.cy_kinds.specs.Scopes.{Scope}
+use Rattle.cy_scope_kinds.specs.Scopes.{Scope}
 use Rattle.cy_scope.specs.Checked.{IsChecked, IsViewQuery, single}
 use Rattle.cy_scope.specs.ClauseScopes.{query_scope}
 use Rattle.cy_scope.specs.Views.{any_clause, are_readings, are_sure_clauses, has_aggregate, has_queries, is_ordered, is_reading, is_unbounded}
 use Rattle.cy_graph.specs.Graph.{Content, State, IsGraph}
 use Rattle.cy_expr.specs.Faults.{on_one}
-use Rattle.cy_patterns.specs.Outcomes.{IsSameOutcome}
-use Rattle.cy_queries.proofs.OnceCounts.{once_count, permuted_in_order}
-use Rattle.cy_queries.proofs.Permuted.{same_sum}
-use Rattle.cy_queries.specs.Order.{each_once, in_order}
-use Rattle.cy_queries.specs.Queries.{put_together, query_rows, rows_of_all, statement_rows}
-use Rattle.cy_plans.specs.Plans as plan
-use Rattle.cy_plans.specs.Plans.{Plan}
-use Rattle.cy_plans.specs.Parts.{parts}
-use Rattle.cy_plans.specs.Meaning.{rows_of}
-use Rattle.cy_plans.specs.WellFormed.{IsWellFormed}
-use Rattle.cy_plans.specs.Within.{CountsWithin, IsWithin}
-use Rattle.cy_plans.proofs.Counts.{count_append, count_once}
+use Rattle.cy_oneshot_patterns.specs.Outcomes.{IsSameOutcome}
+use Rattle.cy_oneshot_meaning.proofs.OnceCounts.{once_count, permuted_in_order}
+use Rattle.cy_oneshot_meaning.proofs.Permuted.{same_sum}
+use Rattle.cy_oneshot_meaning.specs.Order.{each_once, in_order}
+use Rattle.cy_oneshot_meaning.specs.Queries.{put_together, query_rows, rows_of_all, statement_rows}
+use Rattle.cy_planner_algebra.specs.Plans as plan
+use Rattle.cy_planner_algebra.specs.Plans.{Plan}
+use Rattle.cy_planner_algebra.specs.Parts.{parts}
+use Rattle.cy_planner_algebra.specs.Meaning.{rows_of}
+use Rattle.cy_planner_algebra.specs.WellFormed.{IsWellFormed}
+use Rattle.cy_planner_algebra.specs.Within.{CountsWithin, IsWithin}
+use Rattle.cy_planner_algebra.proofs.Counts.{count_append, count_once}
 use Rattle.cy_planner.specs.Serves.{Serves}
 use Rattle.cy_planner.specs.WideTables.{query_tables, rows_or_none, wide_tables}
 use Rattle.cy_planner.specs.internal.QueryPlans.{AreViewQueries, IsPlanOfAll, IsQueryPlan, tables_of_all}

@@ -7,11 +7,11 @@ use Rattle.std.proofs.lemmas.List.{length-map}
 use Rattle.std.proofs.lemmas.List.Elements.{recursion_from_All}
 use Rattle.cy_values.specs.declared.rows.Cell.{Cell}
 use Rattle.cy_trees.specs.Trees.{Expression, null, boolean, integer, text, variable, property, has_labels, unary, binary, comparison, list, case, call, call_star, Path, Item, Projection, Clause, «match», unwind, «with», «return», create, set, remove, delete, Query, Statement, Where}
-use Rattle.cy_kinds.specs.declared.functions.Function.{Function}
-use Rattle.cy_kinds.specs.declared.kinds.Kind.{Kind}
-use Rattle.cy_kinds.specs.Aggregates.{has_aggregates, is_aggregate_call, is_aggregate_if}
-use Rattle.cy_kinds.specs.Kinded.{HasKind, IsAggregate, IsKinded}
-use Rattle.cy_kinds.specs.Scopes.{Scope, with_paths}
+use Rattle.cy_scope_kinds.specs.declared.functions.Function.{Function}
+use Rattle.cy_scope_kinds.specs.declared.kinds.Kind.{Kind}
+use Rattle.cy_scope_kinds.specs.Aggregates.{has_aggregates, is_aggregate_call, is_aggregate_if}
+use Rattle.cy_scope_kinds.specs.Kinded.{HasKind, IsAggregate, IsKinded}
+use Rattle.cy_scope_kinds.specs.Scopes.{Scope, with_paths}
 use Rattle.cy_scope.specs.Checked.{ClausesAreKinded, FilterGivesValue, IsChecked, IsViewQuery, ItemIsKinded, ProjectionIsKinded, item_column, single}
 use Rattle.cy_scope.specs.ClauseFaults.{clause_fault, clauses_fault, queries_fault, query_fault}
 use Rattle.cy_scope.specs.ClauseScopes.{columns_of, scope_after}
@@ -19,18 +19,18 @@ use Rattle.cy_scope.specs.ConditionFaults.{where_fault}
 use Rattle.cy_scope.specs.PatternFaults.{paths_fault}
 use Rattle.cy_scope.specs.ProjectionFaults.{projection_fault}
 use Rattle.cy_scope.specs.Resolved.{resolved_clause, resolved_clauses, resolved_path, resolved_projection, resolved_query}
-use Rattle.cy_kinds.specs.Faults.{first}
-use Rattle.cy_kinds.specs.declared.faults.ScopeFault.{ScopeFault}
-use Rattle.cy_kinds.specs.declared.faults.ViewFault.TheVariants.{AggregateInView, MayFail, NotAReading, OrderInView, Unbounded}
+use Rattle.cy_scope_kinds.specs.Faults.{first}
+use Rattle.cy_scope_kinds.specs.declared.faults.ScopeFault.{ScopeFault}
+use Rattle.cy_scope_kinds.specs.declared.faults.ViewFault.TheVariants.{AggregateInView, MayFail, NotAReading, OrderInView, Unbounded}
 use Rattle.cy_scope.specs.Views.{are_sure_clauses, ends_with_return, has_aggregate, is_ordered, is_reading, is_sure_after, is_sure_before, is_unbounded, is_update}
 use Rattle.cy_scope.proofs.KindedExpressions.{first_none}
 use Rattle.cy_scope.proofs.KindsKept.{paths_kept, scope_kept}
 use Rattle.cy_graph.specs.Graph.{Content}
-use Rattle.cy_queries.proofs.ScopeClauses.{clause_fits, projection_fits}
-use Rattle.cy_queries.specs.Projection.{projection_rows}
-use Rattle.cy_queries.specs.Queries.{rows_after}
-use Rattle.cy_clause_plans.specs.Matched.{IsTestKinded, where_only}
-use Rattle.cy_clause_plans.specs.Projections.{expressions_in}
+use Rattle.cy_oneshot_meaning.proofs.ScopeClauses.{clause_fits, projection_fits}
+use Rattle.cy_oneshot_meaning.specs.Projection.{projection_rows}
+use Rattle.cy_oneshot_meaning.specs.Queries.{rows_after}
+use Rattle.cy_planner_clauses.specs.Matched.{IsTestKinded, where_only}
+use Rattle.cy_planner_clauses.specs.Projections.{expressions_in}
 use Rattle.cy_planner.specs.internal.ClausePlans.{Fits}
 use Rattle.cy_planner.specs.internal.ViewClauses.{AreViewClauses, IsViewClause}
 

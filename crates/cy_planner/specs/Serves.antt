@@ -3,14 +3,14 @@ use Rattle.std.specs.Prelude.{Ok}
 use Rattle.std.specs.List.{All}
 use Rattle.cy_trees.specs.Trees.{Statement}
 use Rattle.cy_graph.specs.Graph.{State, IsGraph}
-use Rattle.cy_patterns.specs.Outcomes.{IsSameOutcome}
-use Rattle.cy_queries.specs.Queries.{statement_rows}
-use Rattle.cy_plans.specs.Plans.{Plan}
-use Rattle.cy_plans.specs.Parts.{parts}
-use Rattle.cy_plans.specs.Meaning.{rows_of}
-use Rattle.cy_plans.specs.Sure.{IsSure}
-use Rattle.cy_plans.specs.WellFormed.{IsWellFormed}
-use Rattle.cy_plans.specs.Within.{IsWithin}
+use Rattle.cy_oneshot_patterns.specs.Outcomes.{IsSameOutcome}
+use Rattle.cy_oneshot_meaning.specs.Queries.{statement_rows}
+use Rattle.cy_planner_algebra.specs.Plans.{Plan}
+use Rattle.cy_planner_algebra.specs.Parts.{parts}
+use Rattle.cy_planner_algebra.specs.Meaning.{rows_of}
+use Rattle.cy_planner_algebra.specs.Sure.{IsSure}
+use Rattle.cy_planner_algebra.specs.WellFormed.{IsWellFormed}
+use Rattle.cy_planner_algebra.specs.Within.{IsWithin}
 use Rattle.cy_planner.specs.WideTables.{wide_tables}
 
 -- On every graph the rows of the plan are, as a bag, the rows of the query; no part of it counts a row more often than the wide

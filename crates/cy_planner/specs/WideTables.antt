@@ -5,7 +5,7 @@ use Rattle.cy_values.specs.declared.rows.Cell.{Cell}
 use Rattle.cy_trees.specs.Trees.{Where, Clause, «match», «with», «return», Query, Statement}
 use Rattle.cy_graph.specs.Graph.{Content}
 use Rattle.cy_expr.specs.declared.faults.EvalFault.{EvalFault}
-use Rattle.cy_queries.specs.Queries.{rows_after, rows_of_all}
+use Rattle.cy_oneshot_meaning.specs.Queries.{rows_after, rows_of_all}
 
 abbrev pub no_where : Where
 no_where = record { test = None; paths = [] }

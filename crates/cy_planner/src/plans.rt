@@ -3,8 +3,8 @@
 ghost use Rattle.std.specs.Prelude.{◌≡◌, ◌<◌, ◌↔◌, [], IfOk, IsErrOf, map};
 ghost use Rattle.cy_trees.specs.Views.{clause_of, query_of, statement_of};
 ghost use Rattle.cy_scope.specs.Checked.{IsViewQuery, single};
-ghost use Rattle.cy_plans.specs.Views.{plan_of};
-ghost use Rattle.cy_plans.specs.WellFormed.{IsWellFormed};
+ghost use Rattle.cy_planner_algebra.specs.Views.{plan_of};
+ghost use Rattle.cy_planner_algebra.specs.WellFormed.{IsWellFormed};
 ghost use Rattle.cy_planner.specs.Serves.{Serves};
 ghost use Rattle.cy_planner.specs.Weight.{greatest_weight, weight};
 ghost use Rattle.cy_planner.specs.internal.QueryPlans.{AreViewQueries, IsPlanOfAll, IsQueryPlan};
@@ -12,10 +12,10 @@ ghost use Rattle.cy_planner.specs.internal.QueryPlans.{AreViewQueries, IsPlanOfA
 use crate::clauses::clause_rows;
 use crate::faults::PlanFault;
 use crate::weight::is_too_large;
-use cy_outer_filters::with_low_predicates;
-use cy_plans::Plan;
-use cy_queries::laws::{clauses_on_bags, view_queries};
-use cy_rewriting::rewritten;
+use cy_oneshot_meaning::laws::{clauses_on_bags, view_queries};
+use cy_planner_algebra::Plan;
+use cy_planner_outer_filters::with_low_predicates;
+use cy_planner_rewriting::rewritten;
 use cy_scope::{ViewQuery, checked_statements};
 use cy_trees::{Clause, Query, Statement};
 use cy_values::{Fault, row_order_laws};

@@ -4,14 +4,14 @@ ghost use Rattle.std.specs.Prelude.{◌≡◌, ◌+◌, ◌++◌, ◌≤◌, IfO
 ghost use Rattle.std.specs.List.{range_with_len};
 ghost use Rattle.cy_trees.specs.Trees.{boolean, call, more, no_more};
 ghost use Rattle.cy_trees.specs.Views.{expression_of};
-ghost use Rattle.cy_patterns.specs.internal.Patterns.{place_of};
-ghost use Rattle.cy_plans.specs.WellFormed.{greatest_width};
+ghost use Rattle.cy_oneshot_patterns.specs.internal.Patterns.{place_of};
+ghost use Rattle.cy_planner_algebra.specs.WellFormed.{greatest_width};
 ghost use Rattle.cy_planner_pairs.specs.internal.Told as spec;
 
 use crate::conditions::{and_also, column_at, or_true};
-use cy_optional_plans::keys;
-use cy_patterns::Place;
-use cy_plans::KeyColumns;
+use cy_oneshot_patterns::Place;
+use cy_planner_algebra::KeyColumns;
+use cy_planner_optional::keys;
 use cy_trees::{Expr, UnaryOperator};
 use cy_values::{Fault, Text};
 use std::alloc::Global;
@@ -121,7 +121,7 @@ fn is_not_null_at(alloc: Global, column: usize) -> Result<Expr, Fault>
 }
 
 /// Whether each of these columns has something. Fails only when out of memory.
-#[tactic(auto, using(cy_optional_plans::proofs::CodeLemmas::tests_all))]
+#[tactic(auto, using(cy_planner_optional::proofs::CodeLemmas::tests_all))]
 pub(crate) fn all_there(alloc: Global, columns: &[usize]) -> Result<Expr, Fault>
     ensures { IfOk result (λ e. expression_of e ≡ spec.all_there columns.now) }
 {

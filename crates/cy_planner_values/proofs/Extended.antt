@@ -10,36 +10,36 @@ use Rattle.std.proofs.Math.Seq.{take-append_seam}
 use Rattle.cy_values.specs.declared.rows.Cell.{Cell}
 use Rattle.cy_values.specs.Bag.{count_of}
 use Rattle.cy_trees.specs.Trees.{Expression}
-use Rattle.cy_kinds.specs.Kinded.{IsKinded}
-use Rattle.cy_kinds.specs.Rows.{row_fits}
-use Rattle.cy_kinds.specs.Scopes.{Scope}
+use Rattle.cy_scope_kinds.specs.Kinded.{IsKinded}
+use Rattle.cy_scope_kinds.specs.Rows.{row_fits}
+use Rattle.cy_scope_kinds.specs.Scopes.{Scope}
 use Rattle.cy_graph.specs.Graph.{State, IsGraph}
 use Rattle.cy_expr.specs.declared.faults.EvalFault.{EvalFault}
 use Rattle.cy_expr.specs.Evaluation.{cell_of}
 use Rattle.cy_expr.specs.Graphs.{lookups}
-use Rattle.cy_plans.specs.Plans as plan
-use Rattle.cy_plans.specs.Plans.{Plan, Output, computed, width}
-use Rattle.cy_plans.specs.Expressions.{cell_or_null, null, output_cell, projected}
-use Rattle.cy_plans.specs.Meaning.{rows_of}
-use Rattle.cy_plans.specs.Parts.{parts}
-use Rattle.cy_plans.specs.Sure.{HasCell, HasCells, IsSureOn}
-use Rattle.cy_plans.specs.WellFormed.{IsOutputOver, IsWellFormed, greatest_width}
-use Rattle.cy_plans.specs.Within.{IsWithin}
-use Rattle.cy_plans.proofs.Counts.{count_cons, identity, same}
-use Rattle.cy_lowering.specs.declared.places.Wanted.{Wanted}
-use Rattle.cy_lowering.specs.Lowered.{lowered}
-use Rattle.cy_lowering.specs.Places.{place}
-use Rattle.cy_row_plans.specs.Columns.{column_output}
-use Rattle.cy_row_plans.specs.Rows.{AreReadOver, FitsRows, cells_on}
-use Rattle.cy_row_plans.specs.internal.Asked.{asked}
-use Rattle.cy_row_plans.specs.internal.Lookups.{over, value_on, with_values}
-use Rattle.cy_row_plans.proofs.Filtered.{same_value}
-use Rattle.cy_row_plans.proofs.Lists.{all_of_each, each_both_of, each_mapped, first_elements, map_twice}
-use Rattle.cy_row_plans.proofs.Lowerable.{each_left, each_right}
-use Rattle.cy_row_plans.proofs.OverRows.{columns_have_cells, columns_read, first_over, long_rows, own_part, parts_over, rows_over, smaller_within, sure_over, width_over}
-use Rattle.cy_row_plans.proofs.Placed.{IsAmong, asked_among}
-use Rattle.cy_row_plans.proofs.Projected.{all_wanted_inside, outputs_over, wanted_of_all}
-use Rattle.cy_length_plans.proofs.Same.{row_itself}
+use Rattle.cy_planner_algebra.specs.Plans as plan
+use Rattle.cy_planner_algebra.specs.Plans.{Plan, Output, computed, width}
+use Rattle.cy_planner_algebra.specs.Expressions.{cell_or_null, null, output_cell, projected}
+use Rattle.cy_planner_algebra.specs.Meaning.{rows_of}
+use Rattle.cy_planner_algebra.specs.Parts.{parts}
+use Rattle.cy_planner_algebra.specs.Sure.{HasCell, HasCells, IsSureOn}
+use Rattle.cy_planner_algebra.specs.WellFormed.{IsOutputOver, IsWellFormed, greatest_width}
+use Rattle.cy_planner_algebra.specs.Within.{IsWithin}
+use Rattle.cy_planner_algebra.proofs.Counts.{count_cons, identity, same}
+use Rattle.cy_planner_lowering.specs.declared.places.Wanted.{Wanted}
+use Rattle.cy_planner_lowering.specs.Lowered.{lowered}
+use Rattle.cy_planner_lowering.specs.Places.{place}
+use Rattle.cy_planner_rows.specs.Columns.{column_output}
+use Rattle.cy_planner_rows.specs.Rows.{AreReadOver, FitsRows, cells_on}
+use Rattle.cy_planner_rows.specs.internal.Asked.{asked}
+use Rattle.cy_planner_rows.specs.internal.Lookups.{over, value_on, with_values}
+use Rattle.cy_planner_rows.proofs.Filtered.{same_value}
+use Rattle.cy_planner_rows.proofs.Lists.{all_of_each, each_both_of, each_mapped, first_elements, map_twice}
+use Rattle.cy_planner_rows.proofs.Lowerable.{each_left, each_right}
+use Rattle.cy_planner_rows.proofs.OverRows.{columns_have_cells, columns_read, first_over, long_rows, own_part, parts_over, rows_over, smaller_within, sure_over, width_over}
+use Rattle.cy_planner_rows.proofs.Placed.{IsAmong, asked_among}
+use Rattle.cy_planner_rows.proofs.Projected.{all_wanted_inside, outputs_over, wanted_of_all}
+use Rattle.cy_planner_lengths.proofs.Same.{row_itself}
 use Rattle.cy_planner_values.specs.Columns.{IsExtended}
 
 -- ---- what begins with a row counts no more often than that

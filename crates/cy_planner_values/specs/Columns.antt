@@ -3,19 +3,19 @@ use Rattle.std.specs.Prelude.{◌≡◌, ◌+◌, ◌++◌, IsOk, List, flat_map
 use Rattle.std.specs.List.{All, AllByRecursion}
 use Rattle.cy_values.specs.declared.rows.Cell.{Cell}
 use Rattle.cy_trees.specs.Trees.{Expression, MapEntry}
-use Rattle.cy_kinds.specs.Kinded.{IsKinded}
-use Rattle.cy_kinds.specs.Scopes.{Scope}
+use Rattle.cy_scope_kinds.specs.Kinded.{IsKinded}
+use Rattle.cy_scope_kinds.specs.Scopes.{Scope}
 use Rattle.cy_graph.specs.Graph.{State, IsGraph}
 use Rattle.cy_expr.specs.Evaluation.{cell_of}
 use Rattle.cy_expr.specs.Graphs.{lookups}
-use Rattle.cy_patterns.specs.Places.{Place}
-use Rattle.cy_plans.specs.Meaning.{rows_of}
-use Rattle.cy_plans.specs.Parts.{parts}
-use Rattle.cy_plans.specs.Plans.{Plan, width}
-use Rattle.cy_plans.specs.Sure.{IsSureOn}
-use Rattle.cy_plans.specs.Within.{IsWithin}
-use Rattle.cy_row_plans.specs.Rows.{FitsRows, cells_on}
-use Rattle.cy_own_patterns.specs.Shared.{other_entries}
+use Rattle.cy_oneshot_patterns.specs.Places.{Place}
+use Rattle.cy_planner_algebra.specs.Meaning.{rows_of}
+use Rattle.cy_planner_algebra.specs.Parts.{parts}
+use Rattle.cy_planner_algebra.specs.Plans.{Plan, width}
+use Rattle.cy_planner_algebra.specs.Sure.{IsSureOn}
+use Rattle.cy_planner_algebra.specs.Within.{IsWithin}
+use Rattle.cy_planner_rows.specs.Rows.{FitsRows, cells_on}
+use Rattle.cy_planner_own_patterns.specs.Shared.{other_entries}
 
 -- the entries of maps that read the row, and their values
 abbrev pub reading_entries : List Place → List MapEntry

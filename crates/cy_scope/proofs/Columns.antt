@@ -9,10 +9,10 @@ use Rattle.std.proofs.lemmas.Option.{none-some, same_Some}
 use Rattle.std.proofs.lemmas.Slice.Eq.{bytes_eq-Decides}
 use Rattle.cy_trees.specs.declared.expressions.Variable.{Variable}
 use Rattle.cy_trees.specs.Trees.{Name, Step, Path}
-use Rattle.cy_kinds.specs.declared.kinds.Kind.{Kind}
-use Rattle.cy_kinds.specs.declared.kinds.Kind.TheVariants.{Node}
-use Rattle.cy_kinds.specs.Scopes.{Scope, find_kind, find_column, is_bound, added_name, added, relationship_kind, with_step, with_steps, with_path, with_paths}
-use Rattle.cy_kinds.proofs.ScopesLemmas.{lookup_both, columns_both}
+use Rattle.cy_scope_kinds.specs.declared.kinds.Kind.{Kind}
+use Rattle.cy_scope_kinds.specs.declared.kinds.Kind.TheVariants.{Node}
+use Rattle.cy_scope_kinds.specs.Scopes.{Scope, find_kind, find_column, is_bound, added_name, added, relationship_kind, with_step, with_steps, with_path, with_paths}
+use Rattle.cy_scope_kinds.proofs.ScopesLemmas.{lookup_both, columns_both}
 
 -- the place of a name, counted from a number
 abbrev IsFound : Name → Scope → Kind → ℕ → Type 0

@@ -7,25 +7,25 @@ use Rattle.std.proofs.lemmas.List.Elements.{All-nil, All-cons, Contains-append_r
 use Rattle.std.proofs.lemmas.Option.{none-some}
 use Rattle.cy_trees.specs.declared.expressions.Variable.{Variable}
 use Rattle.cy_trees.specs.Trees.{Name, Expression, null, boolean, integer, text, variable, property, has_labels, unary, binary, comparison, list, case, call, call_star, Expressions, Path, Item, Key, Projection, SetItem, set_property, set_labels, RemoveItem, remove_property, remove_labels, Clause, «match», unwind, «with», «return», create, set, remove, delete}
-use Rattle.cy_kinds.specs.declared.kinds.Kind.{Kind}
-use Rattle.cy_kinds.specs.declared.kinds.Kind.TheVariants.{Value}
-use Rattle.cy_kinds.specs.declared.faults.ScopeFault.TheVariants.{UnknownVariable, UnknownFunction, AlreadyBound, WrongKind, MissingAlias, DuplicateColumn, WrongArguments}
-use Rattle.cy_kinds.specs.declared.functions.Function.{Function}
-use Rattle.cy_kinds.specs.declared.functions.Function.TheVariants as function
-use Rattle.cy_kinds.specs.Kinds.{is_entity}
-use Rattle.cy_kinds.specs.Functions.{function_named, is_aggregate}
-use Rattle.cy_kinds.specs.Faults.{first, unless}
-use Rattle.cy_kinds.specs.Scopes.{Scope, find_kind, is_bound, added_name, added, with_paths}
-use Rattle.cy_kinds.specs.ExpressionKinds.{kind_of}
-use Rattle.cy_kinds.specs.ExpressionFaults.{expressions_fault, expression_fault, call_fault, star_fault, item_fault, value_fault}
+use Rattle.cy_scope_kinds.specs.declared.kinds.Kind.{Kind}
+use Rattle.cy_scope_kinds.specs.declared.kinds.Kind.TheVariants.{Value}
+use Rattle.cy_scope_kinds.specs.declared.faults.ScopeFault.TheVariants.{UnknownVariable, UnknownFunction, AlreadyBound, WrongKind, MissingAlias, DuplicateColumn, WrongArguments}
+use Rattle.cy_scope_kinds.specs.declared.functions.Function.{Function}
+use Rattle.cy_scope_kinds.specs.declared.functions.Function.TheVariants as function
+use Rattle.cy_scope_kinds.specs.Kinds.{is_entity}
+use Rattle.cy_scope_kinds.specs.Functions.{function_named, is_aggregate}
+use Rattle.cy_scope_kinds.specs.Faults.{first, unless}
+use Rattle.cy_scope_kinds.specs.Scopes.{Scope, find_kind, is_bound, added_name, added, with_paths}
+use Rattle.cy_scope_kinds.specs.ExpressionKinds.{kind_of}
+use Rattle.cy_scope_kinds.specs.ExpressionFaults.{expressions_fault, expression_fault, call_fault, star_fault, item_fault, value_fault}
 use Rattle.cy_scope.specs.PatternFaults.{paths_fault}
 use Rattle.cy_scope.specs.ClauseScopes.{with_items, columns_of, scope_after}
-use Rattle.cy_kinds.specs.Same.{same}
+use Rattle.cy_scope_kinds.specs.Same.{same}
 use Rattle.cy_scope.specs.ProjectionFaults.{has_name, item_place_fault, items_fault, repeats, keys_fault, seen_by_keys, projection_fault}
 use Rattle.cy_scope.specs.ClauseFaults.{entity_fault, set_fault, sets_fault, remove_fault, removes_fault, deletes_fault, clause_fault, clauses_fault}
 use Rattle.cy_scope.specs.ConditionFaults.{where_fault}
 use Rattle.cy_scope.specs.Resolved.{resolved, resolved_expressions, resolved_variable, resolved_path, resolved_item, resolved_key, resolved_projection, resolved_set, resolved_remove, resolved_where, resolved_clause, resolved_clauses}
-use Rattle.cy_kinds.specs.Kinded.{HasKind, HaveKinds, IsAggregate, IsKinded}
+use Rattle.cy_scope_kinds.specs.Kinded.{HasKind, HaveKinds, IsAggregate, IsKinded}
 use Rattle.cy_scope.specs.Checked.{IsEntityColumn, WhereGivesValue, PathIsKinded, ItemIsKinded, item_column, ProjectionIsKinded, SetIsKinded, RemoveIsKinded, ClauseIsKinded, ClausesAreKinded}
 use Rattle.cy_scope.proofs.Columns.{reads-same, reads-variable, reads-paths, keeps-same, added_here}
 use Rattle.cy_scope.proofs.KindedExpressions.{first_none, unless_none, kinds_of, good_call, call_is, call_kind_is, has_kind, have_kinds, gives_value}

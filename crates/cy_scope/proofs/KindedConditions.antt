@@ -6,13 +6,13 @@ use Rattle.std.proofs.lemmas.List.Elements.{All-nil, All-cons}
 use Rattle.std.proofs.lemmas.Option.{none-some}
 use Rattle.cy_trees.specs.declared.expressions.Variable.{Variable}
 use Rattle.cy_trees.specs.Trees.{Expression, NodePattern, RelationshipPattern, Step, Path, PathTest, Where}
-use Rattle.cy_kinds.specs.declared.kinds.Kind.{Kind}
-use Rattle.cy_kinds.specs.declared.kinds.Kind.TheVariants.{Node}
-use Rattle.cy_kinds.specs.declared.faults.ScopeFault.TheVariants.{UnknownVariable, AlreadyBound, WrongKind}
-use Rattle.cy_kinds.specs.Kinds.{is_node}
-use Rattle.cy_kinds.specs.Faults.{first_fault}
-use Rattle.cy_kinds.specs.Scopes.{Scope, find_kind, is_bound}
-use Rattle.cy_kinds.specs.Kinded.{IsColumn}
+use Rattle.cy_scope_kinds.specs.declared.kinds.Kind.{Kind}
+use Rattle.cy_scope_kinds.specs.declared.kinds.Kind.TheVariants.{Node}
+use Rattle.cy_scope_kinds.specs.declared.faults.ScopeFault.TheVariants.{UnknownVariable, AlreadyBound, WrongKind}
+use Rattle.cy_scope_kinds.specs.Kinds.{is_node}
+use Rattle.cy_scope_kinds.specs.Faults.{first_fault}
+use Rattle.cy_scope_kinds.specs.Scopes.{Scope, find_kind, is_bound}
+use Rattle.cy_scope_kinds.specs.Kinded.{IsColumn}
 use Rattle.cy_scope.specs.PatternFaults.{map_fault}
 use Rattle.cy_scope.specs.ConditionFaults.{condition_fault, node_only_fault, tested_node_name_fault, tested_relationship_name_fault, tested_node_fault, tested_relationship_fault, tested_step_fault, tested_path_fault, path_tests_fault, where_fault}
 use Rattle.cy_scope.specs.Resolved.{resolved_variable, resolved_name, resolved_node, resolved_relationship, resolved_step, resolved_path, resolved_condition, resolved_path_test, resolved_where}

@@ -5,21 +5,21 @@ use Rattle.std.specs.List.{list_all}
 use Rattle.std.proofs.lemmas.Option.{none-some}
 use Rattle.std.proofs.lemmas.Bool.{and_parts, and_from}
 use Rattle.cy_trees.specs.Trees.{Name, Expression, null, boolean, integer, text, variable, property, has_labels, unary, binary, comparison, list, case, call, call_star, Expressions, no_more, more, Links, no_links, link, Arms, no_arms, arm, Otherwise, nothing, otherwise}
-use Rattle.cy_kinds.specs.declared.kinds.Kind.{Kind}
-use Rattle.cy_kinds.specs.declared.kinds.Kind.TheVariants.{Node, Relationship, Relationships, Value, Flag}
-use Rattle.cy_kinds.specs.declared.faults.ScopeFault.{ScopeFault}
-use Rattle.cy_kinds.specs.declared.faults.ScopeFault.TheVariants.{UnknownVariable, UnknownFunction, WrongKind, AggregateHere, WrongArguments}
-use Rattle.cy_kinds.specs.declared.functions.Function.{Function}
-use Rattle.cy_kinds.specs.declared.functions.Function.TheVariants as function
-use Rattle.cy_kinds.specs.Kinds.{is_value, is_flag, is_entity, is_node, flag_if}
-use Rattle.cy_kinds.specs.Functions.{function_named, is_aggregate, is_none, is_one, is_property, fit, takes}
-use Rattle.cy_kinds.specs.Scopes.{Scope, find_kind, is_bound, kind_in}
-use Rattle.cy_kinds.specs.ExpressionKinds.{kind_of, are_flags, gives_flags, is_flag_otherwise, function_kind, call_kind}
-use Rattle.cy_kinds.specs.ExpressionFaults.{are_compared, are_values, have_values, is_value_otherwise, are_taken, call_fault, star_fault, expression_fault, expressions_fault, links_fault, arms_fault, otherwise_fault, value_fault}
-use Rattle.cy_kinds.specs.Operands.{takes_unary, compares}
-use Rattle.cy_kinds.specs.Faults.{first, unless}
-use Rattle.cy_kinds.specs.ResolvedExpressions.{resolved, resolved_expressions, resolved_links, resolved_arms, resolved_otherwise}
-use Rattle.cy_kinds.specs.Kinded.{HasKind, HaveKinds, AreComparable, ArmsHaveKinds, LastHasKind, is_call_of}
+use Rattle.cy_scope_kinds.specs.declared.kinds.Kind.{Kind}
+use Rattle.cy_scope_kinds.specs.declared.kinds.Kind.TheVariants.{Node, Relationship, Relationships, Value, Flag}
+use Rattle.cy_scope_kinds.specs.declared.faults.ScopeFault.{ScopeFault}
+use Rattle.cy_scope_kinds.specs.declared.faults.ScopeFault.TheVariants.{UnknownVariable, UnknownFunction, WrongKind, AggregateHere, WrongArguments}
+use Rattle.cy_scope_kinds.specs.declared.functions.Function.{Function}
+use Rattle.cy_scope_kinds.specs.declared.functions.Function.TheVariants as function
+use Rattle.cy_scope_kinds.specs.Kinds.{is_value, is_flag, is_entity, is_node, flag_if}
+use Rattle.cy_scope_kinds.specs.Functions.{function_named, is_aggregate, is_none, is_one, is_property, fit, takes}
+use Rattle.cy_scope_kinds.specs.Scopes.{Scope, find_kind, is_bound, kind_in}
+use Rattle.cy_scope_kinds.specs.ExpressionKinds.{kind_of, are_flags, gives_flags, is_flag_otherwise, function_kind, call_kind}
+use Rattle.cy_scope_kinds.specs.ExpressionFaults.{are_compared, are_values, have_values, is_value_otherwise, are_taken, call_fault, star_fault, expression_fault, expressions_fault, links_fault, arms_fault, otherwise_fault, value_fault}
+use Rattle.cy_scope_kinds.specs.Operands.{takes_unary, compares}
+use Rattle.cy_scope_kinds.specs.Faults.{first, unless}
+use Rattle.cy_scope_kinds.specs.ResolvedExpressions.{resolved, resolved_expressions, resolved_links, resolved_arms, resolved_otherwise}
+use Rattle.cy_scope_kinds.specs.Kinded.{HasKind, HaveKinds, AreComparable, ArmsHaveKinds, LastHasKind, is_call_of}
 use Rattle.cy_scope.specs.Checked.{GivesValue}
 use Rattle.cy_scope.proofs.Columns.{Reads}
 

@@ -6,13 +6,13 @@ use Rattle.std.proofs.lemmas.List.Elements.{All-nil, All-cons}
 use Rattle.std.proofs.lemmas.Option.{none-some}
 use Rattle.cy_trees.specs.declared.expressions.Variable.{Variable}
 use Rattle.cy_trees.specs.Trees.{Name, MapEntry, NodePattern, RelationshipPattern, Step, Path}
-use Rattle.cy_kinds.specs.declared.kinds.Kind.{Kind}
-use Rattle.cy_kinds.specs.declared.kinds.Kind.TheVariants.{Node, Relationship, Relationships, Value, Flag}
-use Rattle.cy_kinds.specs.declared.faults.ScopeFault.TheVariants.{AlreadyBound, WrongKind, RepeatedRelationship, BadCreate}
-use Rattle.cy_kinds.specs.Kinds.{is_node}
-use Rattle.cy_kinds.specs.Faults.{first, unless}
-use Rattle.cy_kinds.specs.Scopes.{Scope, find_kind, is_bound, added_name, added, relationship_kind, with_step, with_steps, with_path, with_paths}
-use Rattle.cy_kinds.specs.ExpressionFaults.{value_fault}
+use Rattle.cy_scope_kinds.specs.declared.kinds.Kind.{Kind}
+use Rattle.cy_scope_kinds.specs.declared.kinds.Kind.TheVariants.{Node, Relationship, Relationships, Value, Flag}
+use Rattle.cy_scope_kinds.specs.declared.faults.ScopeFault.TheVariants.{AlreadyBound, WrongKind, RepeatedRelationship, BadCreate}
+use Rattle.cy_scope_kinds.specs.Kinds.{is_node}
+use Rattle.cy_scope_kinds.specs.Faults.{first, unless}
+use Rattle.cy_scope_kinds.specs.Scopes.{Scope, find_kind, is_bound, added_name, added, relationship_kind, with_step, with_steps, with_path, with_paths}
+use Rattle.cy_scope_kinds.specs.ExpressionFaults.{value_fault}
 use Rattle.cy_scope.specs.PatternFaults.{entries_fault, map_fault, named_node_fault, node_name_fault, is_bare, node_fault, repeated_fault, named_relationship_fault, relationship_name_fault, can_be_made, relationship_fault, step_fault, steps_fault, has_steps, path_fault, paths_fault}
 use Rattle.cy_scope.specs.Resolved.{resolved_name, resolved_entry, resolved_map, resolved_node, resolved_relationship, resolved_step, resolved_path}
 use Rattle.cy_scope.specs.Checked.{GivesValue, NameIsColumn, MapGivesValues, NodeIsKinded, RelationshipIsKinded, StepIsKinded, PathIsKinded}

@@ -3,14 +3,14 @@ use Rattle.std.proofs.Common.{◌≡◌, ◌&&◌, ◌||◌, List, [], ◌∷◌
 use Rattle.std.specs.List.{list_any}
 use Rattle.cy_trees.specs.declared.expressions.Variable.{Variable}
 use Rattle.cy_trees.specs.Trees.{Expression, null, boolean, integer, text, variable, property, has_labels, unary, binary, comparison, list, case, call, call_star, Expressions, no_more, more, Arms, no_arms, arm, Otherwise, nothing, otherwise, Step, Path, Item, Projection, Clause, «match», unwind, «with», «return», create, set, remove, delete}
-use Rattle.cy_kinds.specs.declared.kinds.Kind.{Kind}
-use Rattle.cy_kinds.specs.declared.kinds.Kind.TheVariants.{Node}
-use Rattle.cy_kinds.specs.Kinds.{is_flag, flag_if}
-use Rattle.cy_kinds.specs.Functions.{function_named}
-use Rattle.cy_kinds.specs.Scopes.{Scope, added, added_name, relationship_kind, with_step, with_steps, with_path, with_paths}
-use Rattle.cy_kinds.specs.ExpressionKinds.{kind_of, are_flags, gives_flags, is_flag_otherwise, call_kind}
+use Rattle.cy_scope_kinds.specs.declared.kinds.Kind.{Kind}
+use Rattle.cy_scope_kinds.specs.declared.kinds.Kind.TheVariants.{Node}
+use Rattle.cy_scope_kinds.specs.Kinds.{is_flag, flag_if}
+use Rattle.cy_scope_kinds.specs.Functions.{function_named}
+use Rattle.cy_scope_kinds.specs.Scopes.{Scope, added, added_name, relationship_kind, with_step, with_steps, with_path, with_paths}
+use Rattle.cy_scope_kinds.specs.ExpressionKinds.{kind_of, are_flags, gives_flags, is_flag_otherwise, call_kind}
 use Rattle.cy_scope.specs.ClauseScopes.{with_items, columns_of, scope_after, scope_after_all}
-use Rattle.cy_kinds.specs.Aggregates.{is_aggregate_call}
+use Rattle.cy_scope_kinds.specs.Aggregates.{is_aggregate_call}
 use Rattle.cy_scope.specs.ProjectionFaults.{seen_by_keys}
 use Rattle.cy_scope.specs.Resolved.{resolved, resolved_expressions, resolved_arms, resolved_otherwise, resolved_name, resolved_step, resolved_path, resolved_item, resolved_projection, resolved_clause, resolved_clauses}
 

@@ -6,11 +6,11 @@ use Rattle.std.proofs.lemmas.Bool.{and_parts, or_parts, true≢false}
 use Rattle.std.proofs.lemmas.List.Elements.{All-nil, All-cons, All-head, All-tail, All-contains}
 use Rattle.std.proofs.lemmas.Slice.Eq.{bytes_eq-Decides}
 use Rattle.cy_trees.specs.Trees.{Name, Clause, Query, Statement}
-use Rattle.cy_kinds.specs.declared.faults.ScopeFault.TheVariants.{DuplicateColumn}
-use Rattle.cy_kinds.specs.declared.faults.ViewFault.{ViewFault}
-use Rattle.cy_kinds.specs.declared.faults.ViewFault.TheVariants.{NotAReading, MayFail, Unbounded, AggregateInView, OrderInView}
-use Rattle.cy_kinds.specs.Faults.{first, first_fault, unless}
-use Rattle.cy_kinds.specs.Scopes.{Scope, has_same_names}
+use Rattle.cy_scope_kinds.specs.declared.faults.ScopeFault.TheVariants.{DuplicateColumn}
+use Rattle.cy_scope_kinds.specs.declared.faults.ViewFault.{ViewFault}
+use Rattle.cy_scope_kinds.specs.declared.faults.ViewFault.TheVariants.{NotAReading, MayFail, Unbounded, AggregateInView, OrderInView}
+use Rattle.cy_scope_kinds.specs.Faults.{first, first_fault, unless}
+use Rattle.cy_scope_kinds.specs.Scopes.{Scope, has_same_names}
 use Rattle.cy_scope.specs.ClauseScopes.{query_scope}
 use Rattle.cy_scope.specs.ClauseFaults.{query_fault, later_query_fault, queries_fault}
 use Rattle.cy_scope.specs.Resolved.{resolved_query}

@@ -5,9 +5,9 @@ use Rattle.std.proofs.lemmas.Option.{none-some, same_Some}
 use Rattle.std.proofs.lemmas.Bool.{and_parts}
 use Rattle.cy_trees.specs.Trees.{Name}
 use Rattle.cy_values.specs.declared.rows.Cell.{Cell}
-use Rattle.cy_kinds.specs.declared.kinds.Kind.{Kind}
-use Rattle.cy_kinds.specs.Scopes.{Scope}
-use Rattle.cy_kinds.specs.Rows.{row_fits, is_cell_of}
+use Rattle.cy_scope_kinds.specs.declared.kinds.Kind.{Kind}
+use Rattle.cy_scope_kinds.specs.Scopes.{Scope}
+use Rattle.cy_scope_kinds.specs.Rows.{row_fits, is_cell_of}
 
 pub column-fits : (scope : Scope) (row : List Cell) (column : ℕ) (name : Name) (k : Kind) → IsTrue (row_fits scope row) → slice_get scope column ≡ Some (name, k)
     → (c : Cell) × (slice_get row column ≡ Some c) × IsTrue (is_cell_of k c)

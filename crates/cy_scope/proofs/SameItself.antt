@@ -11,7 +11,7 @@ use Rattle.cy_trees.specs.declared.expressions.BinaryOperator.TheVariants as bin
 use Rattle.cy_trees.specs.declared.expressions.Comparator.{Comparator}
 use Rattle.cy_trees.specs.declared.expressions.Comparator.TheVariants as comparator
 use Rattle.cy_trees.specs.Trees.{Name, Expression, null, boolean, integer, text, variable, property, has_labels, unary, binary, comparison, list, case, call, call_star, Expressions, no_more, more, Links, no_links, link, Arms, no_arms, arm, Otherwise, nothing, otherwise}
-use Rattle.cy_kinds.specs.Same.{same, same_expressions, same_links, same_arms, same_otherwise, same_names, same_flags, same_unary, same_binary, same_comparator}
+use Rattle.cy_scope_kinds.specs.Same.{same, same_expressions, same_links, same_arms, same_otherwise, same_names, same_flags, same_unary, same_binary, same_comparator}
 
 flag : (a : Bool) → same_flags a a ≡ true
 flag true = refl

@@ -18,10 +18,10 @@ use Rattle.std.proofs.lemmas.Slice.Eq.{bytes_eq-Decides}
 use Rattle.cy_trees.specs.declared.clauses.Item as coded
 use Rattle.cy_trees.specs.Views.{expression_of, item_of}
 use Rattle.cy_trees.specs.Trees.{Expression, null, boolean, integer, text, variable, property, has_labels, unary, binary, comparison, list, case, call, call_star, Expressions, no_more, more, Links, no_links, link, Arms, no_arms, arm, Otherwise, nothing, otherwise, Item}
-use Rattle.cy_kinds.specs.Same.{same}
+use Rattle.cy_scope_kinds.specs.Same.{same}
 use Rattle.cy_scope.specs.ProjectionFaults.{repeats}
-use Rattle.cy_kinds.specs.ResolvedExpressions.{resolved, resolved_expressions, resolved_links, resolved_arms, resolved_otherwise}
-use Rattle.cy_kinds.specs.internal.TreeWords.{with_word, with_text, with_names, unary_word, binary_word, comparator_word, with_flag, with_tree, with_elements, with_links, with_arms, with_otherwise, words_of, HasPlace, ArePlaced}
+use Rattle.cy_scope_kinds.specs.ResolvedExpressions.{resolved, resolved_expressions, resolved_links, resolved_arms, resolved_otherwise}
+use Rattle.cy_scope_kinds.specs.internal.TreeWords.{with_word, with_text, with_names, unary_word, binary_word, comparator_word, with_flag, with_tree, with_elements, with_links, with_arms, with_otherwise, words_of, HasPlace, ArePlaced}
 use Rattle.cy_scope.proofs.SameTrees.{same_resolved}
 
 mutual

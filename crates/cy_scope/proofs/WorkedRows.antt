@@ -4,7 +4,7 @@ use Rattle.std.specs.Prelude.{codes}
 use Rattle.std.specs.Option.{option_map}
 use Rattle.cy_trees.specs.declared.clauses.Direction.TheVariants.{Either}
 use Rattle.cy_trees.specs.Trees.{Name, Expression, integer, null, variable, NodePattern, RelationshipPattern, Path, Item, Projection, Where, Clause, «match», «with», «return», create, Query}
-use Rattle.cy_kinds.specs.Faults.{scope_code, view_code}
+use Rattle.cy_scope_kinds.specs.Faults.{scope_code, view_code}
 use Rattle.cy_scope.specs.ClauseFaults.{statement_fault}
 use Rattle.cy_scope.specs.Views.{view_fault}
 use Rattle.cy_scope.specs.Checked.{single}

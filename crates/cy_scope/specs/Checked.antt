@@ -3,17 +3,17 @@ use Rattle.std.specs.Prelude.{◌≡◌, false, ⊤, ◌⊎◌, IsTrue, List, []
 use Rattle.std.specs.List.{All, Contains}
 use Rattle.cy_trees.specs.declared.expressions.Variable.{Variable}
 use Rattle.cy_trees.specs.Trees.{Name, Expression, MapEntry, NodePattern, RelationshipPattern, Step, Path, Item, Key, Projection, SetItem, set_property, set_labels, RemoveItem, remove_property, remove_labels, Where, Clause, «match», unwind, «with», «return», create, set, remove, delete, Query, Statement}
-use Rattle.cy_kinds.specs.declared.kinds.Kind.{Kind}
-use Rattle.cy_kinds.specs.declared.kinds.Kind.TheVariants.{Node, Value}
-use Rattle.cy_kinds.specs.Kinds.{is_value, is_entity}
-use Rattle.cy_kinds.specs.Scopes.{Scope, relationship_kind, with_paths}
-use Rattle.cy_kinds.specs.ExpressionKinds.{kind_of}
+use Rattle.cy_scope_kinds.specs.declared.kinds.Kind.{Kind}
+use Rattle.cy_scope_kinds.specs.declared.kinds.Kind.TheVariants.{Node, Value}
+use Rattle.cy_scope_kinds.specs.Kinds.{is_value, is_entity}
+use Rattle.cy_scope_kinds.specs.Scopes.{Scope, relationship_kind, with_paths}
+use Rattle.cy_scope_kinds.specs.ExpressionKinds.{kind_of}
 use Rattle.cy_scope.specs.ClauseScopes.{columns_of, scope_after}
 use Rattle.cy_scope.specs.ClauseFaults.{statement_fault}
 use Rattle.cy_scope.specs.ProjectionFaults.{seen_by_keys}
 use Rattle.cy_scope.specs.Resolved.{resolved_statement}
 use Rattle.cy_scope.specs.Views.{view_fault}
-use Rattle.cy_kinds.specs.Kinded.{IsColumn, HasKind, IsKinded, IsAggregate}
+use Rattle.cy_scope_kinds.specs.Kinded.{IsColumn, HasKind, IsKinded, IsAggregate}
 
 -- it came of a statement without a fault, by setting the columns of its variables
 abbrev pub IsChecked : Statement → Type 0

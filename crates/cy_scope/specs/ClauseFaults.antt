@@ -3,17 +3,17 @@
 use Rattle.std.specs.Prelude.{true, false, not, List, [], ◌∷◌, Option, Some, None}
 use Rattle.cy_trees.specs.declared.expressions.Variable.{Variable}
 use Rattle.cy_trees.specs.Trees.{SetItem, set_property, set_labels, RemoveItem, remove_property, remove_labels, Clause, «match», unwind, «with», «return», create, set, remove, delete, Query, Statement}
-use Rattle.cy_kinds.specs.declared.kinds.Kind.{Kind}
-use Rattle.cy_kinds.specs.declared.faults.ScopeFault.{ScopeFault}
-use Rattle.cy_kinds.specs.declared.faults.ScopeFault.TheVariants.{UnknownVariable, AlreadyBound, WrongKind, DuplicateColumn}
-use Rattle.cy_kinds.specs.Kinds.{is_entity}
-use Rattle.cy_kinds.specs.Scopes.{Scope, find_kind, is_bound, has_same_names, with_paths}
+use Rattle.cy_scope_kinds.specs.declared.kinds.Kind.{Kind}
+use Rattle.cy_scope_kinds.specs.declared.faults.ScopeFault.{ScopeFault}
+use Rattle.cy_scope_kinds.specs.declared.faults.ScopeFault.TheVariants.{UnknownVariable, AlreadyBound, WrongKind, DuplicateColumn}
+use Rattle.cy_scope_kinds.specs.Kinds.{is_entity}
+use Rattle.cy_scope_kinds.specs.Scopes.{Scope, find_kind, is_bound, has_same_names, with_paths}
 use Rattle.cy_scope.specs.ClauseScopes.{columns_of, scope_after, query_scope}
-use Rattle.cy_kinds.specs.ExpressionFaults.{value_fault}
+use Rattle.cy_scope_kinds.specs.ExpressionFaults.{value_fault}
 use Rattle.cy_scope.specs.PatternFaults.{paths_fault}
 use Rattle.cy_scope.specs.ProjectionFaults.{projection_fault}
 use Rattle.cy_scope.specs.ConditionFaults.{node_only_fault, where_fault}
-use Rattle.cy_kinds.specs.Faults.{first, first_fault, unless}
+use Rattle.cy_scope_kinds.specs.Faults.{first, first_fault, unless}
 
 -- a variable that is changed is bound, and an entity
 abbrev pub entity_fault : Option Kind → Option ScopeFault

@@ -1,9 +1,9 @@
 -- The scope after a clause, and after a query (openCypher 9, Clauses).
 use Rattle.std.specs.Prelude.{List, [], ◌∷◌, Some}
 use Rattle.cy_trees.specs.Trees.{Item, Clause, «match», unwind, «with», «return», create, set, remove, delete, Query}
-use Rattle.cy_kinds.specs.declared.kinds.Kind.TheVariants.{Value}
-use Rattle.cy_kinds.specs.ExpressionKinds.{kind_of}
-use Rattle.cy_kinds.specs.Scopes.{Scope, added_name, added, with_paths}
+use Rattle.cy_scope_kinds.specs.declared.kinds.Kind.TheVariants.{Value}
+use Rattle.cy_scope_kinds.specs.ExpressionKinds.{kind_of}
+use Rattle.cy_scope_kinds.specs.Scopes.{Scope, added_name, added, with_paths}
 
 -- with a column more for each item, of the kind of its expression; their names differ
 abbrev pub with_items : Scope → Scope → List Item → Scope

@@ -3,13 +3,13 @@
 use Rattle.std.specs.Prelude.{List, Option, Some, None, if◌then◌else◌}
 use Rattle.cy_trees.specs.declared.expressions.Variable.{Variable}
 use Rattle.cy_trees.specs.Trees.{Expression, NodePattern, RelationshipPattern, Step, Path, PathTest, Where}
-use Rattle.cy_kinds.specs.declared.kinds.Kind.{Kind}
-use Rattle.cy_kinds.specs.declared.faults.ScopeFault.{ScopeFault}
-use Rattle.cy_kinds.specs.declared.faults.ScopeFault.TheVariants.{UnknownVariable, AlreadyBound, WrongKind}
-use Rattle.cy_kinds.specs.Kinds.{is_node}
-use Rattle.cy_kinds.specs.Scopes.{Scope, find_kind, is_bound}
-use Rattle.cy_kinds.specs.ExpressionFaults.{value_fault}
-use Rattle.cy_kinds.specs.Faults.{first, first_fault, unless}
+use Rattle.cy_scope_kinds.specs.declared.kinds.Kind.{Kind}
+use Rattle.cy_scope_kinds.specs.declared.faults.ScopeFault.{ScopeFault}
+use Rattle.cy_scope_kinds.specs.declared.faults.ScopeFault.TheVariants.{UnknownVariable, AlreadyBound, WrongKind}
+use Rattle.cy_scope_kinds.specs.Kinds.{is_node}
+use Rattle.cy_scope_kinds.specs.Scopes.{Scope, find_kind, is_bound}
+use Rattle.cy_scope_kinds.specs.ExpressionFaults.{value_fault}
+use Rattle.cy_scope_kinds.specs.Faults.{first, first_fault, unless}
 use Rattle.cy_scope.specs.PatternFaults.{map_fault}
 
 -- a condition is a value

@@ -5,14 +5,14 @@ use Rattle.cy_trees.specs.declared.expressions.Variable.{Variable}
 use Rattle.cy_trees.specs.declared.clauses.Direction.{Direction}
 use Rattle.cy_trees.specs.declared.clauses.Direction.TheVariants as direction
 use Rattle.cy_trees.specs.Trees.{Name, MapEntry, NodePattern, RelationshipPattern, Step, Path}
-use Rattle.cy_kinds.specs.declared.kinds.Kind.{Kind}
-use Rattle.cy_kinds.specs.declared.kinds.Kind.TheVariants.{Node}
-use Rattle.cy_kinds.specs.declared.faults.ScopeFault.{ScopeFault}
-use Rattle.cy_kinds.specs.declared.faults.ScopeFault.TheVariants.{AlreadyBound, WrongKind, RepeatedRelationship, BadCreate}
-use Rattle.cy_kinds.specs.Kinds.{is_node}
-use Rattle.cy_kinds.specs.Scopes.{Scope, find_kind, is_bound, added, relationship_kind, with_step, with_path}
-use Rattle.cy_kinds.specs.Faults.{first, first_fault, unless}
-use Rattle.cy_kinds.specs.ExpressionFaults.{value_fault}
+use Rattle.cy_scope_kinds.specs.declared.kinds.Kind.{Kind}
+use Rattle.cy_scope_kinds.specs.declared.kinds.Kind.TheVariants.{Node}
+use Rattle.cy_scope_kinds.specs.declared.faults.ScopeFault.{ScopeFault}
+use Rattle.cy_scope_kinds.specs.declared.faults.ScopeFault.TheVariants.{AlreadyBound, WrongKind, RepeatedRelationship, BadCreate}
+use Rattle.cy_scope_kinds.specs.Kinds.{is_node}
+use Rattle.cy_scope_kinds.specs.Scopes.{Scope, find_kind, is_bound, added, relationship_kind, with_step, with_path}
+use Rattle.cy_scope_kinds.specs.Faults.{first, first_fault, unless}
+use Rattle.cy_scope_kinds.specs.ExpressionFaults.{value_fault}
 
 -- the values of a map are values
 abbrev pub entries_fault : Scope → List MapEntry → Option ScopeFault

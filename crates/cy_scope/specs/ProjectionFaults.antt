@@ -2,15 +2,15 @@
 use Rattle.std.specs.Prelude.{Bool, true, false, ◌||◌, not, List, [], ◌∷◌, ◌++◌, Option, None, if◌then◌else◌}
 use Rattle.std.specs.List.{list_any}
 use Rattle.cy_trees.specs.Trees.{Expression, variable, Item, Key, Projection}
-use Rattle.cy_kinds.specs.declared.faults.ScopeFault.{ScopeFault}
-use Rattle.cy_kinds.specs.declared.faults.ScopeFault.TheVariants.{MissingAlias, DuplicateColumn}
-use Rattle.cy_kinds.specs.Scopes.{Scope, is_bound, added_name}
+use Rattle.cy_scope_kinds.specs.declared.faults.ScopeFault.{ScopeFault}
+use Rattle.cy_scope_kinds.specs.declared.faults.ScopeFault.TheVariants.{MissingAlias, DuplicateColumn}
+use Rattle.cy_scope_kinds.specs.Scopes.{Scope, is_bound, added_name}
 use Rattle.cy_scope.specs.ClauseScopes.{columns_of}
-use Rattle.cy_kinds.specs.ExpressionKinds.{kind_of}
-use Rattle.cy_kinds.specs.ExpressionFaults.{expression_fault, item_fault}
-use Rattle.cy_kinds.specs.Aggregates.{has_aggregates}
-use Rattle.cy_kinds.specs.Same.{same}
-use Rattle.cy_kinds.specs.Faults.{first, first_fault, unless}
+use Rattle.cy_scope_kinds.specs.ExpressionKinds.{kind_of}
+use Rattle.cy_scope_kinds.specs.ExpressionFaults.{expression_fault, item_fault}
+use Rattle.cy_scope_kinds.specs.Aggregates.{has_aggregates}
+use Rattle.cy_scope_kinds.specs.Same.{same}
+use Rattle.cy_scope_kinds.specs.Faults.{first, first_fault, unless}
 
 abbrev pub is_variable : Expression → Bool
 is_variable (variable v) = true

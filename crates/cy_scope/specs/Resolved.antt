@@ -2,8 +2,8 @@
 use Rattle.std.specs.Prelude.{List, [], ◌∷◌, ◌++◌, map, Option, option_map, if◌then◌else◌}
 use Rattle.cy_trees.specs.declared.expressions.Variable.{Variable}
 use Rattle.cy_trees.specs.Trees.{Expression, MapEntry, NodePattern, RelationshipPattern, Step, Path, Item, Key, Projection, SetItem, set_property, set_labels, RemoveItem, remove_property, remove_labels, PathTest, Where, Clause, «match», unwind, «with», «return», create, set, remove, delete, Query, Statement}
-use Rattle.cy_kinds.specs.Scopes.{Scope}
-pub use Rattle.cy_kinds.specs.ResolvedExpressions.{resolved_variable, resolved, resolved_expressions, resolved_links, resolved_arms, resolved_otherwise}
+use Rattle.cy_scope_kinds.specs.Scopes.{Scope}
+pub use Rattle.cy_scope_kinds.specs.ResolvedExpressions.{resolved_variable, resolved, resolved_expressions, resolved_links, resolved_arms, resolved_otherwise}
 use Rattle.cy_scope.specs.ClauseScopes.{scope_after}
 use Rattle.cy_scope.specs.ProjectionFaults.{repeats, seen_by_keys}
 

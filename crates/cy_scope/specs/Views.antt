@@ -4,12 +4,12 @@ use Rattle.std.specs.List.{list_any, list_all}
 use Rattle.std.specs.Option.{option_map_or}
 use Rattle.cy_trees.specs.declared.clauses.Length.{Length}
 use Rattle.cy_trees.specs.Trees.{Expression, MapEntry, Step, Path, Item, Key, Projection, PathTest, Where, Clause, «match», «with», «return», create, set, remove, delete, Query, Statement}
-use Rattle.cy_kinds.specs.declared.faults.ViewFault.{ViewFault}
-use Rattle.cy_kinds.specs.declared.faults.ViewFault.TheVariants.{NotAReading, MayFail, Unbounded, AggregateInView, OrderInView}
-use Rattle.cy_kinds.specs.Aggregates.{has_aggregates}
-use Rattle.cy_kinds.specs.Scopes.{Scope}
+use Rattle.cy_scope_kinds.specs.declared.faults.ViewFault.{ViewFault}
+use Rattle.cy_scope_kinds.specs.declared.faults.ViewFault.TheVariants.{NotAReading, MayFail, Unbounded, AggregateInView, OrderInView}
+use Rattle.cy_scope_kinds.specs.Aggregates.{has_aggregates}
+use Rattle.cy_scope_kinds.specs.Scopes.{Scope}
 use Rattle.cy_scope.specs.ClauseScopes.{scope_after}
-use Rattle.cy_kinds.specs.Sure.{is_sure, is_sure_flag}
+use Rattle.cy_scope_kinds.specs.Sure.{is_sure, is_sure_flag}
 
 -- the greatest upper bound of a length in a view
 abbrev pub greatest_length : ℕ

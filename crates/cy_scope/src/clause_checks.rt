@@ -2,17 +2,17 @@
 
 ghost use Rattle.std.specs.Prelude.{◌≡◌, ◌⊎◌, [], map, None, Some, MatchResult};
 ghost use Rattle.cy_trees.specs.Views.{set_item_of, remove_item_of, clause_of, query_of};
-ghost use Rattle.cy_kinds.specs.Scopes.{find_kind};
+ghost use Rattle.cy_scope_kinds.specs.Scopes.{find_kind};
 ghost use Rattle.cy_scope.specs.ClauseScopes.{scope_after, query_scope};
-ghost use Rattle.cy_kinds.specs.internal.Answers.{Fault, GoesOn};
-ghost use Rattle.cy_kinds.specs.declared.faults.ScopeFault.TheVariants.{NoMemory};
+ghost use Rattle.cy_scope_kinds.specs.internal.Answers.{Fault, GoesOn};
+ghost use Rattle.cy_scope_kinds.specs.declared.faults.ScopeFault.TheVariants.{NoMemory};
 ghost use Rattle.cy_scope.specs.internal.Trees.{unwind_of, match_of, with_of};
 ghost use Rattle.cy_scope.specs.ClauseFaults as spec;
 
 use crate::condition_checks::{check_node_only, check_where};
 use crate::pattern_checks::check_paths;
 use crate::projection_checks::check_projection;
-use cy_kinds::{Kind, Scope, ScopeFault, check_value, demand};
+use cy_scope_kinds::{Kind, Scope, ScopeFault, check_value, demand};
 use cy_trees::{Clause, Match, Query, RemoveItem, SetItem, Unwind, Variable, With};
 use std::alloc::Global;
 

@@ -4,7 +4,7 @@ ghost use Rattle.std.specs.Prelude.{◌≡◌, ◌++◌, [], map, IfOk, OnOk};
 ghost use Rattle.cy_trees.specs.Views.{expression_of, item_of, key_of, projection_of, set_item_of, remove_item_of, clause_of};
 ghost use Rattle.cy_scope.specs.ClauseScopes.{scope_after, columns_of};
 ghost use Rattle.cy_scope.specs.ProjectionFaults.{seen_by_keys};
-ghost use Rattle.cy_kinds.specs.internal.TreeWords.{ArePlaced};
+ghost use Rattle.cy_scope_kinds.specs.internal.TreeWords.{ArePlaced};
 ghost use Rattle.cy_scope.specs.internal.Trees.{unwind_of, match_of, with_of};
 ghost use Rattle.cy_scope.specs.Resolved as spec;
 
@@ -14,7 +14,7 @@ use crate::pattern_columns::{
 };
 use crate::projection_checks::seen_by_keys;
 use crate::repeats::{Places, places_of, repeats};
-use cy_kinds::{Kind, Scope, resolved};
+use cy_scope_kinds::{Kind, Scope, resolved};
 use cy_trees::{
     Clause, Expr, Item, Key, Match, Projection, RemoveItem, SetItem, Unwind, Variable, With,
 };

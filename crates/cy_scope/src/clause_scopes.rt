@@ -4,7 +4,7 @@ ghost use Rattle.std.specs.Prelude.{◌≡◌, map, IfOk, OnOk};
 ghost use Rattle.cy_trees.specs.Views.{clause_of, item_of};
 ghost use Rattle.cy_scope.specs.ClauseScopes as spec;
 
-use cy_kinds::{Kind, Scope, kind_of};
+use cy_scope_kinds::{Kind, Scope, kind_of};
 use cy_trees::{Clause, Item};
 use std::alloc::{AllocError, Global};
 

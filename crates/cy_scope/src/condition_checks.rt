@@ -2,12 +2,12 @@
 
 ghost use Rattle.std.specs.Prelude.{◌≡◌, map, None, Some};
 ghost use Rattle.cy_trees.specs.Views.{filter_of, node_of, relationship_of, step_of, path_of, path_test_of, where_of};
-ghost use Rattle.cy_kinds.specs.Scopes.{find_kind};
-ghost use Rattle.cy_kinds.specs.internal.Answers.{Fault};
+ghost use Rattle.cy_scope_kinds.specs.Scopes.{find_kind};
+ghost use Rattle.cy_scope_kinds.specs.internal.Answers.{Fault};
 ghost use Rattle.cy_scope.specs.ConditionFaults as spec;
 
 use crate::pattern_checks::check_map;
-use cy_kinds::{Kind, Scope, ScopeFault, check_value, demand};
+use cy_scope_kinds::{Kind, Scope, ScopeFault, check_value, demand};
 use cy_trees::{Expr, NodePattern, Path, PathTest, RelationshipPattern, Step, Variable, Where};
 use std::alloc::Global;
 

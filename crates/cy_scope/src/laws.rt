@@ -4,13 +4,13 @@ ghost use Rattle.std.specs.Prelude.{◌≡◌, ℕ, true, IsTrue, List, [], map,
 ghost use Rattle.std.specs.List.{All, Contains};
 ghost use Rattle.cy_trees.specs.Trees.{Name, Expression, Query, Statement};
 ghost use Rattle.cy_values.specs.declared.rows.Cell.{Cell};
-ghost use Rattle.cy_kinds.specs.declared.kinds.Kind.{Kind};
-ghost use Rattle.cy_kinds.specs.Scopes.{Scope};
+ghost use Rattle.cy_scope_kinds.specs.declared.kinds.Kind.{Kind};
+ghost use Rattle.cy_scope_kinds.specs.Scopes.{Scope};
 ghost use Rattle.cy_scope.specs.ClauseScopes.{query_scope};
 ghost use Rattle.cy_scope.specs.Checked.{IsChecked, IsViewQuery, single, ClausesAreKinded};
-ghost use Rattle.cy_kinds.specs.ResolvedExpressions.{resolved};
-ghost use Rattle.cy_kinds.specs.Rows.{row_fits, is_cell_of};
-ghost use Rattle.cy_kinds.specs.Same.{same};
+ghost use Rattle.cy_scope_kinds.specs.ResolvedExpressions.{resolved};
+ghost use Rattle.cy_scope_kinds.specs.Rows.{row_fits, is_cell_of};
+ghost use Rattle.cy_scope_kinds.specs.Same.{same};
 
 /// Each query of a checked statement is one by itself, and all have columns of the same names in the same order. In a checked
 /// query each variable that is read is a column of its name, and each expression is of a kind that its place takes, in the

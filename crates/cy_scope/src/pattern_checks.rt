@@ -2,12 +2,12 @@
 
 ghost use Rattle.std.specs.Prelude.{◌≡◌, ◌⊎◌, ◌++◌, [], ◌∷◌, map, None, Some, OnOk, MatchResult};
 ghost use Rattle.cy_trees.specs.Views.{properties_of, node_of, relationship_of, step_of, path_of, entry_of};
-ghost use Rattle.cy_kinds.specs.declared.kinds.Kind.TheVariants as kinds;
-ghost use Rattle.cy_kinds.specs.Scopes.{added_name, added, relationship_kind, with_step, with_path};
-ghost use Rattle.cy_kinds.specs.internal.Answers.{Fault, MayFault, GoesOn};
+ghost use Rattle.cy_scope_kinds.specs.declared.kinds.Kind.TheVariants as kinds;
+ghost use Rattle.cy_scope_kinds.specs.Scopes.{added_name, added, relationship_kind, with_step, with_path};
+ghost use Rattle.cy_scope_kinds.specs.internal.Answers.{Fault, MayFault, GoesOn};
 ghost use Rattle.cy_scope.specs.PatternFaults as spec;
 
-use cy_kinds::{Kind, Scope, ScopeFault, check_value, demand, find_kind, relationship_kind};
+use cy_scope_kinds::{Kind, Scope, ScopeFault, check_value, demand, find_kind, relationship_kind};
 use cy_trees::{Direction, MapEntry, NodePattern, Path, RelationshipPattern, Step, Variable};
 use cy_values::Text;
 use std::alloc::{AllocError, Global};

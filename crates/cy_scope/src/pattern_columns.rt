@@ -4,7 +4,7 @@ ghost use Rattle.std.specs.Prelude.{◌≡◌, map};
 ghost use Rattle.cy_trees.specs.Views.{expression_of, entry_of, properties_of, node_of, relationship_of, step_of, path_of, filter_of, path_test_of, where_of};
 ghost use Rattle.cy_scope.specs.Resolved as spec;
 
-use cy_kinds::{Scope, resolved, resolved_variable};
+use cy_scope_kinds::{Scope, resolved, resolved_variable};
 use cy_trees::{
     Expr, MapEntry, NodePattern, Path, PathTest, RelationshipPattern, Step, Variable, Where,
 };

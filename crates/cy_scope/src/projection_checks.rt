@@ -2,16 +2,16 @@
 
 ghost use Rattle.std.specs.Prelude.{◌≡◌, ◌⊎◌, ◌++◌, [], map, None, Some, MatchResult};
 ghost use Rattle.cy_trees.specs.Views.{expression_of, item_of, key_of, projection_of};
-ghost use Rattle.cy_kinds.specs.declared.faults.ScopeFault.TheVariants.{NoMemory};
-ghost use Rattle.cy_kinds.specs.Scopes.{added_name};
-ghost use Rattle.cy_kinds.specs.ExpressionKinds.{kind_of};
+ghost use Rattle.cy_scope_kinds.specs.declared.faults.ScopeFault.TheVariants.{NoMemory};
+ghost use Rattle.cy_scope_kinds.specs.Scopes.{added_name};
+ghost use Rattle.cy_scope_kinds.specs.ExpressionKinds.{kind_of};
 ghost use Rattle.cy_scope.specs.ClauseScopes.{columns_of};
-ghost use Rattle.cy_kinds.specs.internal.TreeWords.{ArePlaced};
-ghost use Rattle.cy_kinds.specs.internal.Answers.{MayFault, GoesOn};
+ghost use Rattle.cy_scope_kinds.specs.internal.TreeWords.{ArePlaced};
+ghost use Rattle.cy_scope_kinds.specs.internal.Answers.{MayFault, GoesOn};
 ghost use Rattle.cy_scope.specs.ProjectionFaults as spec;
 
 use crate::repeats::{Places, places_of, repeats};
-use cy_kinds::{Scope, ScopeFault, check_expression, check_item, demand, has_aggregates};
+use cy_scope_kinds::{Scope, ScopeFault, check_expression, check_item, demand, has_aggregates};
 use cy_trees::{Expr, Item, Key, Projection};
 use std::alloc::Global;
 

@@ -3,11 +3,11 @@
 ghost use Rattle.std.specs.Prelude.{◌≡◌, IfOk, map};
 ghost use Rattle.std.specs.List.{position_from};
 ghost use Rattle.cy_trees.specs.Views.{expression_of, item_of};
-ghost use Rattle.cy_kinds.specs.internal.TreeWords.{ArePlaced};
+ghost use Rattle.cy_scope_kinds.specs.internal.TreeWords.{ArePlaced};
 ghost use Rattle.cy_scope.specs.ProjectionFaults as spec;
-ghost use Rattle.cy_kinds.specs.Same as trees;
+ghost use Rattle.cy_scope_kinds.specs.Same as trees;
 
-use cy_kinds::{same, words_of};
+use cy_scope_kinds::{same, words_of};
 use cy_trees::{Expr, Item};
 use std::alloc::{AllocError, Global};
 use std::collections::BTreeMap;

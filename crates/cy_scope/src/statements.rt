@@ -2,16 +2,16 @@
 
 ghost use Rattle.std.specs.Prelude.{◌≡◌, ◌⊎◌, map, None, Some, IfOk, OnOk, MatchResult};
 ghost use Rattle.cy_trees.specs.Views.{query_of, statement_of};
-ghost use Rattle.cy_kinds.specs.declared.faults.ScopeFault.TheVariants.{NoMemory};
-ghost use Rattle.cy_kinds.specs.Faults.{first_fault};
-ghost use Rattle.cy_kinds.specs.internal.Answers.{MayFault};
+ghost use Rattle.cy_scope_kinds.specs.declared.faults.ScopeFault.TheVariants.{NoMemory};
+ghost use Rattle.cy_scope_kinds.specs.Faults.{first_fault};
+ghost use Rattle.cy_scope_kinds.specs.internal.Answers.{MayFault};
 ghost use Rattle.cy_scope.specs.ClauseFaults.{statement_fault, queries_fault, later_query_fault};
 ghost use Rattle.cy_scope.specs.Resolved.{resolved_query, resolved_statement};
 
 use crate::checked::Checked;
 use crate::clause_checks::check_query;
 use crate::clause_columns::resolve_clauses;
-use cy_kinds::{Scope, ScopeFault, demand};
+use cy_scope_kinds::{Scope, ScopeFault, demand};
 use cy_trees::{Query, Statement};
 use std::alloc::{AllocError, Global};
 

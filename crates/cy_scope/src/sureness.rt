@@ -7,7 +7,7 @@ ghost use Rattle.cy_scope.specs.internal.Trees.{match_of};
 ghost use Rattle.cy_scope.specs.Views as spec;
 
 use crate::clause_scopes::go_on;
-use cy_kinds::{Scope, is_sure, is_sure_flag};
+use cy_scope_kinds::{Scope, is_sure, is_sure_flag};
 use cy_trees::{Clause, Expr, Item, MapEntry, Match, Path, PathTest, Query, Step, Where};
 use std::alloc::{AllocError, Global};
 

@@ -3,12 +3,12 @@
 ghost use Rattle.std.specs.Prelude.{◌≡◌, ◌⊎◌, map, None, Some, Ok, Err, MatchResult, IfOk, IfSome};
 ghost use Rattle.std.specs.List.{list_any, list_all};
 ghost use Rattle.cy_trees.specs.Views.{clause_of, query_of, statement_of, path_of, path_test_of, projection_of};
-ghost use Rattle.cy_kinds.specs.declared.faults.ViewFault.TheVariants.{MayFail, NoMemory};
+ghost use Rattle.cy_scope_kinds.specs.declared.faults.ViewFault.TheVariants.{MayFail, NoMemory};
 ghost use Rattle.cy_scope.specs.Views as spec;
 
 use crate::checked::{Checked, ViewQuery};
 use crate::sureness::are_sure_queries;
-use cy_kinds::{ViewFault, has_aggregates};
+use cy_scope_kinds::{ViewFault, has_aggregates};
 use cy_trees::{Clause, Length, Path, PathTest, Projection, Query, Statement};
 use std::alloc::Global;
 

@@ -11,7 +11,7 @@ use Rattle.cy_shell.specs.Lines.{line_limit, whole_lines, lines_of, lines_after}
 use Rattle.cy_shell.specs.Printed.{IsLineText}
 use Rattle.cy_shell.specs.Runs.{IsLexFaultText, PrintedRun, Serving, beginning}
 use Rattle.cy_shell.specs.Streams.{appended}
-use Rattle.cy_views.specs.Views.{Entries}
+use Rattle.cy_engine_views.specs.Views.{Entries}
 
 -- what is printed for a line that the engine isn't sent, since it is above the limit or isn't UTF-8
 abbrev pub IsUnsentText : List ℕ → List ℕ → Type 0

@@ -5,7 +5,7 @@ use Rattle.cy_values.specs.declared.rows.Cell.{Cell}
 use Rattle.cy_bags.specs.declared.changes.Entry.{Entry}
 use Rattle.cy_engine.specs.declared.replies.Changed.{Changed}
 use Rattle.cy_engine.specs.declared.replies.Reply.{Reply}
-use Rattle.cy_views.specs.declared.listings.ViewListing.{ViewListing}
+use Rattle.cy_engine_views.specs.declared.listings.ViewListing.{ViewListing}
 use Rattle.cy_engine.specs.declared.replies.Reply.TheVariants as reply
 use Rattle.cy_shell.specs.Json.{keyed, list_json, row_json, counted_json}
 use Rattle.cy_shell.specs.Words.{word_of}

@@ -10,16 +10,16 @@ use Rattle.cy_trees.specs.Trees.{Clause, «match», unwind, «with», «return»
 use Rattle.cy_scope.specs.Views.{ends_with_return, is_return, is_update}
 use Rattle.cy_graph.specs.Graph.{State}
 use Rattle.cy_expr.specs.declared.faults.EvalFault.{EvalFault}
-use Rattle.cy_queries.specs.Queries.{rows_after}
-use Rattle.cy_queries.proofs.QueryLemmas.{last_later}
-use Rattle.cy_unwinding.specs.Carried.{AreAlike, IsAlike, IsClauseRead, IsEnough, carried, carried_from, first_row, is_projection, updates_ahead}
-use Rattle.cy_unwinding.proofs.Carried.{AreLong, rows_whole}
-use Rattle.cy_unwinding.proofs.CarriedMatch.{reading_grown, reading_less}
-use Rattle.cy_unwinding.proofs.CarriedRows.{projecting_less}
-use Rattle.cy_effects.specs.declared.faults.UpdateFault.{UpdateFault}
-use Rattle.cy_effects.specs.Counts.{Counts, counts_between, plus}
-use Rattle.cy_effects.specs.Faults.{◌>>=◌, each_in_turn, evaluated}
-use Rattle.cy_effects.specs.Statements.{GraphTable, Progress, after_clause, after_reading, after_updating, updated}
+use Rattle.cy_oneshot_meaning.specs.Queries.{rows_after}
+use Rattle.cy_oneshot_meaning.proofs.QueryLemmas.{last_later}
+use Rattle.cy_oneshot_unwinding.specs.Carried.{AreAlike, IsAlike, IsClauseRead, IsEnough, carried, carried_from, first_row, is_projection, updates_ahead}
+use Rattle.cy_oneshot_unwinding.proofs.Carried.{AreLong, rows_whole}
+use Rattle.cy_oneshot_unwinding.proofs.CarriedMatch.{reading_grown, reading_less}
+use Rattle.cy_oneshot_unwinding.proofs.CarriedRows.{projecting_less}
+use Rattle.cy_updates_meaning.specs.declared.faults.UpdateFault.{UpdateFault}
+use Rattle.cy_updates_meaning.specs.Counts.{Counts, counts_between, plus}
+use Rattle.cy_updates_meaning.specs.Faults.{◌>>=◌, each_in_turn, evaluated}
+use Rattle.cy_updates_meaning.specs.Statements.{GraphTable, Progress, after_clause, after_reading, after_updating, updated}
 use Rattle.cy_updates.specs.internal.Reached.{at_end, carried_after, progress}
 use Rattle.cy_updates.proofs.CarriedUpdates.{IsOver, OverTable, Seen, over_more, seen_then, small_table, updated_less}
 

@@ -19,24 +19,24 @@ use Rattle.cy_trees.specs.declared.expressions.Variable.{Variable}
 use Rattle.cy_trees.specs.Trees.{Expression, MapEntry, NodePattern, RelationshipPattern, Step, Path, Clause, «match», unwind, «with», «return», create, set, remove, delete, SetItem, set_property, set_labels, RemoveItem, remove_property, remove_labels}
 use Rattle.cy_scope.specs.Views.{is_update}
 use Rattle.cy_graph.specs.Graph.{State, with_label, with_node, with_rel, without_label}
-use Rattle.cy_columns.specs.Columns.{column_list, columns_read}
+use Rattle.cy_expr_columns.specs.Columns.{column_list, columns_read}
 use Rattle.cy_expr.specs.Evaluation.{column_value}
 use Rattle.cy_expr.specs.Faults.{on_one}
 use Rattle.cy_expr.specs.Operators.{value_in_cell}
-use Rattle.cy_patterns.specs.Places.{Place, column_at, entries_at, entries_if, link_place, node, path_places, places, step_places}
-use Rattle.cy_queries.specs.Order.{in_order, placed}
-use Rattle.cy_queries.proofs.Each.{each_append, each_in_order}
-use Rattle.cy_queries.proofs.KeyOrders.{cells_total}
-use Rattle.cy_unwinding.specs.Carried.{AreEntriesRead, AreNeeded, ArePlacesRead, IsClauseRead, IsRemoveRead, IsSetRead, IsVariableRead, carried_from, is_needed}
-use Rattle.cy_unwinding.proofs.Carried.{column_carried, from_long, get_from, less_last}
-use Rattle.cy_unwinding.proofs.CarriedMatch.{cell_less}
-use Rattle.cy_effects.specs.declared.faults.UpdateFault.{UpdateFault}
-use Rattle.cy_effects.specs.Creating.{Creation, bound_to, created, ends_of, new_relationship, next_node, next_relationship, node_at_place, node_in_cell, source_of, target_of, type_of, unless_full, with_column, with_new_node, with_node_if, with_node_place, with_path, with_relationship, with_relationship_column, with_step}
-use Rattle.cy_effects.specs.Deleting.{deleted, is_left_over, named, unless_left_over, without_set}
-use Rattle.cy_effects.specs.Faults.{◌>>=◌, each_in_turn, evaluated}
-use Rattle.cy_effects.specs.Setting.{removed_item, set_item, with_labels_changed, with_property, without_property}
-use Rattle.cy_effects.specs.Statements.{GraphTable, create_row, remove_row, rows_taken, set_row, updated}
-use Rattle.cy_effects.specs.Values.{entity_in, entry_values, label_set, map_properties, named_by, set_all, settable, value_on}
+use Rattle.cy_oneshot_patterns.specs.Places.{Place, column_at, entries_at, entries_if, link_place, node, path_places, places, step_places}
+use Rattle.cy_oneshot_meaning.specs.Order.{in_order, placed}
+use Rattle.cy_oneshot_meaning.proofs.Each.{each_append, each_in_order}
+use Rattle.cy_oneshot_meaning.proofs.KeyOrders.{cells_total}
+use Rattle.cy_oneshot_unwinding.specs.Carried.{AreEntriesRead, AreNeeded, ArePlacesRead, IsClauseRead, IsRemoveRead, IsSetRead, IsVariableRead, carried_from, is_needed}
+use Rattle.cy_oneshot_unwinding.proofs.Carried.{column_carried, from_long, get_from, less_last}
+use Rattle.cy_oneshot_unwinding.proofs.CarriedMatch.{cell_less}
+use Rattle.cy_updates_meaning.specs.declared.faults.UpdateFault.{UpdateFault}
+use Rattle.cy_updates_meaning.specs.Creating.{Creation, bound_to, created, ends_of, new_relationship, next_node, next_relationship, node_at_place, node_in_cell, source_of, target_of, type_of, unless_full, with_column, with_new_node, with_node_if, with_node_place, with_path, with_relationship, with_relationship_column, with_step}
+use Rattle.cy_updates_meaning.specs.Deleting.{deleted, is_left_over, named, unless_left_over, without_set}
+use Rattle.cy_updates_meaning.specs.Faults.{◌>>=◌, each_in_turn, evaluated}
+use Rattle.cy_updates_meaning.specs.Setting.{removed_item, set_item, with_labels_changed, with_property, without_property}
+use Rattle.cy_updates_meaning.specs.Statements.{GraphTable, create_row, remove_row, rows_taken, set_row, updated}
+use Rattle.cy_updates_meaning.specs.Values.{entity_in, entry_values, label_set, map_properties, named_by, set_all, settable, value_on}
 
 -- ---- results that are alike: the one is what a function makes of the other, or they are one fault
 

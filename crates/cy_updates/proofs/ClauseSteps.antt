@@ -11,12 +11,12 @@ use Rattle.cy_values.specs.declared.rows.Cell.{Cell}
 use Rattle.cy_values.specs.Bag.{IsSameBag}
 use Rattle.cy_values.specs.Order.{row_cmp}
 use Rattle.cy_trees.specs.Trees.{Name, Clause, «match», unwind, «with», «return», create, set, remove, delete, Projection}
-use Rattle.cy_kinds.specs.declared.kinds.Kind.{Kind}
+use Rattle.cy_scope_kinds.specs.declared.kinds.Kind.{Kind}
 use Rattle.cy_scope.specs.ClauseFaults.{clause_fault, clauses_fault}
 use Rattle.cy_scope.specs.ClauseScopes.{scope_after}
 use Rattle.cy_scope.specs.Resolved.{resolved_clause, resolved_clauses}
-use Rattle.cy_kinds.specs.Rows.{row_fits}
-use Rattle.cy_kinds.specs.Scopes.{Scope}
+use Rattle.cy_scope_kinds.specs.Rows.{row_fits}
+use Rattle.cy_scope_kinds.specs.Scopes.{Scope}
 use Rattle.cy_scope.specs.Views.{ends_with_return, is_return, is_update}
 use Rattle.cy_scope.proofs.KindedExpressions.{first_none}
 use Rattle.cy_graph.specs.declared.nodes.Node.{Node}
@@ -24,30 +24,30 @@ use Rattle.cy_graph.specs.declared.nodes.Rel.{Rel}
 use Rattle.cy_graph.specs.Graph.{Content, State, IsGraph, number_end}
 use Rattle.cy_expr.specs.declared.faults.EvalFault.{EvalFault}
 use Rattle.cy_expr.specs.declared.faults.EvalFault.TheVariants as eval
-use Rattle.cy_patterns.specs.Outcomes.{IsSameOutcome}
-use Rattle.cy_queries.specs.Projection.{projection_rows}
-use Rattle.cy_queries.specs.Queries.{rows_after}
-use Rattle.cy_queries.proofs.BagLemmas.{permuted_bag}
-use Rattle.cy_queries.proofs.QueryLemmas.{last_later}
-use Rattle.cy_queries.proofs.ScopePlaces.{same_length}
-use Rattle.cy_queries.proofs.SeenRows.{each_permuted}
+use Rattle.cy_oneshot_patterns.specs.Outcomes.{IsSameOutcome}
+use Rattle.cy_oneshot_meaning.specs.Projection.{projection_rows}
+use Rattle.cy_oneshot_meaning.specs.Queries.{rows_after}
+use Rattle.cy_oneshot_meaning.proofs.BagLemmas.{permuted_bag}
+use Rattle.cy_oneshot_meaning.proofs.QueryLemmas.{last_later}
+use Rattle.cy_oneshot_meaning.proofs.ScopePlaces.{same_length}
+use Rattle.cy_oneshot_meaning.proofs.SeenRows.{each_permuted}
 use Rattle.cy_updates.specs.declared.clauses.Updated.{Updated}
-use Rattle.cy_effects.specs.declared.faults.UpdateFault.{UpdateFault}
-use Rattle.cy_effects.specs.declared.faults.UpdateFault.TheVariants.{NoMemory}
-use Rattle.cy_effects.specs.Bags.{IsSameProgress, IsSameResult}
-use Rattle.cy_effects.specs.Counts.{Counts, counts_between, plus}
-use Rattle.cy_effects.specs.Faults.{◌>>=◌, each_in_turn, evaluated, of_evaluation}
-use Rattle.cy_effects.specs.Statements.{GraphTable, Progress, after_clause, after_reading, after_updating, updated}
-use Rattle.cy_effects.specs.internal.Answers.{IsAnswer, graph_table}
-use Rattle.cy_effects.specs.internal.Gone.{AreGone}
+use Rattle.cy_updates_meaning.specs.declared.faults.UpdateFault.{UpdateFault}
+use Rattle.cy_updates_meaning.specs.declared.faults.UpdateFault.TheVariants.{NoMemory}
+use Rattle.cy_updates_meaning.specs.Bags.{IsSameProgress, IsSameResult}
+use Rattle.cy_updates_meaning.specs.Counts.{Counts, counts_between, plus}
+use Rattle.cy_updates_meaning.specs.Faults.{◌>>=◌, each_in_turn, evaluated, of_evaluation}
+use Rattle.cy_updates_meaning.specs.Statements.{GraphTable, Progress, after_clause, after_reading, after_updating, updated}
+use Rattle.cy_updates_meaning.specs.internal.Answers.{IsAnswer, graph_table}
+use Rattle.cy_updates_meaning.specs.internal.Gone.{AreGone}
 use Rattle.cy_oneshot.specs.Carrying.{Carries}
-use Rattle.cy_unwinding.specs.Carried.{carried, carried_by, carried_from, updates_ahead}
-use Rattle.cy_unwinding.proofs.Marked.{all_alike, none_enough}
+use Rattle.cy_oneshot_unwinding.specs.Carried.{carried, carried_by, carried_from, updates_ahead}
+use Rattle.cy_oneshot_unwinding.proofs.Marked.{all_alike, none_enough}
 use Rattle.cy_updates.specs.internal.Reached.{AreResolved, IsNext, LeadsTo, at_end, carried_after, progress}
-use Rattle.cy_effects.proofs.EntryCounts.{few}
-use Rattle.cy_effects.proofs.Graphs.{SameNumbers, node_number, rel_number}
-use Rattle.cy_effects.proofs.Grown.{Grown}
-use Rattle.cy_effects.proofs.InTurn.{or_wants}
+use Rattle.cy_updates_meaning.proofs.EntryCounts.{few}
+use Rattle.cy_updates_meaning.proofs.Graphs.{SameNumbers, node_number, rel_number}
+use Rattle.cy_updates_meaning.proofs.Grown.{Grown}
+use Rattle.cy_updates_meaning.proofs.InTurn.{or_wants}
 
 -- ---- one clause
 

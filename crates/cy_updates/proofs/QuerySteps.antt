@@ -7,14 +7,14 @@ use Rattle.cy_trees.specs.Trees.{Query, Statement}
 use Rattle.cy_trees.specs.Views.{query_of}
 use Rattle.cy_graph.specs.Graph.{State, IsGraph}
 use Rattle.cy_scope.specs.Views.{ends_with_return}
-use Rattle.cy_queries.specs.Queries.{put_together, united}
-use Rattle.cy_effects.specs.declared.faults.UpdateFault.{UpdateFault}
-use Rattle.cy_effects.specs.Bags.{IsSameResult}
-use Rattle.cy_effects.specs.Counts.{AgreeWith, Counts, no_counts}
-use Rattle.cy_effects.specs.Faults.{◌>>=◌, each_in_turn}
-use Rattle.cy_effects.specs.Statements.{Outcome, Progress, after_clause, after_query, beginning, columns_of, outcome_of, statement_outcome, table_of}
-use Rattle.cy_effects.specs.internal.Gone.{AreGone}
-use Rattle.cy_effects.proofs.InTurn.{next_leads, next_stops}
+use Rattle.cy_oneshot_meaning.specs.Queries.{put_together, united}
+use Rattle.cy_updates_meaning.specs.declared.faults.UpdateFault.{UpdateFault}
+use Rattle.cy_updates_meaning.specs.Bags.{IsSameResult}
+use Rattle.cy_updates_meaning.specs.Counts.{AgreeWith, Counts, no_counts}
+use Rattle.cy_updates_meaning.specs.Faults.{◌>>=◌, each_in_turn}
+use Rattle.cy_updates_meaning.specs.Statements.{Outcome, Progress, after_clause, after_query, beginning, columns_of, outcome_of, statement_outcome, table_of}
+use Rattle.cy_updates_meaning.specs.internal.Gone.{AreGone}
+use Rattle.cy_updates_meaning.proofs.InTurn.{next_leads, next_stops}
 use Rattle.cy_updates.specs.declared.clauses.Updated.{Updated}
 use Rattle.cy_updates.specs.internal.Queries.{HaveCome, LeadsOver}
 use Rattle.cy_updates.specs.internal.Reached.{IsReached, at_end, opening, progress}

@@ -14,38 +14,38 @@ use Rattle.cy_scope.specs.Checked.{IsChecked, single}
 use Rattle.cy_scope.specs.ClauseFaults.{clause_fault, later_query_fault, queries_fault, query_fault}
 use Rattle.cy_scope.specs.ClauseScopes.{query_scope, scope_after}
 use Rattle.cy_scope.specs.Resolved.{resolved_clause, resolved_query}
-use Rattle.cy_kinds.specs.Faults.{first_fault}
-use Rattle.cy_kinds.specs.Rows.{is_cell_of, row_fits}
-use Rattle.cy_kinds.specs.Scopes.{Scope}
+use Rattle.cy_scope_kinds.specs.Faults.{first_fault}
+use Rattle.cy_scope_kinds.specs.Rows.{is_cell_of, row_fits}
+use Rattle.cy_scope_kinds.specs.Scopes.{Scope}
 use Rattle.cy_scope.specs.Views.{ends_with_return, is_return, is_update}
 use Rattle.cy_scope.proofs.KindedExpressions.{first_none}
 use Rattle.cy_graph.specs.Graph.{Content, State, IsGraph}
 use Rattle.cy_expr.specs.declared.faults.EvalFault.{EvalFault}
 use Rattle.cy_oneshot.specs.declared.table.Table.{Table}
-use Rattle.cy_queries.specs.Projection.{projection_rows}
-use Rattle.cy_queries.specs.Queries.{columns_after, columns_after_all, rows_after}
-use Rattle.cy_queries.specs.Reading.{AreInGraph, IsInGraph}
-use Rattle.cy_unwinding.specs.Carried.{carried_from, is_needed}
-use Rattle.cy_unwinding.proofs.Carried.{row_there}
-use Rattle.cy_queries.proofs.Each.{each_map}
-use Rattle.cy_queries.proofs.InGraphClauses.{clause_there}
-use Rattle.cy_queries.proofs.QueryLemmas.{last_later}
-use Rattle.cy_queries.proofs.ScopeClauses as reading
-use Rattle.cy_queries.proofs.ScopeColumns.{clause_columns}
+use Rattle.cy_oneshot_meaning.specs.Projection.{projection_rows}
+use Rattle.cy_oneshot_meaning.specs.Queries.{columns_after, columns_after_all, rows_after}
+use Rattle.cy_oneshot_meaning.specs.Reading.{AreInGraph, IsInGraph}
+use Rattle.cy_oneshot_unwinding.specs.Carried.{carried_from, is_needed}
+use Rattle.cy_oneshot_unwinding.proofs.Carried.{row_there}
+use Rattle.cy_oneshot_meaning.proofs.Each.{each_map}
+use Rattle.cy_oneshot_meaning.proofs.InGraphClauses.{clause_there}
+use Rattle.cy_oneshot_meaning.proofs.QueryLemmas.{last_later}
+use Rattle.cy_oneshot_meaning.proofs.ScopeClauses as reading
+use Rattle.cy_oneshot_meaning.proofs.ScopeColumns.{clause_columns}
 use Rattle.cy_updates.specs.declared.clauses.Updated.{Updated}
-use Rattle.cy_effects.specs.declared.faults.UpdateFault.{UpdateFault}
-use Rattle.cy_effects.specs.Bags.{IsSameProgress, IsSameResult}
-use Rattle.cy_effects.specs.Counts.{Counts, counts_between, no_counts, plus}
-use Rattle.cy_effects.specs.Faults.{◌>>=◌, each_in_turn, evaluated}
-use Rattle.cy_effects.specs.Statements.{GraphTable, Progress, after_clause, after_reading, after_updating, updated}
-use Rattle.cy_effects.specs.internal.Gone.{AreGone}
+use Rattle.cy_updates_meaning.specs.declared.faults.UpdateFault.{UpdateFault}
+use Rattle.cy_updates_meaning.specs.Bags.{IsSameProgress, IsSameResult}
+use Rattle.cy_updates_meaning.specs.Counts.{Counts, counts_between, no_counts, plus}
+use Rattle.cy_updates_meaning.specs.Faults.{◌>>=◌, each_in_turn, evaluated}
+use Rattle.cy_updates_meaning.specs.Statements.{GraphTable, Progress, after_clause, after_reading, after_updating, updated}
+use Rattle.cy_updates_meaning.specs.internal.Gone.{AreGone}
 use Rattle.cy_updates.specs.internal.Reached.{AreResolved, IsReached, LeadOn, LeadsTo, at_end, carried_after, opening, progress}
-use Rattle.cy_effects.proofs.Bags.{same_itself}
-use Rattle.cy_effects.proofs.UpdatedGraphs.{Come, clause_come}
+use Rattle.cy_updates_meaning.proofs.Bags.{same_itself}
+use Rattle.cy_updates_meaning.proofs.UpdatedGraphs.{Come, clause_come}
 use Rattle.cy_updates.proofs.CarriedOn.{goes_on_by}
 use Rattle.cy_updates.proofs.ClauseSteps.{IsWritten, carried_return, each_of_same, first_written, gone_then, more_bag, more_ordered, none_gone, resolved_updates, rows_wide, same_fault}
-use Rattle.cy_effects.proofs.ScopedRows.{clause_fits}
-use Rattle.cy_effects.proofs.StoredValues.{and_then, if_ok_weaker}
+use Rattle.cy_updates_meaning.proofs.ScopedRows.{clause_fits}
+use Rattle.cy_updates_meaning.proofs.StoredValues.{and_then, if_ok_weaker}
 
 abbrev Fits : Scope → List Cell → Type 0
 Fits scope row = IsTrue (row_fits scope row)

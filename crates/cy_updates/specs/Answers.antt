@@ -1,7 +1,7 @@
 -- What the code answers for a statement. (own)
 use Rattle.cy_graph.specs.Graph.{State}
 use Rattle.cy_updates.specs.declared.statements.StatementAnswer as coded
-use Rattle.cy_effects.specs.Statements.{Outcome}
+use Rattle.cy_updates_meaning.specs.Statements.{Outcome}
 
 -- the graph that a statement leaves, with what the code answers
 abbrev pub outcome_seen : State → coded.StatementAnswer → Outcome

@@ -4,18 +4,18 @@ ghost use Rattle.std.specs.Prelude.{◌≡◌, true, map, IfOk, IsSome};
 ghost use Rattle.cy_trees.specs.Trees as trees;
 ghost use Rattle.cy_trees.specs.Views.{clause_of, path_of, remove_item_of, set_item_of};
 ghost use Rattle.cy_scope.specs.Views.{is_update};
-ghost use Rattle.cy_queries.specs.Queries.{columns_after};
-ghost use Rattle.cy_queries.specs.Reading.{AreInGraph};
-ghost use Rattle.cy_effects.specs.Statements.{rows_taken, updated};
-ghost use Rattle.cy_effects.specs.internal.Answers.{IsAnswer, graph_table};
-ghost use Rattle.cy_effects.specs.internal.Gone.{AreGone};
+ghost use Rattle.cy_oneshot_meaning.specs.Queries.{columns_after};
+ghost use Rattle.cy_oneshot_meaning.specs.Reading.{AreInGraph};
+ghost use Rattle.cy_updates_meaning.specs.Statements.{rows_taken, updated};
+ghost use Rattle.cy_updates_meaning.specs.internal.Answers.{IsAnswer, graph_table};
+ghost use Rattle.cy_updates_meaning.specs.internal.Gone.{AreGone};
 
-use cy_effects::UpdateFault;
 use cy_index::Store;
 use cy_oneshot::{Table, add_names};
-use cy_projections::sort_rows;
+use cy_oneshot_projections::sort_rows;
 use cy_trees::{Clause, Delete, Path, RemoveItem, SetItem};
-use cy_writes::{Gone, create, delete, remove, set};
+use cy_updates_meaning::UpdateFault;
+use cy_updates_writes::{Gone, create, delete, remove, set};
 use std::alloc::Global;
 
 /// What an updating clause leaves besides the graph: the table, and how many nodes and relationships it removed.

@@ -6,24 +6,24 @@ ghost use Rattle.cy_trees.specs.Views.{clause_of, query_of};
 ghost use Rattle.cy_graph.specs.Graph.{IsGraph};
 ghost use Rattle.cy_scope.specs.Checked.{IsChecked, single};
 ghost use Rattle.cy_scope.specs.Views as scopes;
-ghost use Rattle.cy_queries.specs.Queries.{columns_after};
-ghost use Rattle.cy_queries.specs.Reading.{AreInGraph};
-ghost use Rattle.cy_effects.specs.declared.faults.UpdateFault.TheVariants.{NoMemory};
-ghost use Rattle.cy_effects.specs.Counts.{Counts};
-ghost use Rattle.cy_effects.specs.Faults.{each_in_turn};
-ghost use Rattle.cy_effects.specs.Statements as spec;
-ghost use Rattle.cy_effects.specs.internal.Gone.{AreGone};
+ghost use Rattle.cy_oneshot_meaning.specs.Queries.{columns_after};
+ghost use Rattle.cy_oneshot_meaning.specs.Reading.{AreInGraph};
+ghost use Rattle.cy_updates_meaning.specs.declared.faults.UpdateFault.TheVariants.{NoMemory};
+ghost use Rattle.cy_updates_meaning.specs.Counts.{Counts};
+ghost use Rattle.cy_updates_meaning.specs.Faults.{each_in_turn};
+ghost use Rattle.cy_updates_meaning.specs.Statements as spec;
+ghost use Rattle.cy_updates_meaning.specs.internal.Gone.{AreGone};
 ghost use Rattle.cy_updates.specs.internal.Queries.{IsQueryDone};
 ghost use Rattle.cy_updates.specs.internal.Reached.{IsNext, IsNextInOrder, IsReached, opening, progress};
 
 use crate::clauses::{Updated, update, with_none_gone};
-use cy_effects::UpdateFault;
 use cy_index::Store;
 use cy_oneshot::{Table, no_table, read_clause_before, unit};
 use cy_scope::{ends_with_return, is_update};
 use cy_trees::{Clause, Query};
+use cy_updates_meaning::UpdateFault;
+use cy_updates_writes::Gone;
 use cy_values::row_order_laws;
-use cy_writes::Gone;
 use std::alloc::Global;
 
 /// Executes a query in an open change: its clauses one after another. The table is that of its RETURN; without RETURN it has no

@@ -5,25 +5,25 @@ ghost use Rattle.std.specs.List.{All};
 ghost use Rattle.cy_trees.specs.Views.{query_of, statement_of};
 ghost use Rattle.cy_graph.specs.Graph.{IsGraph};
 ghost use Rattle.cy_scope.specs.Checked.{IsChecked, single};
-ghost use Rattle.cy_queries.specs.Queries as reading;
-ghost use Rattle.cy_effects.specs.declared.faults.UpdateFault.TheVariants.{NoMemory};
-ghost use Rattle.cy_effects.specs.Faults.{each_in_turn};
-ghost use Rattle.cy_effects.specs.Statements as spec;
-ghost use Rattle.cy_effects.specs.Statements.{beginning, statement_outcome};
+ghost use Rattle.cy_oneshot_meaning.specs.Queries as reading;
+ghost use Rattle.cy_updates_meaning.specs.declared.faults.UpdateFault.TheVariants.{NoMemory};
+ghost use Rattle.cy_updates_meaning.specs.Faults.{each_in_turn};
+ghost use Rattle.cy_updates_meaning.specs.Statements as spec;
+ghost use Rattle.cy_updates_meaning.specs.Statements.{beginning, statement_outcome};
 ghost use Rattle.cy_updates.specs.Answers.{outcome_seen};
-ghost use Rattle.cy_effects.specs.internal.Answers.{IsAnswer};
+ghost use Rattle.cy_updates_meaning.specs.internal.Answers.{IsAnswer};
 ghost use Rattle.cy_updates.specs.internal.Queries.{HaveCome};
 
 use crate::clauses::{Updated, with_none_gone};
 use crate::queries::execute_query;
-use cy_effects::UpdateFault;
-use cy_effects::laws::counts_agree;
 use cy_index::Store;
 use cy_oneshot::{Table, no_table, unite};
 use cy_scope::{Checked, checked_statements};
 use cy_trees::Query;
+use cy_updates_meaning::UpdateFault;
+use cy_updates_meaning::laws::counts_agree;
+use cy_updates_writes::Gone;
 use cy_values::Row;
-use cy_writes::Gone;
 use std::alloc::Global;
 
 /// What a statement answers: how many nodes and relationships it made and removed, of which one that it made and removed counts

@@ -1,11 +1,11 @@
 //! From a line to the plan of its query.
 
-use cy_kinds::{ScopeFault, ViewFault};
 use cy_lexer::{LexFault, lex, text_of};
 use cy_parser::{ParseFault, parse};
 use cy_planner::{PlanFault, plan, weight_of};
-use cy_plans::Plan;
+use cy_planner_algebra::Plan;
 use cy_scope::{check, check_view};
+use cy_scope_kinds::{ScopeFault, ViewFault};
 use std::alloc::Global;
 use thiserror::Error;
 

@@ -5,7 +5,7 @@
 mod explaining;
 
 use crate::explaining::{Explained, explain};
-use cy_plan_texts::PlanText;
+use cy_planner_explain::PlanText;
 use std::fmt::Display;
 use std::io::{self, BufRead, BufReader};
 

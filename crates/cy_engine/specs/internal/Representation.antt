@@ -1,8 +1,8 @@
 -- What holds of what the engine keeps between lines.
 use Rattle.std.specs.Prelude.{◌≡◌, ℕ, ◌≤◌, None}
 use Rattle.cy_graph.specs.Graph.{Versions}
-use Rattle.cy_views.specs.declared.views.Views.{Views}
-use Rattle.cy_views.specs.Upkeep.{StandFor}
+use Rattle.cy_engine_views.specs.declared.views.Views.{Views}
+use Rattle.cy_engine_views.specs.Upkeep.{StandFor}
 use Rattle.cy_engine.specs.State.{last_tick}
 
 -- no change is open between lines, the views stand for the graph at the tick, and the limits hold

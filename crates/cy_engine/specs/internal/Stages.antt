@@ -1,7 +1,7 @@
 -- What the stages of the engine's work on a line promise one another.
 use Rattle.std.specs.Prelude.{◌≡◌, ℕ, ◌⊎◌, ◌≤◌, true, false, List, map, Option, None, Some, Result, Ok, Err}
 use Rattle.cy_lexer.specs.declared.tokens.Token.{Token}
-use Rattle.cy_grammar.specs.SpellsClauses.{SpellsStatement}
+use Rattle.cy_parser_grammar.specs.SpellsClauses.{SpellsStatement}
 use Rattle.cy_parser.specs.declared.faults.ParseFault.{ParseFault}
 use Rattle.cy_trees.specs.Trees.{Statement}
 use Rattle.cy_graph.specs.Graph.{State}
@@ -16,9 +16,9 @@ use Rattle.cy_feeds.specs.declared.feeds.Answer.TheVariants.{Entries as Since, L
 use Rattle.cy_feeds.specs.Feeds.{answer_since}
 use Rattle.cy_engine.specs.Requests.{Request, Nothing, StatementOf, ViewOf, RowsOf, SinceOf, ListOfViews, ListOfSteps, DropOf, IndexOf}
 use Rattle.cy_engine.specs.State.{EngineState, last_tick}
-use Rattle.cy_views.specs.Views.{AreEntries, Entries, View, listed}
-use Rattle.cy_views.specs.declared.views.Views.{Views}
-use Rattle.cy_views.specs.Upkeep.{AreReady, SomeHasTooManyRows, Upkeep, held_in, views_in}
+use Rattle.cy_engine_views.specs.Views.{AreEntries, Entries, View, listed}
+use Rattle.cy_engine_views.specs.declared.views.Views.{Views}
+use Rattle.cy_engine_views.specs.Upkeep.{AreReady, SomeHasTooManyRows, Upkeep, held_in, views_in}
 use Rattle.cy_engine.specs.Step.{Answer, Answers, AreRows, HasTooMany, Indexes, IsRefused, IsUnspelt}
 use Rattle.cy_engine.specs.Verdicts.{index_verdict, next_tick, rows_verdict, same_content, since_verdict, tick_after}
 

@@ -1,8 +1,8 @@
 -- Rows with counts, and what a shift makes of them.
 use Rattle.std.specs.Prelude.{ℕ, ◌-◌, ◌≤◌, List, [], ◌∷◌, sum_by, nat_lt, if◌then◌else◌}
 use Rattle.cy_values.specs.declared.rows.Cell.{Cell}
-use Rattle.cy_memory.specs.Counts.{is_row}
-use Rattle.cy_deltas.specs.declared.shifts.Shift.{Shift}
+use Rattle.cy_network_memory.specs.Counts.{is_row}
+use Rattle.cy_network_operators.specs.declared.shifts.Shift.{Shift}
 
 -- each row stands once at most
 abbrev pub AreOnce : List (List Cell × ℕ) → Type 0

@@ -3,7 +3,7 @@ use Rattle.std.specs.Prelude.{◌==◌, false, List, [], ◌∷◌, ◌++◌, le
 use Rattle.std.specs.Option.{option_and_then, option_map_or}
 use Rattle.cy_trees.specs.declared.expressions.Variable.{Variable}
 use Rattle.cy_trees.specs.Trees.{Name, Step}
-use Rattle.cy_queries.specs.Queries.{name_of}
+use Rattle.cy_oneshot_meaning.specs.Queries.{name_of}
 
 -- with the name of a variable whose column is the next one
 abbrev pub with_name : List Name → Option Variable → List Name

@@ -5,9 +5,9 @@ use Rattle.cy_values.specs.declared.rows.Cell.{Cell}
 use Rattle.cy_trees.specs.Trees.{Name, Clause, Query}
 use Rattle.cy_graph.specs.Graph.{Content}
 use Rattle.cy_scope.specs.Views.{ends_with_return, is_update}
-use Rattle.cy_patterns.specs.Outcomes.{IsSameOutcome}
-use Rattle.cy_queries.specs.Queries.{columns_after_all, query_columns, query_rows, rows_after_all}
-use Rattle.cy_queries.specs.Reading.{AreInGraph}
+use Rattle.cy_oneshot_patterns.specs.Outcomes.{IsSameOutcome}
+use Rattle.cy_oneshot_meaning.specs.Queries.{columns_after_all, query_columns, query_rows, rows_after_all}
+use Rattle.cy_oneshot_meaning.specs.Reading.{AreInGraph}
 
 -- the table so far, and what the clauses that are left make of it
 pub record IsReached (graph : Content) (query : Query) (columns : List Name) (rows : List (List Cell)) (clauses : List Clause) : Type 0 where

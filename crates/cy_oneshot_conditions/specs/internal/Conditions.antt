@@ -7,14 +7,14 @@ use Rattle.cy_trees.specs.Views.{expression_of, path_of, path_test_of}
 use Rattle.cy_graph.specs.Graph.{Content}
 use Rattle.cy_expr.specs.declared.faults.EvalFault.{EvalFault}
 use Rattle.cy_expr.specs.Faults.{on_one}
-use Rattle.cy_patterns.specs.declared.pattern.Pattern.{Pattern}
-use Rattle.cy_kinds.specs.Sure.{is_literal}
-use Rattle.cy_patterns.specs.Matching.{is_met, is_there, kept, map_values, matched, selected}
-use Rattle.cy_patterns.specs.Outcomes.{joined, smaller}
-use Rattle.cy_patterns.specs.Places.{entries_at, places}
-use Rattle.cy_patterns.specs.internal.Patterns.{place_of}
-use Rattle.cy_queries.specs.internal.Answers.{IsRowThere}
-use Rattle.cy_matching.specs.internal.Prepared.{IsPattern}
+use Rattle.cy_oneshot_patterns.specs.declared.pattern.Pattern.{Pattern}
+use Rattle.cy_scope_kinds.specs.Sure.{is_literal}
+use Rattle.cy_oneshot_patterns.specs.Matching.{is_met, is_there, kept, map_values, matched, selected}
+use Rattle.cy_oneshot_patterns.specs.Outcomes.{joined, smaller}
+use Rattle.cy_oneshot_patterns.specs.Places.{entries_at, places}
+use Rattle.cy_oneshot_patterns.specs.internal.Patterns.{place_of}
+use Rattle.cy_oneshot_meaning.specs.internal.Answers.{IsRowThere}
+use Rattle.cy_oneshot_search.specs.internal.Prepared.{IsPattern}
 use Rattle.cy_oneshot_conditions.specs.declared.conditions.Condition.{Condition}
 use Rattle.cy_oneshot_conditions.specs.declared.conditions.PathCondition.{PathCondition}
 use Rattle.cy_oneshot_conditions.specs.declared.matching.MatchCondition.{MatchCondition}

@@ -6,10 +6,10 @@ use denote.Ref.{MutBor}
 use Rattle.cy_lexer.specs.declared.tokens.Token.{Token}
 use Rattle.cy_parser.specs.declared.operands.Operand.{Operand}
 use Rattle.cy_parser.specs.declared.refusals.Refusal.{Refusal}
-use Rattle.cy_grammar.specs.declared.places.Nested.{Nested}
+use Rattle.cy_parser_grammar.specs.declared.places.Nested.{Nested}
 use Rattle.cy_parser.specs.internal.Operands.{operand_of}
 use Rattle.cy_parser.specs.internal.Reads.{Reads}
-use Rattle.cy_grammar.specs.internal.Expressions.{nesting}
+use Rattle.cy_parser_grammar.specs.internal.Expressions.{nesting}
 
 pub record Nests (levels : ℕ) (pre : Global → Bor (List ℕ) → MutBor (List Token) → ℕ → Nested → Type 0)
     (post : Global → Bor (List ℕ) → MutBor (List Token) → ℕ → Nested → Result Operand Refusal → MutBor (List Token) → Type 0) : Type 0 where

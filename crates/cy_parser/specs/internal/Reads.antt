@@ -1,7 +1,7 @@
 -- What a function that reads ensures: the reader's outcome, unless memory fails.
 use Rattle.std.specs.Prelude.{◌≡◌, ◌≢◌, List, Some, None, Result, Ok, Err}
 use Rattle.cy_lexer.specs.declared.tokens.Token.{Token}
-use Rattle.cy_grammar.specs.internal.Reader.{Outcome}
+use Rattle.cy_parser_grammar.specs.internal.Reader.{Outcome}
 use Rattle.cy_parser.specs.declared.refusals.Refusal.{Refusal}
 use Rattle.cy_parser.specs.declared.refusals.Refusal.TheVariants.{NoMemory}
 

@@ -8,7 +8,7 @@ use Rattle.cy_trees.specs.Trees.{Expression}
 use Rattle.cy_parser.specs.declared.operands.Operand.{Operand}
 use Rattle.cy_parser.specs.declared.refusals.Refusal.{Refusal}
 use Rattle.cy_parser.specs.internal.Operands.{operand_of}
-use Rattle.cy_grammar.specs.internal.Reader.{Reader}
+use Rattle.cy_parser_grammar.specs.internal.Reader.{Reader}
 use Rattle.cy_parser.specs.internal.Reads.{Reads}
 
 pub record ReadsOperations (operators : TokenKind → Option BinaryOperator) (operand : Reader Expression)

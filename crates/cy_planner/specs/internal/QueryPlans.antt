@@ -7,14 +7,14 @@ use Rattle.cy_trees.specs.Trees.{Query}
 use Rattle.cy_scope.specs.Checked.{IsViewQuery, single}
 use Rattle.cy_scope.specs.ClauseScopes.{query_scope}
 use Rattle.cy_graph.specs.Graph.{Content, State, IsGraph}
-use Rattle.cy_patterns.specs.Outcomes.{IsSameOutcome}
-use Rattle.cy_queries.specs.Queries.{query_rows, rows_of_all}
-use Rattle.cy_plans.specs.Plans.{Plan, width}
-use Rattle.cy_plans.specs.Parts.{parts}
-use Rattle.cy_plans.specs.Meaning.{rows_of}
-use Rattle.cy_plans.specs.Sure.{IsSure}
-use Rattle.cy_plans.specs.WellFormed.{IsWellFormed}
-use Rattle.cy_plans.specs.Within.{IsWithin}
+use Rattle.cy_oneshot_patterns.specs.Outcomes.{IsSameOutcome}
+use Rattle.cy_oneshot_meaning.specs.Queries.{query_rows, rows_of_all}
+use Rattle.cy_planner_algebra.specs.Plans.{Plan, width}
+use Rattle.cy_planner_algebra.specs.Parts.{parts}
+use Rattle.cy_planner_algebra.specs.Meaning.{rows_of}
+use Rattle.cy_planner_algebra.specs.Sure.{IsSure}
+use Rattle.cy_planner_algebra.specs.WellFormed.{IsWellFormed}
+use Rattle.cy_planner_algebra.specs.Within.{IsWithin}
 use Rattle.cy_planner.specs.WideTables.{query_tables, rows_or_none}
 
 -- the rows of a query, as a bag; no part counts a row more often than the tables of the query do

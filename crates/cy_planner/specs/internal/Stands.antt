@@ -2,17 +2,17 @@
 use Rattle.std.specs.Prelude.{◌≡◌, List, [], ◌∷◌, ◌++◌, length, Ok, IsTrue}
 use Rattle.std.specs.List.{All, AllByRecursion}
 use Rattle.cy_trees.specs.Trees.{Clause, Query}
-use Rattle.cy_kinds.specs.Rows.{row_fits}
-use Rattle.cy_kinds.specs.Scopes.{Scope}
+use Rattle.cy_scope_kinds.specs.Rows.{row_fits}
+use Rattle.cy_scope_kinds.specs.Scopes.{Scope}
 use Rattle.cy_scope.specs.ClauseScopes.{query_scope, scope_after_all}
 use Rattle.cy_graph.specs.Graph.{State, IsGraph}
-use Rattle.cy_patterns.specs.Outcomes.{IsSameOutcome}
-use Rattle.cy_queries.specs.Queries.{rows_after_all}
-use Rattle.cy_plans.specs.Plans.{Plan, width}
-use Rattle.cy_plans.specs.Parts.{parts}
-use Rattle.cy_plans.specs.Meaning.{rows_of}
-use Rattle.cy_plans.specs.Sure.{IsSure}
-use Rattle.cy_plans.specs.Within.{IsWithin}
+use Rattle.cy_oneshot_patterns.specs.Outcomes.{IsSameOutcome}
+use Rattle.cy_oneshot_meaning.specs.Queries.{rows_after_all}
+use Rattle.cy_planner_algebra.specs.Plans.{Plan, width}
+use Rattle.cy_planner_algebra.specs.Parts.{parts}
+use Rattle.cy_planner_algebra.specs.Meaning.{rows_of}
+use Rattle.cy_planner_algebra.specs.Sure.{IsSure}
+use Rattle.cy_planner_algebra.specs.Within.{IsWithin}
 use Rattle.cy_planner.specs.WideTables.{query_tables}
 use Rattle.cy_planner.specs.internal.ViewClauses.{AreViewClauses}
 

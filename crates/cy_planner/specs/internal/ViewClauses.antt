@@ -2,16 +2,16 @@
 use Rattle.std.specs.Prelude.{◌≡◌, true, false, ⊤, List, [], ◌∷◌, length, IsTrue, None}
 use Rattle.std.specs.List.{AllByRecursion}
 use Rattle.cy_trees.specs.Trees.{Clause}
-use Rattle.cy_kinds.specs.Rows.{row_fits}
-use Rattle.cy_kinds.specs.Scopes.{Scope}
+use Rattle.cy_scope_kinds.specs.Rows.{row_fits}
+use Rattle.cy_scope_kinds.specs.Scopes.{Scope}
 use Rattle.cy_scope.specs.Checked.{ClauseIsKinded}
 use Rattle.cy_scope.specs.ClauseFaults.{clause_fault}
 use Rattle.cy_scope.specs.ClauseScopes.{scope_after}
 use Rattle.cy_scope.specs.Resolved.{resolved_clause}
 use Rattle.cy_scope.specs.Views.{has_aggregate, is_ordered, is_sure_after, is_sure_before, is_unbounded, is_update}
 use Rattle.cy_graph.specs.Graph.{State, IsGraph}
-use Rattle.cy_plans.specs.Plans.{Plan, width}
-use Rattle.cy_plans.specs.Meaning.{rows_of}
+use Rattle.cy_planner_algebra.specs.Plans.{Plan, width}
+use Rattle.cy_planner_algebra.specs.Meaning.{rows_of}
 
 -- a clause with the columns of its variables, which has no fault in a scope and stands in the query of a view
 pub record IsViewClause (scope : Scope) (c : Clause) : Type 0 where

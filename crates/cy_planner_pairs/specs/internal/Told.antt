@@ -4,14 +4,14 @@ use Rattle.std.specs.Prelude.{◌≡◌, ℕ, ◌+◌, false, List, [], ◌∷�
 use Rattle.std.specs.List.{range_with_len}
 use Rattle.cy_trees.specs.declared.expressions.UnaryOperator.TheVariants.{IsNotNull, IsNull}
 use Rattle.cy_trees.specs.Trees.{Expression, boolean, call, more, no_more, unary}
-use Rattle.cy_patterns.specs.Places.{Place}
-use Rattle.cy_plans.specs.declared.operators.Keeping.TheVariants.{Unmatched}
-use Rattle.cy_plans.specs.declared.operators.KeyColumns.{KeyColumns}
-use Rattle.cy_plans.specs.Plans as plan
-use Rattle.cy_plans.specs.Plans.{Plan}
-use Rattle.cy_plans.specs.WellFormed.{IsWellFormed}
-use Rattle.cy_row_plans.specs.internal.Lookups.{narrowed}
-use Rattle.cy_optional_plans.specs.internal.Pairs.{all_of, keys_from}
+use Rattle.cy_oneshot_patterns.specs.Places.{Place}
+use Rattle.cy_planner_algebra.specs.declared.operators.Keeping.TheVariants.{Unmatched}
+use Rattle.cy_planner_algebra.specs.declared.operators.KeyColumns.{KeyColumns}
+use Rattle.cy_planner_algebra.specs.Plans as plan
+use Rattle.cy_planner_algebra.specs.Plans.{Plan}
+use Rattle.cy_planner_algebra.specs.WellFormed.{IsWellFormed}
+use Rattle.cy_planner_rows.specs.internal.Lookups.{narrowed}
+use Rattle.cy_planner_optional.specs.internal.Pairs.{all_of, keys_from}
 use Rattle.cy_planner_values.specs.Columns.{reading_entries, values_of}
 use Rattle.cy_planner_pairs.specs.internal.Pairs.{column_at}
 

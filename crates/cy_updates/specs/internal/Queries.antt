@@ -4,12 +4,12 @@ use Rattle.cy_values.specs.declared.rows.Cell.{Cell}
 use Rattle.cy_trees.specs.Trees.{Query}
 use Rattle.cy_graph.specs.Graph.{State}
 use Rattle.cy_updates.specs.declared.clauses.Updated.{Updated}
-use Rattle.cy_effects.specs.declared.faults.UpdateFault.{UpdateFault}
-use Rattle.cy_effects.specs.declared.faults.UpdateFault.TheVariants.{NoMemory}
-use Rattle.cy_effects.specs.Counts.{Counts}
-use Rattle.cy_effects.specs.Faults.{each_in_turn}
-use Rattle.cy_effects.specs.internal.Gone.{AreGone}
-use Rattle.cy_effects.specs.Statements.{after_query, beginning, columns_of}
+use Rattle.cy_updates_meaning.specs.declared.faults.UpdateFault.{UpdateFault}
+use Rattle.cy_updates_meaning.specs.declared.faults.UpdateFault.TheVariants.{NoMemory}
+use Rattle.cy_updates_meaning.specs.Counts.{Counts}
+use Rattle.cy_updates_meaning.specs.Faults.{each_in_turn}
+use Rattle.cy_updates_meaning.specs.internal.Gone.{AreGone}
+use Rattle.cy_updates_meaning.specs.Statements.{after_query, beginning, columns_of}
 use Rattle.cy_updates.specs.internal.Reached.{progress}
 
 -- from a graph a query leads to this one, and adds these rows to any that were there before it

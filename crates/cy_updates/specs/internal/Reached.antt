@@ -5,21 +5,21 @@ use Rattle.cy_values.specs.declared.rows.Cell.{Cell}
 use Rattle.cy_trees.specs.Trees.{Name, Clause, unwind, Query}
 use Rattle.cy_scope.specs.ClauseFaults.{clauses_fault}
 use Rattle.cy_scope.specs.Resolved.{resolved_clauses}
-use Rattle.cy_kinds.specs.Rows.{row_fits}
-use Rattle.cy_kinds.specs.Scopes.{Scope}
+use Rattle.cy_scope_kinds.specs.Rows.{row_fits}
+use Rattle.cy_scope_kinds.specs.Scopes.{Scope}
 use Rattle.cy_scope.specs.Views.{ends_with_return}
 use Rattle.cy_graph.specs.Graph.{State}
-use Rattle.cy_queries.specs.Queries.{columns_after_all, query_columns}
-use Rattle.cy_queries.specs.Reading.{AreInGraph}
-use Rattle.cy_unwinding.specs.Carried.{AreAlike, IsEnough, carried_from, updates_ahead}
+use Rattle.cy_oneshot_meaning.specs.Queries.{columns_after_all, query_columns}
+use Rattle.cy_oneshot_meaning.specs.Reading.{AreInGraph}
+use Rattle.cy_oneshot_unwinding.specs.Carried.{AreAlike, IsEnough, carried_from, updates_ahead}
 use Rattle.cy_updates.specs.declared.clauses.Updated.{Updated}
-use Rattle.cy_effects.specs.declared.faults.UpdateFault.{UpdateFault}
-use Rattle.cy_effects.specs.declared.faults.UpdateFault.TheVariants.{NoMemory}
-use Rattle.cy_effects.specs.Bags.{IsSameResult}
-use Rattle.cy_effects.specs.Counts.{Counts}
-use Rattle.cy_effects.specs.Faults.{◌>>=◌, each_in_turn}
-use Rattle.cy_effects.specs.internal.Gone.{AreGone}
-use Rattle.cy_effects.specs.Statements.{Progress, after_clause}
+use Rattle.cy_updates_meaning.specs.declared.faults.UpdateFault.{UpdateFault}
+use Rattle.cy_updates_meaning.specs.declared.faults.UpdateFault.TheVariants.{NoMemory}
+use Rattle.cy_updates_meaning.specs.Bags.{IsSameResult}
+use Rattle.cy_updates_meaning.specs.Counts.{Counts}
+use Rattle.cy_updates_meaning.specs.Faults.{◌>>=◌, each_in_turn}
+use Rattle.cy_updates_meaning.specs.internal.Gone.{AreGone}
+use Rattle.cy_updates_meaning.specs.Statements.{Progress, after_clause}
 
 -- how far a statement has come: a graph, rows, and counts
 abbrev pub progress : State → List (List Cell) → Counts → Progress

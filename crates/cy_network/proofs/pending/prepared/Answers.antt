@@ -1,9 +1,9 @@
 use Rattle.std.proofs.Common.{◌≡◌, ℕ, ◌==◌, true, List, [], ◌∷◌, length, refl, ap, sym, subst, ◌∙◌, arith}
 use Rattle.std.proofs.lemmas.Bool.Decides.{nat_tests}
 use Rattle.cy_values.specs.Bag.{IsCanonical, weight_of}
-use Rattle.cy_deltas.specs.declared.shifts.Shift.{Shift}
-use Rattle.cy_deltas.specs.Deltas.{IsDelta, counts}
-use Rattle.cy_plan_parts.specs.Counted.{written}
+use Rattle.cy_network_operators.specs.declared.shifts.Shift.{Shift}
+use Rattle.cy_network_operators.specs.Deltas.{IsDelta, counts}
+use Rattle.cy_network_parts.specs.Counted.{written}
 use Rattle.cy_network.proofs.Excess.{gains_weight, losses_weight}
 use Rattle.cy_network.proofs.Held.{written_delta}
 use Rattle.cy_network.proofs.pending.prepared.Goals as goal

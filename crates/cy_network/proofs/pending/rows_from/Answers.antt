@@ -1,6 +1,6 @@
 use Rattle.std.proofs.Common.{[], map, sym, ap, subst, ◌∙◌}
-use Rattle.cy_deltas.specs.Deltas.{counts}
-use Rattle.cy_plan_parts.specs.Counted.{ArePositive, counted, written}
+use Rattle.cy_network_operators.specs.Deltas.{counts}
+use Rattle.cy_network_parts.specs.Counted.{ArePositive, counted, written}
 use Rattle.cy_network.proofs.Held.{written_delta}
 use Rattle.cy_network.proofs.pending.rows_from.Goals as goal
 

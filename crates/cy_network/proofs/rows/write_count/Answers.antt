@@ -1,7 +1,7 @@
 use Rattle.std.proofs.Common.{◌≡◌, ◌<◌, ℕ, zero, suc, Some, None, refl, sym, ap, ◌∙◌, arith}
-use Rattle.cy_memory.specs.Counts.{with_count}
-use Rattle.cy_memory.proofs.RowMaps.{on_ok, put}
-use Rattle.cy_plan_parts.specs.Counted.{counted}
+use Rattle.cy_network_memory.specs.Counts.{with_count}
+use Rattle.cy_network_memory.proofs.RowMaps.{on_ok, put}
+use Rattle.cy_network_parts.specs.Counted.{counted}
 use Rattle.cy_network.proofs.Written.{counted_put, positive_put}
 use Rattle.cy_network.proofs.rows.write_count.Goals as goal
 

@@ -1,8 +1,8 @@
 use Rattle.std.proofs.Common.{◌≡◌, ◌+◌, ◌≤◌, ◌∷◌, [], ℕ, length, sym, ap, ◌∙◌, arith}
 use Rattle.std.proofs.lemmas.List.{length-append}
 use Rattle.indexmap.specs.IndexMap.{spare}
-use Rattle.cy_memory.specs.Counts.{with_count}
-use Rattle.cy_plan_parts.specs.Counted.{counted}
+use Rattle.cy_network_memory.specs.Counts.{with_count}
+use Rattle.cy_network_parts.specs.Counted.{counted}
 use Rattle.cy_network.proofs.Written.{written_more}
 use Rattle.cy_network.proofs.rows.write_counts.Goals as goal
 

@@ -1,6 +1,6 @@
 use Rattle.std.proofs.Common.{◌≡◌, ◌+◌, ◌≤◌, length}
 use Rattle.indexmap.specs.IndexMap.{spare}
-use Rattle.cy_plan_parts.specs.Counted.{ArePositive, counted, written}
+use Rattle.cy_network_parts.specs.Counted.{ArePositive, counted, written}
 use Rattle.cy_network.proofs.rows.write_counts.Given as goal
 
 -- the counts so far are written, and there is room for those that are left

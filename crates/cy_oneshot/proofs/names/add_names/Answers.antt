@@ -2,11 +2,11 @@ use Rattle.std.proofs.Common.{◌+◌, List, map, drop, sym, ap, ◌∙◌}
 use Rattle.cy_trees.specs.declared.clauses.Path.{Path}
 use Rattle.cy_trees.specs.Trees.{Name}
 use Rattle.cy_trees.specs.Views.{path_of, step_of}
-use Rattle.cy_patterns.specs.Places.{places}
-use Rattle.cy_queries.specs.Queries.{with_new_names}
+use Rattle.cy_oneshot_patterns.specs.Places.{places}
+use Rattle.cy_oneshot_meaning.specs.Queries.{with_new_names}
 use Rattle.cy_oneshot.specs.internal.Names.{with_steps_names}
 use Rattle.cy_oneshot.proofs.NewNames.{path_names}
-use Rattle.cy_patterns.proofs.SliceReads.{next_of}
+use Rattle.cy_oneshot_patterns.proofs.SliceReads.{next_of}
 use Rattle.cy_oneshot.proofs.names.add_names.Goals as goal
 
 pub loop-path-preserved : goal.loop-path-preserved

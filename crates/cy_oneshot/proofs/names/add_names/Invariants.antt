@@ -1,7 +1,7 @@
 use Rattle.std.proofs.Common.{◌≡◌, drop, map}
 use Rattle.cy_trees.specs.Views.{path_of}
-use Rattle.cy_patterns.specs.Places.{places}
-use Rattle.cy_queries.specs.Queries.{with_new_names}
+use Rattle.cy_oneshot_patterns.specs.Places.{places}
+use Rattle.cy_oneshot_meaning.specs.Queries.{with_new_names}
 use Rattle.cy_oneshot.proofs.names.add_names.Given as goal
 
 -- the names so far, with those of the paths that are left

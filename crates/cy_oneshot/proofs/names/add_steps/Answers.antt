@@ -3,7 +3,7 @@ use Rattle.cy_trees.specs.declared.clauses.Step.{Step}
 use Rattle.cy_trees.specs.Trees.{Name}
 use Rattle.cy_trees.specs.Views.{step_of}
 use Rattle.cy_oneshot.specs.internal.Names.{with_name, with_steps_names}
-use Rattle.cy_patterns.proofs.SliceReads.{next_of}
+use Rattle.cy_oneshot_patterns.proofs.SliceReads.{next_of}
 use Rattle.cy_oneshot.proofs.names.add_steps.Goals as goal
 
 pub loop-step-preserved : goal.loop-step-preserved

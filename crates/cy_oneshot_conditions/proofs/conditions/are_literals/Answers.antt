@@ -1,7 +1,7 @@
 -- The entries of the place.
 use Rattle.std.proofs.Common.{◌∙◌}
-use Rattle.cy_patterns.specs.Places.{entries_at}
-use Rattle.cy_patterns.specs.internal.Patterns.{place_of}
+use Rattle.cy_oneshot_patterns.specs.Places.{entries_at}
+use Rattle.cy_oneshot_patterns.specs.internal.Patterns.{place_of}
 use Rattle.cy_oneshot_conditions.proofs.MatchLemmas.{entries_through}
 use Rattle.cy_oneshot_conditions.proofs.conditions.are_literals.Goals as goal
 

@@ -1,5 +1,5 @@
 use Rattle.std.proofs.Common.{◌≡◌, map, drop}
-use Rattle.cy_grammar.specs.SpellsClauses.{is_path_among}
+use Rattle.cy_parser_grammar.specs.SpellsClauses.{is_path_among}
 use Rattle.cy_parser.specs.internal.Parts.{part_of}
 use Rattle.cy_parser.proofs.conditions.is_path_among.Given as goal
 

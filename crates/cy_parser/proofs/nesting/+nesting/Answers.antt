@@ -1,7 +1,7 @@
 use Rattle.std.proofs.Common.{◌≡◌, suc, ◌-◌, ap, subst, arith}
-use Rattle.cy_grammar.specs.internal.Expressions.{nesting}
+use Rattle.cy_parser_grammar.specs.internal.Expressions.{nesting}
 use Rattle.cy_parser.specs.internal.Operands.{operand_of}
-use Rattle.cy_grammar.specs.internal.Reader.{and_then}
+use Rattle.cy_parser_grammar.specs.internal.Reader.{and_then}
 use Rattle.cy_parser.specs.internal.Reads.{Reads}
 use Rattle.cy_parser.proofs.nesting.+nesting.Goals as goal
 

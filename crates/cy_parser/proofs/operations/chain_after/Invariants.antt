@@ -1,9 +1,9 @@
 use Rattle.std.proofs.Common.{◌≡◌, ◌-◌, Option}
 use Rattle.cy_lexer.specs.declared.tokens.TokenKind.{TokenKind}
 use Rattle.cy_trees.specs.declared.expressions.BinaryOperator.{BinaryOperator}
-use Rattle.cy_grammar.specs.internal.Expressions.{chain_from, chain_after}
+use Rattle.cy_parser_grammar.specs.internal.Expressions.{chain_from, chain_after}
 use Rattle.cy_parser.specs.internal.Operands.{operand_of}
-use Rattle.cy_grammar.specs.internal.Reader.{Reader}
+use Rattle.cy_parser_grammar.specs.internal.Reader.{Reader}
 use Rattle.cy_parser.specs.internal.ReadsOperations.{ReadsOperations}
 use Rattle.cy_trees.specs.Trees.{Expression}
 use Rattle.cy_parser.proofs.operations.chain_after.Given as goal

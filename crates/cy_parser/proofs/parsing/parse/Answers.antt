@@ -1,14 +1,14 @@
 use Rattle.std.proofs.Common.{◌≡◌, subst, ap, ◌∙◌, [], length, arith}
 use Rattle.std.proofs.lemmas.Bool.Decides.{nat_tests}
-use Rattle.cy_grammar.specs.SpellsClauses.{SpellsStatement}
+use Rattle.cy_parser_grammar.specs.SpellsClauses.{SpellsStatement}
 use Rattle.cy_trees.specs.Views.{statement_of}
-use Rattle.cy_grammar.proofs.SoundStatements.{statement-sound}
-use Rattle.cy_grammar.proofs.StatementsComplete.{statement-complete, statement-some}
-use Rattle.cy_grammar.proofs.ShownAgain.{shown-again}
-use Rattle.cy_grammar.specs.Shown.{with_columns}
-use Rattle.cy_grammar.proofs.Takes.{answers_one}
+use Rattle.cy_parser_grammar.proofs.SoundStatements.{statement-sound}
+use Rattle.cy_parser_grammar.proofs.StatementsComplete.{statement-complete, statement-some}
+use Rattle.cy_parser_grammar.proofs.ShownAgain.{shown-again}
+use Rattle.cy_parser_grammar.specs.Shown.{with_columns}
+use Rattle.cy_parser_grammar.proofs.Takes.{answers_one}
 use Rattle.cy_parser.proofs.RefusalLemmas.{memory_alone}
-use Rattle.cy_grammar.specs.internal.Clauses.{statement as reads}
+use Rattle.cy_parser_grammar.specs.internal.Clauses.{statement as reads}
 use Rattle.cy_parser.proofs.parsing.parse.Goals as goal
 
 pub returns-in-Ok-clause-spelt : goal.returns-in-Ok-clause-spelt

@@ -1,7 +1,7 @@
 use Rattle.std.proofs.Common.{rules, arith}
 use Rattle.std.proofs.lemmas.Grind.{common_steps}
-use Rattle.cy_grammar.specs.internal.Expressions.{labels, labels_from}
-use Rattle.cy_grammar.specs.internal.Reader.{and_then}
+use Rattle.cy_parser_grammar.specs.internal.Expressions.{labels, labels_from}
+use Rattle.cy_parser_grammar.specs.internal.Reader.{and_then}
 use Rattle.cy_parser.proofs.Turns.{turn, turned}
 use Rattle.cy_parser.proofs.primary.labels.Goals as goal
 

@@ -1,5 +1,5 @@
 use Rattle.std.proofs.Common.{◌≡◌, ◌-◌}
-use Rattle.cy_grammar.specs.internal.Expressions.{labels, labels_from}
+use Rattle.cy_parser_grammar.specs.internal.Expressions.{labels, labels_from}
 use Rattle.cy_parser.proofs.primary.labels.Given as goal
 
 abbrev pub invariant-loop-turn : goal.invariant-loop-turn

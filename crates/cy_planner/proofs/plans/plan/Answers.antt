@@ -2,9 +2,9 @@ use Rattle.std.proofs.Common.{rules, arith}
 use Rattle.std.proofs.lemmas.Grind.{common_steps}
 use Rattle.cy_trees.specs.Trees.{Statement}
 use Rattle.cy_trees.specs.Views.{statement_of}
-use Rattle.cy_plans.specs.Plans.{Plan}
-use Rattle.cy_plans.specs.Views.{plan_of}
-use Rattle.cy_outer_filters.proofs.Congruent.{on_graphs, stands_again}
+use Rattle.cy_planner_algebra.specs.Plans.{Plan}
+use Rattle.cy_planner_algebra.specs.Views.{plan_of}
+use Rattle.cy_planner_outer_filters.proofs.Congruent.{on_graphs, stands_again}
 use Rattle.cy_planner.specs.Serves.{Serves}
 use Rattle.cy_planner.proofs.Rewriting.{serves_standing}
 use Rattle.cy_planner.proofs.plans.plan.Goals as goal

@@ -4,8 +4,8 @@ use Rattle.cy_trees.specs.declared.clauses.Query as coded
 use Rattle.cy_trees.specs.Trees.{Query}
 use Rattle.cy_trees.specs.Views.{clause_of, query_of}
 use Rattle.cy_scope.specs.Checked.{IsViewQuery, single}
-use Rattle.cy_plans.specs.Plans.{Plan}
-use Rattle.cy_plans.specs.Views.{plan_of}
+use Rattle.cy_planner_algebra.specs.Plans.{Plan}
+use Rattle.cy_planner_algebra.specs.Views.{plan_of}
 use Rattle.cy_planner.specs.internal.QueryPlans.{IsPlanOfAll, IsQueryPlan}
 use Rattle.cy_planner.proofs.QuerySteps.{first_among, is_view, later_among, queries_left}
 use Rattle.cy_planner.proofs.Unions.{first_planned, next_planned}

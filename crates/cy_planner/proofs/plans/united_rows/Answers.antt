@@ -3,10 +3,10 @@ use Rattle.std.proofs.lemmas.List.{length-map}
 use Rattle.cy_trees.specs.declared.clauses.Query as coded
 use Rattle.cy_trees.specs.Trees.{Statement}
 use Rattle.cy_trees.specs.Views.{query_of, statement_of}
-use Rattle.cy_plans.specs.Plans as plan
-use Rattle.cy_plans.specs.Plans.{Plan}
-use Rattle.cy_plans.specs.Views.{plan_of}
-use Rattle.cy_row_plans.proofs.Filtered.{if_ok_map}
+use Rattle.cy_planner_algebra.specs.Plans as plan
+use Rattle.cy_planner_algebra.specs.Plans.{Plan}
+use Rattle.cy_planner_algebra.specs.Views.{plan_of}
+use Rattle.cy_planner_rows.proofs.Filtered.{if_ok_map}
 use Rattle.cy_planner.specs.Serves.{Serves}
 use Rattle.cy_planner.specs.internal.QueryPlans.{AreViewQueries, IsPlanOfAll}
 use Rattle.cy_planner.proofs.Unions.{all_served, are_view_queries, once_served}

@@ -1,10 +1,10 @@
 -- The columns so far.
 use Rattle.std.proofs.Common.{◌≡◌, ◌++◌, map, take}
 use Rattle.cy_trees.specs.Views.{expression_of}
-use Rattle.cy_plans.specs.Plans.{computed}
-use Rattle.cy_plans.specs.Views.{output_of}
-use Rattle.cy_lowering.specs.Lowered.{lowered}
-use Rattle.cy_lowering.specs.Places.{place}
+use Rattle.cy_planner_algebra.specs.Plans.{computed}
+use Rattle.cy_planner_algebra.specs.Views.{output_of}
+use Rattle.cy_planner_lowering.specs.Lowered.{lowered}
+use Rattle.cy_planner_lowering.specs.Places.{place}
 use Rattle.cy_planner_values.proofs.values.add_outputs.Given as goal
 
 abbrev pub invariant-loop-expression : goal.invariant-loop-expression

@@ -1,7 +1,7 @@
 -- The values so far, and those that are left.
 use Rattle.std.proofs.Common.{◌≡◌, ◌++◌, drop, filter, map, not}
 use Rattle.cy_trees.specs.Views.{entry_of, expression_of}
-use Rattle.cy_own_patterns.specs.OwnPatterns.{is_literal_entry}
+use Rattle.cy_planner_own_patterns.specs.OwnPatterns.{is_literal_entry}
 use Rattle.cy_planner_values.specs.Columns.{values_of}
 use Rattle.cy_planner_values.proofs.values.add_values.Given as goal
 

@@ -1,7 +1,7 @@
 -- The values so far, and those of the places that are left.
 use Rattle.std.proofs.Common.{◌≡◌, ◌++◌, drop, map}
 use Rattle.cy_trees.specs.Views.{expression_of}
-use Rattle.cy_patterns.specs.internal.Patterns.{place_of}
+use Rattle.cy_oneshot_patterns.specs.internal.Patterns.{place_of}
 use Rattle.cy_planner_values.specs.Columns.{reading_entries, values_of}
 use Rattle.cy_planner_values.proofs.values.open_values.Given as goal
 

@@ -1,7 +1,7 @@
 use Rattle.std.proofs.Common.{◌≡◌, ℕ, ◌+◌, arith}
 use Rattle.std.proofs.lemmas.Grind.{common_steps}
 use Rattle.std.proofs.lemmas.List.FromFn.{map-range_with_len_more}
-use Rattle.cy_row_plans.specs.Columns.{column_output}
+use Rattle.cy_planner_rows.specs.Columns.{column_output}
 use Rattle.cy_planner_values.proofs.values.row_outputs.Goals as goal
 
 pub loop-column-preserved : goal.loop-column-preserved

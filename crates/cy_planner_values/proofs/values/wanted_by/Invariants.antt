@@ -2,7 +2,7 @@
 use Rattle.std.proofs.Common.{◌≡◌, [], drop, map}
 use Rattle.std.specs.Prelude.{flat_map}
 use Rattle.cy_trees.specs.Views.{expression_of}
-use Rattle.cy_row_plans.specs.internal.Asked.{asked, with_asked}
+use Rattle.cy_planner_rows.specs.internal.Asked.{asked, with_asked}
 use Rattle.cy_planner_values.proofs.values.wanted_by.Given as goal
 
 abbrev pub invariant-loop-expression : goal.invariant-loop-expression

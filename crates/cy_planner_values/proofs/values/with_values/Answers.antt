@@ -7,18 +7,18 @@ use Rattle.std.proofs.lemmas.List.{length-map}
 use Rattle.std.proofs.lemmas.Result.{IfOk-weaker}
 use Rattle.cy_trees.specs.Trees.{Expression}
 use Rattle.cy_trees.specs.Views.{expression_of}
-use Rattle.cy_plans.specs.Plans as plan
-use Rattle.cy_plans.specs.Plans.{Output, Plan, computed, width}
-use Rattle.cy_plans.specs.Views.{output_of, plan_of}
-use Rattle.cy_plans.specs.WellFormed.{IsOutputOver, greatest_width}
-use Rattle.cy_lowering.specs.declared.places.Wanted.{Wanted}
-use Rattle.cy_lowering.specs.Lowered.{lowered}
-use Rattle.cy_lowering.specs.Places.{place}
-use Rattle.cy_row_plans.specs.Columns.{column_output}
-use Rattle.cy_row_plans.specs.internal.Lookups.{over}
-use Rattle.cy_row_plans.proofs.Lists.{all_of_each}
-use Rattle.cy_row_plans.proofs.OverRows.{IsInside}
-use Rattle.cy_row_plans.proofs.Projected.{all_wanted_inside, wanted_of_all}
+use Rattle.cy_planner_algebra.specs.Plans as plan
+use Rattle.cy_planner_algebra.specs.Plans.{Output, Plan, computed, width}
+use Rattle.cy_planner_algebra.specs.Views.{output_of, plan_of}
+use Rattle.cy_planner_algebra.specs.WellFormed.{IsOutputOver, greatest_width}
+use Rattle.cy_planner_lowering.specs.declared.places.Wanted.{Wanted}
+use Rattle.cy_planner_lowering.specs.Lowered.{lowered}
+use Rattle.cy_planner_lowering.specs.Places.{place}
+use Rattle.cy_planner_rows.specs.Columns.{column_output}
+use Rattle.cy_planner_rows.specs.internal.Lookups.{over}
+use Rattle.cy_planner_rows.proofs.Lists.{all_of_each}
+use Rattle.cy_planner_rows.proofs.OverRows.{IsInside}
+use Rattle.cy_planner_rows.proofs.Projected.{all_wanted_inside, wanted_of_all}
 use Rattle.cy_planner_values.specs.Columns.{IsExtended}
 use Rattle.cy_planner_values.proofs.Extended.{extended_is, none_mapped, outs, outs_long, outs_over, unextended}
 use Rattle.cy_planner_values.proofs.values.with_values.Goals as goal

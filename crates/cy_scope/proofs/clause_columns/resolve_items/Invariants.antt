@@ -2,7 +2,7 @@
 use Rattle.std.proofs.Common.{◌≡◌, map}
 use Rattle.cy_trees.specs.Views.{item_of}
 use Rattle.cy_scope.specs.Resolved as spec
-use Rattle.cy_kinds.proofs.ResolvedLemmas.{mixed}
+use Rattle.cy_scope_kinds.proofs.ResolvedLemmas.{mixed}
 use Rattle.cy_scope.proofs.clause_columns.resolve_items.Given as goal
 
 abbrev pub invariant-loop-item : goal.invariant-loop-item

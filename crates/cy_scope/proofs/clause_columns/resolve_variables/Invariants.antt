@@ -1,7 +1,7 @@
 -- What is done, and what the others are to become.
 use Rattle.std.proofs.Common.{◌≡◌, map}
 use Rattle.cy_scope.specs.Resolved as spec
-use Rattle.cy_kinds.proofs.ResolvedLemmas.{mixed}
+use Rattle.cy_scope_kinds.proofs.ResolvedLemmas.{mixed}
 use Rattle.cy_scope.proofs.clause_columns.resolve_variables.Given as goal
 
 abbrev pub invariant-loop-variable : goal.invariant-loop-variable

@@ -1,5 +1,5 @@
 use Rattle.std.proofs.Common.{◌++◌, ap, sym, ◌∙◌, is_some}
-use Rattle.cy_kinds.proofs.ScopesLemmas.{added_seen, added_fresh}
+use Rattle.cy_scope_kinds.proofs.ScopesLemmas.{added_seen, added_fresh}
 use Rattle.cy_scope.proofs.pattern_checks.see_name.Goals as goal
 
 pub returns-then-is_some : goal.returns-then-is_some

@@ -1,8 +1,8 @@
 use Rattle.std.proofs.Common.{◌++◌, map, subst}
 use Rattle.cy_trees.specs.Views.{item_of, key_of, projection_of}
-use Rattle.cy_kinds.specs.internal.Answers.{MayFault}
+use Rattle.cy_scope_kinds.specs.internal.Answers.{MayFault}
 use Rattle.cy_scope.specs.ProjectionFaults.{keys_fault}
-use Rattle.cy_kinds.specs.Scopes.{Scope}
+use Rattle.cy_scope_kinds.specs.Scopes.{Scope}
 use Rattle.cy_scope.proofs.projection_checks.check_order.Goals as goal
 
 pub returns : goal.returns

@@ -1,10 +1,10 @@
 use Rattle.std.proofs.Common.{◌≡◌, ◌⊎◌, ◌++◌, [], map, Option, Some, None, Result, Ok, Err, IsErrAnd, MatchResult, inl, inr, ap, sym, ◌∙◌}
 use Rattle.cy_trees.specs.Views.{item_of, projection_of}
-use Rattle.cy_kinds.specs.declared.faults.ScopeFault.{ScopeFault}
-use Rattle.cy_kinds.specs.declared.faults.ScopeFault.TheVariants.{NoMemory}
-use Rattle.cy_kinds.specs.Scopes.{Scope}
+use Rattle.cy_scope_kinds.specs.declared.faults.ScopeFault.{ScopeFault}
+use Rattle.cy_scope_kinds.specs.declared.faults.ScopeFault.TheVariants.{NoMemory}
+use Rattle.cy_scope_kinds.specs.Scopes.{Scope}
 use Rattle.cy_scope.specs.ClauseScopes.{columns_of}
-use Rattle.cy_kinds.specs.Faults.{first}
+use Rattle.cy_scope_kinds.specs.Faults.{first}
 use Rattle.cy_scope.specs.ProjectionFaults.{items_fault, keys_fault, seen_by_keys}
 use Rattle.cy_scope.proofs.projection_checks.check_projection.Goals as goal
 

@@ -2,7 +2,7 @@
 use Rattle.std.proofs.Common.{◌≡◌, drop, map}
 use Rattle.std.specs.List.{list_all}
 use Rattle.cy_trees.specs.Views.{entry_of}
-use Rattle.cy_kinds.specs.Sure.{is_sure}
+use Rattle.cy_scope_kinds.specs.Sure.{is_sure}
 use Rattle.cy_scope.proofs.sureness.is_sure_map.Given as goal
 
 abbrev pub invariant-loop-entry : goal.invariant-loop-entry

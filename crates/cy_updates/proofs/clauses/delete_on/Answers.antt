@@ -1,9 +1,9 @@
 use Rattle.std.proofs.Common.{[], ap, sym, ◌∙◌}
 use Rattle.std.specs.Prelude.{Ok}
 use Rattle.std.proofs.lemmas.Result.{err_from_is_err_and}
-use Rattle.cy_effects.specs.Faults.{◌>>=◌}
-use Rattle.cy_effects.specs.internal.Answers.{graph_table}
-use Rattle.cy_effects.proofs.InTurn.{or_wants}
+use Rattle.cy_updates_meaning.specs.Faults.{◌>>=◌}
+use Rattle.cy_updates_meaning.specs.internal.Answers.{graph_table}
+use Rattle.cy_updates_meaning.proofs.InTurn.{or_wants}
 use Rattle.cy_updates.proofs.clauses.delete_on.Goals as goal
 
 pub returns-in_err-gone-clause-meaning : goal.returns-in_err-gone-clause-meaning

@@ -2,12 +2,12 @@ use Rattle.std.proofs.Common.{ap, map}
 use Rattle.std.specs.Prelude.{Ok}
 use Rattle.std.proofs.lemmas.Result.{IfOk-at_ok, err_from_is_err_and}
 use Rattle.cy_trees.specs.Views.{set_item_of}
-use Rattle.cy_effects.specs.Faults.{◌>>=◌}
-use Rattle.cy_effects.specs.internal.Answers.{graph_table}
+use Rattle.cy_updates_meaning.specs.Faults.{◌>>=◌}
+use Rattle.cy_updates_meaning.specs.internal.Answers.{graph_table}
 use Rattle.cy_updates.proofs.ClauseSteps.{none_gone_same}
-use Rattle.cy_effects.proofs.Graphs.{Kept}
-use Rattle.cy_effects.proofs.InTurn.{or_wants}
-use Rattle.cy_effects.proofs.SetGraphs.{set_kept}
+use Rattle.cy_updates_meaning.proofs.Graphs.{Kept}
+use Rattle.cy_updates_meaning.proofs.InTurn.{or_wants}
+use Rattle.cy_updates_meaning.proofs.SetGraphs.{set_kept}
 use Rattle.cy_updates.proofs.clauses.set_on.Goals as goal
 
 pub returns-in_err-set-clause-meaning : goal.returns-in_err-set-clause-meaning

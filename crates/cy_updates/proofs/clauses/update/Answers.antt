@@ -3,11 +3,11 @@ use Rattle.std.specs.List.{AllByRecursion}
 use Rattle.cy_values.specs.declared.rows.Cell.{Cell}
 use Rattle.cy_values.specs.Order.{row_cmp}
 use Rattle.cy_trees.specs.Views.{clause_of}
-use Rattle.cy_queries.specs.Reading.{AreInGraph, IsInGraph}
-use Rattle.cy_queries.proofs.Each.{each_in_order}
+use Rattle.cy_oneshot_meaning.specs.Reading.{AreInGraph, IsInGraph}
+use Rattle.cy_oneshot_meaning.proofs.Each.{each_in_order}
 use Rattle.cy_updates.specs.declared.clauses.Updated.{Updated}
-use Rattle.cy_effects.specs.Statements.{rows_taken}
-use Rattle.cy_effects.specs.internal.Answers.{IsAnswer, graph_table}
+use Rattle.cy_updates_meaning.specs.Statements.{rows_taken}
+use Rattle.cy_updates_meaning.specs.internal.Answers.{IsAnswer, graph_table}
 use Rattle.cy_updates.proofs.clauses.update.Goals as goal
 
 pub take_rows-requires-clause-there : goal.take_rows-requires-clause-there

@@ -3,13 +3,13 @@ use Rattle.std.proofs.lemmas.Result.{err_from_is_err_and}
 use Rattle.cy_trees.specs.Trees.{Clause, Query}
 use Rattle.cy_trees.specs.Views.{clause_of}
 use Rattle.cy_graph.specs.Graph.{State, number_end}
-use Rattle.cy_queries.proofs.ClauseLemmas.{same_clause, same_rows_of}
+use Rattle.cy_oneshot_meaning.proofs.ClauseLemmas.{same_clause, same_rows_of}
 use Rattle.cy_updates.specs.declared.clauses.Updated.{Updated}
 use Rattle.cy_updates.specs.internal.Reached.{IsReached, LeadsTo}
-use Rattle.cy_unwinding.proofs.Marked.{all_left}
-use Rattle.cy_effects.proofs.Bags.{same_clauses}
+use Rattle.cy_oneshot_unwinding.proofs.Marked.{all_left}
+use Rattle.cy_updates_meaning.proofs.Bags.{same_clauses}
 use Rattle.cy_updates.proofs.ClauseSteps.{few_nodes_gone, few_rels_gone, rows_wide}
-use Rattle.cy_effects.proofs.InTurn.{next_in, none_in, or_wants}
+use Rattle.cy_updates_meaning.proofs.InTurn.{next_in, none_in, or_wants}
 use Rattle.cy_updates.proofs.ReachedSteps.{reached_first, reached_more, reached_stops}
 use Rattle.cy_updates.proofs.queries.each_clause.Goals as goal
 

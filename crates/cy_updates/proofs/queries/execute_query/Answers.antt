@@ -5,7 +5,7 @@ use Rattle.cy_trees.specs.Trees.{Query}
 use Rattle.cy_trees.specs.Views.{clause_of, query_of}
 use Rattle.cy_scope.specs.Views.{ends_with_return}
 use Rattle.cy_updates.specs.internal.Reached.{IsReached}
-use Rattle.cy_effects.proofs.InTurn.{or_wants}
+use Rattle.cy_updates_meaning.proofs.InTurn.{or_wants}
 use Rattle.cy_updates.proofs.QuerySteps.{query_done, query_stopped}
 use Rattle.cy_updates.proofs.queries.execute_query.Goals as goal
 

@@ -9,7 +9,7 @@ use Rattle.cy_graph.specs.Graph.{State, number_end}
 use Rattle.cy_scope.specs.Checked.{IsChecked, single}
 use Rattle.cy_updates.specs.declared.clauses.Updated.{Updated}
 use Rattle.cy_updates.specs.internal.Queries.{HaveCome}
-use Rattle.cy_effects.proofs.InTurn.{next_in, none_in, or_wants}
+use Rattle.cy_updates_meaning.proofs.InTurn.{next_in, none_in, or_wants}
 use Rattle.cy_updates.proofs.ClauseSteps.{few_nodes_gone, few_rels_gone}
 use Rattle.cy_updates.proofs.QuerySteps.{come_stops, first_come, first_stops, more_come, no_query, none_come}
 use Rattle.cy_updates.proofs.statements.each_query.Goals as goal

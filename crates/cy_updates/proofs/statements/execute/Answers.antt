@@ -2,9 +2,9 @@ use Rattle.std.proofs.Common.{IsSome, Option, ap, refl, sym, subst, ◌∙◌}
 use Rattle.cy_trees.specs.Views.{statement_of}
 use Rattle.cy_graph.specs.Graph.{State}
 use Rattle.cy_index.specs.Index.{StoreState}
-use Rattle.cy_effects.specs.Statements.{statement_outcome}
+use Rattle.cy_updates_meaning.specs.Statements.{statement_outcome}
 use Rattle.cy_updates.proofs.Changes.{as_before, left_open}
-use Rattle.cy_effects.proofs.InTurn.{or_wants}
+use Rattle.cy_updates_meaning.proofs.InTurn.{or_wants}
 use Rattle.cy_updates.proofs.statements.execute.Goals as goal
 
 pub execute_in_change-requires : goal.execute_in_change-requires

@@ -4,10 +4,10 @@ use Rattle.std.proofs.lemmas.Result.{err_from_is_err_and}
 use Rattle.cy_trees.specs.declared.clauses.Query as coded
 use Rattle.cy_trees.specs.Trees.{Statement}
 use Rattle.cy_trees.specs.Views.{query_of, statement_of}
-use Rattle.cy_effects.specs.Faults.{◌>>=◌}
-use Rattle.cy_effects.specs.Statements.{outcome_of}
+use Rattle.cy_updates_meaning.specs.Faults.{◌>>=◌}
+use Rattle.cy_updates_meaning.specs.Statements.{outcome_of}
 use Rattle.cy_updates.specs.internal.Queries.{HaveCome}
-use Rattle.cy_effects.proofs.InTurn.{or_wants}
+use Rattle.cy_updates_meaning.proofs.InTurn.{or_wants}
 use Rattle.cy_updates.proofs.QuerySteps.{answered}
 use Rattle.cy_updates.proofs.statements.execute_in_change.Goals as goal
 

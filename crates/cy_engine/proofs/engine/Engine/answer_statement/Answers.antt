@@ -2,13 +2,13 @@ use Rattle.std.proofs.Common.{◌≡◌, true, None, Some, map, refl, sym, ap, s
 use Rattle.std.specs.Prelude.{IfSome, IsSome}
 use Rattle.std.proofs.lemmas.Result.{err_from_is_err_and}
 use Rattle.cy_graph.specs.Graph.{Content, State}
-use Rattle.cy_effects.specs.Statements.{Outcome}
+use Rattle.cy_updates_meaning.specs.Statements.{Outcome}
 use Rattle.cy_index.specs.Index.{StoreState}
-use Rattle.cy_touches.specs.Changes.{before_change}
+use Rattle.cy_network_touches.specs.Changes.{before_change}
 use Rattle.cy_trees.specs.Views.{statement_of}
 use Rattle.cy_updates.specs.Answers.{outcome_seen}
-use Rattle.cy_views.specs.declared.views.Views.{Views}
-use Rattle.cy_views.specs.Upkeep.{StandFor, upkeep_in, upkeep_of, view_of}
+use Rattle.cy_engine_views.specs.declared.views.Views.{Views}
+use Rattle.cy_engine_views.specs.Upkeep.{StandFor, upkeep_in, upkeep_of, view_of}
 use Rattle.cy_engine.specs.declared.engine.Effect.{Effect}
 use Rattle.cy_engine.specs.Model.{machine_of, state_of}
 use Rattle.cy_engine.specs.State.{EngineState}

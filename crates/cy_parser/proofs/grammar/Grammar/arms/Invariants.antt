@@ -1,6 +1,6 @@
 use Rattle.std.proofs.Common.{◌≡◌, ◌-◌}
 use Rattle.cy_parser.specs.internal.Operands.{arms_in, ArmsAreMeasured}
-use Rattle.cy_grammar.specs.internal.Expressions.{nesting, arms, arms_read}
+use Rattle.cy_parser_grammar.specs.internal.Expressions.{nesting, arms, arms_read}
 use Rattle.cy_parser.proofs.grammar.Grammar.arms.Given as goal
 
 abbrev pub invariant-loop-turn : goal.invariant-loop-turn

@@ -1,6 +1,6 @@
 use Rattle.std.proofs.Common.{◌≡◌, ◌-◌}
 use Rattle.cy_parser.specs.internal.Operands.{elements_of, AreMeasured}
-use Rattle.cy_grammar.specs.internal.Expressions.{nesting, elements, elements_from}
+use Rattle.cy_parser_grammar.specs.internal.Expressions.{nesting, elements, elements_from}
 use Rattle.cy_parser.proofs.grammar.Grammar.elements.Given as goal
 
 abbrev pub invariant-loop-turn : goal.invariant-loop-turn

@@ -1,8 +1,8 @@
 use Rattle.std.proofs.Common.{rules, arith}
 use Rattle.std.proofs.lemmas.Grind.{common_steps}
 use Rattle.cy_parser.specs.internal.Operands.{links_in}
-use Rattle.cy_grammar.specs.internal.Expressions.{nesting, links, links_read}
-use Rattle.cy_grammar.specs.internal.Reader.{and_then}
+use Rattle.cy_parser_grammar.specs.internal.Expressions.{nesting, links, links_read}
+use Rattle.cy_parser_grammar.specs.internal.Reader.{and_then}
 use Rattle.cy_parser.proofs.Turns.{turn, turned}
 use Rattle.cy_parser.proofs.grammar.Grammar.links.Goals as goal
 

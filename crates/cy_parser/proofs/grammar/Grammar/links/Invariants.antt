@@ -1,6 +1,6 @@
 use Rattle.std.proofs.Common.{◌≡◌, ◌-◌}
 use Rattle.cy_parser.specs.internal.Operands.{links_in, LinksAreMeasured}
-use Rattle.cy_grammar.specs.internal.Expressions.{nesting, links, links_read}
+use Rattle.cy_parser_grammar.specs.internal.Expressions.{nesting, links, links_read}
 use Rattle.cy_parser.proofs.grammar.Grammar.links.Given as goal
 
 abbrev pub invariant-loop-turn : goal.invariant-loop-turn

@@ -1,5 +1,5 @@
 use Rattle.std.proofs.Common.{◌≡◌, ◌-◌}
-use Rattle.cy_grammar.specs.internal.Expressions.{nesting, predicates_after, predicates_from}
+use Rattle.cy_parser_grammar.specs.internal.Expressions.{nesting, predicates_after, predicates_from}
 use Rattle.cy_parser.specs.internal.Operands.{operand_of}
 use Rattle.cy_parser.proofs.grammar.Grammar.predicate_after.Given as goal
 

@@ -1,8 +1,8 @@
 use Rattle.std.proofs.Common.{rules, arith}
 use Rattle.std.proofs.lemmas.Grind.{common_steps}
 use Rattle.cy_parser.specs.internal.Operands.{operand_of}
-use Rattle.cy_grammar.specs.internal.Expressions.{properties, properties_from}
-use Rattle.cy_grammar.specs.internal.Reader.{and_then}
+use Rattle.cy_parser_grammar.specs.internal.Expressions.{properties, properties_from}
+use Rattle.cy_parser_grammar.specs.internal.Reader.{and_then}
 use Rattle.cy_parser.proofs.Turns.{turn, turned}
 use Rattle.cy_parser.proofs.grammar.Grammar.properties.Goals as goal
 

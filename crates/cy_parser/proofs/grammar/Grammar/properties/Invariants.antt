@@ -1,6 +1,6 @@
 use Rattle.std.proofs.Common.{◌≡◌, ◌-◌}
 use Rattle.cy_parser.specs.internal.Operands.{operand_of}
-use Rattle.cy_grammar.specs.internal.Expressions.{properties, properties_from}
+use Rattle.cy_parser_grammar.specs.internal.Expressions.{properties, properties_from}
 use Rattle.cy_parser.proofs.grammar.Grammar.properties.Given as goal
 
 abbrev pub invariant-loop-turn : goal.invariant-loop-turn

@@ -1,6 +1,6 @@
 use Rattle.std.proofs.Common.{◌≡◌, ◌-◌, map}
 use Rattle.cy_parser.specs.internal.Parts.{part_of}
-use Rattle.cy_grammar.specs.internal.Clauses.{parts, parts_from}
+use Rattle.cy_parser_grammar.specs.internal.Clauses.{parts, parts_from}
 use Rattle.cy_parser.proofs.source.Source.parts.Given as goal
 
 abbrev pub invariant-loop-turn : goal.invariant-loop-turn

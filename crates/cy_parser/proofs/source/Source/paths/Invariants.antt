@@ -1,6 +1,6 @@
 use Rattle.std.proofs.Common.{◌≡◌, ◌-◌, map}
 use Rattle.cy_trees.specs.Views.{path_of}
-use Rattle.cy_grammar.specs.internal.Clauses.{path, paths, separated_from}
+use Rattle.cy_parser_grammar.specs.internal.Clauses.{path, paths, separated_from}
 use Rattle.cy_parser.proofs.source.Source.paths.Given as goal
 
 abbrev pub invariant-loop-turn : goal.invariant-loop-turn

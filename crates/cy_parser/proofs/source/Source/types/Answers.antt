@@ -1,7 +1,7 @@
 use Rattle.std.proofs.Common.{rules, arith}
 use Rattle.std.proofs.lemmas.Grind.{common_steps}
-use Rattle.cy_grammar.specs.internal.Clauses.{types, types_from}
-use Rattle.cy_grammar.specs.internal.Reader.{and_then}
+use Rattle.cy_parser_grammar.specs.internal.Clauses.{types, types_from}
+use Rattle.cy_parser_grammar.specs.internal.Reader.{and_then}
 use Rattle.cy_parser.proofs.Turns.{turn, turned}
 use Rattle.cy_parser.proofs.source.Source.types.Goals as goal
 

@@ -1,5 +1,5 @@
 use Rattle.std.proofs.Common.{◌≡◌, ◌-◌}
-use Rattle.cy_grammar.specs.internal.Clauses.{types, types_from}
+use Rattle.cy_parser_grammar.specs.internal.Clauses.{types, types_from}
 use Rattle.cy_parser.proofs.source.Source.types.Given as goal
 
 abbrev pub invariant-loop-turn : goal.invariant-loop-turn

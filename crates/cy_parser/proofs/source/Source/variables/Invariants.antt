@@ -1,5 +1,5 @@
 use Rattle.std.proofs.Common.{◌≡◌, ◌-◌}
-use Rattle.cy_grammar.specs.internal.Clauses.{separated_from, variable_read, variables}
+use Rattle.cy_parser_grammar.specs.internal.Clauses.{separated_from, variable_read, variables}
 use Rattle.cy_parser.proofs.source.Source.variables.Given as goal
 
 abbrev pub invariant-loop-turn : goal.invariant-loop-turn

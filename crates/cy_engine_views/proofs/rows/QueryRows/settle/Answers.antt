@@ -1,0 +1,16 @@
+use Rattle.std.proofs.Common.{sym, subst}
+use Rattle.cy_trees.specs.Views.{statement_of}
+use Rattle.cy_planner_algebra.specs.Views.{plan_of}
+use Rattle.cy_planner_algebra.specs.declared.operators.Operator.{Operator}
+use Rattle.cy_planner.specs.Serves.{Serves}
+use Rattle.cy_engine_views.proofs.rows.QueryRows.settle.Goals as goal
+
+pub settle-requires : goal.settle-requires
+settle-requires c = (c.requires.0.content, (c.requires.1.0.content, c.requires.1.1.network))
+
+pub returns-clause-stands : goal.returns-clause-stands
+returns-clause-stands c = λ before after prepared. record {
+  is_graph = prepared.to_graph;
+  serves = subst (λ (p : Operator). Serves (plan_of p) (statement_of c.args.self.now.query)) (sym c.settle.ensures.plan) prepared.serves;
+  network = c.settle.ensures.stands before.content after.content prepared.network;
+}

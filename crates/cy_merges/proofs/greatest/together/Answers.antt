@@ -1,8 +1,0 @@
-use Rattle.cy_merges.proofs.GreatestCounts.{delta_of_counts}
-use Rattle.cy_merges.proofs.OneToOne.{if_ok_more}
-use Rattle.cy_merges.proofs.greatest.together.Goals as goal
-
-pub returns : goal.returns
-returns c =
-    if_ok_more _ _ c.shifts_of_counts.result c.shifts_of_counts.ensures
-    (λ made each. delta_of_counts c.args.shifts.items made.items c.in_ok-counts.counts.entries c.in_ok-counts.ensures each)

@@ -1,0 +1,127 @@
+-- What changes of a projection and of a union, by the sums of what changes below them.
+use Rattle.std.proofs.Common.{◌≡◌, ℕ, ◌+◌, ◌<◌, ◌≤◌, List, [], ◌∷◌, ◌++◌, map, length, sym, ap, subst, arith}
+use Rattle.std.specs.Prelude.{Result, Ok, Err, OnOk, IfOk, IfErr}
+use Rattle.std.specs.List.{All}
+use Rattle.std.proofs.lemmas.List.Elements.{All-nil, All-cons, All-head, All-tail}
+use Rattle.cy_values.specs.declared.rows.Cell.{Cell}
+use Rattle.cy_values.specs.Bag.{count_of}
+use Rattle.cy_network_memory.specs.declared.faults.MemoryFault.{MemoryFault}
+use Rattle.cy_network_memory.specs.declared.faults.MemoryFault.TheVariants.{TooManyRows}
+use Rattle.cy_network_memory.specs.Counts.{Counts}
+use Rattle.cy_planner_algebra.specs.Plans.{Output}
+use Rattle.cy_planner_algebra.specs.Expressions.{projected}
+use Rattle.cy_network_operators.specs.declared.shifts.Shift.{Shift}
+use Rattle.cy_network_operators.specs.Deltas.{IsBounded, IsDelta, counts}
+use Rattle.cy_network_operators.proofs.ShiftLemmas.{delta_alike}
+use Rattle.cy_network_merges.specs.Merges.{IsProjectChange, IsUnionChange, Sides, IsWhole, all_columns}
+use Rattle.cy_network_merges.specs.internal.Sums.{lost, gained, image}
+use Rattle.cy_network_merges.proofs.Totals.{taken_of_images, sum_of_images, taken_of_both, sum_of_both}
+use Rattle.cy_network_merges.proofs.WholeRows.{projection_whole, union_whole}
+
+-- the counts after some changes are staged
+abbrev pub AreSums : Counts → Counts → List Shift → Type 0
+AreSums was staged changes = (row : List Cell) → staged row + lost row changes ≡ was row + gained row changes
+
+staged_is : (staged was lost gained before after : ℕ) → staged + lost ≡ was + gained → was ≡ before → after + lost ≡ before + gained → staged ≡ after
+staged_is staged was lost gained before after sums held even = omega arith
+
+greater : (most was lost gained before after : ℕ) → most + lost < was + gained → was ≡ before → after + lost ≡ before + gained → most < after
+greater most was lost gained before after many held even = omega arith
+
+pub images_bounded : (f : List Cell → List Cell) (shifts : List Shift) → All IsBounded shifts → All IsBounded (map (image f) shifts)
+images_bounded f [] each = All-nil IsBounded
+images_bounded f (s ∷ shifts) each = All-cons IsBounded (image f s) (map (image f) shifts) (All-head IsBounded s shifts each) (images_bounded f shifts (All-tail IsBounded s shifts each))
+
+module _ (outputs : List Output) (was : Counts) (shifts images : List Shift) (are : images ≡ map (image (projected outputs)) shifts) where
+  module _ (before after : List (List Cell)) (change : IsProjectChange outputs was shifts before after) where
+    held_of : (row : List Cell) → was row ≡ count_of row (map (projected outputs) before)
+    held_of row = ap (λ (w : Counts). w row) change.held
+
+    even_of : (row : List Cell) → count_of row (map (projected outputs) after) + lost row images ≡ count_of row (map (projected outputs) before) + gained row images
+    even_of row =
+        subst (λ (xs : List Shift). count_of row (map (projected outputs) after) + lost row xs ≡ count_of row (map (projected outputs) before) + gained row xs) (sym are)
+        (sum_of_images (projected outputs) before after shifts change.delta row)
+
+    -- what the shifts take from a row is there
+    pub project_held : (row : List Cell) → lost row images ≤ was row
+    project_held row =
+        subst (λ (xs : List Shift). lost row xs ≤ was row) (sym are)
+        (subst (λ (w : Counts). lost row (map (image (projected outputs)) shifts) ≤ w row) (sym change.held) (taken_of_images (projected outputs) before after shifts change.delta row))
+
+    pub project_whole : (columns : List ℕ) (width : ℕ) → columns ≡ all_columns width → length outputs ≡ width → (row : List Cell) → 0 < was row + gained row images → IsWhole columns row
+    project_whole columns width is wide row some =
+        subst (λ (cs : List ℕ). IsWhole cs row) (sym is)
+        (projection_whole outputs width wide before shifts row
+        (subst (λ (w : Counts). 0 < w row + gained row (map (image (projected outputs)) shifts)) change.held
+        (subst (λ (xs : List Shift). 0 < was row + gained row xs) are some)))
+
+    projection_is : (staged : Counts) → AreSums was staged images → (row : List Cell) → staged row ≡ count_of row (map (projected outputs) after)
+    projection_is staged sums row =
+        staged_is (staged row) (was row) (lost row images) (gained row images) (count_of row (map (projected outputs) before)) (count_of row (map (projected outputs) after)) (sums row) (held_of row) (even_of row)
+
+  pub project_staged : {T : Type 0} (staged : Counts) (result : Result T MemoryFault) → OnOk result (AreSums was staged images)
+      → OnOk result ((before after : List (List Cell)) → IsProjectChange outputs was shifts before after → staged ≡ counts (map (projected outputs) after))
+  project_staged staged (Ok x) sums = λ before after change k row. projection_is before after change staged sums row k
+  project_staged staged (Err fault) sums = tt
+
+  pub project_delta : {T : Type 0} (staged : Counts) (result : Result T MemoryFault) (items : T → List Shift) → IfOk result (λ made. IsDelta was staged (items made)) → OnOk result (AreSums was staged images)
+      → IfOk result (λ made. (before after : List (List Cell)) → IsProjectChange outputs was shifts before after → IsDelta (counts (map (projected outputs) before)) (counts (map (projected outputs) after)) (items made))
+  project_delta staged (Ok made) items delta sums = λ before after change.
+      delta_alike was staged (counts (map (projected outputs) before)) (counts (map (projected outputs) after)) (items made) (held_of before after change) (projection_is before after change staged sums) delta
+  project_delta staged (Err fault) items delta sums = tt
+
+  pub project_too_many : {T : Type 0} (most : ℕ) (result : Result T MemoryFault) → IfErr result (λ fault. fault ≡ TooManyRows → (row : List Cell) × (most + lost row images < was row + gained row images))
+      → IfErr result (λ fault. fault ≡ TooManyRows → (before after : List (List Cell)) → IsProjectChange outputs was shifts before after → (row : List Cell) × (most < counts (map (projected outputs) after) row))
+  project_too_many most (Ok x) many = tt
+  project_too_many most (Err fault) many = λ is before after change.
+      let found = many is in
+      let row : List Cell = found.0 in (
+        row,
+        greater most (was row) (lost row images) (gained row images) (count_of row (map (projected outputs) before)) (count_of row (map (projected outputs) after)) found.1 (held_of before after change row) (even_of before after change row),
+      )
+
+module _ (columns : List ℕ) (was : Counts) (left right changes : List Shift) (are : changes ≡ left ++ right) where
+  module _ (before after : Sides) (change : IsUnionChange columns was left right before after) where
+    held_of_both : (row : List Cell) → was row ≡ count_of row (before.left ++ before.right)
+    held_of_both row = ap (λ (w : Counts). w row) change.held
+
+    even_of_both : (row : List Cell) → count_of row (after.left ++ after.right) + lost row changes ≡ count_of row (before.left ++ before.right) + gained row changes
+    even_of_both row =
+        subst (λ (xs : List Shift). count_of row (after.left ++ after.right) + lost row xs ≡ count_of row (before.left ++ before.right) + gained row xs) (sym are)
+        (sum_of_both before.left after.left before.right after.right left right change.delta_left change.delta_right row)
+
+    pub union_held : (row : List Cell) → lost row changes ≤ was row
+    union_held row =
+        subst (λ (xs : List Shift). lost row xs ≤ was row) (sym are)
+        (subst (λ (w : Counts). lost row (left ++ right) ≤ w row) (sym change.held)
+        (taken_of_both before.left after.left before.right after.right left right change.delta_left change.delta_right row))
+
+    pub both_whole : (row : List Cell) → 0 < was row + gained row changes → IsWhole columns row
+    both_whole row some =
+        union_whole columns before.left after.left before.right after.right left right change.delta_left change.delta_right change.whole_before change.whole_after row
+        (subst (λ (w : Counts). 0 < w row + gained row (left ++ right)) change.held (subst (λ (xs : List Shift). 0 < was row + gained row xs) are some))
+
+    union_is : (staged : Counts) → AreSums was staged changes → (row : List Cell) → staged row ≡ count_of row (after.left ++ after.right)
+    union_is staged sums row =
+        staged_is (staged row) (was row) (lost row changes) (gained row changes) (count_of row (before.left ++ before.right)) (count_of row (after.left ++ after.right)) (sums row) (held_of_both row) (even_of_both row)
+
+  pub union_staged : {T : Type 0} (staged : Counts) (result : Result T MemoryFault) → OnOk result (AreSums was staged changes)
+      → OnOk result ((before after : Sides) → IsUnionChange columns was left right before after → staged ≡ counts (after.left ++ after.right))
+  union_staged staged (Ok x) sums = λ before after change k row. union_is before after change staged sums row k
+  union_staged staged (Err fault) sums = tt
+
+  pub union_delta : {T : Type 0} (staged : Counts) (result : Result T MemoryFault) (items : T → List Shift) → IfOk result (λ made. IsDelta was staged (items made)) → OnOk result (AreSums was staged changes)
+      → IfOk result (λ made. (before after : Sides) → IsUnionChange columns was left right before after → IsDelta (counts (before.left ++ before.right)) (counts (after.left ++ after.right)) (items made))
+  union_delta staged (Ok made) items delta sums = λ before after change.
+      delta_alike was staged (counts (before.left ++ before.right)) (counts (after.left ++ after.right)) (items made) (held_of_both before after change) (union_is before after change staged sums) delta
+  union_delta staged (Err fault) items delta sums = tt
+
+  pub union_too_many : {T : Type 0} (most : ℕ) (result : Result T MemoryFault) → IfErr result (λ fault. fault ≡ TooManyRows → (row : List Cell) × (most + lost row changes < was row + gained row changes))
+      → IfErr result (λ fault. fault ≡ TooManyRows → (before after : Sides) → IsUnionChange columns was left right before after → (row : List Cell) × (most < counts (after.left ++ after.right) row))
+  union_too_many most (Ok x) many = tt
+  union_too_many most (Err fault) many = λ is before after change.
+      let found = many is in
+      let row : List Cell = found.0 in (
+        row,
+        greater most (was row) (lost row changes) (gained row changes) (count_of row (before.left ++ before.right)) (count_of row (after.left ++ after.right)) found.1 (held_of_both before after change row) (even_of_both before after change row),
+      )

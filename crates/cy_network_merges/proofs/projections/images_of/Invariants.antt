@@ -1,0 +1,9 @@
+use Rattle.std.proofs.Common.{◌≡◌, map}
+use Rattle.cy_planner_algebra.specs.Expressions.{projected}
+use Rattle.cy_planner_algebra.specs.Views.{output_of}
+use Rattle.cy_network_merges.specs.internal.Sums.{image}
+use Rattle.cy_network_merges.proofs.projections.images_of.Given as goal
+
+-- the images so far
+abbrev pub invariant-loop-shift : goal.invariant-loop-shift
+invariant-loop-shift l = l.images.items ≡ map (image (projected (map output_of l.outputs))) l.yielded

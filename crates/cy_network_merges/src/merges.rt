@@ -1,0 +1,141 @@
+//! The delta of sums of counts: one row may have several shifts, and what it counts is their sum.
+
+ghost use Rattle.std.specs.Prelude.{◌≡◌, ◌++◌, ◌+◌, ◌*◌, ◌<◌, ◌≤◌, true, List, IfOk, IfErr, OnOk, length};
+ghost use Rattle.std.specs.List.{All};
+ghost use Rattle.cy_values.specs.declared.rows.Cell.{Cell};
+ghost use Rattle.cy_network_memory.specs.declared.faults.MemoryFault.TheVariants.{NoMemory, TooManyRows};
+ghost use Rattle.cy_network_memory.specs.Counts.{greatest_count};
+ghost use Rattle.cy_network_operators.specs.Deltas.{IsBounded, IsDelta, shift_between};
+ghost use Rattle.cy_network_operators.specs.Reading.{IsRead};
+ghost use Rattle.cy_network_merges.specs.Merges.{AreBounded, IsWhole};
+ghost use Rattle.cy_network_merges.specs.internal.Sums.{AreShiftsOf, lost, gained, shift_in, shifts_at};
+
+use crate::distinct_rows::{distinct_rows, few_distinct_rows};
+use crate::stages::{stage_gains, stage_losses};
+use cy_network_memory::{Memory, MemoryFault, Record};
+use cy_network_operators::{Shift, add_shift};
+use cy_values::{Fault, Row};
+use std::alloc::Global;
+
+/// The rows of this many changes are compared with one another; those of more are hashed.
+const FEW_CHANGES: usize = 24;
+
+/// Adds some changes of counts to those of a memory whose key is the whole row, and gives what changes there: of each row whose
+/// count differs, both counts. One row may stand in several changes. `TooManyRows` where a row counts too often after all of them;
+/// otherwise it fails only when out of memory, and never where nothing changes. After a refusal a part may be staged.
+pub(crate) fn merge<M: Memory>(
+    alloc: Global,
+    memory: &mut M,
+    changes: Vec<Shift>,
+) -> Result<Vec<Shift>, MemoryFault>
+    requires settled { M.staged memory.old ≡ M.was memory.old }
+    requires held { (row : List Cell) → lost row changes.items ≤ M.was memory.old row }
+    requires whole { (row : List Cell) → 0 < M.was memory.old row + gained row changes.items → IsWhole (M.key_columns memory.old) row }
+    requires bounded { All IsBounded changes.items }
+    requires counts { AreBounded (M.was memory.old) }
+    ensures delta { IfOk result (λ made. IsDelta (M.was memory.old) (M.staged memory.new) made.items) }
+    ensures staged { OnOk result ((row : List Cell) → M.staged memory.new row + lost row changes.items ≡ M.was memory.old row + gained row changes.items) }
+    ensures shifts { IfOk result (λ made. All IsBounded made.items) }
+    ensures counts { OnOk result (AreBounded (M.staged memory.new)) }
+    ensures was { M.was memory.new ≡ M.was memory.old }
+    ensures columns { M.key_columns memory.new ≡ M.key_columns memory.old }
+    ensures too_many { IfErr result (λ fault. fault ≡ TooManyRows → (row : List Cell) × (greatest_count + lost row changes.items < M.was memory.old row + gained row changes.items)) }
+    ensures steps { M.EXACT ≡ true → M.step_count memory.new ≤ M.step_count memory.old + 2 * length changes.items }
+    ensures grows { M.step_count memory.old ≤ M.step_count memory.new }
+    ensures nothing { IfErr result (λ _. 0 < length changes.items) }
+{
+    if changes.is_empty() {
+        return Ok(changes);
+    }
+    stage_losses(alloc, memory, &changes)?;
+    stage_gains(alloc, memory, &changes)?;
+    let made = shifts_of_changes(alloc, memory, changes);
+    made.map_err(|_| MemoryFault::NoMemory)
+}
+
+// What changes of the rows of some changes.
+fn shifts_of_changes<M: Memory>(
+    alloc: Global,
+    memory: &mut M,
+    changes: Vec<Shift>,
+) -> Result<Vec<Shift>, MemoryFault>
+    requires whole { (row : List Cell) → 0 < M.was memory.old row + M.staged memory.old row → IsWhole (M.key_columns memory.old) row }
+    ensures made { IfOk result (λ made. AreShiftsOf (M.was memory.old) (M.staged memory.old) changes.items made.items) }
+    ensures read { IsRead M.key_columns M.was M.staged M.step_count memory.old memory.new }
+    ensures steps { M.EXACT ≡ true → M.step_count memory.new ≤ M.step_count memory.old + 2 * length changes.items }
+{
+    if changes.len() == 1 {
+        return shift_of_change(alloc, memory, changes);
+    }
+    if changes.len() <= FEW_CHANGES {
+        let rows = few_distinct_rows(alloc, changes)?;
+        return shifts_of(alloc, memory, rows.as_slice());
+    }
+    let rows = distinct_rows(alloc, changes)?;
+    shifts_of(alloc, memory, rows.as_slice())
+}
+
+// What changes of the row of a single change.
+fn shift_of_change<M: Memory>(
+    alloc: Global,
+    memory: &mut M,
+    mut changes: Vec<Shift>,
+) -> Result<Vec<Shift>, MemoryFault>
+    requires single { length changes.items ≡ 1 }
+    requires whole { (row : List Cell) → 0 < M.was memory.old row + M.staged memory.old row → IsWhole (M.key_columns memory.old) row }
+    ensures made { IfOk result (λ made. AreShiftsOf (M.was memory.old) (M.staged memory.old) changes.items made.items) }
+    ensures read { IsRead M.key_columns M.was M.staged M.step_count memory.old memory.new }
+    ensures steps { M.EXACT ≡ true → M.step_count memory.new ≤ M.step_count memory.old + 2 }
+{
+    let Some(change) = changes.pop() else {
+        return Ok(changes);
+    };
+    add_change(alloc, memory, &change.row, &mut changes)?;
+    Ok(changes)
+}
+
+// What changes of some rows.
+fn shifts_of<M: Memory>(
+    alloc: Global,
+    memory: &mut M,
+    rows: &[Row],
+) -> Result<Vec<Shift>, MemoryFault>
+    requires whole { (row : List Cell) → 0 < M.was memory.old row + M.staged memory.old row → IsWhole (M.key_columns memory.old) row }
+    ensures made { IfOk result (λ made. made.items ≡ shifts_at (M.was memory.old) (M.staged memory.old) rows.now) }
+    ensures read { IsRead M.key_columns M.was M.staged M.step_count memory.old memory.new }
+    ensures steps { M.EXACT ≡ true → M.step_count memory.new ≤ M.step_count memory.old + 2 * length rows.now }
+{
+    let mut made = Vec::new(alloc);
+    for row in rows {
+        add_change(alloc, memory, row, &mut made)?;
+    }
+    Ok(made)
+}
+
+// Adds what changes of a row.
+fn add_change<M: Memory>(
+    alloc: Global,
+    memory: &mut M,
+    row: &Row,
+    made: &mut Vec<Shift>,
+) -> Result<(), MemoryFault>
+    requires whole { (other : List Cell) → 0 < M.was memory.old other + M.staged memory.old other → IsWhole (M.key_columns memory.old) other }
+    ensures made { OnOk result (made.new.items ≡ made.old.items ++ shift_between row.now (M.was memory.old row.now) (M.staged memory.old row.now)) }
+    ensures read { IsRead M.key_columns M.was M.staged M.step_count memory.old memory.new }
+    ensures steps { M.EXACT ≡ true → M.step_count memory.new ≤ M.step_count memory.old + 2 }
+{
+    let mut cursor = memory.look(alloc, row)?;
+    let found = memory.take(alloc, &mut cursor)?;
+    add_found(made, found)?;
+    Ok(())
+}
+
+// Adds what changes of the row of a record, if there is one. Fails only when out of memory.
+fn add_found(made: &mut Vec<Shift>, found: Option<Record>) -> Result<(), Fault>
+    ensures { OnOk result (made.new.items ≡ made.old.items ++ shift_in found) }
+{
+    match found {
+        Some(record) => add_shift(made, record.row, record.before, record.after),
+        None => Ok(()),
+    }
+}

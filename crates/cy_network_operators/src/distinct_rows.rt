@@ -1,0 +1,30 @@
+//! How a change goes through `Distinct`.
+
+ghost use Rattle.std.specs.Prelude.{List, IfOk};
+ghost use Rattle.std.specs.List.{All};
+ghost use Rattle.cy_values.specs.declared.rows.Cell.{Cell};
+ghost use Rattle.cy_planner_algebra.specs.Meaning.{each_once};
+ghost use Rattle.cy_network_operators.specs.Deltas.{IsBounded, IsDelta, counts};
+
+use crate::shifts::{Shift, add_shift};
+use cy_values::Fault;
+use std::alloc::Global;
+
+/// What changes of the rows, each once, where the rows change: a row comes with its first and goes with its last. Fails only when
+/// out of memory.
+pub fn distinct(alloc: Global, shifts: Vec<Shift>) -> Result<Vec<Shift>, Fault>
+    ensures once { IfOk result (λ changed. (before after : List (List Cell)) → IsDelta (counts before) (counts after) shifts.items
+        → IsDelta (counts (each_once before)) (counts (each_once after)) changed.items) }
+    ensures bounded { IfOk result (λ changed. All IsBounded changed.items) }
+{
+    let mut changed = Vec::new(alloc);
+    for shift in shifts {
+        add_shift(
+            &mut changed,
+            shift.row,
+            shift.before.min(1),
+            shift.after.min(1),
+        )?;
+    }
+    Ok(changed)
+}

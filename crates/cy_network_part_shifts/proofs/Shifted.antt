@@ -1,0 +1,69 @@
+-- What holds of the rows of a part, before a change and after it, holds of its shifts.
+use Rattle.std.proofs.Common.{◌≡◌, ℕ, ◌+◌, ◌<◌, Bool, true, false, cond, List, [], ◌∷◌, Option, Some, None, IfSome, length, refl, sym, ap, subst, ◌∙◌, zero, suc, arith}
+use Rattle.std.specs.List.{All}
+use Rattle.std.proofs.lemmas.List.Elements.{All-head, All-nil, All-tail, All-weaker}
+use Rattle.cy_values.specs.declared.rows.Cell.{Cell}
+use Rattle.cy_values.specs.Bag.{count_of}
+use Rattle.cy_graph.specs.Graph.{IsGraph, State}
+use Rattle.cy_expr.specs.Lookups.{IsNumbered}
+use Rattle.cy_network_memory.specs.Counts.{Counts, is_row}
+use Rattle.cy_planner_algebra.specs.Plans.{Plan}
+use Rattle.cy_planner_algebra.proofs.Counts.{count_cons}
+use Rattle.cy_planner_algebra.proofs.Numbers.{numbered_rows}
+use Rattle.cy_network_operators.specs.declared.shifts.Shift.{Shift}
+use Rattle.cy_network_operators.specs.Costs.{changed_rows}
+use Rattle.cy_network_operators.specs.Deltas.{IsDelta, counts, counts_after, rows_at}
+use Rattle.cy_network_operators.proofs.Same.{same_row}
+use Rattle.cy_network_operators.proofs.ShiftLemmas.{shift_there}
+use Rattle.cy_network_operators.proofs.Staging.{after_delta}
+use Rattle.cy_network_operators.proofs.StepLemmas.{shift_number}
+use Rattle.cy_network_touches.specs.Changes.{IsChange, Touches}
+use Rattle.cy_network_parts.specs.Upkeep.{IsDeltaOf, content_of, state_of}
+use Rattle.cy_network_parts.proofs.Steps.{old_graph}
+
+-- what holds of all rows holds of each that counts
+of_counted : (P : List Cell → Type 0) (rows : List (List Cell)) → All P rows → (row : List Cell) → 0 < count_of row rows → P row
+of_counted P [] all row some = absurd (omega (arith, some))
+of_counted P (x ∷ xs) all row some = step (is_row row x) refl (of_counted P xs (All-tail P x xs all) row)
+  where
+    step : (b : Bool) → is_row row x ≡ b → (0 < count_of row xs → P row) → P row
+    step true is rest = subst P (sym (same_row row x is)) (All-head P x xs all)
+    step false is rest =
+        rest (subst (λ n. 0 < n) (count_cons row x xs ∙ ap (λ b. cond b 1 0 + count_of row xs) is ∙ (let e : 0 + count_of row xs ≡ count_of row xs = omega arith in e)) some)
+
+either : (m n : ℕ) → 0 < m + n → (P : Type 0) → (0 < m → P) → (0 < n → P) → P
+either zero n some P first second = second (omega (arith, some))
+either (suc m) n some P first second = first (omega arith)
+
+pub of_shifts : (P : List Cell → Type 0) (before after : List (List Cell)) (shifts : List Shift) → IsDelta (counts before) (counts after) shifts → All P before → All P after
+    → All (λ s. P s.row) shifts
+of_shifts P before after shifts delta first second =
+    All-weaker (λ (s : Shift). 0 < count_of s.row before + count_of s.row after) (λ (s : Shift). P s.row)
+    (λ s some. either (count_of s.row before) (count_of s.row after) some (P s.row) (of_counted P before first s.row) (of_counted P after second s.row))
+    shifts (shift_there (counts before) (counts after) shifts delta)
+
+-- where a memory counts the rows before, the shifts lead from what it counts to the rows after
+pub after_is : (was : Counts) (before after : List (List Cell)) (shifts : List Shift) → was ≡ counts before → IsDelta (counts before) (counts after) shifts → counts_after shifts was ≡ counts after
+after_is was before after shifts is delta = ap (counts_after shifts) is ∙ (λ i row. after_delta (counts before) (counts after) shifts delta row i)
+
+pub held_delta : (was : Counts) (before after : List (List Cell)) (shifts : List Shift) → was ≡ counts before → IsDelta (counts before) (counts after) shifts
+    → IsDelta was (counts_after shifts was) shifts
+held_delta was before after shifts is delta =
+    subst (λ w. IsDelta w (counts_after shifts was) shifts) (sym is)
+    (subst (λ a. IsDelta (counts before) a shifts) (sym (after_is was before after shifts is delta)) delta)
+
+-- what names entities in the rows of a part has numbers
+numbered_at : (old : Option State) → IfSome old IsGraph → (p : Plan) → All (λ row. All IsNumbered row) (rows_at (content_of old) p)
+numbered_at None is p = All-nil (λ row. All IsNumbered row)
+numbered_at (Some s) is p = numbered_rows s is p
+
+pub shift_numbers : (old : Option State) (now : State) (touches : Touches) (p : Plan) (shifts : List Shift) → IsChange (state_of old) now touches → IsDeltaOf old now p shifts
+    → All (λ s. All IsNumbered s.row) shifts
+shift_numbers old now touches p shifts change part =
+    of_shifts (λ row. All IsNumbered row) (rows_at (content_of old) p) (rows_at (Some now.content) p) shifts part.delta
+    (numbered_at old (old_graph old now touches change) p) (numbered_at (Some now) change.graph_now p)
+
+-- there are as many shifts as rows that change
+pub shifts_long : (old : Option State) (now : State) (p : Plan) (shifts : List Shift) → IsDeltaOf old now p shifts
+    → length shifts ≡ changed_rows (rows_at (content_of old) p) (rows_at (Some now.content) p)
+shifts_long old now p shifts part = shift_number (rows_at (content_of old) p) (rows_at (Some now.content) p) shifts part.delta

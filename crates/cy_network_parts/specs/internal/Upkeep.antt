@@ -1,0 +1,59 @@
+-- How a change of a graph goes through the parts of a plan, down to a part and up again.
+use Rattle.std.specs.Prelude.{◌≡◌, ℕ, ◌+◌, ◌≤◌, Bool, false, List, ◌++◌, Option, Some, is_none, length}
+use Rattle.std.specs.List.{All}
+use Rattle.cy_values.specs.declared.rows.Cell.{Cell}
+use Rattle.cy_bags.specs.declared.changes.Change.{Change}
+use Rattle.cy_bags.specs.Difference.{IsDifference}
+use Rattle.cy_graph.specs.Graph.{Content, State}
+use Rattle.cy_network_memory.specs.Counts.{Counts}
+use Rattle.cy_planner_algebra.specs.Plans.{Plan}
+use Rattle.cy_planner_algebra.specs.Meaning.{rows_of}
+use Rattle.cy_network_operators.specs.declared.shifts.Shift.{Shift}
+use Rattle.cy_network_operators.specs.Deltas.{counts, rows_at}
+use Rattle.cy_network_touches.specs.Changes.{IsChange, Touches}
+use Rattle.cy_network_cost.specs.Work.{all_reads, all_steps, asked_reads}
+use Rattle.cy_network_parts.specs.Memories.{AreHeld, AreWithin, contents, is_scan, keys, own_contents}
+use Rattle.cy_network_parts.specs.Parts.{chain}
+use Rattle.cy_network_parts.specs.internal.Parts.{own_of_all}
+use Rattle.cy_network_parts.specs.Counted.{written}
+use Rattle.cy_network_parts.specs.Upkeep.{content_of, IsStep, IsDeltaOf}
+
+-- a part of a plan over a change, and its memories and those of the parts below it hold what these mean on the first graph
+pub record IsBegun (from_nothing : Bool) (old : Option State) (now : State) (touches : Touches) (p : Plan) (columns : List (List ℕ)) (was staged : List Counts) : Type 0 where
+  pub first : from_nothing ≡ is_none old
+  pub step : IsStep old now touches p
+  pub held : AreHeld (content_of old) p columns was staged
+
+-- what it gives: what changes of the rows of the part, and all these memories staged for the second graph
+pub record IsDone (old : Option State) (now : State) (p : Plan) (staged : List Counts) (shifts : List Shift) : Type 0 where
+  pub change : IsDeltaOf old now p shifts
+  pub holds : staged ≡ contents (rows_at (Some now.content)) p
+  pub within : AreWithin (Some now.content) p
+
+-- A change that went through a part in the chain of a plan and not yet through the parts above that one: their memories hold what they mean on the
+-- first graph, and those of the part and of the parts below it, this many, are staged for the second.
+pub record IsPartway (old : Option State) (now : State) (touches : Touches) (p : Plan) (above : List Plan) (q : Plan) (place : ℕ) (columns : List (List ℕ)) (was staged : List Counts) (shifts : List Shift) : Type 0 where
+  pub step : IsStep old now touches p
+  pub linked : chain p ≡ above ++ chain q
+  pub unscanned : All (λ r. is_scan r ≡ false) above
+  pub placed : place ≡ length (keys q)
+  pub keyed : columns ≡ keys p
+  pub held : was ≡ contents (rows_at (content_of old)) p
+  pub within : AreWithin (content_of old) p
+  pub change : IsDeltaOf old now q shifts
+  pub halfway : staged ≡ contents (rows_at (Some now.content)) q ++ own_of_all (own_contents (rows_at (content_of old))) above
+  pub within_now : AreWithin (Some now.content) q
+
+-- what is staged for a plan, where the graph changes: its memories, the counts of those of its rows that change, and what changes
+pub record IsStaged (before after : Content) (p : Plan) (columns : List (List ℕ)) (staged : List Counts) (next : List (List Cell × ℕ)) (change : Change) : Type 0 where
+  pub held : AreHeld (Some after) p columns staged staged
+  pub leaves : written next (counts (rows_of before p)) ≡ counts (rows_of after p)
+  pub difference : IsDifference (rows_of before p) (rows_of after p) change
+
+-- The steps of the memories and the reads of the graph, as they were and as they are once a plan's rows were kept up over a change, are within what
+-- its parts may do, and what is read to tell whether the change concerns it.
+pub record IsUpkeep (before now : State) (p : Plan) (taken taken_now read read_now : ℕ) : Type 0 where
+  pub touches : Touches
+  pub change : IsChange before now touches
+  pub steps : taken_now ≤ taken + all_steps (rows_of before.content) (rows_of now.content) touches p
+  pub reads : read_now ≤ read + (asked_reads touches p + all_reads (rows_of before.content) (rows_of now.content) touches p)

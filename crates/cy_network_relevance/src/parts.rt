@@ -1,0 +1,142 @@
+//! What becomes of the rows of a plan's parts where one entity has another value.
+
+ghost use Rattle.std.specs.Prelude.{◌≡◌, Some, map, true};
+ghost use Rattle.cy_trees.specs.Views.{expression_of};
+ghost use Rattle.cy_planner_algebra.specs.declared.operators.Attribute.TheVariants.{Labels};
+ghost use Rattle.cy_planner_algebra.specs.declared.operators.Orientation.{Orientation};
+ghost use Rattle.cy_planner_algebra.specs.Plans as plan;
+ghost use Rattle.cy_planner_algebra.specs.Views.{output_of, plan_of};
+ghost use Rattle.cy_network_sources.specs.Scans as scans;
+ghost use Rattle.cy_network_relevance.specs.internal.Kept.{IsAbsent, IsUnchanged, KeepsRows};
+
+use crate::entities::{
+    Entity, has_same, keeps_node, keeps_rel, lacks_label, makes_no_node, makes_no_rel,
+};
+use crate::reads::{is_labels, reads_the_same};
+use cy_network_apart::column_alone;
+use cy_network_sources::label_in;
+use cy_planner_algebra::{Operator, Output};
+use cy_trees::Expr;
+use cy_values::Text;
+
+/// Whether the rows of a part, and of the parts below it that a scan doesn't take together, are the same before and after, as far as
+/// they come from the entity. Where it says no, they may be so too. Of one that is there before and after it is asked first whether what they
+/// read of it is the same, which takes less.
+pub(crate) fn is_unchanged(part: &Operator, entity: &Entity<'_>) -> bool
+    ensures { result ≡ true → IsUnchanged entity.now (plan_of part.now) }
+{
+    reads_the_same(part, entity) || is_kept(part, entity, false)
+}
+
+// Whether the rows are the same, by what the parts make of the entity. Whether the scan below makes nothing of it is asked at the uppermost of the look-ups that
+// stand over one another, and not once more at those below it: so each part is gone through twice at most.
+fn is_kept(part: &Operator, entity: &Entity<'_>, asked: bool) -> bool
+    ensures { result ≡ true → IsUnchanged entity.now (plan_of part.now) }
+{
+    match part {
+        Operator::Unit => true,
+        Operator::Nodes => keeps_node(*entity),
+        Operator::Rels(types, _) => makes_the_same(types, entity),
+        Operator::Lookup(below, column, attribute) => {
+            if *column == 0 && !asked && makes_nothing(below, entity) {
+                return true;
+            }
+            has_same(*entity, attribute) && is_kept(below, entity, asked || *column == 0)
+        }
+        Operator::Filter(below, test) => {
+            is_left_out(below, test, *entity) || is_kept(below, entity, asked)
+        }
+        Operator::AllDifferent(below, _) => is_kept(below, entity, false),
+        Operator::Project(below, outputs) => {
+            is_kept(below, entity, asked && keeps_first(outputs))
+        }
+        Operator::Distinct(below) => is_kept(below, entity, false),
+        Operator::Join(left, right, _)
+        | Operator::Outer(left, right, _, _)
+        | Operator::Semi(left, right, _, _) => {
+            is_kept(left, entity, false) && is_kept(right, entity, false)
+        }
+        Operator::Union(left, right) => {
+            is_kept(left, entity, false) && is_kept(right, entity, false)
+        }
+    }
+}
+
+// Whether an entity makes the same relationships of some types before and after.
+fn makes_the_same(types: &[Text], entity: &Entity<'_>) -> bool
+    ensures { result ≡ true → (orientation : Orientation) → KeepsRows entity.now (plan.rels types.now orientation) }
+{
+    keeps_rel(*entity) || makes_no_rel(*entity, types)
+}
+
+// Whether a part is a scan that names its entities in the first column, and makes no row of this one, neither before nor after.
+fn makes_nothing(part: &Operator, entity: &Entity<'_>) -> bool
+    ensures { result ≡ true → IsAbsent entity.now (plan_of part.now) }
+{
+    match part {
+        Operator::Nodes => makes_no_node(*entity),
+        Operator::Rels(types, _) => makes_no_rel(*entity, types),
+        Operator::Lookup(below, column, _) => *column == 0 && makes_nothing(below, entity),
+        Operator::Filter(below, test) => {
+            is_left_out(below, test, *entity) || makes_nothing(below, entity)
+        }
+        Operator::Project(below, outputs) => keeps_first(outputs) && makes_nothing(below, entity),
+        Operator::Unit
+        | Operator::Join(_, _, _)
+        | Operator::Outer(_, _, _, _)
+        | Operator::Semi(_, _, _, _)
+        | Operator::AllDifferent(_, _)
+        | Operator::Distinct(_)
+        | Operator::Union(_, _) => false,
+    }
+}
+
+// Whether the first column that a projection makes is the first one below it.
+fn keeps_first(outputs: &[Output]) -> bool
+    ensures { result ≡ true → scans.kept_at 0 (map output_of outputs.now) ≡ Some 0 }
+{
+    match outputs.first() {
+        Some(output) => is_first(output),
+        None => false,
+    }
+}
+
+// Whether a column that a projection makes is the first one below it.
+fn is_first(output: &Output) -> bool
+    ensures { result ≡ true → scans.is_column 0 (output_of output.now) ≡ true }
+{
+    match column_alone(output) {
+        Some(column) => column == 0,
+        None => false,
+    }
+}
+
+// Whether a filter over a part tests all nodes for a label that the entity lacks.
+fn is_left_out(below: &Operator, test: &Expr, entity: Entity<'_>) -> bool
+    ensures unchanged { result ≡ true → IsUnchanged entity.entry (plan.filter (plan_of below.now) (expression_of test.now)) }
+    ensures absent { result ≡ true → IsAbsent entity.entry (plan.filter (plan_of below.now) (expression_of test.now)) }
+{
+    match label_in(test) {
+        Some(label) => looks_labels_up(below) && lacks_label(entity, label),
+        None => false,
+    }
+}
+
+// Whether a part looks up the labels of all nodes.
+fn looks_labels_up(part: &Operator) -> bool
+    ensures { result ≡ true → plan_of part.now ≡ plan.lookup plan.nodes 0 Labels }
+{
+    match part {
+        Operator::Lookup(below, column, attribute) => {
+            *column == 0 && is_labels(attribute) && is_nodes(below)
+        }
+        _ => false,
+    }
+}
+
+// Whether a part gives the nodes.
+fn is_nodes(part: &Operator) -> bool
+    ensures { result ≡ true → plan_of part.now ≡ plan.nodes }
+{
+    matches!(part, Operator::Nodes)
+}

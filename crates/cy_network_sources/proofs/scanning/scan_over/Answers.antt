@@ -1,0 +1,41 @@
+use Rattle.std.proofs.Common.{◌≡◌, map, ap, sym, ◌∙◌}
+use Rattle.cy_planner_algebra.specs.declared.operators.Operator.TheFolds.{fold-roll-Operator}
+use Rattle.cy_planner_algebra.specs.declared.operators.Operator.TheOpen.{Operator-F}
+use Rattle.cy_planner_algebra.specs.declared.operators.Operator.TheVariants.{rolls-Nodes, rolls-Rels}
+use Rattle.cy_planner_algebra.specs.Plans as plan
+use Rattle.cy_planner_algebra.specs.Plans.{Plan}
+use Rattle.cy_planner_algebra.specs.Views.{plan_of, plan_step}
+use Rattle.cy_network_sources.proofs.ThroughScans.{if_ok_then, nodes_delta, nodes_fit, rels_delta, rels_fit}
+use Rattle.cy_network_sources.proofs.scanning.scan_over.Goals as goal
+
+pub scan_nodes-requires : goal.scan_nodes-requires
+scan_nodes-requires c =
+    let is : plan_of c.args.leaf.now ≡ plan.nodes = ap plan_of (c.in-Nodes.is ∙ sym rolls-Nodes) ∙ fold-roll-Operator Plan plan_step Operator-F.Nodes in
+    let ps = map (λ part. plan_of part.now) c.args.parts.now in
+    record { fit = nodes_fit c.requires.scan.0 c.args.sight.now.graph.now c.args.change.now ps (plan_of c.args.leaf.now) c.requires.scan.1.0 c.requires.scan.1.1 is }
+
+pub returns-in-Nodes-clause-delta : goal.returns-in-Nodes-clause-delta
+returns-in-Nodes-clause-delta c =
+    let is : plan_of c.args.leaf.now ≡ plan.nodes = ap plan_of (c.in-Nodes.is ∙ sym rolls-Nodes) ∙ fold-roll-Operator Plan plan_step Operator-F.Nodes in
+    let ps = map (λ part. plan_of part.now) c.args.parts.now in
+    if_ok_then _ _ c.scan_nodes.result
+    (λ shifts made before p over. nodes_delta before c.args.sight.now.graph.now c.args.change.now ps (plan_of c.args.leaf.now) p over is shifts.items made)
+    c.scan_nodes.ensures.made
+
+pub scan_rels-requires : goal.scan_rels-requires
+scan_rels-requires c =
+    let is : plan_of c.args.leaf.now ≡ plan.rels c.deref.result.now c.in-Rels.orientation =
+    ap plan_of (c.in-Rels.is ∙ sym (rolls-Rels c.in-Rels.types c.in-Rels.orientation)) ∙ fold-roll-Operator Plan plan_step _
+    ∙ ap (λ types. plan.rels types c.in-Rels.orientation) (sym c.deref.ensures.value) in
+    let ps = map (λ part. plan_of part.now) c.args.parts.now in
+    record { fit = rels_fit c.requires.scan.0 c.args.sight.now.graph.now c.args.change.now ps (plan_of c.args.leaf.now) c.requires.scan.1.0 c.requires.scan.1.1 c.deref.result.now c.in-Rels.orientation is }
+
+pub returns-in-Rels-clause-delta : goal.returns-in-Rels-clause-delta
+returns-in-Rels-clause-delta c =
+    let is : plan_of c.args.leaf.now ≡ plan.rels c.deref.result.now c.in-Rels.orientation =
+    ap plan_of (c.in-Rels.is ∙ sym (rolls-Rels c.in-Rels.types c.in-Rels.orientation)) ∙ fold-roll-Operator Plan plan_step _
+    ∙ ap (λ types. plan.rels types c.in-Rels.orientation) (sym c.deref.ensures.value) in
+    let ps = map (λ part. plan_of part.now) c.args.parts.now in
+    if_ok_then _ _ c.scan_rels.result
+    (λ shifts made before p over. rels_delta before c.args.sight.now.graph.now c.args.change.now ps (plan_of c.args.leaf.now) p over c.deref.result.now c.in-Rels.orientation is shifts.items made)
+    c.scan_rels.ensures.made

@@ -1,0 +1,11 @@
+use Rattle.std.proofs.Common.{sym, ap, ◌∙◌}
+use Rattle.cy_values.specs.declared.numbers.RelId.{RelId}
+use Rattle.cy_network_touches.specs.Changes.{image_at}
+use Rattle.cy_network_touches.specs.internal.Images.{come}
+use Rattle.cy_network_touches.proofs.changes.rels_of.Goals as goal
+
+pub loop-id-preserved : goal.loop-id-preserved
+loop-id-preserved c = λ number.
+    ap (come (λ (k : RelId). k.0) number c.next.new.self) (c.in_ok-insert.ensures.updates.0 number)
+    ∙ ap (λ es. come (λ (k : RelId). k.0) number es (image_at number c.loop-id.rels.entries)) (sym c.in-Some.ensures.steps)
+    ∙ c.loop-id.invariant number

@@ -1,0 +1,19 @@
+use Rattle.std.proofs.Common.{map, sym, ◌≡◌, ◌∙◌, true, false}
+use Rattle.std.proofs.lemmas.Bool.{false≢true}
+use Rattle.cy_trees.specs.Views.{clause_of}
+use Rattle.cy_oneshot_unwinding.specs.Carried.{updates_ahead}
+use Rattle.cy_oneshot_unwinding.proofs.Marked.{only_ahead, still_enough}
+use Rattle.cy_oneshot_unwinding.proofs.needed.needed_by.Goals as goal
+
+pub returns-then-not-updates_ahead-clause-alike : goal.returns-then-not-updates_ahead-clause-alike
+returns-then-not-updates_ahead-clause-alike c = λ ahead. absurd (false≢true (let none : c.updates_ahead.result ≡ false = cc in sym none ∙ c.updates_ahead.ensures ∙ ahead))
+
+pub returns-then-not-updates_ahead-clause-enough : goal.returns-then-not-updates_ahead-clause-enough
+returns-then-not-updates_ahead-clause-enough c =
+    only_ahead (updates_ahead (map clause_of c.args.clauses.now)) c.in_ok-needed.needed.items (map clause_of c.args.clauses.now)
+    (λ ahead. ahead) c.in_ok-needed.ensures.enough
+
+pub returns-clause-enough : goal.returns-clause-enough
+returns-clause-enough c =
+    only_ahead (updates_ahead (map clause_of c.args.clauses.now)) c.mark_differences.new.needed.items (map clause_of c.args.clauses.now) (λ ahead. ahead)
+    (still_enough c.in_ok-needed.needed.items c.mark_differences.new.needed.items c.mark_differences.ensures.still true (map clause_of c.args.clauses.now) c.in_ok-needed.ensures.enough)

@@ -1,0 +1,74 @@
+//! The predicate of an outer join, taken apart: what it asks of the right rows alone is put on the right part.
+
+ghost use Rattle.std.specs.Prelude.{◌≡◌, ◌+◌, IfOk, option_map};
+ghost use Rattle.cy_trees.specs.Views.{expression_of};
+ghost use Rattle.cy_planner_algebra.specs.Views.{plan_of};
+ghost use Rattle.cy_planner_outer_filters.specs.internal.Splits as spec;
+
+use cy_planner_algebra::Plan;
+use cy_planner_pushdown::keep_after;
+use cy_trees::{BinaryOperator, Expr};
+use cy_values::Fault;
+use std::alloc::Global;
+
+/// The right part of an outer join, and what is left of the predicate.
+#[derive(Drop)]
+pub(crate) struct Split {
+    pub(crate) right: Plan,
+    pub(crate) rest: Option<Expr>,
+}
+
+/// Both conditions, or the one that there is.
+fn both(alloc: Global, first: Option<Expr>, second: Option<Expr>) -> Result<Option<Expr>, Fault>
+    ensures { IfOk result (λ e. option_map expression_of e ≡ spec.both (option_map expression_of first) (option_map expression_of second)) }
+{
+    match (first, second) {
+        (Some(first), Some(second)) => {
+            let first = Box::new(alloc, first)?;
+            Ok(Some(Expr::Binary(BinaryOperator::And, first, Box::new(alloc, second)?)))
+        }
+        (Some(first), None) => Ok(Some(first)),
+        (None, second) => Ok(second),
+    }
+}
+
+/// A condition that is no AND.
+fn split_one(alloc: Global, before: usize, right: Plan, test: Expr) -> Result<Split, Fault>
+    ensures { IfOk result (λ s. spec.IsSplit before (plan_of right) (expression_of test) (plan_of s.right) (option_map expression_of s.rest)) }
+{
+    let kept = keep_after(alloc, before, right, &test)?;
+    if kept.is_kept {
+        Ok(Split {
+            right: kept.plan,
+            rest: None,
+        })
+    } else {
+        Ok(Split {
+            right: kept.plan,
+            rest: Some(test),
+        })
+    }
+}
+
+/// Each of the conditions that AND joins is put on the right part, if it reads that alone and has a truth whatever stands there. Fails only
+/// when out of memory.
+pub(crate) fn taken_apart(
+    alloc: Global,
+    before: usize,
+    right: Plan,
+    test: Expr,
+) -> Result<Split, Fault>
+    ensures { IfOk result (λ s. spec.IsSplit before (plan_of right) (expression_of test) (plan_of s.right) (option_map expression_of s.rest)) }
+{
+    match test {
+        Expr::Binary(BinaryOperator::And, first, second) => {
+            let one = taken_apart(alloc, before, right, Box::into_inner(first))?;
+            let two = taken_apart(alloc, before, one.right, Box::into_inner(second))?;
+            Ok(Split {
+                right: two.right,
+                rest: both(alloc, one.rest, two.rest)?,
+            })
+        }
+        test => split_one(alloc, before, right, test),
+    }
+}

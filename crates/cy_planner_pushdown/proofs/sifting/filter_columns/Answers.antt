@@ -1,0 +1,89 @@
+use Rattle.std.proofs.Common.{◌≡◌, ℕ, ◌+◌, ◌<◌, ◌≤◌, List, [], length, sym, ap, subst, ◌∙◌, arith, rules}
+use Rattle.std.specs.List.{All}
+use Rattle.std.proofs.lemmas.Grind.{common_steps}
+use Rattle.cy_trees.specs.Trees.{Expression}
+use Rattle.cy_trees.specs.Views.{expression_of}
+use Rattle.cy_planner_algebra.specs.Plans as plan
+use Rattle.cy_planner_algebra.specs.Plans.{Plan, width}
+use Rattle.cy_planner_algebra.specs.Views.{plan_of}
+use Rattle.cy_planner_algebra.specs.WellFormed.{IsOver, greatest_width}
+use Rattle.cy_planner_lowering.specs.declared.places.Wanted.{Wanted}
+use Rattle.cy_planner_lowering.specs.Lowered.{lowered}
+use Rattle.cy_planner_lowering.specs.Places.{place}
+use Rattle.cy_planner_renumbering.specs.Renumbered.{renumbered}
+use Rattle.cy_planner_rows.specs.internal.Asked.{asked, with_tree}
+use Rattle.cy_planner_rows.specs.internal.Lookups.{narrowed, over}
+use Rattle.cy_planner_rows.specs.Rows.{IsReadOver}
+use Rattle.cy_planner_rows.proofs.AskedLists.{tree_is}
+use Rattle.cy_planner_rows.proofs.Filtered.{if_ok_map, lowered_over, wanted_inside, wanted_of, well_kept}
+use Rattle.cy_planner_rows.proofs.Lists.{all_of_each}
+use Rattle.cy_planner_rows.proofs.OverRows.{IsInside, width_over}
+use Rattle.cy_planner_rows.proofs.Placed.{asked_among}
+use Rattle.cy_planner_pushdown.specs.internal.Pushed.{IsPushed}
+use Rattle.cy_planner_pushdown.proofs.SiftedRows.{sifted}
+use Rattle.cy_planner_pushdown.proofs.Spread.{read_over}
+use Rattle.cy_planner_pushdown.proofs.sifting.filter_columns.Goals as goal
+
+pub with_lookups-requires-clause-columns : goal.with_lookups-requires-clause-columns
+with_lookups-requires-clause-columns c =
+    let below : Plan = plan_of c.args.below in
+    let test : Expression = renumbered c.args.columns.now (expression_of c.args.test.now) in
+    let same : expression_of c.in_ok-condition.condition ≡ test = c.in_ok-condition.ensures in
+    let wants : c.as_slice.result.now ≡ with_tree [] (expression_of c.in_ok-condition.condition) = first_of (cc, grind (arith, common_steps)) in
+    let read : IsReadOver below test = read_over below c.args.columns.now (expression_of c.args.test.now) c.width-width.ensures.well_formed c.requires in
+    subst (λ (ws : List Wanted). All (λ w. w.column < width below) ws) (sym (wants ∙ ap (with_tree []) same ∙ tree_is [] test))
+    (all_of_each (IsInside (width below)) (wanted_of test) (wanted_inside below test read))
+
+pub filter-requires : goal.filter-requires
+filter-requires c =
+    let below : Plan = plan_of c.args.below in
+    let test : Expression = renumbered c.args.columns.now (expression_of c.args.test.now) in
+    let same : expression_of c.in_ok-condition.condition ≡ test = c.in_ok-condition.ensures in
+    let wants : c.add_asked.new.wanted ≡ with_tree [] (expression_of c.in_ok-condition.condition) = first_of (cc, grind (arith, common_steps)) in
+    let wants_again : c.as_slice.result.now ≡ with_tree [] (expression_of c.in_ok-condition.condition) = first_of (cc, grind (arith, common_steps)) in
+    let first : c.add_asked.new.wanted ≡ wanted_of test = wants ∙ ap (with_tree []) same ∙ tree_is [] test in
+    let second : c.as_slice.result.now ≡ wanted_of test = wants_again ∙ ap (with_tree []) same ∙ tree_is [] test in
+    let read : IsReadOver below test = read_over below c.args.columns.now (expression_of c.args.test.now) c.width-width.ensures.well_formed c.requires in
+    let wide : plan_of c.in_ok-wide.wide ≡ over below (wanted_of test) = c.in_ok-wide.ensures ∙ ap (over below) second in
+    let condition : expression_of c.in_ok-lowered.lowered ≡ lowered (place (width below) (wanted_of test)) test =
+    c.in_ok-lowered.ensures ∙ (λ i. lowered (place (c.width-width.ensures.width i) (first i)) (same i)) in
+    subst (λ (p : Plan). IsOver (width p) (expression_of c.in_ok-lowered.lowered)) (sym wide)
+    (subst (λ (e : Expression). IsOver (width (over below (wanted_of test))) e) (sym condition)
+    (lowered_over below (wanted_of test) test read (asked_among [] (asked test))))
+
+pub first_columns-requires : goal.first_columns-requires
+first_columns-requires c =
+    let below : Plan = plan_of c.args.below in
+    let kept : width (plan_of c.in_ok-kept.kept) ≡ width (plan_of c.in_ok-wide.wide) = ap width c.in_ok-kept.ensures in
+    let wide : width (plan_of c.in_ok-wide.wide) ≡ width (over below c.as_slice.result.now) = ap width c.in_ok-wide.ensures in
+    let more = width_over below c.as_slice.result.now in
+    let same = c.width-width.ensures.width in
+    omega (arith, kept, wide, more, same)
+
+pub returns : goal.returns
+returns c =
+    let below : Plan = plan_of c.args.below in
+    let columns : List ℕ = c.args.columns.now in
+    let tested : Expression = expression_of c.args.test.now in
+    let test : Expression = renumbered columns tested in
+    let same : expression_of c.in_ok-condition.condition ≡ test = c.in_ok-condition.ensures in
+    let wants : c.add_asked.new.wanted ≡ with_tree [] (expression_of c.in_ok-condition.condition) = first_of (cc, grind (arith, common_steps)) in
+    let wants_again : c.as_slice.result.now ≡ with_tree [] (expression_of c.in_ok-condition.condition) = first_of (cc, grind (arith, common_steps)) in
+    let first : c.add_asked.new.wanted ≡ wanted_of test = wants ∙ ap (with_tree []) same ∙ tree_is [] test in
+    let second : c.as_slice.result.now ≡ wanted_of test = wants_again ∙ ap (with_tree []) same ∙ tree_is [] test in
+    let well = c.width-width.ensures.well_formed in
+    let read : IsReadOver below test = read_over below columns tested well c.requires in
+    let room : c.width-width.result + length c.as_slice.result.now ≤ greatest_width = first_of (search rules, grind (arith, common_steps)) in
+    let here : width below + length (wanted_of test) ≤ greatest_width =
+    subst (λ (ws : List Wanted). width below + length ws ≤ greatest_width) second
+    (let wide = c.width-width.ensures.width in omega (arith, room, wide)) in
+    let wide : plan_of c.in_ok-wide.wide ≡ over below (wanted_of test) = c.in_ok-wide.ensures ∙ ap (over below) second in
+    let condition : expression_of c.in_ok-lowered.lowered ≡ lowered (place (width below) (wanted_of test)) test =
+    c.in_ok-lowered.ensures ∙ (λ i. lowered (place (c.width-width.ensures.width i) (first i)) (same i)) in
+    let kept : plan_of c.in_ok-kept.kept ≡ plan.filter (over below (wanted_of test)) (lowered (place (width below) (wanted_of test)) test) =
+    c.in_ok-kept.ensures ∙ (λ i. plan.filter (wide i) (condition i)) in
+    if_ok_map (λ p. plan_of p ≡ narrowed c.width-width.result (plan_of c.in_ok-kept.kept)) (λ p. IsPushed below columns tested (plan_of p))
+    (λ p is.
+    subst (λ (q : Plan). IsPushed below columns tested q) (sym (is ∙ (λ i. narrowed (c.width-width.ensures.width i) (kept i))))
+    (sifted below columns tested well c.requires here (well_kept below test well here read)))
+    c.first_columns.result c.first_columns.ensures

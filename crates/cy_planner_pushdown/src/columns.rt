@@ -1,0 +1,300 @@
+//! What stands in the columns of a plan, and in which columns of the parts below there stands the same.
+
+ghost use Rattle.std.specs.Prelude.{◌≡◌, IfOk, IfSome, Some, map, nat_lt, slice_get};
+ghost use Rattle.std.specs.List.{list_all};
+ghost use Rattle.cy_trees.specs.Views.{expression_of};
+ghost use Rattle.cy_planner_algebra.specs.Views.{output_of, plan_of};
+ghost use Rattle.cy_planner_algebra.specs.WellFormed.{IsWellFormed};
+ghost use Rattle.cy_planner_pushdown.specs.internal.Conditions as conditions;
+ghost use Rattle.cy_planner_pushdown.specs.internal.Pushed as spec;
+
+use cy_planner_algebra::{KeyColumns, Operator, Output};
+use cy_scope_kinds::Kind;
+use cy_trees::Expr;
+use cy_values::Fault;
+use std::alloc::Global;
+
+fn variable_column(expression: &Expr) -> Option<usize>
+    ensures { result ≡ spec.variable_column (expression_of expression.now) }
+{
+    match expression {
+        Expr::Variable(variable) => variable.column,
+        _ => None,
+    }
+}
+
+fn taken_over(output: &Output) -> Option<usize>
+    ensures { result ≡ spec.column_taken_over (Some (output_of output.now)) }
+{
+    match output {
+        Output::Cell(expression) => variable_column(expression),
+        Output::Rels(_) => None,
+    }
+}
+
+/// The column that a projection takes over.
+pub(crate) fn column_of(outputs: &[Output], column: usize) -> Option<usize>
+    ensures { result ≡ spec.column_taken_over (slice_get (map output_of outputs.now) column) }
+{
+    match outputs.get(column) {
+        Some(output) => taken_over(output),
+        None => None,
+    }
+}
+
+fn kind_computed(expression: &Expr) -> Option<Kind>
+    ensures { result ≡ spec.kind_computed (expression_of expression.now) }
+{
+    match expression {
+        Expr::Variable(_) => None,
+        _ => Some(Kind::Value),
+    }
+}
+
+fn made(output: &Output) -> Option<Kind>
+    ensures { result ≡ spec.kind_made (Some (output_of output.now)) }
+{
+    match output {
+        Output::Cell(expression) => kind_computed(expression),
+        Output::Rels(_) => Some(Kind::Relationships),
+    }
+}
+
+/// The kind of what a projection makes in a column.
+fn kind_made(outputs: &[Output], column: usize) -> Option<Kind>
+    ensures { result ≡ spec.kind_made (slice_get (map output_of outputs.now) column) }
+{
+    match outputs.get(column) {
+        Some(output) => made(output),
+        None => None,
+    }
+}
+
+fn common_kind(left: Option<Kind>, right: Option<Kind>) -> Option<Kind>
+    ensures { result ≡ spec.common_kind left right }
+{
+    match (left, right) {
+        (Some(Kind::Node), Some(Kind::Node)) => Some(Kind::Node),
+        (Some(Kind::Relationship), Some(Kind::Relationship)) => Some(Kind::Relationship),
+        _ => None,
+    }
+}
+
+#[tactic(auto, using(crate::proofs::ColumnKinds::rest_of_nodes))]
+fn kind_of_nodes(column: usize) -> Option<Kind>
+    ensures { result ≡ spec.kind_of_nodes column }
+{
+    match column {
+        0 => Some(Kind::Node),
+        _ => None,
+    }
+}
+
+#[tactic(auto, using(crate::proofs::ColumnKinds::rest_of_rels))]
+fn kind_of_rels(column: usize) -> Option<Kind>
+    ensures { result ≡ spec.kind_of_rels column }
+{
+    match column {
+        0 => Some(Kind::Relationship),
+        1 | 2 => Some(Kind::Node),
+        3 => Some(Kind::Value),
+        _ => None,
+    }
+}
+
+/// The kind of what stands in a column, as far as the plan's parts show it.
+pub(crate) fn kind_at(part: &Operator, column: usize) -> Option<Kind>
+    requires { IsWellFormed (plan_of part.now) }
+    ensures { result ≡ spec.kind_at (plan_of part.now) column }
+{
+    match part {
+        Operator::Unit => None,
+        Operator::Nodes => kind_of_nodes(column),
+        Operator::Rels(_, _) => kind_of_rels(column),
+        Operator::Join(left, right, _) | Operator::Outer(left, right, _, _) => {
+            let width = left.width();
+            if column < width {
+                kind_at(left, column)
+            } else {
+                kind_at(right, column - width)
+            }
+        }
+        Operator::Lookup(below, _, _) => {
+            let width = below.width();
+            if column < width {
+                kind_at(below, column)
+            } else if column == width {
+                Some(Kind::Value)
+            } else {
+                None
+            }
+        }
+        Operator::Filter(below, _) | Operator::AllDifferent(below, _) => kind_at(below, column),
+        Operator::Semi(left, _, _, _) => kind_at(left, column),
+        Operator::Distinct(below) => kind_at(below, column),
+        Operator::Project(below, outputs) => match column_of(outputs, column) {
+            Some(column) => kind_at(below, column),
+            None => kind_made(outputs, column),
+        },
+        Operator::Union(left, right) => common_kind(kind_at(left, column), kind_at(right, column)),
+    }
+}
+
+/// Whether a column is one of several.
+pub(crate) fn is_among(columns: &[usize], column: usize) -> bool
+    ensures { result ≡ conditions.is_among columns.now column }
+{
+    columns.iter().any(|other| *other == column)
+}
+
+/// Whether the columns are among the first ones.
+pub(crate) fn are_below(columns: &[usize], width: usize) -> bool
+    ensures { result ≡ list_all (λ c. nat_lt c width) columns.now }
+{
+    columns.iter().all(|column| *column < width)
+}
+
+/// The column of the left part that has the same key as one of the right part, if it shows the kind.
+fn left_key(
+    left: &Operator,
+    keys: &[KeyColumns],
+    column: usize,
+    kind: Option<Kind>,
+) -> Option<usize>
+    requires { IsWellFormed (plan_of left.now) }
+    ensures { IfSome result (λ other. spec.IsLeftKey (plan_of left.now) keys.now column kind other) }
+{
+    for key in keys {
+        if key.right == column && common_kind(kind_at(left, key.left), kind).is_some() {
+            return Some(key.left);
+        }
+    }
+    None
+}
+
+/// The column of the right part that has the same key as one of the left part, if it shows the kind.
+fn right_key(
+    right: &Operator,
+    keys: &[KeyColumns],
+    column: usize,
+    kind: Option<Kind>,
+) -> Option<usize>
+    requires { IsWellFormed (plan_of right.now) }
+    ensures { IfSome result (λ other. spec.IsRightKey (plan_of right.now) keys.now column kind other) }
+{
+    for key in keys {
+        if key.left == column && common_kind(kind_at(right, key.right), kind).is_some() {
+            return Some(key.right);
+        }
+    }
+    None
+}
+
+/// The column of the left part in which there stands what stands in a column of a join.
+fn column_on_left(
+    left: &Operator,
+    right: &Operator,
+    keys: &[KeyColumns],
+    column: usize,
+) -> Option<usize>
+    requires left { IsWellFormed (plan_of left.now) }
+    requires right { IsWellFormed (plan_of right.now) }
+    ensures { IfSome result (λ other. spec.IsOnLeft (plan_of left.now) (plan_of right.now) keys.now column other) }
+{
+    let width = left.width();
+    if column < width {
+        return Some(column);
+    }
+    let column = column - width;
+    left_key(left, keys, column, kind_at(right, column))
+}
+
+/// The column of the right part in which there stands what stands in a column of a join.
+fn column_on_right(
+    left: &Operator,
+    right: &Operator,
+    keys: &[KeyColumns],
+    column: usize,
+) -> Option<usize>
+    requires left { IsWellFormed (plan_of left.now) }
+    requires right { IsWellFormed (plan_of right.now) }
+    ensures { IfSome result (λ other. spec.IsOnRight (plan_of left.now) (plan_of right.now) keys.now column other) }
+{
+    let width = left.width();
+    if column >= width {
+        return Some(column - width);
+    }
+    right_key(right, keys, column, kind_at(left, column))
+}
+
+/// Columns of the left part in which there stands what stands in columns of a join, if there are such ones, and each once. Fails only
+/// when out of memory.
+pub(crate) fn columns_on_left(
+    alloc: Global,
+    left: &Operator,
+    right: &Operator,
+    keys: &[KeyColumns],
+    columns: &[usize],
+) -> Result<Option<Vec<usize>>, Fault>
+    requires left { IsWellFormed (plan_of left.now) }
+    requires right { IsWellFormed (plan_of right.now) }
+    ensures { IfOk result (λ made. IfSome made (λ others. spec.AreMoved (spec.IsOnLeft (plan_of left.now) (plan_of right.now) keys.now) columns.now others.items)) }
+{
+    let mut found = Vec::new(alloc);
+    for column in columns {
+        let Some(other) = column_on_left(left, right, keys, *column) else {
+            return Ok(None);
+        };
+        if is_among(found.as_slice(), other) {
+            return Ok(None);
+        }
+        found.push(other)?;
+    }
+    Ok(Some(found))
+}
+
+/// Columns of the right part in which there stands what stands in columns of a join, if there are such ones, and each once. Fails only when out of memory.
+pub(crate) fn columns_on_right(
+    alloc: Global,
+    left: &Operator,
+    right: &Operator,
+    keys: &[KeyColumns],
+    columns: &[usize],
+) -> Result<Option<Vec<usize>>, Fault>
+    requires left { IsWellFormed (plan_of left.now) }
+    requires right { IsWellFormed (plan_of right.now) }
+    ensures { IfOk result (λ made. IfSome made (λ others. spec.AreMoved (spec.IsOnRight (plan_of left.now) (plan_of right.now) keys.now) columns.now others.items)) }
+{
+    let mut found = Vec::new(alloc);
+    for column in columns {
+        let Some(other) = column_on_right(left, right, keys, *column) else {
+            return Ok(None);
+        };
+        if is_among(found.as_slice(), other) {
+            return Ok(None);
+        }
+        found.push(other)?;
+    }
+    Ok(Some(found))
+}
+
+/// The columns that a projection takes over, if it takes over all of them, and each once. Fails only when out of memory.
+pub(crate) fn columns_of(
+    alloc: Global,
+    outputs: &[Output],
+    columns: &[usize],
+) -> Result<Option<Vec<usize>>, Fault>
+    ensures { IfOk result (λ made. IfSome made (λ others. spec.AreMoved (spec.IsTakenOver (map output_of outputs.now)) columns.now others.items)) }
+{
+    let mut found = Vec::new(alloc);
+    for column in columns {
+        let Some(other) = column_of(outputs, *column) else {
+            return Ok(None);
+        };
+        if is_among(found.as_slice(), other) {
+            return Ok(None);
+        }
+        found.push(other)?;
+    }
+    Ok(Some(found))
+}

@@ -1,0 +1,5 @@
+use Rattle.cy_planner_rewriting.proofs.Splitting.{bare_outer_sides}
+use Rattle.cy_planner_rewriting.proofs.splits.bare_outer.Goals as goal
+
+pub returns-clause-is : goal.returns-clause-is
+returns-clause-is c = bare_outer_sides c.args.left c.args.right c.bare_side-left.result c.bare_side-right.result c.bare_side-left.ensures.part c.bare_side-right.ensures.part c.bare_side-left.ensures.lookups c.bare_side-right.ensures.lookups c.args.keys c.args.test c.requires

@@ -1,0 +1,36 @@
+-- Projections that take over columns, and projections of them. (own)
+use Rattle.std.specs.Prelude.{◌≡◌, ℕ, ◌+◌, ◌==◌, Bool, true, false, ◌&&◌, List, [], ◌∷◌, map, Option, Some, None}
+use Rattle.cy_trees.specs.Trees.{Expression, variable}
+use Rattle.cy_planner_algebra.specs.Plans.{Output, computed, gathered}
+use Rattle.cy_planner_renumbering.specs.Renumbered.{new_column, renumbered}
+
+abbrev pub variable_column : Expression → Option ℕ
+variable_column (variable v) = v.column
+variable_column e = None
+
+-- the column that an output takes over
+abbrev pub taken_column : Output → Option ℕ
+taken_column (computed e) = variable_column e
+taken_column (gathered columns) = None
+
+-- a projection takes over these columns and makes no other one
+abbrev pub AreColumns : List Output → List ℕ → Type 0
+AreColumns outputs columns = map taken_column outputs ≡ map Some columns
+
+abbrev pub is_column : ℕ → Option ℕ → Bool
+is_column column (Some other) = column == other
+is_column column None = false
+
+-- a projection takes over the columns from a number on, in their order
+abbrev pub are_columns_from : ℕ → List Output → Bool
+are_columns_from first [] = true
+are_columns_from first (output ∷ outputs) = is_column first (taken_column output) && are_columns_from (first + 1) outputs
+
+-- an output over taken columns, over the rows that these are columns of
+abbrev pub renumbered_output : List ℕ → Output → Output
+renumbered_output columns (computed e) = computed (renumbered columns e)
+renumbered_output columns (gathered members) = gathered (map (new_column columns) members)
+
+-- one projection in place of two
+abbrev pub IsMerged : List Output → List Output → List Output → Type 0
+IsMerged outer inner merged = (columns : List ℕ) × AreColumns inner columns × (merged ≡ map (renumbered_output columns) outer)

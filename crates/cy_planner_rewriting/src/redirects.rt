@@ -1,0 +1,154 @@
+//! Look-ups on a join, in the column where what they look up comes from: of two columns in which the same stands, the one that names what
+//! each row of a table is made of.
+
+ghost use Rattle.std.specs.Prelude.{◌≡◌, ◌+◌, ◌≤◌, IfOk, List, OnOk, map};
+ghost use Rattle.std.specs.List.{All, AllByRecursion, Contains};
+ghost use Rattle.cy_planner_algebra.specs.declared.operators.KeyColumns.{KeyColumns};
+ghost use Rattle.cy_planner_algebra.specs.Plans.{width};
+ghost use Rattle.cy_planner_algebra.specs.Views.{plan_of};
+ghost use Rattle.cy_planner_algebra.specs.WellFormed.{IsKeyBetween, IsWellFormed, greatest_width};
+ghost use Rattle.cy_planner_rewriting.specs.internal.Redirected as spec;
+
+use crate::lookups::{lookup_at, output_column};
+use cy_planner_algebra::{KeyColumns, Operator};
+use cy_planner_lowering::Wanted;
+use cy_values::Fault;
+use std::alloc::Global;
+
+/// This far down it is looked whether a column is one of a table.
+const MOST_PARTS: usize = 256;
+
+/// A column, and another one in which the same stands.
+#[derive(Clone, Copy)]
+pub(crate) struct Redirect {
+    pub(crate) from: usize,
+    pub(crate) to: usize,
+}
+
+/// The column of the right part in which the same stands as in a column of the left one.
+fn right_column(keys: &[KeyColumns], column: usize) -> Option<usize> {
+    for key in keys {
+        if key.left == column {
+            return Some(key.right);
+        }
+    }
+    None
+}
+
+/// Whether a column names the node or the relationship that each row of a table is made of.
+fn is_own(part: &Operator, column: usize, most: usize) -> bool
+    requires { IsWellFormed (plan_of part.now) }
+{
+    if most == 0 {
+        return false;
+    }
+    match part {
+        Operator::Nodes | Operator::Rels(_, _) => column == 0,
+        Operator::Join(left, right, keys) => {
+            let width = left.width();
+            if column < width {
+                if is_own(left, column, most - 1) {
+                    return true;
+                }
+                match right_column(keys, column) {
+                    Some(other) => is_own(right, other, most - 1),
+                    None => false,
+                }
+            } else {
+                is_own(right, column - width, most - 1)
+            }
+        }
+        Operator::Lookup(below, _, _)
+        | Operator::Filter(below, _)
+        | Operator::AllDifferent(below, _) => is_own(below, column, most - 1),
+        Operator::Project(below, outputs) => match output_column(outputs, column) {
+            Some(column) => is_own(below, column, most - 1),
+            None => false,
+        },
+        Operator::Outer(left, _, _, _) | Operator::Semi(left, _, _, _) => {
+            is_own(left, column, most - 1)
+        }
+        Operator::Unit | Operator::Distinct(_) | Operator::Union(_, _) => false,
+    }
+}
+
+/// Adds the one column of a key for the other one, if that is a table's own and this isn't.
+fn add_redirect(
+    made: &mut Vec<Redirect>,
+    left: &Operator,
+    right: &Operator,
+    width: usize,
+    key: KeyColumns,
+) -> Result<(), Fault>
+    requires left { IsWellFormed (plan_of left.now) }
+    requires right { IsWellFormed (plan_of right.now) }
+    requires room { width + key.right ≤ greatest_width }
+    ensures { OnOk result ((keys : List KeyColumns) → Contains keys key → AllByRecursion (spec.IsRedirect keys width) made.old.items → AllByRecursion (spec.IsRedirect keys width) made.new.items) }
+{
+    let on_left = is_own(left, key.left, MOST_PARTS);
+    let on_right = is_own(right, key.right, MOST_PARTS);
+    let other = width + key.right;
+    if on_left == on_right {
+        Ok(())
+    } else if on_right {
+        made.push(Redirect {
+            from: key.left,
+            to: other,
+        })?;
+        Ok(())
+    } else {
+        made.push(Redirect {
+            from: other,
+            to: key.left,
+        })?;
+        Ok(())
+    }
+}
+
+/// The columns of a join in which the same stands as in others, where it is better to look it up. Fails only when out of memory.
+pub(crate) fn redirects(
+    alloc: Global,
+    left: &Operator,
+    right: &Operator,
+    keys: &[KeyColumns],
+) -> Result<Vec<Redirect>, Fault>
+    requires left { IsWellFormed (plan_of left.now) }
+    requires right { IsWellFormed (plan_of right.now) }
+    requires keys { All (IsKeyBetween (width (plan_of left.now)) (width (plan_of right.now))) keys.now }
+    requires room { width (plan_of left.now) + width (plan_of right.now) ≤ greatest_width }
+    ensures { IfOk result (λ made. AllByRecursion (spec.IsRedirect keys.now (width (plan_of left.now))) made.items) }
+{
+    let width = left.width();
+    let mut made = Vec::new(alloc);
+    for key in keys {
+        add_redirect(&mut made, left, right, width, *key)?;
+    }
+    Ok(made)
+}
+
+fn redirected_column(redirects: &[Redirect], column: usize) -> usize
+    ensures { result ≡ spec.redirect redirects.now column }
+{
+    for other in redirects {
+        if other.from == column {
+            return other.to;
+        }
+    }
+    column
+}
+
+/// The look-ups in the columns where it is better to look them up. Fails only when out of memory.
+pub(crate) fn redirected(
+    alloc: Global,
+    redirects: &[Redirect],
+    lookups: &[Wanted],
+) -> Result<Vec<Wanted>, Fault>
+    ensures { IfOk result (λ made. made.items ≡ map (spec.redirected redirects.now) lookups.now) }
+{
+    let mut made = Vec::with_capacity(alloc, lookups.len())?;
+    for lookup in lookups {
+        let column = redirected_column(redirects, lookup.column);
+        made.push(lookup_at(alloc, &lookup.attribute, column)?)?;
+    }
+    Ok(made)
+}

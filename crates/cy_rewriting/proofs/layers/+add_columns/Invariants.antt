@@ -1,5 +1,0 @@
--- Over fewer conditions and tests each time.
-use Rattle.cy_rewriting.proofs.layers.+add_columns.Given as goal
-
-abbrev pub decreases-add_columns : goal.decreases-add_columns
-decreases-add_columns l = l.most

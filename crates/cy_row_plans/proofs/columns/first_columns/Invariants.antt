@@ -1,8 +1,0 @@
--- The columns so far.
-use Rattle.std.proofs.Common.{◌≡◌, map}
-use Rattle.cy_plans.specs.Views.{output_of}
-use Rattle.cy_row_plans.specs.internal.Lookups as spec
-use Rattle.cy_row_plans.proofs.columns.first_columns.Given as goal
-
-abbrev pub invariant-loop-column : goal.invariant-loop-column
-invariant-loop-column l = map output_of l.outputs.items ≡ spec.first_columns l.column

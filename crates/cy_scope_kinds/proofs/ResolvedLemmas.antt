@@ -1,0 +1,31 @@
+-- Columns that are set part by part.
+use Rattle.std.proofs.Common.{◌≡◌, ℕ, zero, suc, ◌<◌, List, [], ◌∷◌, ◌++◌, map, length, get_or, set, take, drop, refl, ap, arith}
+use Rattle.cy_trees.specs.declared.expressions.Comparator.{Comparator}
+use Rattle.cy_trees.specs.Trees.{Expression, Expressions, more, Links, link, Arms, arm}
+use Rattle.cy_trees.specs.Views.{expressions_from, links_from, arms_from}
+use Rattle.cy_scope_kinds.specs.Scopes.{Scope}
+use Rattle.cy_scope_kinds.specs.ResolvedExpressions.{resolved, resolved_expressions, resolved_links, resolved_arms}
+use Rattle.cy_scope_kinds.specs.internal.ExpressionTrees.{resolved_link, resolved_arm}
+
+pub resolved_list : (scope : Scope) (es : List Expression) → resolved_expressions scope (expressions_from es) ≡ expressions_from (map (resolved scope) es)
+resolved_list scope [] = refl
+resolved_list scope (e ∷ es) = ap (λ (rest : Expressions). more (resolved scope e) rest) (resolved_list scope es)
+
+pub resolved_links_list : (scope : Scope) (ls : List (Comparator × Expression)) → resolved_links scope (links_from ls) ≡ links_from (map (resolved_link scope) ls)
+resolved_links_list scope [] = refl
+resolved_links_list scope (l ∷ ls) = ap (λ (rest : Links). link l.0 (resolved scope l.1) rest) (resolved_links_list scope ls)
+
+pub resolved_arms_list : (scope : Scope) (arms : List (Expression × Expression)) → resolved_arms scope (arms_from arms) ≡ arms_from (map (resolved_arm scope) arms)
+resolved_arms_list scope [] = refl
+resolved_arms_list scope (a ∷ arms) = ap (λ (rest : Arms). arm (resolved scope a.0) (resolved scope a.1) rest) (resolved_arms_list scope arms)
+
+module _ {B C : Type 0} (f : B → C) (g : C → C) where
+  -- the parts that are done, and what the others are to become
+  abbrev pub mixed : ℕ → List B → List C
+  mixed i xs = map f (take i xs) ++ map g (map f (drop i xs))
+
+  -- the next part is done
+  pub one_more : (xs : List B) (i : ℕ) (y d : B) → i < length xs → f y ≡ g (f (get_or xs i d)) → mixed (suc i) (set xs i y) ≡ mixed i xs
+  one_more [] i y d h is = absurd (omega arith)
+  one_more (x ∷ xs) zero y d h is = ap (λ (c : C). c ∷ map g (map f xs)) is
+  one_more (x ∷ xs) (suc i) y d h is = ap (λ (cs : List C). f x ∷ cs) (one_more xs i y d (omega arith) is)

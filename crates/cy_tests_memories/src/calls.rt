@@ -1,0 +1,138 @@
+//! The calls of a memory, one after another, over both kinds.
+
+use cy_network_memory::{KeyedMemory, ListMemory, Memory, MemoryFault};
+use cy_values::{Cell, Row, Sequence, Value};
+use std::alloc::{AllocError, Global};
+use std::process::Abort;
+use std::test::Fail;
+
+// Calls of a memory of rows of two numbers, of which the first is the key. `stage` adds to the count of a row, and gives the number of
+// its fault. `look` gives how many rows of a key there are, how often they counted and how often they will. `steps` are those of a
+// memory whose steps are exact, and those of a list: one for each look-up, and one for each row that it goes over to stage another, passes
+// over or takes.
+const CALLS: &str = "\
+look 1 => 0 0 0
+stage 1 5 2 => ok
+look 1 => 1 0 2
+stage 1 6 3 => ok
+stage 2 5 1 => ok
+look 1 => 2 0 5
+settle => ok
+look 1 => 2 5 5
+look 2 => 1 1 1
+stage 2 5 7 => ok
+look 2 => 1 1 8
+abandon => ok
+look 2 => 1 1 1
+stage 3 1 4294967295 => ok
+stage 3 1 0 => ok
+look 3 => 1 0 4294967295
+abandon => ok
+look 3 => 0 0 0
+steps => 18, of a list 45";
+
+fn row_of(alloc: Global, numbers: &[u32]) -> Result<Row, AllocError> {
+    let mut cells = Vec::new(alloc);
+    for number in numbers {
+        cells.push(Cell::Value(Value::Int(i64::from(*number))))?;
+    }
+    Ok(Sequence::new(cells))
+}
+
+fn number(word: &str) -> Result<u32, Fail> {
+    match word.parse::<u32>() {
+        Ok(number) => Ok(number),
+        Err(_) => Err(Fail::from("no number")),
+    }
+}
+
+// Adds to the count of a row, and once more where it is refused memory.
+fn stage<M: Memory>(
+    alloc: Global,
+    memory: &mut M,
+    row: &Row,
+    count: u32,
+) -> Result<(), MemoryFault> {
+    match memory.stage(alloc, row, i64::from(count)) {
+        Err(MemoryFault::NoMemory) => memory.stage(alloc, row, i64::from(count)),
+        outcome => outcome,
+    }
+}
+
+// How many records a key has, and the sums of their counts.
+fn look<M: Memory>(alloc: Global, memory: &mut M, key: &Row) -> Result<String, Fail> {
+    let (mut rows, mut before, mut after) = (0u64, 0u64, 0u64);
+    let mut cursor = memory.look(alloc, key)?;
+    for _ in 0..u64::MAX {
+        let Some(record) = memory.take(alloc, &mut cursor)? else {
+            break;
+        };
+        rows = rows.saturating_add(1);
+        before = before.saturating_add(record.before);
+        after = after.saturating_add(record.after);
+    }
+    Ok(format!(in alloc; "{rows} {before} {after}")?)
+}
+
+fn called<M: Memory>(alloc: Global, memory: &mut M, words: &[&str]) -> Result<String, Fail> {
+    match *words {
+        ["stage", key, value, count] => {
+            let row = row_of(alloc, &[number(key)?, number(value)?])?;
+            match stage(alloc, memory, &row, number(count)?) {
+                Ok(()) => Ok(format!(in alloc; "ok")?),
+                Err(fault) => {
+                    let code = fault.code();
+                    Ok(format!(in alloc; "!{code}")?)
+                }
+            }
+        }
+        ["look", key] => look(alloc, memory, &row_of(alloc, &[number(key)?])?),
+        ["settle"] => {
+            memory.settle();
+            Ok(format!(in alloc; "ok")?)
+        }
+        ["abandon"] => {
+            memory.abandon();
+            Ok(format!(in alloc; "ok")?)
+        }
+        _ => Err(Fail::from("no call")),
+    }
+}
+
+fn expect_calls<M: Memory>(rt: &impl Abort, alloc: Global, memory: &mut M) -> Result<(), Fail> {
+    for case in CALLS.lines() {
+        let (call, wanted) = case.split_once(" => ").ok_or("no answer")?;
+        if call == "steps" {
+            expect_steps::<M>(rt, memory.steps(), wanted)?;
+        } else {
+            let words: Vec<&str> = call.split_whitespace().collect(alloc)?;
+            let answer = called(alloc, memory, &words)?;
+            assert_eq!(rt; answer.as_str(), wanted, "{case}");
+        }
+    }
+    Ok(())
+}
+
+// A list that was refused memory goes over its rows once more.
+fn expect_steps<M: Memory>(rt: &impl Abort, steps: u64, wanted: &str) -> Result<(), Fail> {
+    let (exact, least) = wanted.split_once(", of a list ").ok_or("no steps")?;
+    if M::EXACT {
+        assert_eq!(rt; steps, u64::from(number(exact)?));
+    } else {
+        assert!(rt; u64::from(number(least)?) <= steps, "{steps}");
+    }
+    Ok(())
+}
+
+fn key(alloc: Global) -> Result<Vec<usize>, AllocError> {
+    let mut columns = Vec::new(alloc);
+    columns.push(0)?;
+    Ok(columns)
+}
+
+#[test]
+fn calls_of_memories(rt: HostRuntime) -> Result<(), Fail> {
+    let alloc = rt.alloc();
+    expect_calls(&rt, alloc, &mut KeyedMemory::new(alloc, key(alloc)?))?;
+    expect_calls(&rt, alloc, &mut ListMemory::new(alloc, key(alloc)?))
+}

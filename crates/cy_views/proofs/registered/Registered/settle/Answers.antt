@@ -1,4 +1,0 @@
-use Rattle.cy_views.proofs.registered.Registered.settle.Goals as goal
-
-pub settle-requires : goal.settle-requires
-settle-requires c = (c.requires.before, (c.requires.after, c.requires.rows))

@@ -1,5 +1,5 @@
 -- The rows of a plan are as wide as the plan.
-use Rattle.std.proofs.Common.{◌≡◌, ℕ, ◌+◌, true, false, cond, List, [], ◌∷◌, ◌++◌, map, filter, length, refl, sym, ap, ◌∙◌, arith}
+use Rattle.std.proofs.Common.{◌≡◌, ℕ, ◌+◌, ◌≤◌, true, false, cond, List, [], ◌∷◌, ◌++◌, map, filter, length, refl, sym, ap, ◌∙◌, arith}
 use Rattle.std.specs.Prelude.{flat_map}
 use Rattle.std.specs.List.{All}
 use Rattle.std.proofs.lemmas.List.{length-append, length-map, length-replicate}
@@ -16,7 +16,7 @@ use Rattle.cy_planner_algebra.specs.Plans.{Plan, width}
 use Rattle.cy_planner_algebra.specs.Meaning.{backwards, each_once, forwards, has_type, is_among, is_loop, is_partner, nulls, or_nulls, paired, rows_of, rows_of_rel, ways, with_attribute}
 use Rattle.cy_planner_algebra.specs.Keys.{meet}
 use Rattle.cy_planner_algebra.specs.Expressions.{projected, output_cell}
-use Rattle.cy_planner_algebra.specs.WellFormed.{IsWellFormed}
+use Rattle.cy_planner_algebra.specs.WellFormed.{IsWellFormed, greatest_width}
 
 abbrev IsWide : ℕ → List Cell → Type 0
 IsWide count row = length row ≡ count
@@ -93,3 +93,18 @@ wide_rows graph (plan.distinct p) good = all_once (IsWide (width p)) (rows_of gr
 wide_rows graph (plan.union left right) good =
     All-append (IsWide (width left)) (rows_of graph left) (rows_of graph right) (wide_rows graph left good.0)
     (All-weaker (IsWide (width right)) (IsWide (width left)) (λ row is. is ∙ sym good.2) (rows_of graph right) (wide_rows graph right good.1))
+
+-- no plan is wider than rows can be
+pub width_bounded : (p : plan.Plan) → IsWellFormed p → width p ≤ greatest_width
+width_bounded plan.unit good = omega arith
+width_bounded plan.nodes good = omega arith
+width_bounded (plan.rels types orientation) good = omega arith
+width_bounded (plan.join left right keys) good = good.3
+width_bounded (plan.outer left right keys test) good = good.3
+width_bounded (plan.semi left right keys keeping) good = width_bounded left good.0
+width_bounded (plan.lookup p column a) good = good.2
+width_bounded (plan.filter p test) good = width_bounded p good.0
+width_bounded (plan.all_different p columns) good = width_bounded p good.0
+width_bounded (plan.project p outputs) good = good.2
+width_bounded (plan.distinct p) good = width_bounded p good
+width_bounded (plan.union left right) good = width_bounded left good.0

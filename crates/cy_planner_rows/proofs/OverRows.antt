@@ -14,6 +14,7 @@ use Rattle.cy_graph.specs.Graph.{Content}
 use Rattle.cy_trees.specs.Trees.{Expression}
 use Rattle.cy_planner_algebra.specs.declared.operators.Attribute.{Attribute}
 use Rattle.cy_planner_algebra.specs.Plans as plan
+pub use Rattle.cy_planner_algebra.proofs.Widths.{width_bounded}
 use Rattle.cy_planner_algebra.specs.Plans.{Plan, Output, width}
 use Rattle.cy_planner_algebra.specs.Expressions.{cell_at, holds, null, projected}
 use Rattle.cy_planner_algebra.specs.Meaning.{attribute_of, rows_of, with_attribute}
@@ -199,21 +200,6 @@ parts_narrowed graph tables n p each own =
     ] own
 
 -- ---- plans that can be meant
-
--- no plan is wider than rows can be
-pub width_bounded : (p : Plan) → IsWellFormed p → width p ≤ greatest_width
-width_bounded plan.unit good = omega arith
-width_bounded plan.nodes good = omega arith
-width_bounded (plan.rels types orientation) good = omega arith
-width_bounded (plan.join left right keys) good = good.3
-width_bounded (plan.outer left right keys test) good = good.3
-width_bounded (plan.semi left right keys keeping) good = width_bounded left good.0
-width_bounded (plan.lookup p column a) good = good.2
-width_bounded (plan.filter p test) good = width_bounded p good.0
-width_bounded (plan.all_different p columns) good = width_bounded p good.0
-width_bounded (plan.project p outputs) good = good.2
-width_bounded (plan.distinct p) good = width_bounded p good
-width_bounded (plan.union left right) good = width_bounded left good.0
 
 pub well_over : (p : Plan) (wanted : List Wanted) → IsWellFormed p → AllByRecursion (IsInside (width p)) wanted → width p + length wanted ≤ greatest_width → IsWellFormed (over p wanted)
 well_over p [] good inside room = good

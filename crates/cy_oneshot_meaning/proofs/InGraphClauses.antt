@@ -8,7 +8,7 @@ use Rattle.cy_trees.specs.Trees.{Item, Projection, Clause, «match», unwind, «
 use Rattle.cy_graph.specs.Graph.{Content}
 use Rattle.cy_scope_kinds.specs.Aggregates.{is_aggregate_call}
 use Rattle.cy_expr.specs.Evaluation.{as_cell, cell_of}
-use Rattle.cy_oneshot_meaning.specs.Groups.{cells_on, grouping, Grouped, grouped, group_cells, group_keys, group_rows, over_rows, rows_of_group, values_among, aggregated}
+use Rattle.cy_oneshot_meaning.specs.Groups.{arguments_on, cells_on, grouping, key_on, Grouped, grouped, group_cells, group_keys, group_rows, over_rows, rows_of_group, values_among, aggregated}
 use Rattle.cy_oneshot_patterns.specs.Matching.{kept, matched_where, optionally_matched, unwound}
 use Rattle.cy_oneshot_patterns.specs.Outcomes.{gathered, joined}
 use Rattle.cy_oneshot_meaning.specs.Projection.{projection_rows}
@@ -18,7 +18,7 @@ use Rattle.cy_oneshot_meaning.specs.Reading.{IsInGraph, AreInGraph}
 use Rattle.cy_oneshot_meaning.proofs.EachRow.{all_kept_each, matched_each, one_by_one_each, optionally_each}
 use Rattle.cy_oneshot_meaning.proofs.EachProjected.{projection_each}
 use Rattle.cy_oneshot_meaning.proofs.Each.{each_gathered, each_made, each_map, each_of_once, if_ok_then}
-use Rattle.cy_oneshot_meaning.proofs.EachValue.{each_value, second_of_both}
+use Rattle.cy_oneshot_meaning.proofs.EachValue.{each_value, first_looked_at, second_of_both}
 use Rattle.cy_oneshot_meaning.proofs.InGraphLemmas.{cell_there, fitting_there, nulls_there, unwound_there, value_there}
 
 module _ (graph : Content) where
@@ -43,7 +43,8 @@ module _ (graph : Content) where
 
   grouped_there : (items : List Item) (row : List Cell) → RowThere row → IfOk (grouped graph items row) KeyThere
   grouped_there items row there =
-      if_ok_then RowThere KeyThere (λ key. Ok (record { key = key; row = row })) (λ key here. here) (cells_on graph (grouping items) row) (cells_there (grouping items) row there)
+      if_ok_then RowThere KeyThere (λ key. Ok (record { key = key; row = row })) (λ key here. here) (key_on graph items row)
+      (first_looked_at RowThere (cells_on graph (grouping items) row) (arguments_on graph items row) (cells_there (grouping items) row there))
 
   keys_there : (items : List Item) (gs : List Grouped) → AllByRecursion KeyThere gs → RowsThere (group_keys items gs)
   keys_there [] gs each = (tt, tt)

@@ -1,5 +1,5 @@
 -- Groups of rows, and aggregates over them. (openCypher 9, Aggregating functions; faults and canonical order own)
-use Rattle.std.specs.Prelude.{ℤ, pos, Bool, not, ◌+ℤ◌, List, [], ◌∷◌, length, map, filter, Option, None, Some, Result, Ok, Err, if◌then◌else◌}
+use Rattle.std.specs.Prelude.{ℤ, pos, Bool, not, ◌+ℤ◌, List, [], ◌∷◌, ◌++◌, length, map, filter, Option, None, Some, Result, Ok, Err, if◌then◌else◌}
 use Rattle.std.specs.Ordering.{eq_by_cmp}
 use Rattle.cy_values.specs.declared.scalars.Value.{Value}
 use Rattle.cy_values.specs.declared.scalars.Value.TheVariants as value
@@ -77,13 +77,35 @@ grouping items = filter (λ i. not (is_aggregate_call i.expression)) items
 abbrev pub cells_on : Content → List Item → List Cell → Result (List Cell) EvalFault
 cells_on graph items row = gathered (map (λ i. cell_of (lookups graph) row i.expression) items)
 
--- a row with what the grouping items give on it
+-- the arguments of the aggregates among items
+abbrev pub argument_of : Expression → List Expression
+argument_of (call f distinct (more e no_more)) = e ∷ []
+argument_of e = []
+
+abbrev pub arguments : List Item → List Expression
+arguments [] = []
+arguments (i ∷ items) = if is_aggregate_call i.expression then argument_of i.expression ++ arguments items else arguments items
+
+abbrev pub arguments_on : Content → List Item → List Cell → Result (List Cell) EvalFault
+arguments_on graph items row = gathered (map (λ e. cell_of (lookups graph) row e) (arguments items))
+
+-- an outcome; where it is a fault, another one is looked at too, and the smaller fault counts
+abbrev pub looked_at_with : {A B : Type 0} → Result A EvalFault → Result B EvalFault → Result A EvalFault
+looked_at_with (Ok x) other = Ok x
+looked_at_with (Err fault) other = and_also other (Err fault)
+
+-- The key of a row: what the grouping items give on it. Where they fault, the arguments of the aggregates are looked at too, since the
+-- row is in no group, and the smallest code counts.
+abbrev pub key_on : Content → List Item → List Cell → Result (List Cell) EvalFault
+key_on graph items row = looked_at_with (cells_on graph (grouping items) row) (arguments_on graph items row)
+
+-- a row with its key
 pub record Grouped : Type 0 where
   pub key : List Cell
   pub row : List Cell
 
 abbrev pub grouped : Content → List Item → List Cell → Result Grouped EvalFault
-grouped graph items row = on_one (λ key. Ok (record { key = key; row = row })) (cells_on graph (grouping items) row)
+grouped graph items row = on_one (λ key. Ok (record { key = key; row = row })) (key_on graph items row)
 
 -- the keys of the groups: each once; without grouping items there is one group, even of no rows
 abbrev pub group_keys : List Item → List Grouped → List (List Cell)
@@ -113,7 +135,8 @@ values_among [] = []
 values_among (Ok x ∷ outcomes) = x ∷ values_among outcomes
 values_among (Err fault ∷ outcomes) = values_among outcomes
 
--- grouping and aggregation: a row whose grouping items fault is in no group, and the smallest code of all counts
+-- Grouping and aggregation: all rows are looked at. A row whose grouping items fault is in no group, and the smallest code counts among
+-- the grouping items and the arguments of all rows and the aggregates of the groups.
 abbrev pub aggregated : Content → List Item → List (List Cell) → Result (List (List Cell)) EvalFault
 aggregated graph items table =
     and_also (gathered (map (grouped graph items) table)) (group_rows graph items (values_among (map (grouped graph items) table)))

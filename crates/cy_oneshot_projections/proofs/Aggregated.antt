@@ -9,7 +9,7 @@ use Rattle.cy_values.specs.Order.{row_cmp}
 use Rattle.cy_trees.specs.Trees.{Expression, Item}
 use Rattle.cy_graph.specs.Graph.{Content}
 use Rattle.cy_expr.specs.declared.faults.EvalFault.{EvalFault}
-use Rattle.cy_oneshot_meaning.specs.Groups.{Grouped, aggregated, group_cells, group_keys, group_rows, grouped, grouping, rows_of_group, values_among}
+use Rattle.cy_oneshot_meaning.specs.Groups.{Grouped, aggregated, arguments, arguments_on, group_cells, group_keys, group_rows, grouped, grouping, looked_at_with, rows_of_group, values_among}
 use Rattle.cy_oneshot_meaning.specs.Order.{each_once}
 use Rattle.cy_oneshot_patterns.specs.Outcomes.{and_also, gathered, smaller}
 use Rattle.cy_oneshot_meaning.specs.internal.Answers.{outcome_of, sifted, with_fault}
@@ -26,8 +26,8 @@ module _ (graph : Content) (items : List Item) where
   abbrev pub row_of : Gathering → Result (List Cell) EvalFault
   row_of g = gathered (group_cells graph items g.key g.rows)
 
-  grouped_are : (rows : List (List Cell)) → map (grouped graph items) rows ≡ map (grouped_by graph (expressions (grouping items))) rows
-  grouped_are rows = λ i. map (λ row. with_key row (cells_are graph (grouping items) row i)) rows
+  grouped_are : (rows : List (List Cell)) → map (grouped graph items) rows ≡ map (grouped_by graph (expressions (grouping items)) (arguments items)) rows
+  grouped_are rows = λ i. map (λ row. with_key row (looked_at_with (cells_are graph (grouping items) row i) (arguments_on graph items row))) rows
 
   alike_with : {A : Type 0} (fault : Option EvalFault) (o q : Result (List A) EvalFault) → Alike o q → Alike (with_fault fault o) (with_fault fault q)
   alike_with None o q p = p
@@ -38,7 +38,7 @@ module _ (graph : Content) (items : List Item) where
 
   -- a fault of a grouping item, and what the groups make
   pub aggregated_is : (rows : List (List Cell)) (gs : List Grouped) (fault : Option EvalFault) (made : Result (List (List Cell)) EvalFault)
-      → sifted [] None (map (grouped_by graph (expressions (grouping items))) rows) ≡ (gs, fault) → Alike made (group_rows graph items gs)
+      → sifted [] None (map (grouped_by graph (expressions (grouping items)) (arguments items)) rows) ≡ (gs, fault) → Alike made (group_rows graph items gs)
       → Alike (with_fault fault made) (aggregated graph items rows)
   aggregated_is rows gs fault made are alike =
       let os : List (Result Grouped EvalFault) = map (grouped graph items) rows in
@@ -57,12 +57,13 @@ module _ (graph : Content) (items : List Item) where
       ap (λ k. map (λ (r : Grouped). r.row) (cond (eq_by_cmp row_cmp [] k) (g ∷ filter (λ (r : Grouped). eq_by_cmp row_cmp [] r.key) gs) (filter (λ (r : Grouped). eq_by_cmp row_cmp [] r.key) gs))) each.0
       ∙ ap (λ l. g.row ∷ l) (all_rows gs each.1)
 
-  no_keys : (es : List Expression) → es ≡ [] → (rows : List (List Cell)) (gs : List Grouped) (fault : Option EvalFault) → sifted [] None (map (grouped_by graph es) rows) ≡ (gs, fault)
+  no_keys : (es others : List Expression) → es ≡ [] → (rows : List (List Cell)) (gs : List Grouped) (fault : Option EvalFault) → sifted [] None (map (grouped_by graph es others) rows) ≡ (gs, fault)
       → AllByRecursion (λ g. g.key ≡ []) gs
-  no_keys es none rows gs fault are =
+  no_keys es others none rows gs fault are =
       subst (λ (l : List Grouped). AllByRecursion (λ g. g.key ≡ []) l)
-      (sym (ap (λ (p : List Grouped × Option EvalFault). p.0) (sym are) ∙ ap (λ (l : List Expression). (sifted [] None (map (grouped_by graph l) rows)).0) none ∙ sifted_values [] None (map (grouped_by graph []) rows)))
-      (each_value (λ g. g.key ≡ []) (map (grouped_by graph []) rows) (each_made (λ o. IfOk o (λ (g : Grouped). g.key ≡ [])) (grouped_by graph []) (λ row. refl) rows))
+      (sym (ap (λ (p : List Grouped × Option EvalFault). p.0) (sym are) ∙ ap (λ (l : List Expression). (sifted [] None (map (grouped_by graph l others) rows)).0) none
+      ∙ sifted_values [] None (map (grouped_by graph [] others) rows)))
+      (each_value (λ g. g.key ≡ []) (map (grouped_by graph [] others) rows) (each_made (λ o. IfOk o (λ (g : Grouped). g.key ≡ [])) (grouped_by graph [] others) (λ row. refl) rows))
 
   pub one_is : grouping items ≡ [] → (gs : List Grouped) → AllByRecursion (λ g. g.key ≡ []) gs
       → gathered (map row_of ((record { key = []; rows = map (λ g. g.row) gs }) ∷ [])) ≡ group_rows graph items gs
@@ -70,10 +71,10 @@ module _ (graph : Content) (items : List Item) where
       ap (λ (rows : List (List Cell)). gathered (gathered (group_cells graph items [] rows) ∷ [])) (sym (all_rows gs each))
       ∙ ap (λ (keys : List (List Cell)). gathered (map (λ key. gathered (group_cells graph items key (rows_of_group key gs))) keys)) (ap (λ (is : List Item). group_keys is gs) (sym none))
 
-  pub one_alike : grouping items ≡ [] → (rows : List (List Cell)) (gs : List Grouped) (fault : Option EvalFault) → sifted [] None (map (grouped_by graph (expressions (grouping items))) rows) ≡ (gs, fault)
+  pub one_alike : grouping items ≡ [] → (rows : List (List Cell)) (gs : List Grouped) (fault : Option EvalFault) → sifted [] None (map (grouped_by graph (expressions (grouping items)) (arguments items)) rows) ≡ (gs, fault)
       → Alike (gathered (map row_of ((record { key = []; rows = map (λ g. g.row) gs }) ∷ []))) (group_rows graph items gs)
   one_alike none rows gs fault are =
-      subst (λ (o : Result (List (List Cell)) EvalFault). Alike o (group_rows graph items gs)) (sym (one_is none gs (no_keys (expressions (grouping items)) (ap expressions none) rows gs fault are)))
+      subst (λ (o : Result (List (List Cell)) EvalFault). Alike o (group_rows graph items gs)) (sym (one_is none gs (no_keys (expressions (grouping items)) (arguments items) (ap expressions none) rows gs fault are)))
       (alike_itself (group_rows graph items gs))
 
   -- ---- groups by their keys

@@ -1,5 +1,5 @@
 -- What the functions that group rows answer, from what their parts answer.
-use Rattle.std.proofs.Common.{◌≡◌, ◌≢◌, inl, inr, Bool, true, false, not, cond, List, [], ◌∷◌, ◌++◌, append_assoc, map, refl, sym, ap, subst, ◌∙◌}
+use Rattle.std.proofs.Common.{◌≡◌, ◌≢◌, ◌⊎◌, inl, inr, Bool, true, false, not, cond, List, [], ◌∷◌, ◌++◌, append_assoc, map, refl, sym, ap, subst, ◌∙◌}
 use Rattle.std.specs.Prelude.{Option, None, Some, Result, Ok, Err}
 use Rattle.std.specs.Option.{option_to_list}
 use Rattle.std.specs.Vec.Iter.{into_iter_items, into_iter_steps}
@@ -13,12 +13,13 @@ use Rattle.cy_trees.specs.Trees.{Expression, Item}
 use Rattle.cy_scope_kinds.specs.Aggregates.{is_aggregate_call}
 use Rattle.cy_graph.specs.Graph.{Content}
 use Rattle.cy_expr.specs.declared.faults.EvalFault.{EvalFault}
-use Rattle.cy_expr.specs.declared.faults.EvalFault.TheVariants.{NoMemory}
+use Rattle.cy_expr.specs.declared.faults.EvalFault.TheVariants.{NotBoolean, WrongType, Overflow, DivisionByZero, NestedList, NoMemory}
 use Rattle.cy_expr.specs.Evaluation.{as_cell}
-use Rattle.cy_oneshot_meaning.specs.Groups.{Grouped, group_cells, group_rows, grouping, over_rows}
+use Rattle.cy_expr.specs.Faults.{on_one}
+use Rattle.cy_oneshot_meaning.specs.Groups.{Grouped, argument_of, arguments, group_cells, group_rows, grouping, looked_at_with, over_rows}
 use Rattle.cy_oneshot_patterns.specs.Outcomes.{gathered, together}
 use Rattle.cy_oneshot_meaning.specs.internal.Answers.{IsAnswer, sifted, with_fault}
-use Rattle.cy_oneshot_projections.specs.internal.Grouping.{AreGroupsOf, Gathering, grouped_by, item_cell, kept_of}
+use Rattle.cy_oneshot_projections.specs.internal.Grouping.{AreGroupsOf, Gathering, grouped_by, item_cell, kept_of, smaller_of}
 use Rattle.cy_oneshot_meaning.specs.internal.Permuted.{Alike, IsAlikeAnswer}
 use Rattle.cy_oneshot_projections.proofs.Aggregated.{many_alike, one_alike, row_of}
 use Rattle.cy_oneshot_meaning.proofs.SeenRows.{expressions}
@@ -70,6 +71,37 @@ grouping_more so_far next whole i is left are step before =
     ∙ ap (λ (l : List Item). so_far ++ expressions (grouping l)) (sym are)
     ∙ before
 
+-- the arguments so far with the one of the next item, if it is an aggregate that takes one
+one_argument : (b : Bool) (so_far taken rest : List Expression) → cond b (so_far ++ taken) so_far ++ rest ≡ so_far ++ cond b (taken ++ rest) rest
+one_argument true so_far taken rest = append_assoc so_far taken rest
+one_argument false so_far taken rest = refl
+
+pub arguments_more : (so_far next whole : List Expression) (i : Item) (is left : List Item) → left ≡ i ∷ is
+    → next ≡ cond (is_aggregate_call i.expression) (so_far ++ argument_of i.expression) so_far → so_far ++ arguments left ≡ whole → next ++ arguments is ≡ whole
+arguments_more so_far next whole i is left are step before =
+    ap (λ (l : List Expression). l ++ arguments is) step
+    ∙ one_argument (is_aggregate_call i.expression) so_far (argument_of i.expression) (arguments is)
+    ∙ ap (λ (l : List Item). so_far ++ arguments l) (sym are)
+    ∙ before
+
+-- ---- a row whose grouping items fault
+
+module _ {X : Type 0} (view : X → List Cell) (fault : EvalFault) (others : Result (List Cell) EvalFault) where
+  after_fault : (other : Result X EvalFault) → IsAnswer other view others
+      → (looked_at_with {A = List Cell} (Err fault) others ≡ Err (smaller_of (on_one (λ x. Ok (view x)) other) fault)) ⊎ (smaller_of (on_one (λ x. Ok (view x)) other) fault ≡ NoMemory)
+  after_fault (Ok x) is = inl (ap (looked_at_with (Err fault)) is)
+  after_fault (Err NoMemory) is = inr refl
+  after_fault (Err NotBoolean) (inl is) = inl (ap (looked_at_with (Err fault)) is)
+  after_fault (Err WrongType) (inl is) = inl (ap (looked_at_with (Err fault)) is)
+  after_fault (Err Overflow) (inl is) = inl (ap (looked_at_with (Err fault)) is)
+  after_fault (Err DivisionByZero) (inl is) = inl (ap (looked_at_with (Err fault)) is)
+  after_fault (Err NestedList) (inl is) = inl (ap (looked_at_with (Err fault)) is)
+  after_fault (Err NotBoolean) (inr is) = absurd (cc is)
+  after_fault (Err WrongType) (inr is) = absurd (cc is)
+  after_fault (Err Overflow) (inr is) = absurd (cc is)
+  after_fault (Err DivisionByZero) (inr is) = absurd (cc is)
+  after_fault (Err NestedList) (inr is) = absurd (cc is)
+
 -- there are as many keys as items without an aggregate
 pub no_grouping : {X : Type 0} (f : X → Expression) (keys : List X) (items : List Item) → map f keys ≡ expressions items → keys ≡ [] → items ≡ []
 no_grouping f keys [] same none = refl
@@ -83,7 +115,7 @@ some_grouping f (k ∷ keys) (i ∷ items) same none = cc none
 
 module _ (total : IsTotalOrder row_cmp) (graph : Content) (items : List Item) where
   pub groups_alike : (without_keys : Bool) → (without_keys ≡ true → grouping items ≡ []) → (without_keys ≡ false → grouping items ≡ [] → ⊥)
-      → (rows : List (List Cell)) (gs : List Grouped) (fault : Option EvalFault) → sifted [] None (map (grouped_by graph (expressions (grouping items))) rows) ≡ (gs, fault)
+      → (rows : List (List Cell)) (gs : List Grouped) (fault : Option EvalFault) → sifted [] None (map (grouped_by graph (expressions (grouping items)) (arguments items)) rows) ≡ (gs, fault)
       → (groups : List Gathering) → AreGroupsOf without_keys gs groups → Alike (gathered (map (row_of graph items) groups)) (group_rows graph items gs)
   groups_alike true none some rows gs fault are groups is =
       subst (λ (l : List Gathering). Alike (gathered (map (row_of graph items) l)) (group_rows graph items gs)) (sym is) (one_alike graph items (none refl) rows gs fault are)

@@ -16,7 +16,7 @@ use Rattle.cy_oneshot_patterns.specs.Outcomes.{gathered}
 use Rattle.cy_oneshot_meaning.specs.Reading.{AreInGraph, IsInGraph}
 use Rattle.cy_oneshot_meaning.specs.internal.Answers.{IsAnswer, sifted}
 use Rattle.cy_oneshot_projections.specs.internal.Grouping.{AreGroupsOf, Gathering, grouped_by}
-use Rattle.cy_oneshot_meaning.specs.internal.Seen.{cells_by, seen_by}
+use Rattle.cy_oneshot_meaning.specs.internal.Seen.{cells_by, key_by, seen_by}
 use Rattle.cy_oneshot_meaning.specs.internal.Permuted.{Alike, IsAlikeAnswer}
 use Rattle.cy_oneshot_meaning.proofs.Each.{each_append, each_filter, each_gathered, each_in_order, each_made, each_map, each_of_once, each_take, if_ok_any, if_ok_then}
 use Rattle.cy_oneshot_meaning.proofs.EachValue.{each_value}
@@ -61,15 +61,15 @@ module _ (graph : Content) where
   abbrev pub GroupThere : Gathering → Type 0
   GroupThere g = AreInGraph graph g.rows
 
-  one_grouped_there : (es : List Expression) (row : List Cell) → RowThere row → IfOk (grouped_by graph es row) GroupedThere
-  one_grouped_there es row there = if_ok_any GroupedThere (λ key. Ok (record { key = key; row = row })) (λ key. there) (gathered (map (λ e. cell_of (lookups graph) row e) es))
+  one_grouped_there : (es others : List Expression) (row : List Cell) → RowThere row → IfOk (grouped_by graph es others row) GroupedThere
+  one_grouped_there es others row there = if_ok_any GroupedThere (λ key. Ok (record { key = key; row = row })) (λ key. there) (key_by graph es others row)
 
-  pub grouped_there : (es : List Expression) (rows : List (List Cell)) (gs : List Grouped) (fault : Option EvalFault)
-      → sifted [] None (map (grouped_by graph es) rows) ≡ (gs, fault) → AreInGraph graph rows → AllByRecursion GroupedThere gs
-  grouped_there es rows gs fault are there =
+  pub grouped_there : (es others : List Expression) (rows : List (List Cell)) (gs : List Grouped) (fault : Option EvalFault)
+      → sifted [] None (map (grouped_by graph es others) rows) ≡ (gs, fault) → AreInGraph graph rows → AllByRecursion GroupedThere gs
+  grouped_there es others rows gs fault are there =
       subst (λ (l : List Grouped). AllByRecursion GroupedThere l)
-      (sym (sifted_values [] None (map (grouped_by graph es) rows)) ∙ ap (λ (p : List Grouped × Option EvalFault). p.0) are)
-      (each_value GroupedThere (map (grouped_by graph es) rows) (each_map RowThere (λ o. IfOk o GroupedThere) (grouped_by graph es) (one_grouped_there es) rows there))
+      (sym (sifted_values [] None (map (grouped_by graph es others) rows)) ∙ ap (λ (p : List Grouped × Option EvalFault). p.0) are)
+      (each_value GroupedThere (map (grouped_by graph es others) rows) (each_map RowThere (λ o. IfOk o GroupedThere) (grouped_by graph es others) (one_grouped_there es others) rows there))
 
   rows_of_there : (key : List Cell) (gs : List Grouped) → AllByRecursion GroupedThere gs → AreInGraph graph (rows_of_group key gs)
   rows_of_there key gs there =

@@ -4,7 +4,7 @@ use Rattle.std.specs.Prelude.{Result, Ok, Err, IfOk, Option, Some, None, ◌||�
 use Rattle.std.specs.List.{list_any}
 use Rattle.std.specs.Ordering.{eq_by_cmp}
 use Rattle.std.proofs.lemmas.Bool.{or_parts}
-use Rattle.std.proofs.lemmas.List.{length-map}
+use Rattle.std.proofs.lemmas.List.{length-map, map-append}
 use Rattle.std.proofs.lemmas.Simd.{map-map}
 use Rattle.cy_values.specs.declared.scalars.Value.TheVariants as value
 use Rattle.cy_values.specs.declared.rows.Cell.{Cell}
@@ -23,7 +23,7 @@ use Rattle.cy_oneshot_patterns.specs.Matching.{kept}
 use Rattle.cy_oneshot_patterns.specs.Outcomes.{and_also, gathered, joined}
 use Rattle.cy_expr_columns.specs.Columns.{AgreeOn, columns_read}
 use Rattle.cy_expr_columns.proofs.Agreeing.{cell-same}
-use Rattle.cy_oneshot_meaning.specs.Groups.{Grouped, aggregate_if, aggregated, cells_on, group_cells, group_keys, group_rows, grouped, grouping, over_rows, rows_of_group, taken, values_among}
+use Rattle.cy_oneshot_meaning.specs.Groups.{Grouped, aggregate_if, aggregated, argument_of, arguments, cells_on, group_cells, group_keys, group_rows, grouped, grouping, key_on, looked_at_with, over_rows, rows_of_group, taken, values_among}
 use Rattle.cy_oneshot_meaning.specs.Projection.{Projected, cut, distinct_rows, item_of_key, item_rows, key_cell, keyed, project, projection_rows, with_columns_alone}
 use Rattle.cy_oneshot_meaning.specs.Queries.{rows_after, rows_after_all}
 use Rattle.cy_oneshot_unwinding.specs.Carried.{AreKeysRead, AreNeeded, AreRead, AreSeen, IsClauseRead, IsEnough, IsProjectionRead, IsSeen, carried, carried_from, is_last, is_needed, is_projection, keys_of}
@@ -135,10 +135,44 @@ module _ (graph : Content) (needed : List Bool) where
   key_less row (Ok key) = refl
   key_less row (Err fault) = refl
 
+  -- the arguments of the aggregates
+  argument_less : (e : Expression) (row : List Cell) → AreNeeded needed (columns_read e) → map (λ a. cell_of (lookups graph) (less row) a) (argument_of e) ≡ map (λ a. cell_of (lookups graph) row a) (argument_of e)
+  argument_less (call f distinct (more e no_more)) row read = ap (λ o. o ∷ []) (cell_less graph needed e row (first_read (columns_read e) read))
+  argument_less (call_star f) row read = refl
+  argument_less (call f distinct no_more) row read = refl
+  argument_less (call f distinct (more e (more d es))) row read = refl
+  argument_less null row read = refl
+  argument_less (boolean b) row read = refl
+  argument_less (integer n) row read = refl
+  argument_less (text t) row read = refl
+  argument_less (variable v) row read = refl
+  argument_less (property e key) row read = refl
+  argument_less (has_labels e labels) row read = refl
+  argument_less (unary operator e) row read = refl
+  argument_less (binary operator a b) row read = refl
+  argument_less (comparison e links) row read = refl
+  argument_less (list es) row read = refl
+  argument_less (case arms e) row read = refl
+
+  arguments_less : (items : List Item) (row : List Cell) → AreRead needed items → map (λ a. cell_of (lookups graph) (less row) a) (arguments items) ≡ map (λ a. cell_of (lookups graph) row a) (arguments items)
+  arguments_less [] row read = refl
+  arguments_less (i ∷ items) row read =
+      elim (is_aggregate_call i.expression) as (λ b. map (λ a. cell_of (lookups graph) (less row) a) (cond b (argument_of i.expression ++ arguments items) (arguments items))
+      ≡ map (λ a. cell_of (lookups graph) row a) (cond b (argument_of i.expression ++ arguments items) (arguments items))) [
+        | true ↦
+            map-append (λ a. cell_of (lookups graph) (less row) a) (argument_of i.expression) (arguments items)
+            ∙ (λ j. argument_less i.expression row read.0 j ++ arguments_less items row read.1 j)
+            ∙ sym (map-append (λ a. cell_of (lookups graph) row a) (argument_of i.expression) (arguments items))
+        | false ↦ arguments_less items row read.1
+      ]
+
+  key_is : (items : List Item) (row : List Cell) → AreRead needed items → key_on graph items (less row) ≡ key_on graph items row
+  key_is items row read = λ j. looked_at_with (on_less (grouping items) row (grouping_read items read) j) (gathered (arguments_less items row read j))
+
   grouped_is : (items : List Item) (row : List Cell) → AreRead needed items → grouped graph items (less row) ≡ on_value grouped_less (grouped graph items row)
   grouped_is items row read =
-      ap (on_one (λ key. Ok (record { key = key; row = less row }))) (on_less (grouping items) row (grouping_read items read))
-      ∙ key_less row (cells_on graph (grouping items) row)
+      ap (on_one (λ key. Ok (record { key = key; row = less row }))) (key_is items row read)
+      ∙ key_less row (key_on graph items row)
 
   all_grouped : (items : List Item) (rows : List (List Cell)) → AreRead needed items → map (grouped graph items) (map less rows) ≡ map (λ row. on_value grouped_less (grouped graph items row)) rows
   all_grouped items [] read = refl

@@ -9,6 +9,7 @@ use Rattle.cy_expr.specs.Faults.{on_one}
 use Rattle.cy_expr.specs.Graphs.{lookups}
 use Rattle.cy_oneshot_meaning.specs.Order.{Keyed}
 use Rattle.cy_oneshot_patterns.specs.Outcomes.{gathered}
+use Rattle.cy_oneshot_meaning.specs.Groups.{looked_at_with}
 use Rattle.cy_oneshot_meaning.specs.Projection.{Projected, key_cell}
 
 -- a row with the cells that its keys see after it; it has this many cells itself
@@ -18,6 +19,10 @@ projected_of width seen = record { row = take width seen; seen = seen }
 -- what expressions give on a row
 abbrev pub cells_by : Content → List Expression → List Cell → Result (List Cell) EvalFault
 cells_by graph expressions row = gathered (map (λ e. cell_of (lookups graph) row e) expressions)
+
+-- what they give; where they fault, other ones are looked at too, and the smallest code counts
+abbrev pub key_by : Content → List Expression → List Expression → List Cell → Result (List Cell) EvalFault
+key_by graph expressions others row = looked_at_with (cells_by graph expressions row) (cells_by graph others row)
 
 -- what they give, and the row after it
 abbrev pub seen_by : Content → List Expression → List Cell → Result (List Cell) EvalFault

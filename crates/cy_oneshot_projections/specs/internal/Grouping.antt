@@ -1,17 +1,18 @@
 -- Rows with keys, and their groups.
-use Rattle.std.specs.Prelude.{◌≡◌, Bool, true, false, List, [], ◌∷◌, ◌++◌, map, Option, None, Some, Result, Ok, if◌then◌else◌}
+use Rattle.std.specs.Prelude.{◌≡◌, Bool, true, false, List, [], ◌∷◌, ◌++◌, map, Option, None, Some, Result, Ok, Err, if◌then◌else◌}
 use Rattle.std.specs.Ordering.{eq_by_cmp}
 use Rattle.cy_values.specs.declared.rows.Cell.{Cell}
 use Rattle.cy_values.specs.Order.{row_cmp}
 use Rattle.cy_trees.specs.Trees.{Expression}
 use Rattle.cy_graph.specs.Graph.{Content}
 use Rattle.cy_expr.specs.declared.faults.EvalFault.{EvalFault}
-use Rattle.cy_expr.specs.Evaluation.{as_cell, cell_of}
+use Rattle.cy_expr.specs.declared.faults.EvalFault.TheVariants.{NoMemory}
+use Rattle.cy_expr.specs.Evaluation.{as_cell}
 use Rattle.cy_expr.specs.Faults.{on_one}
-use Rattle.cy_expr.specs.Graphs.{lookups}
 use Rattle.cy_oneshot_meaning.specs.Groups.{Grouped, over_rows, rows_of_group}
 use Rattle.cy_oneshot_meaning.specs.Order.{each_once}
-use Rattle.cy_oneshot_patterns.specs.Outcomes.{gathered}
+use Rattle.cy_oneshot_patterns.specs.Outcomes.{smaller}
+use Rattle.cy_oneshot_meaning.specs.internal.Seen.{key_by}
 
 -- a key with the rows that have it
 pub record Gathering : Type 0 where
@@ -32,9 +33,9 @@ with_rows hs (g ∷ gs) = with_rows (with_row hs g) gs
 abbrev pub with_key : List Cell → Result (List Cell) EvalFault → Result Grouped EvalFault
 with_key row key = on_one (λ cells. Ok (record { key = cells; row = row })) key
 
--- a row with what expressions give on it
-abbrev pub grouped_by : Content → List Expression → List Cell → Result Grouped EvalFault
-grouped_by graph expressions row = with_key row (gathered (map (λ e. cell_of (lookups graph) row e) expressions))
+-- a row with what expressions give on it; where they fault, other ones are looked at too
+abbrev pub grouped_by : Content → List Expression → List Expression → List Cell → Result Grouped EvalFault
+grouped_by graph expressions others row = with_key row (key_by graph expressions others row)
 
 -- the groups of rows
 abbrev pub AreGroups : List Grouped → List Gathering → Type 0
@@ -55,3 +56,14 @@ kept_of false (c ∷ key) = (Some c, key)
 abbrev pub item_cell : Content → Expression → List (List Cell) → Option Cell → Result Cell EvalFault
 item_cell graph e rows None = as_cell (over_rows graph e rows)
 item_cell graph e rows (Some c) = Ok c
+
+-- the one of things, if there is one alone
+abbrev pub one_of : {A : Type 0} → List A → Option A
+one_of (x ∷ []) = Some x
+one_of _ = None
+
+-- the smaller of a fault and that of what was looked at after it, if that is one; being out of memory comes before both
+abbrev pub smaller_of : {A : Type 0} → Result A EvalFault → EvalFault → EvalFault
+smaller_of (Ok x) fault = fault
+smaller_of (Err NoMemory) fault = NoMemory
+smaller_of (Err other) fault = smaller other fault

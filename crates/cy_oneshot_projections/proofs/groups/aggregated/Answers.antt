@@ -4,7 +4,7 @@ use Rattle.std.proofs.lemmas.Bool.{eqb-false, eqb-true}
 use Rattle.std.proofs.lemmas.List.{nil_from_length}
 use Rattle.cy_trees.specs.Trees.{Expression}
 use Rattle.cy_trees.specs.Views.{expression_of, item_of}
-use Rattle.cy_oneshot_meaning.specs.Groups.{grouping}
+use Rattle.cy_oneshot_meaning.specs.Groups.{arguments, grouping}
 use Rattle.cy_oneshot_patterns.specs.Outcomes.{gathered}
 use Rattle.cy_oneshot_meaning.specs.internal.Answers.{sifted}
 use Rattle.cy_oneshot_projections.specs.internal.Grouping.{grouped_by}
@@ -23,7 +23,7 @@ group_rows-requires c =
     let gs = map grouped_of c.in_ok-grouped.grouped.items in
     each_before (GroupThere graph) group_of c.in_ok-groups.groups.items
     (groups_there graph c.is_empty.result gs (map group_of c.in_ok-groups.groups.items) c.in_ok-groups.ensures
-    (grouped_there graph (map (λ e. expression_of e.now) c.deref.result.now) rows gs c.in_ok-grouped.fault c.in_ok-grouped.ensures.sifted c.requires))
+    (grouped_there graph (map (λ e. expression_of e.now) c.deref.result.now) (map (λ e. expression_of e.now) c.deref-2.result.now) rows gs c.in_ok-grouped.fault c.in_ok-grouped.ensures.sifted c.requires))
 
 pub returns : goal.returns
 returns c =
@@ -36,8 +36,9 @@ returns c =
     let fault = c.in_ok-grouped.fault in
     let groups = map group_of c.in_ok-groups.groups.items in
     let are : map (λ e. expression_of e.now) keys.items ≡ expressions (grouping items) = c.in_ok-keys.ensures in
-    let sifts : sifted [] None (map (grouped_by graph (expressions (grouping items))) rows) ≡ (gs, fault) =
-    subst (λ (es : List Expression). sifted [] None (map (grouped_by graph es) rows) ≡ (gs, fault)) (ap (map (λ e. expression_of e.now)) c.deref.ensures.value ∙ are) c.in_ok-grouped.ensures.sifted in
+    let sifts : sifted [] None (map (grouped_by graph (expressions (grouping items)) (arguments items)) rows) ≡ (gs, fault) =
+    subst (λ (es : List Expression). sifted [] None (map (grouped_by graph (expressions (grouping items)) es) rows) ≡ (gs, fault)) (ap (map (λ e. expression_of e.now)) c.deref-2.ensures.value ∙ c.in_ok-arguments.ensures)
+    (subst (λ (es : List Expression). sifted [] None (map (grouped_by graph es (map (λ e. expression_of e.now) c.deref-2.result.now)) rows) ≡ (gs, fault)) (ap (map (λ e. expression_of e.now)) c.deref.ensures.value ∙ are) c.in_ok-grouped.ensures.sifted) in
     let alike = groups_alike total graph items c.is_empty.result
     (λ h. no_grouping (λ e. expression_of e.now) keys.items (grouping items) are (nil_from_length keys.items (sym keys.ok.0 ∙ eqb-true _ _ (sym c.is_empty.ensures ∙ h))))
     (λ h none. eqb-false _ _ (sym c.is_empty.ensures ∙ h) (keys.ok.0 ∙ ap length (some_grouping (λ e. expression_of e.now) keys.items (grouping items) are none)))

@@ -10,6 +10,6 @@ use Rattle.cy_oneshot_projections.proofs.groups.grouped_rows.Given as goal
 -- the rows and the fault so far, and the rows that are left
 abbrev pub invariant-loop-row : goal.invariant-loop-row
 invariant-loop-row l =
-    (sifted (map grouped_of l.grouped.items) l.fault (map (grouped_by l.store.graph.now.content (map (λ e. expression_of e.now) l.keys)) (into_iter_items l.row-iterator))
-    ≡ sifted [] None (map (grouped_by l.store.graph.now.content (map (λ e. expression_of e.now) l.keys)) l.fn.rows.items))
+    (sifted (map grouped_of l.grouped.items) l.fault (map (grouped_by l.store.graph.now.content (map (λ e. expression_of e.now) l.keys) (map (λ e. expression_of e.now) l.arguments)) (into_iter_items l.row-iterator))
+    ≡ sifted [] None (map (grouped_by l.store.graph.now.content (map (λ e. expression_of e.now) l.keys) (map (λ e. expression_of e.now) l.arguments)) l.fn.rows.items))
     × AreInGraph l.store.graph.now.content (into_iter_items l.row-iterator)

@@ -13,9 +13,9 @@ use Rattle.cy_feeds.specs.Following.{last_count}
 use Rattle.cy_feeds.proofs.Pushes.{rising_more}
 use Rattle.cy_feeds.proofs.Telling.{latest_above, latest_in_time}
 use Rattle.cy_engine_views.specs.Upkeep.{AreNamed}
-use Rattle.cy_engine_views.specs.Views.{Entries, IsEntry, View, entry_at, fed, rows_of, without}
+use Rattle.cy_engine_views.specs.RegisteredViews.{Entries, IsEntry, View, entry_at, fed, rows_of, without}
 use Rattle.cy_engine.specs.State.{EngineState}
-use Rattle.cy_engine.specs.Step.{Answer, AreBounded}
+use Rattle.cy_engine.specs.EngineStep.{Answer, AreBounded}
 use Rattle.cy_engine.proofs.EachEntry.{each_entry}
 use Rattle.cy_engine.proofs.Effects.{Effects, exact}
 use Rattle.cy_engine.proofs.StepNames.{fed_query}

@@ -22,8 +22,8 @@ use Rattle.cy_engine.specs.Headline.{Builds, Leads, Moment, moment_of}
 use Rattle.cy_engine.specs.Requests.{Asks, Request, Nothing, StatementOf, ViewOf, RowsOf, SinceOf, ListOfViews, ListOfSteps, DropOf, IndexOf, Refused, request}
 use Rattle.cy_engine.specs.Runs.{Event, Run}
 use Rattle.cy_engine.specs.State.{EngineState}
-use Rattle.cy_engine_views.specs.Views.{Entries, View}
-use Rattle.cy_engine.specs.Step.{Answer, Answers, Executes, Drops, Follows, Indexes, Lexed, Makes, Shows, Step, Tells}
+use Rattle.cy_engine_views.specs.RegisteredViews.{Entries, View}
+use Rattle.cy_engine.specs.EngineStep.{Answer, Answers, Executes, Drops, ShowsAnswer, Indexes, Lexed, Makes, Shows, EngineStep, AnswersSince}
 use Rattle.cy_engine.specs.Verdicts.{Executed, execution_verdict, index_verdict, or_fault, rows_verdict, scope_verdict, since_verdict, statement_verdict, tick_after, passes, view_verdict}
 use Rattle.cy_engine.proofs.Effects.{statement_timed}
 use Rattle.cy_engine.proofs.Queries.{bind_ok, same_ok, view_made}
@@ -93,11 +93,11 @@ module _ (line : List ℕ) (old : EngineState) (answer : Answer) (entries : Entr
   shows_leads name (Err why) a = refused_leads why a.answered a.state
   shows_leads name (Ok view) (rows, are, a) = as_answered _ a.answered (moment_left a.state) (λ same. same)
 
-  tells_leads : (name : List ℕ) (tick : ℕ) (v : Result View Fault) → Tells name tick v old answer entries new → LeadsOn
+  tells_leads : (name : List ℕ) (tick : ℕ) (v : Result View Fault) → AnswersSince name tick v old answer entries new → LeadsOn
   tells_leads name tick (Err why) a = refused_leads why a.answered a.state
   tells_leads name tick (Ok view) a = from (answer_since tick view.feed) a
     where
-      from : (told : feeds.Answer) → Follows name view told old answer entries new → LeadsOn
+      from : (told : feeds.Answer) → ShowsAnswer name view told old answer entries new → LeadsOn
       from (Since changes) a = as_answered _ a.answered (moment_left a.state) (λ same. same)
       from Lagged a = shows_leads name (Ok view) a
 
@@ -127,7 +127,7 @@ module _ (line : List ℕ) (old : EngineState) (answer : Answer) (entries : Entr
   lexed_leads (Err why) made a = refused_leads (fault.Lex why) a.answered a.state
   lexed_leads (Ok tokens) made a = answers_leads tokens made (request line tokens) refl a
 
-  pub step_leads : Step old line answer entries new → LeadsOn
+  pub step_leads : EngineStep old line answer entries new → LeadsOn
   step_leads (inl (why, lacks, a)) = refused_leads why a.answered a.state
   step_leads (inr a) = lexed_leads (tokens_of line) refl a
 

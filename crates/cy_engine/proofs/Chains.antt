@@ -4,16 +4,16 @@ use Rattle.cy_graph.specs.Graph.{Content}
 use Rattle.cy_engine.specs.Runs.{Event, Run, Runs, last_entries}
 use Rattle.cy_engine.specs.Model.{Machine, state_of}
 use Rattle.cy_engine.specs.State.{EngineState}
-use Rattle.cy_engine_views.specs.Views.{AreEntries, Entries, View}
-use Rattle.cy_engine.specs.Step.{Answer, Step}
+use Rattle.cy_engine_views.specs.RegisteredViews.{AreEntries, Entries, View}
+use Rattle.cy_engine.specs.EngineStep.{Answer, EngineStep}
 
 -- where the content stays, no view gets an entry
 pub nothing_changed : (views : List View) (content : Content) (tick : ℕ) → AreEntries views content content tick []
 nothing_changed [] content tick = refl
 nothing_changed (view ∷ views) content tick = inl ((λ row. refl), nothing_changed views content tick)
 
-run_append : (old mid new : EngineState) (events : List Event) (e : Event) → Run old events mid → Step mid e.line e.answer e.entries new → Run old (events ++ e ∷ []) new
-run_append old mid new [] e run step = (new, subst (λ (s : EngineState). Step s e.line e.answer e.entries new) run step, refl)
+run_append : (old mid new : EngineState) (events : List Event) (e : Event) → Run old events mid → EngineStep mid e.line e.answer e.entries new → Run old (events ++ e ∷ []) new
+run_append old mid new [] e run step = (new, subst (λ (s : EngineState). EngineStep s e.line e.answer e.entries new) run step, refl)
 run_append old mid new (f ∷ events) e (next, first, run) step = (next, first, run_append next mid new events e run step)
 
 mapped : {A : Type 0} (f : Event → A) (events : List Event) (e : Event) → map f (events ++ e ∷ []) ≡ map f events ++ f e ∷ []
@@ -26,7 +26,7 @@ last_of entries (d ∷ events) e = last_of d.entries events e
 
 -- a run goes on by one line
 pub runs_more : (old mid new : Machine) (lines : List (List ℕ)) (answers : List Answer) (line : List ℕ) (answer : Answer)
-    → Runs old mid lines answers → Step (state_of mid) line answer new.entries (state_of new) → Runs old new (lines ++ line ∷ []) (answers ++ answer ∷ [])
+    → Runs old mid lines answers → EngineStep (state_of mid) line answer new.entries (state_of new) → Runs old new (lines ++ line ∷ []) (answers ++ answer ∷ [])
 runs_more old mid new lines answers line answer runs step =
     let e : Event = record { line = line; answer = answer; entries = new.entries } in record {
       events = runs.events ++ e ∷ [];

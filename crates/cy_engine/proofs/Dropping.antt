@@ -4,10 +4,10 @@ use Rattle.std.specs.Str.{bytes_eq}
 use Rattle.cy_index.specs.Index.{StoreState}
 use Rattle.cy_engine_views.specs.declared.views.Views.{Views}
 use Rattle.cy_engine_views.specs.Upkeep.{Held, held_in, upkeep_of, view_of, views_in}
-use Rattle.cy_engine_views.specs.Views.{Entries, View, view_among, without}
+use Rattle.cy_engine_views.specs.RegisteredViews.{Entries, View, view_among, without}
 use Rattle.cy_engine.specs.Model.{machine_of, state_of}
 use Rattle.cy_engine.specs.State.{EngineState}
-use Rattle.cy_engine.specs.Step.{Answer, Drops, IsDropped, IsRefused, unkept}
+use Rattle.cy_engine.specs.EngineStep.{Answer, Drops, IsDropped, IsRefused, unkept}
 use Rattle.cy_engine.specs.Verdicts.{rows_verdict, there}
 use Rattle.cy_engine.specs.declared.faults.Fault.TheVariants as fault
 use Rattle.cy_engine.specs.declared.replies.Reply.TheVariants as reply

@@ -6,7 +6,7 @@ use Rattle.std.specs.Str.{bytes_eq}
 use Rattle.cy_values.specs.Bag.{IsSameBag}
 use Rattle.cy_graph.specs.Graph.{Content}
 use Rattle.cy_bags.specs.declared.changes.Entry.{Entry}
-use Rattle.cy_engine_views.specs.Views.{AreEntries, Entries, IsEntry, View, entry_at, rows_of}
+use Rattle.cy_engine_views.specs.RegisteredViews.{AreEntries, Entries, IsEntry, View, entry_at, rows_of}
 use Rattle.cy_engine_views.specs.Upkeep.{AreNamed, IsNew}
 use Rattle.cy_engine_views.proofs.Named.{itself, turned}
 

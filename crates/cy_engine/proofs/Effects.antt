@@ -17,8 +17,8 @@ use Rattle.cy_engine.specs.declared.faults.Fault.{Fault}
 use Rattle.cy_engine.specs.declared.faults.Fault.TheVariants.{NoSuchView}
 use Rattle.cy_engine.specs.Requests.{Request, Nothing, StatementOf, ViewOf, RowsOf, SinceOf, ListOfViews, ListOfSteps, DropOf, IndexOf, Refused, request}
 use Rattle.cy_engine.specs.State.{EngineState, view_at}
-use Rattle.cy_engine_views.specs.Views.{AreEntries, Entries, View}
-use Rattle.cy_engine.specs.Step.{Answer, IsExecuted, IsMade, IsDropped, IsIndexed, Executes, Makes, Drops, Indexes, Shows, Follows, Tells, Answers, Lexed, Step}
+use Rattle.cy_engine_views.specs.RegisteredViews.{AreEntries, Entries, View}
+use Rattle.cy_engine.specs.EngineStep.{Answer, IsExecuted, IsMade, IsDropped, IsIndexed, Executes, Makes, Drops, Indexes, Shows, ShowsAnswer, AnswersSince, Answers, Lexed, EngineStep}
 use Rattle.cy_engine.specs.Verdicts.{Executed, execution_verdict, index_verdict, or_fault, rows_verdict, scope_verdict, since_verdict, statement_verdict, there, tick_after, view_verdict}
 use Rattle.cy_engine.proofs.Chains.{nothing_changed}
 use Rattle.cy_engine.proofs.Queries.{IsFresh, bind_ok, same_ok, view_made}
@@ -69,11 +69,11 @@ module _ (old : EngineState) (answer : Answer) (entries : Entries) (new : Engine
   shows_effects name (Ok view) (rows, are, a) = inl (a.state, a.no_entries)
   shows_effects name (Err why) a = inl (a.state, a.no_entries)
 
-  tells_effects : (name : List ℕ) (tick : ℕ) (v : Result View Fault) → Tells name tick v old answer entries new → Effects
+  tells_effects : (name : List ℕ) (tick : ℕ) (v : Result View Fault) → AnswersSince name tick v old answer entries new → Effects
   tells_effects name tick (Err why) a = inl (a.state, a.no_entries)
   tells_effects name tick (Ok view) a = from (answer_since tick view.feed) a
     where
-      from : (told : feeds.Answer) → Follows name view told old answer entries new → Effects
+      from : (told : feeds.Answer) → ShowsAnswer name view told old answer entries new → Effects
       from (Since changes) a = inl (a.state, a.no_entries)
       from Lagged a = shows_effects name (Ok view) a
 
@@ -107,7 +107,7 @@ module _ (old : EngineState) (answer : Answer) (entries : Entries) (new : Engine
   lexed_effects line (Err why) a = inl (a.state, a.no_entries)
   lexed_effects line (Ok tokens) a = answers_effects line (request line tokens) a
 
-  pub effects : (line : List ℕ) → Step old line answer entries new → Effects
+  pub effects : (line : List ℕ) → EngineStep old line answer entries new → Effects
   effects line (inl (why, lacks, a)) = inl (a.state, a.no_entries)
   effects line (inr a) = lexed_effects line (tokens_of line) a
 

@@ -14,12 +14,12 @@ use Rattle.cy_oneshot_meaning.specs.Queries.{statement_columns, statement_rows}
 use Rattle.cy_bags.specs.declared.changes.Entry.{Entry}
 use Rattle.cy_feeds.specs.Feeds.{History, new_history}
 use Rattle.cy_engine.specs.declared.replies.Reply.TheVariants as reply
-use Rattle.cy_engine.specs.Headline.{AreItsEntries, AsksForView, HeadlineHolds, IsItsEntry, IsMaintained, Leads, Moment, Serves, counts_in, entries_of, followed, moment_of, with_entries, with_entry}
+use Rattle.cy_engine.specs.Headline.{AreItsEntries, AsksForView, HeadlineHolds, IsItsEntry, IsMaintained, Leads, Moment, AnswersWithHeadline, counts_in, entries_of, followed, moment_of, with_entries, with_entry}
 use Rattle.cy_engine.specs.Model.{Machine, state_of}
 use Rattle.cy_engine.specs.Runs.{Event, OnlySo, Run, Runs, accepted}
 use Rattle.cy_engine.specs.State.{EngineState, empty_engine}
-use Rattle.cy_engine_views.specs.Views.{AreEntries, Entries, View, entry_at, fed, rows_of, without}
-use Rattle.cy_engine.specs.Step.{Answer, Step}
+use Rattle.cy_engine_views.specs.RegisteredViews.{AreEntries, Entries, View, entry_at, fed, rows_of, without}
+use Rattle.cy_engine.specs.EngineStep.{Answer, EngineStep}
 use Rattle.cy_engine_views.specs.Upkeep.{AreNamed}
 use Rattle.cy_engine.proofs.Building.{run_builds, step_leads}
 use Rattle.cy_engine.proofs.EachEntry.{each_entry}
@@ -126,7 +126,7 @@ module _ (old : EngineState) (answer : Answer) (entries : Entries) (mid : Engine
     ticks : mid.tick ≡ view.made
     answered : answer ≡ Ok (reply.Made (statement_columns view.query) view.made view.name)
 
-  stood_or_made : (line : List ℕ) → Step old line answer entries mid → Effects old answer entries mid → AreNamed old.views → Among view mid.views → Stood old entries mid view ⊎ WasMade line
+  stood_or_made : (line : List ℕ) → EngineStep old line answer entries mid → Effects old answer entries mid → AreNamed old.views → Among view mid.views → Stood old entries mid view ⊎ WasMade line
   stood_or_made line step (inl (left, none)) named there = inl (quiet_stood none (ap (λ (s : EngineState). s.graph) left) (subst (λ (s : EngineState). Among view s.views) left there))
   stood_or_made line step (inr (inl (executed, timed, a))) named there =
       let was = among_fed entries view old.views (subst (λ (s : EngineState). Among view s.views) a.state there) in
@@ -267,7 +267,7 @@ module _ (have : HaveRows) (no_trace : (old new : EngineState) (events : List Ev
       made view (inr was) = was
 
 -- lines that a new engine answers have it
-pub serves : HeadlineHolds → (old new : Machine) (lines : List (List ℕ)) (answers : List Answer) → Runs old new lines answers → Serves old new lines answers
+pub serves : HeadlineHolds → (old new : Machine) (lines : List (List ℕ)) (answers : List Answer) → Runs old new lines answers → AnswersWithHeadline old new lines answers
 serves holds old new lines answers runs = record {
   run = runs;
   headline = λ history is. holds history runs.events (state_of new) (subst (λ (m : Machine). Run (state_of m) runs.events (state_of new)) is runs.run);

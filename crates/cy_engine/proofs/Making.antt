@@ -20,8 +20,8 @@ use Rattle.cy_engine.specs.declared.replies.Reply.TheVariants as reply
 use Rattle.cy_engine.specs.Headline.{AsksForView}
 use Rattle.cy_engine.specs.Requests.{Asks, Request, Nothing, StatementOf, ViewOf, RowsOf, SinceOf, ListOfViews, ListOfSteps, DropOf, IndexOf, Refused, request}
 use Rattle.cy_engine.specs.State.{EngineState}
-use Rattle.cy_engine_views.specs.Views.{Entries, View}
-use Rattle.cy_engine.specs.Step.{Answer, Answers, Executes, Drops, Follows, Indexes, IsMade, Lexed, Makes, Shows, Step, Tells}
+use Rattle.cy_engine_views.specs.RegisteredViews.{Entries, View}
+use Rattle.cy_engine.specs.EngineStep.{Answer, Answers, Executes, Drops, ShowsAnswer, Indexes, IsMade, Lexed, Makes, Shows, EngineStep, AnswersSince}
 use Rattle.cy_engine.specs.Verdicts.{Executed, index_verdict, query_verdict, rows_verdict, scope_verdict, since_verdict, statement_verdict, passes, view_verdict}
 use Rattle.cy_engine.proofs.Building.{scoped}
 use Rattle.cy_engine.proofs.Queries.{bind_ok, same_ok, view_parts}
@@ -81,11 +81,11 @@ module _ (line : List ℕ) (old : EngineState) (answer : Answer) (entries : Entr
   shows_asked name (Err why) a = refused_asked why a.answered
   shows_asked name (Ok shown) (rows, are, a) = otherwise _ a.answered (λ same. cc)
 
-  tells_asked : (name : List ℕ) (tick : ℕ) (v : Result View Fault) → Tells name tick v old answer entries new → IsAsked
+  tells_asked : (name : List ℕ) (tick : ℕ) (v : Result View Fault) → AnswersSince name tick v old answer entries new → IsAsked
   tells_asked name tick (Err why) a = refused_asked why a.answered
   tells_asked name tick (Ok shown) a = from (answer_since tick shown.feed) a
     where
-      from : (told : feeds.Answer) → Follows name shown told old answer entries new → IsAsked
+      from : (told : feeds.Answer) → ShowsAnswer name shown told old answer entries new → IsAsked
       from (Since changes) a = otherwise _ a.answered (λ same. cc)
       from Lagged a = shows_asked name (Ok shown) a
 
@@ -116,6 +116,6 @@ module _ (line : List ℕ) (old : EngineState) (answer : Answer) (entries : Entr
   lexed_asked (Err why) is a = refused_asked (fault.Lex why) a.answered
   lexed_asked (Ok tokens) is a = answers_asked tokens is (request line tokens) refl a
 
-  pub step_asked : Step old line answer entries new → IsAsked
+  pub step_asked : EngineStep old line answer entries new → IsAsked
   step_asked (inl (why, lacks, a)) = refused_asked why a.answered
   step_asked (inr a) = lexed_asked (tokens_of line) refl a

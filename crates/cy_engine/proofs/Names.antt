@@ -1,7 +1,7 @@
 -- Views keep names of their own.
 use Rattle.std.proofs.Common.{◌≡◌, ◌⊎◌, ◌<◌, ℕ, zero, suc, false, cond, List, [], ◌∷◌, ◌++◌, find, length, get_or, Some, sym, ap, ◌∙◌, arith, inl, inr}
 use Rattle.std.specs.Str.{bytes_eq}
-use Rattle.cy_engine_views.specs.Views.{View}
+use Rattle.cy_engine_views.specs.RegisteredViews.{View}
 use Rattle.cy_engine_views.specs.Upkeep.{AreNamed, IsNew}
 use Rattle.cy_engine_views.proofs.Named.{itself}
 

@@ -30,8 +30,8 @@ use Rattle.cy_bags.specs.Difference.{IsDifference}
 use Rattle.cy_engine.specs.Requests.{Request, Nothing, StatementOf, ViewOf, RowsOf, SinceOf, ListOfViews, ListOfSteps, DropOf, IndexOf, Refused, request}
 use Rattle.cy_engine.specs.Runs.{Agree, IsBound, is_choice, is_want, seen_answer}
 use Rattle.cy_engine.specs.State.{EngineState, seen, unplanned}
-use Rattle.cy_engine_views.specs.Views.{AreEntries, Entries, IsEntry, View, fed, listed, rows_of, without}
-use Rattle.cy_engine.specs.Step.{Answer, AreRows, IsRefused, IsReplied, Executes, KeepsUp, Lacks, Makes, Drops, Indexes, Shows, Follows, Tells, Answers, Lexed, Step, unkept}
+use Rattle.cy_engine_views.specs.RegisteredViews.{AreEntries, Entries, IsEntry, View, fed, listed, rows_of, without}
+use Rattle.cy_engine.specs.EngineStep.{Answer, AreRows, IsRefused, IsReplied, Executes, KeepsUp, Lacks, Makes, Drops, Indexes, Shows, ShowsAnswer, AnswersSince, Answers, Lexed, EngineStep, unkept}
 use Rattle.cy_engine.specs.Verdicts.{Executed, index_verdict, rows_verdict, same_content, since_verdict, statement_verdict, view_verdict}
 use Rattle.cy_bags.proofs.Surpluses.{same_pairs}
 
@@ -174,11 +174,11 @@ module _ (total : IsTotalOrder row_cmp) where
     shows_one name (Ok view) (rows, are, a) (rows_2, are_2, b) =
         replied_one (reply.Rows rows old.tick name) (reply.Rows rows_2 old.tick name) (ap (λ (r : List (List Cell × ℕ)). let x : Answer = Ok (reply.Rows r old.tick name) in x) (rows_one old view rows rows_2 are are_2)) a b
 
-    tells_one : (name : List ℕ) (tick : ℕ) (v : Result View Fault) → Tells name tick v old answer entries new → Tells name tick v twin again more other → Same
+    tells_one : (name : List ℕ) (tick : ℕ) (v : Result View Fault) → AnswersSince name tick v old answer entries new → AnswersSince name tick v twin again more other → Same
     tells_one name tick (Err why) a b = refused_one why a b
     tells_one name tick (Ok view) a b = from (answer_since tick view.feed) a b
       where
-        from : (told : feeds.Answer) → Follows name view told old answer entries new → Follows name view told twin again more other → Same
+        from : (told : feeds.Answer) → ShowsAnswer name view told old answer entries new → ShowsAnswer name view told twin again more other → Same
         from (Since changes) a b = replied_one (reply.Entries changes old.tick name) (reply.Entries changes old.tick name) refl a b
         from Lagged a b = shows_one name (Ok view) a b
 
@@ -222,7 +222,7 @@ module _ (total : IsTotalOrder row_cmp) where
   no_lack line state answer why (inl (is, short, some)) answered bound = let wrong : true ≡ false = sym (ap is_want (answered ∙ ap Err is)) ∙ bound in cc
   no_lack line state answer why (inr (is, many)) answered bound = let wrong : true ≡ false = sym (ap is_want (answered ∙ ap Err is)) ∙ bound in cc
 
-  pub step_one : IsOne → (old twin new other : EngineState) (line : List ℕ) (answer again : Answer) (entries more : Entries) → seen twin ≡ seen old → Step old line answer entries new → Step twin line again more other
+  pub step_one : IsOne → (old twin new other : EngineState) (line : List ℕ) (answer again : Answer) (entries more : Entries) → seen twin ≡ seen old → EngineStep old line answer entries new → EngineStep twin line again more other
       → IsBound answer → IsBound again → Agree answer again × (entries ≡ more) × (seen new ≡ seen other)
   step_one one old second new other line answer again entries more like (inl (why, lacks, a)) b bound bound_2 = absurd (no_lack line old answer why lacks a.answered bound)
   step_one one old second new other line answer again entries more like (inr a) (inl (why, lacks, b)) bound bound_2 = absurd (no_lack line second again why lacks b.answered bound_2)

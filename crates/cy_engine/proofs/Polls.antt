@@ -19,8 +19,8 @@ use Rattle.cy_engine.specs.Followers.{Copy, FollowersAgree, IsCurrent, IsLedBy, 
 use Rattle.cy_engine.specs.Requests.{Asks, Request, RowsOf, SinceOf}
 use Rattle.cy_engine.specs.Runs.{Event, Run}
 use Rattle.cy_engine.specs.State.{EngineState, empty_engine, view_at}
-use Rattle.cy_engine_views.specs.Views.{Entries, View, entry_at, fed, rows_of, without}
-use Rattle.cy_engine.specs.Step.{Answer, Answers, AreRows, Follows, IsRefused, Lexed, Shows, Step, Tells}
+use Rattle.cy_engine_views.specs.RegisteredViews.{Entries, View, entry_at, fed, rows_of, without}
+use Rattle.cy_engine.specs.EngineStep.{Answer, Answers, AreRows, ShowsAnswer, IsRefused, Lexed, Shows, EngineStep, AnswersSince}
 use Rattle.cy_engine.specs.Verdicts.{needs, there}
 use Rattle.cy_engine_views.specs.Upkeep.{AreNamed}
 use Rattle.cy_trees.specs.Trees.{Statement}
@@ -44,7 +44,7 @@ module _ (content : ℕ → Content) (name : List ℕ) where
 -- ---- a poll, and what is answered to it
 
 -- a line that asks for something is answered as it asks, or refused
-pub asked_step : (line : List ℕ) (asked : Request) (old : EngineState) (answer : Answer) (entries : Entries) (new : EngineState) → Asks line asked → Step old line answer entries new
+pub asked_step : (line : List ℕ) (asked : Request) (old : EngineState) (answer : Answer) (entries : Entries) (new : EngineState) → Asks line asked → EngineStep old line answer entries new
     → ((why : Fault) × IsRefused why old answer entries new) ⊎ Answers line asked old answer entries new
 asked_step line asked old answer entries new asks (inl (why, lacks, a)) = inl (why, a)
 asked_step line asked old answer entries new asks (inr lexed) =
@@ -98,7 +98,7 @@ module _ (go_on : FollowersGoOn) (content : ℕ → Content) (name : List ℕ) (
 
     -- the entries above the tick of the copy lead to the rows of now
     module _ (told : IsTold content old.tick view) (copy : Copy) (has : held ≡ Some copy) (in_time : copy.tick ≤ old.tick) (fits : FitsView content name copy view) where
-      followed : (base : view.feed.base ≤ copy.tick) → Follows name view (Since (entries_after copy.tick view.feed.entries)) old answer entries new → TakesOver held answer next → Served
+      followed : (base : view.feed.base ≤ copy.tick) → ShowsAnswer name view (Since (entries_after copy.tick view.feed.entries)) old answer entries new → TakesOver held answer next → Served
       followed base replied takes =
           let changed = subst (λ (h : Option Copy). TakesOver h (Ok (reply.Entries (entries_after copy.tick view.feed.entries) old.tick name)) next) has
           (subst (λ (a : Answer). TakesOver held a next) replied.answered takes) in
@@ -109,9 +109,9 @@ module _ (go_on : FollowersGoOn) (content : ℕ → Content) (name : List ℕ) (
           let now = current changed.0 (record { bag = on_graph.bag; canonical = on_graph.canonical }) replied.state changed.2 in
           (subst (λ (a : Answer). IsServed name new a held next) (sym replied.answered) now.0, now.1)
 
-      told_since : Tells name copy.tick (Ok view) old answer entries new → TakesOver held answer next → Served
+      told_since : AnswersSince name copy.tick (Ok view) old answer entries new → TakesOver held answer next → Served
       told_since tells takes =
-          elim (nat_le view.feed.base copy.tick) as (λ b. nat_le view.feed.base copy.tick ≡ b → Follows name view (cond b (Since (entries_after copy.tick view.feed.entries)) Lagged) old answer entries new → Served) [
+          elim (nat_le view.feed.base copy.tick) as (λ b. nat_le view.feed.base copy.tick ≡ b → ShowsAnswer name view (cond b (Since (entries_after copy.tick view.feed.entries)) Lagged) old answer entries new → Served) [
             | true ↦ λ h answers. followed (grind (arith, nat_tests)) answers takes
             | false ↦ λ h answers. shown answers takes
           ] refl tells
@@ -137,7 +137,7 @@ module _ (new_tell : NewFeedsTell) (pushed_tell : PushedFeedsTell) (quiet_tell :
       ] is
 
   -- a poll of the follower
-  polled : (old : EngineState) (line : List ℕ) (answer : Answer) (entries : Entries) (new : EngineState) (held next : Option Copy) → Known old held → IsPoll name held line → Step old line answer entries new
+  polled : (old : EngineState) (line : List ℕ) (answer : Answer) (entries : Entries) (new : EngineState) (held next : Option Copy) → Known old held → IsPoll name held line → EngineStep old line answer entries new
       → TakesOver held answer next → IsServed name new answer held next × IsRight content name new next
   polled old line answer entries new held next known poll step takes = from held refl poll
     where
@@ -155,14 +155,14 @@ module _ (new_tell : NewFeedsTell) (pushed_tell : PushedFeedsTell) (quiet_tell :
       by_since : (copy : Copy) → held ≡ Some copy → Asks line (SinceOf name copy.tick) → IsServed name new answer held next × IsRight content name new next
       by_since copy has asks = answered (asked_step line (SinceOf name copy.tick) old answer entries new asks step)
         where
-          in_time : (b : Bool) → (view : View) → view_at name old ≡ Some view → Tells name copy.tick (needs b fault.FutureTick >>= λ _. Ok view) old answer entries new
+          in_time : (b : Bool) → (view : View) → view_at name old ≡ Some view → AnswersSince name copy.tick (needs b fault.FutureTick >>= λ _. Ok view) old answer entries new
               → IsServed name new answer held next × IsRight content name new next
           in_time false view is refused = after_refusal go_on content name old answer entries new held next fault.FutureTick refused known.right takes
           in_time true view is tells =
               let right = subst (IsRight content name old) has known.right in
               told_since go_on content name old answer entries new held next known.now view is (found_each (IsTold content old.tick) old.views view is known.told) copy has right.0 (right.1 view is) tells takes
 
-          at_name : (o : Option View) → view_at name old ≡ o → Tells name copy.tick (there fault.NoSuchView o >>= λ view. needs (nat_le copy.tick old.tick) fault.FutureTick >>= λ _. Ok view) old answer entries new
+          at_name : (o : Option View) → view_at name old ≡ o → AnswersSince name copy.tick (there fault.NoSuchView o >>= λ view. needs (nat_le copy.tick old.tick) fault.FutureTick >>= λ _. Ok view) old answer entries new
               → IsServed name new answer held next × IsRight content name new next
           at_name None is refused = after_refusal go_on content name old answer entries new held next fault.NoSuchView refused known.right takes
           at_name (Some view) is tells = in_time (nat_le copy.tick old.tick) view is tells
@@ -280,7 +280,7 @@ module _ (new_tell : NewFeedsTell) (pushed_tell : PushedFeedsTell) (quiet_tell :
   abbrev pub Agrees : (old new : EngineState) (events : List Event) → Run old events new → Type 0
   Agrees old new events run = (tick : ℕ) → old.tick ≤ tick → content tick ≡ content_at old events new run tick
 
-  module _ (old mid new : EngineState) (e : Event) (events : List Event) (step : Step old e.line e.answer e.entries mid) (run : Run mid events new) (agrees : Agrees old new (e ∷ events) (mid, step, run)) where
+  module _ (old mid new : EngineState) (e : Event) (events : List Event) (step : EngineStep old e.line e.answer e.entries mid) (run : Run mid events new) (agrees : Agrees old new (e ∷ events) (mid, step, run)) where
     does : Effects old e.answer e.entries mid
     does = effects old e.answer e.entries mid e.line step
 

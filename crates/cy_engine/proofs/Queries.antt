@@ -13,7 +13,7 @@ use Rattle.cy_planner.specs.Weight.{greatest_weight, weight}
 use Rattle.cy_engine.specs.declared.faults.Fault.{Fault}
 use Rattle.cy_engine.specs.declared.faults.Fault.TheVariants as fault
 use Rattle.cy_engine.specs.State.{EngineState, last_tick, view_at}
-use Rattle.cy_engine_views.specs.Views.{View, view_limit}
+use Rattle.cy_engine_views.specs.RegisteredViews.{View, view_limit}
 use Rattle.cy_engine.specs.Verdicts.{making_verdict, needs, next_tick, query_verdict, scope_verdict, passes, view_verdict}
 
 pub bind_ok : {A B : Type 0} (r : Result A Fault) (f : A → Result B Fault) (y : B) → (r >>= f) ≡ Ok y → (x : A) × (r ≡ Ok x) × (f x ≡ Ok y)

@@ -9,7 +9,7 @@ use Rattle.cy_feeds.specs.declared.feeds.Answer.{Answer}
 use Rattle.cy_feeds.specs.declared.feeds.Answer.TheVariants.{Lagged}
 use Rattle.cy_feeds.specs.Feeds.{answer_since}
 use Rattle.cy_engine.specs.State.{EngineState, view_at}
-use Rattle.cy_engine_views.specs.Views.{AreRowsOf, AreShown, View}
+use Rattle.cy_engine_views.specs.RegisteredViews.{AreRowsOf, AreShown, View}
 use Rattle.cy_engine.specs.Verdicts.{since_verdict, there}
 use Rattle.cy_engine.specs.declared.faults.Fault.{Fault}
 use Rattle.cy_engine.specs.declared.faults.Fault.TheVariants as fault

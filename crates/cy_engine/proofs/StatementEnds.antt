@@ -8,7 +8,7 @@ use Rattle.cy_updates_meaning.specs.Statements.{Outcome, statement_outcome}
 use Rattle.cy_network_touches.specs.Changes.{before_change}
 use Rattle.cy_engine_views.specs.declared.views.Views.{Views}
 use Rattle.cy_engine_views.specs.Upkeep.{AreKeptUp, Held, SomeHasTooManyRows, StandFor, Upkeep, held_in, upkeep_in, upkeep_of, view_of, views_in}
-use Rattle.cy_engine_views.specs.Views.{Entries, View, fed}
+use Rattle.cy_engine_views.specs.RegisteredViews.{Entries, View, fed}
 use Rattle.cy_engine.specs.declared.engine.Effect.{Effect}
 use Rattle.cy_engine.specs.declared.faults.Fault.{Fault}
 use Rattle.cy_engine.specs.declared.replies.Reply.{Reply}
@@ -16,7 +16,7 @@ use Rattle.cy_engine.specs.declared.replies.Reply.TheVariants as reply
 use Rattle.cy_engine.specs.Model.{machine_of, state_of}
 use Rattle.cy_engine.specs.Requests.{StatementOf}
 use Rattle.cy_engine.specs.State.{EngineState, last_tick}
-use Rattle.cy_engine.specs.Step.{AreBounded, StatementHasTooMany, changed_by}
+use Rattle.cy_engine.specs.EngineStep.{AreBounded, StatementHasTooMany, changed_by}
 use Rattle.cy_engine.specs.Verdicts.{same_content, scope_verdict, tick_after}
 use Rattle.cy_engine.specs.internal.Representation.{IsAtRest}
 use Rattle.cy_engine.specs.internal.Stages.{AnswersOrWants, HasNoEffect, HasTree, IsEffect}

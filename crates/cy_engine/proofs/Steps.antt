@@ -23,7 +23,7 @@ use Rattle.cy_engine_views.specs.declared.faults.UpkeepFault.{UpkeepFault}
 use Rattle.cy_engine_views.specs.declared.faults.UpkeepFault.TheVariants as upkeep
 use Rattle.cy_engine_views.specs.declared.views.Views.{Views}
 use Rattle.cy_engine_views.specs.Upkeep.{IsUnkept, StandFor, held_in, new_held, upkeep_of, view_of}
-use Rattle.cy_engine_views.specs.Views.{Entries, View, view_limit}
+use Rattle.cy_engine_views.specs.RegisteredViews.{Entries, View, view_limit}
 use Rattle.cy_engine.specs.Faults.{of_index, of_update, of_upkeep}
 use Rattle.cy_engine.specs.declared.faults.Fault.{Fault}
 use Rattle.cy_engine.specs.declared.faults.Fault.TheVariants as fault
@@ -33,7 +33,7 @@ use Rattle.cy_engine.specs.internal.Stages.{HasTree, Fails, AddsIndex, AnswersOr
 use Rattle.cy_engine.specs.Model.{machine_of, state_of}
 use Rattle.cy_engine.specs.Requests.{Request, StatementOf, ViewOf}
 use Rattle.cy_engine.specs.State.{EngineState, view_at}
-use Rattle.cy_engine.specs.Step.{Answer, IsExecuted, IsMade, IsRefused, ViewHasTooMany}
+use Rattle.cy_engine.specs.EngineStep.{Answer, IsExecuted, IsMade, IsRefused, ViewHasTooMany}
 use Rattle.cy_engine.specs.Verdicts.{Executed, execution_verdict, making_verdict, needs, next_tick, query_verdict, scope_verdict, tick_after, passes, view_verdict}
 use Rattle.cy_engine.proofs.Limits.{stand_bounded, stand_within}
 

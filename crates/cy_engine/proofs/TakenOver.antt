@@ -10,14 +10,14 @@ use Rattle.cy_feeds.specs.Feeds.{IsRising, entries_after}
 use Rattle.cy_feeds.specs.Following.{FollowersGoOn, IsCopy, NewFeedsTell, PushedFeedsTell, QuietFeedsTell, count_after, has_tick, last_count}
 use Rattle.cy_feeds.proofs.GoingOn.{Differ, InTime, Silent, copies_change, goes_on_after, other_tick}
 use Rattle.cy_updates_meaning.specs.Faults.{◌>>=◌}
-use Rattle.cy_engine_views.specs.Views.{View}
+use Rattle.cy_engine_views.specs.RegisteredViews.{View}
 use Rattle.cy_engine.specs.declared.faults.Fault.{Fault}
 use Rattle.cy_engine.specs.declared.faults.Fault.TheVariants as fault
 use Rattle.cy_engine.specs.declared.replies.Reply.TheVariants as reply
 use Rattle.cy_engine.specs.Followers.{CanFollow, EntriesCanBeTaken, no_copy}
 use Rattle.cy_engine.specs.Requests.{Asks, RowsOf, SinceOf}
 use Rattle.cy_engine.specs.State.{empty_engine, view_at}
-use Rattle.cy_engine.specs.Step.{Answer, Answers, Follows, IsRefused, Shows, Tells}
+use Rattle.cy_engine.specs.EngineStep.{Answer, Answers, ShowsAnswer, IsRefused, Shows, AnswersSince}
 use Rattle.cy_engine.specs.Verdicts.{needs, there}
 use Rattle.cy_engine.proofs.Bounds.{IsLimited}
 use Rattle.cy_engine.proofs.Polls.{Known, asked_step, found_each, known_run}
@@ -128,7 +128,7 @@ module _ (new_tell : NewFeedsTell) (pushed_tell : PushedFeedsTell) (quiet_tell :
       shown (Some found) (rows, are, replied) = absurd (no_rows rows old.tick name entries tick view poll.answer replied.answered is)
 
       told : (found : View) → view_at name old ≡ Some found → (b : Bool) → nat_le found.feed.base copy.tick ≡ b
-          → Follows name found (cond b (Since (entries_after copy.tick found.feed.entries)) Lagged) old poll.answer poll.entries after → CanFollow copy.rows entries
+          → ShowsAnswer name found (cond b (Since (entries_after copy.tick found.feed.entries)) Lagged) old poll.answer poll.entries after → CanFollow copy.rows entries
       told found at true low replied =
           let base : found.feed.base ≤ copy.tick = grind (arith, nat_tests) in
           let tells = (found_each new_tell pushed_tell quiet_tell go_on content name (IsTold content old.tick) old.views found at known.told).tells in
@@ -138,11 +138,11 @@ module _ (new_tell : NewFeedsTell) (pushed_tell : PushedFeedsTell) (quiet_tell :
           (λ t past until. limited t (omega (arith, base, past)) until) (known.right.1 found at base))
       told found at false low (rows, are, replied) = absurd (no_rows rows old.tick name entries tick view poll.answer replied.answered is)
 
-      in_time : (found : View) → view_at name old ≡ Some found → (b : Bool) → Tells name copy.tick (needs b fault.FutureTick >>= λ _. Ok found) old poll.answer poll.entries after → CanFollow copy.rows entries
+      in_time : (found : View) → view_at name old ≡ Some found → (b : Bool) → AnswersSince name copy.tick (needs b fault.FutureTick >>= λ _. Ok found) old poll.answer poll.entries after → CanFollow copy.rows entries
       in_time found at false refused = absurd (no_refusal fault.FutureTick entries tick view poll.answer refused.answered is)
       in_time found at true tells = told found at (nat_le found.feed.base copy.tick) refl tells
 
-      since : (o : Option View) → view_at name old ≡ o → Tells name copy.tick (there fault.NoSuchView o >>= λ v. needs (nat_le copy.tick old.tick) fault.FutureTick >>= λ _. Ok v) old poll.answer poll.entries after
+      since : (o : Option View) → view_at name old ≡ o → AnswersSince name copy.tick (there fault.NoSuchView o >>= λ v. needs (nat_le copy.tick old.tick) fault.FutureTick >>= λ _. Ok v) old poll.answer poll.entries after
           → CanFollow copy.rows entries
       since None at refused = absurd (no_refusal fault.NoSuchView entries tick view poll.answer refused.answered is)
       since (Some found) at tells = in_time found at (nat_le copy.tick old.tick) tells

@@ -4,8 +4,8 @@ use Rattle.std.proofs.lemmas.Bool.Decides.{nat_tests}
 use Rattle.cy_graph.specs.Graph.{Content}
 use Rattle.cy_engine.specs.Runs.{Event, Run}
 use Rattle.cy_engine.specs.State.{EngineState}
-use Rattle.cy_engine_views.specs.Views.{Entries}
-use Rattle.cy_engine.specs.Step.{Answer}
+use Rattle.cy_engine_views.specs.RegisteredViews.{Entries}
+use Rattle.cy_engine.specs.EngineStep.{Answer}
 use Rattle.cy_engine.specs.Verdicts.{next_tick, same_content, tick_after}
 use Rattle.cy_engine.proofs.Contents.{content_decides}
 use Rattle.cy_engine.proofs.Effects.{Effects}

@@ -11,8 +11,8 @@ use Rattle.cy_feeds.specs.Feeds.{History, IsRising, latest, pushed}
 use Rattle.cy_feeds.specs.Following.{NewFeedsTell, PushedFeedsTell, QuietFeedsTell, Tells as TellsRows}
 use Rattle.cy_trees.specs.Trees.{Statement}
 use Rattle.cy_engine.specs.State.{EngineState}
-use Rattle.cy_engine_views.specs.Views.{AreEntries, Entries, IsEntry, View, entry_at, fed, rows_of, without}
-use Rattle.cy_engine.specs.Step.{Answer}
+use Rattle.cy_engine_views.specs.RegisteredViews.{AreEntries, Entries, IsEntry, View, entry_at, fed, rows_of, without}
+use Rattle.cy_engine.specs.EngineStep.{Answer}
 use Rattle.cy_engine_views.specs.Upkeep.{AreNamed}
 use Rattle.cy_engine.proofs.Effects.{Effects, exact}
 use Rattle.cy_engine.proofs.EachEntry.{each_entry}

@@ -13,8 +13,8 @@ use Rattle.cy_engine.specs.declared.replies.Reply.{Reply}
 use Rattle.cy_engine.specs.Requests.{Request, Nothing, StatementOf, ViewOf, RowsOf, SinceOf, ListOfViews, ListOfSteps, DropOf, IndexOf, Refused, request}
 use Rattle.cy_engine.specs.Runs.{Event, Run, Agree, IsBound, IsDetermined, OnlySo, accepted, accepted_before, is_choice, is_want, seen_answer, seen_event}
 use Rattle.cy_engine.specs.State.{EngineState, seen}
-use Rattle.cy_engine_views.specs.Views.{Entries, View}
-use Rattle.cy_engine.specs.Step.{Answer, Executes, Makes, Drops, Indexes, Shows, Follows, Tells, Answers, Lexed, Step}
+use Rattle.cy_engine_views.specs.RegisteredViews.{Entries, View}
+use Rattle.cy_engine.specs.EngineStep.{Answer, Executes, Makes, Drops, Indexes, Shows, ShowsAnswer, AnswersSince, Answers, Lexed, EngineStep}
 use Rattle.cy_engine.specs.Verdicts.{Executed, index_verdict, rows_verdict, since_verdict, statement_verdict, view_verdict}
 
 abbrev is_ok : Answer → Type 0
@@ -36,11 +36,11 @@ module _ (old : EngineState) (answer : Answer) (entries : Entries) (new : Engine
   shows_left name (Ok view) (rows, are, a) = a.state
   shows_left name (Err other) a = a.state
 
-  tells_left : (name : List ℕ) (tick : ℕ) (v : Result View Fault) → Tells name tick v old answer entries new → new ≡ old
+  tells_left : (name : List ℕ) (tick : ℕ) (v : Result View Fault) → AnswersSince name tick v old answer entries new → new ≡ old
   tells_left name tick (Err other) a = a.state
   tells_left name tick (Ok view) a = from (answer_since tick view.feed) a
     where
-      from : (told : feeds.Answer) → Follows name view told old answer entries new → new ≡ old
+      from : (told : feeds.Answer) → ShowsAnswer name view told old answer entries new → new ≡ old
       from (Since changes) a = a.state
       from Lagged (rows, are, a) = a.state
 
@@ -70,7 +70,7 @@ module _ (old : EngineState) (answer : Answer) (entries : Entries) (new : Engine
   lexed_left line (Err other) a = a.state
   lexed_left line (Ok tokens) a = answers_left line (request line tokens) a
 
-  pub step_left : (line : List ℕ) → Step old line answer entries new → new ≡ old
+  pub step_left : (line : List ℕ) → EngineStep old line answer entries new → new ≡ old
   step_left line (inl (why, lacks, a)) = a.state
   step_left line (inr a) = lexed_left line (tokens_of line) a
 
@@ -108,7 +108,7 @@ module _ (determined : IsDetermined) where
   runs_one old twin new other (e ∷ es) [] alike run again lines ok room = absurd (cc)
   runs_one old twin new other (e ∷ es) (f ∷ fs) alike (mid, step, run) (mid_2, step_2, again) lines ok room =
       let line = heads e f es fs lines in
-      let step_of_e : Step twin e.line f.answer f.entries mid_2 = subst (λ (l : List ℕ). Step twin l f.answer f.entries mid_2) line.0 step_2 in
+      let step_of_e : EngineStep twin e.line f.answer f.entries mid_2 = subst (λ (l : List ℕ). EngineStep twin l f.answer f.entries mid_2) line.0 step_2 in
       let one = determined old twin mid mid_2 e.line e.answer f.answer e.entries f.entries alike step step_of_e (is_bound e.answer ok.0) room.0 in
       let answer : seen_answer e.answer ≡ seen_answer f.answer = no_parser e.answer f.answer ok.0 one.0 in
       let entries : e.entries ≡ f.entries = one.1 in

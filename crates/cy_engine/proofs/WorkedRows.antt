@@ -33,7 +33,7 @@ use Rattle.cy_engine.specs.State.{EngineState, last_tick, seen, view_at}
 use Rattle.cy_planner_algebra.specs.Plans as plan
 use Rattle.cy_engine_views.specs.declared.views.Views.{Views}
 use Rattle.cy_engine_views.specs.Upkeep.{Upkeep, held_in, upkeep_in, views_in}
-use Rattle.cy_engine_views.specs.Views.{Entries, View, entry_at, rows_of}
+use Rattle.cy_engine_views.specs.RegisteredViews.{Entries, View, entry_at, rows_of}
 use Rattle.cy_engine.specs.Headline.{entries_of}
 use Rattle.cy_engine.specs.Runs.{Event, accepted}
 use Rattle.cy_engine.specs.Verdicts.{execution_verdict, statement_verdict, query_verdict, rows_verdict, since_verdict, index_verdict, view_verdict}

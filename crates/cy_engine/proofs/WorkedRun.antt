@@ -40,8 +40,8 @@ use Rattle.cy_graph.specs.Graph.{State, IsGraph, number_end}
 use Rattle.cy_graph.specs.Maps.{rises}
 use Rattle.cy_graph.specs.Stored.{IsStorable}
 use Rattle.cy_engine_views.specs.Upkeep.{IsWithinCost, SomeHasTooManyRows, Upkeep}
-use Rattle.cy_engine_views.specs.Views.{Entries, View}
-use Rattle.cy_engine.specs.Step.{Answer, Answers, Lexed, Step}
+use Rattle.cy_engine_views.specs.RegisteredViews.{Entries, View}
+use Rattle.cy_engine.specs.EngineStep.{Answer, Answers, Lexed, EngineStep}
 use Rattle.cy_bags.specs.internal.Counting.{counted_rows}
 use Rattle.cy_bags.specs.internal.Surplus.{surplus_of}
 use Rattle.cy_bags.proofs.Counting.{bag_of_counted}
@@ -180,22 +180,22 @@ module _ (p : Plan) (serves : Serves p keys) (within : (before after : State) �
 
   -- a line of these tokens is answered as it asks
   lexed : (old new : EngineState) (line : List ℕ) (tokens : List Token) (answer : Answer) (entries : Entries) → tokens_of line ≡ Ok tokens
-      → Answers line (request line tokens) old answer entries new → Step old line answer entries new
+      → Answers line (request line tokens) old answer entries new → EngineStep old line answer entries new
   lexed old new line tokens answer entries are answers = inr (subst (λ (r : Result (List Token) LexFault). Lexed line r old answer entries new) (sym are) answers)
 
   -- `CREATE (:A {k: 7})`
-  created : Step (empty_engine 64) create_line (statement 1 0) [] (one 1 (node (int 7)) 1 [])
+  created : EngineStep (empty_engine 64) create_line (statement 1 0) [] (one 1 (node (int 7)) 1 [])
   created = lexed (empty_engine 64) (one 1 (node (int 7)) 1 []) create_line create_tokens (statement 1 0) [] create_lexed
       (inl (create_tree, create_spelt, record { answered = refl; entries_are = refl; upkeep = refl; bounded = tt; within = λ many. absurd many; state = refl }))
 
   -- `:view v MATCH (n:A) RETURN n.k`
-  made : Step (one 1 (node (int 7)) 1 []) view_line (Ok (reply.Made (codes "n.k" ∷ []) 2 (codes "v"))) [] (one 1 (node (int 7)) 2 (view [] ∷ []))
+  made : EngineStep (one 1 (node (int 7)) 1 []) view_line (Ok (reply.Made (codes "n.k" ∷ []) 2 (codes "v"))) [] (one 1 (node (int 7)) 2 (view [] ∷ []))
   unfolding denotes slice_in chars encode_utf8
   made = lexed (one 1 (node (int 7)) 1 []) (one 1 (node (int 7)) 2 (view [] ∷ [])) view_line view_tokens (Ok (reply.Made (codes "n.k" ∷ []) 2 (codes "v"))) [] view_lexed
       (inl (query_tree, query_spelt, record { answered = refl; no_entries = refl; plan = p; serves = serves; bounded = (one_bounded (int 7), tt); within = few_within _ (int_graph 7) (omega arith, (omega arith, (omega arith, tt))); state = refl }))
 
   -- `MATCH (n:A) SET m.k = 9`
-  unknown : (tick : ℕ) (views : List View) → Step (one 1 (node (int 8)) tick views) unknown_line (Err (fault.Scope scope.UnknownVariable)) [] (one 1 (node (int 8)) tick views)
+  unknown : (tick : ℕ) (views : List View) → EngineStep (one 1 (node (int 8)) tick views) unknown_line (Err (fault.Scope scope.UnknownVariable)) [] (one 1 (node (int 8)) tick views)
   unknown tick views = lexed (one 1 (node (int 8)) tick views) (one 1 (node (int 8)) tick views) unknown_line (set_tokens (digit 9 22 ∷ [])) (Err (fault.Scope scope.UnknownVariable)) [] unknown_lexed
       (inl (set_tree (codes "m") (integer (pos 9)), unknown_spelt, record { answered = refl; no_entries = refl; state = refl }))
 
@@ -230,13 +230,13 @@ module _ (p : Plan) (serves : Serves p keys) (within : (before after : State) �
         }
 
     -- `:rows v`
-    shown : Step (one 1 (node (int 7)) 2 (view [] ∷ [])) rows_line (Ok (reply.Rows (counted (int 7)) 2 (codes "v"))) [] (one 1 (node (int 7)) 2 (view [] ∷ []))
+    shown : EngineStep (one 1 (node (int 7)) 2 (view [] ∷ [])) rows_line (Ok (reply.Rows (counted (int 7)) 2 (codes "v"))) [] (one 1 (node (int 7)) 2 (view [] ∷ []))
     unfolding denotes slice_in chars encode_utf8
     shown = lexed (one 1 (node (int 7)) 2 (view [] ∷ [])) (one 1 (node (int 7)) 2 (view [] ∷ [])) rows_line rows_tokens (Ok (reply.Rows (counted (int 7)) 2 (codes "v"))) [] rows_lexed
         (counted (int 7), record { bag = bag_of_counted total same (row (int 7) ∷ []); canonical = counts_once }, record { answered = refl; no_entries = refl; state = refl })
 
     -- `MATCH (n:A) SET n.k = 8`
-    set_once : Step (one 1 (node (int 7)) 2 (view [] ∷ [])) set_line (statement 0 0) (entry 3 (counted (int 7)) (counted (int 8))) (one 1 (node (int 8)) 3 (view fed_set ∷ []))
+    set_once : EngineStep (one 1 (node (int 7)) 2 (view [] ∷ [])) set_line (statement 0 0) (entry 3 (counted (int 7)) (counted (int 8))) (one 1 (node (int 8)) 3 (view fed_set ∷ []))
     set_once = lexed (one 1 (node (int 7)) 2 (view [] ∷ [])) (one 1 (node (int 8)) 3 (view fed_set ∷ [])) set_line (set_tokens (digit 8 22 ∷ [])) (statement 0 0) (entry 3 (counted (int 7)) (counted (int 8))) set_lexed
         (inl (
           set_tree (codes "n") (integer (pos 8)),
@@ -262,12 +262,12 @@ module _ (p : Plan) (serves : Serves p keys) (within : (before after : State) �
         ))
 
     -- the same again
-    set_again : Step (one 1 (node (int 8)) 3 (view fed_set ∷ [])) set_line (statement 0 0) [] (one 1 (node (int 8)) 3 (view fed_set ∷ []))
+    set_again : EngineStep (one 1 (node (int 8)) 3 (view fed_set ∷ [])) set_line (statement 0 0) [] (one 1 (node (int 8)) 3 (view fed_set ∷ []))
     set_again = lexed (one 1 (node (int 8)) 3 (view fed_set ∷ [])) (one 1 (node (int 8)) 3 (view fed_set ∷ [])) set_line (set_tokens (digit 8 22 ∷ [])) (statement 0 0) [] set_lexed
         (inl (set_tree (codes "n") (integer (pos 8)), set_spelt, record { answered = refl; entries_are = inl ((λ r. refl), refl); upkeep = refl; bounded = (one_bounded (int 8), tt); within = few_within _ (int_graph 8) (omega arith, (omega arith, (omega arith, tt))); state = refl }))
 
     -- `MATCH (n:A) SET n.k = null`
-    set_null : Step (one 1 (node (int 8)) 3 (view fed_set ∷ [])) null_line (statement 0 0) (entry 4 (counted (int 8)) (counted value.Null)) (one 1 bare 4 (view fed_null ∷ []))
+    set_null : EngineStep (one 1 (node (int 8)) 3 (view fed_set ∷ [])) null_line (statement 0 0) (entry 4 (counted (int 8)) (counted value.Null)) (one 1 bare 4 (view fed_null ∷ []))
     set_null = lexed (one 1 (node (int 8)) 3 (view fed_set ∷ [])) (one 1 bare 4 (view fed_null ∷ [])) null_line (set_tokens (keyword word.Null 22 26 ∷ [])) (statement 0 0) (entry 4 (counted (int 8)) (counted value.Null)) null_lexed
         (inl (
           set_tree (codes "n") null,
@@ -293,7 +293,7 @@ module _ (p : Plan) (serves : Serves p keys) (within : (before after : State) �
         ))
 
     -- `MATCH (n:A) DETACH DELETE n`
-    deleted : Step (one 1 bare 4 (view fed_null ∷ [])) delete_line (statement 0 1) (entry 5 (counted value.Null) []) (none 5 (view fed_deleted ∷ []))
+    deleted : EngineStep (one 1 bare 4 (view fed_null ∷ [])) delete_line (statement 0 1) (entry 5 (counted value.Null) []) (none 5 (view fed_deleted ∷ []))
     deleted = lexed (one 1 bare 4 (view fed_null ∷ [])) (none 5 (view fed_deleted ∷ [])) delete_line delete_tokens (statement 0 1) (entry 5 (counted value.Null) []) delete_lexed
         (inl (
           delete_tree,
@@ -319,7 +319,7 @@ module _ (p : Plan) (serves : Serves p keys) (within : (before after : State) �
         ))
 
     -- `CREATE (:A)`: the node has the next number
-    created_again : Step (none 5 (view fed_deleted ∷ [])) bare_line (statement 1 0) (entry 6 [] (counted value.Null)) (one 2 bare 6 (view fed_created ∷ []))
+    created_again : EngineStep (none 5 (view fed_deleted ∷ [])) bare_line (statement 1 0) (entry 6 [] (counted value.Null)) (one 2 bare 6 (view fed_created ∷ []))
     created_again = lexed (none 5 (view fed_deleted ∷ [])) (one 2 bare 6 (view fed_created ∷ [])) bare_line bare_tokens (statement 1 0) (entry 6 [] (counted value.Null)) bare_lexed
         (inl (
           bare_tree,

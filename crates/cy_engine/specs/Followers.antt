@@ -9,8 +9,8 @@ use Rattle.cy_engine.specs.declared.replies.Reply.TheVariants as reply
 use Rattle.cy_engine.specs.Requests.{Asks, RowsOf, SinceOf}
 use Rattle.cy_engine.specs.Runs.{Event, Run}
 use Rattle.cy_engine.specs.State.{EngineState, empty_engine, view_at}
-use Rattle.cy_engine_views.specs.Views.{View}
-use Rattle.cy_engine.specs.Step.{Answer, AreRows, Step}
+use Rattle.cy_engine_views.specs.RegisteredViews.{View}
+use Rattle.cy_engine.specs.EngineStep.{Answer, AreRows, EngineStep}
 
 -- ---- what a follower has
 
@@ -69,7 +69,7 @@ IsServed name state (Err why) held next = next ≡ held
 abbrev pub FollowersAgree : Type 0
 FollowersAgree =
     (history : ℕ) (events : List Event) (before after : EngineState) (poll : Event) (name : List ℕ) (held next : Option Copy)
-    → Run (empty_engine history) events before → Step before poll.line poll.answer poll.entries after
+    → Run (empty_engine history) events before → EngineStep before poll.line poll.answer poll.entries after
     → IsLedBy name events no_copy held → IsPoll name held poll.line → TakesOver held poll.answer next
     → IsServed name after poll.answer held next
 
@@ -93,6 +93,6 @@ CanFollow rows (e ∷ es) = CanChange rows e.change × ((next : List (List Cell 
 abbrev pub EntriesCanBeTaken : Type 0
 EntriesCanBeTaken =
     (history : ℕ) (events : List Event) (before after : EngineState) (poll : Event) (name view : List ℕ) (copy : Copy) (entries : List Entry) (tick : ℕ)
-    → Run (empty_engine history) events before → Step before poll.line poll.answer poll.entries after
+    → Run (empty_engine history) events before → EngineStep before poll.line poll.answer poll.entries after
     → IsLedBy name events no_copy (Some copy) → IsPoll name (Some copy) poll.line → poll.answer ≡ Ok (reply.Entries entries tick view)
     → CanFollow copy.rows entries

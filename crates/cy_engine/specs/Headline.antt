@@ -16,8 +16,8 @@ use Rattle.cy_engine.specs.Model.{Machine, new_machine, state_of}
 use Rattle.cy_engine.specs.Requests.{Asks, StatementOf, ViewOf}
 use Rattle.cy_engine.specs.Runs.{Event, OnlySo, Run, Runs, accepted}
 use Rattle.cy_engine.specs.State.{EngineState, empty_engine, view_at}
-use Rattle.cy_engine_views.specs.Views.{AreEntries, Entries, IsEntry, View, entry_at, rows_of}
-use Rattle.cy_engine.specs.Step.{Answer, AreRows, Step, changed_by}
+use Rattle.cy_engine_views.specs.RegisteredViews.{AreEntries, Entries, IsEntry, View, entry_at, rows_of}
+use Rattle.cy_engine.specs.EngineStep.{Answer, AreRows, EngineStep, changed_by}
 use Rattle.cy_engine.specs.Verdicts.{tick_after}
 
 -- ---- the graph and the tick
@@ -134,7 +134,7 @@ pub record Headline (history : ℕ) (events : List Event) (now : EngineState) : 
   pub no_trace : OnlySo (empty_engine history) (accepted events) now
 
 -- lines may be answered so; and where a new engine answers them, the headline holds
-pub record Serves (old new : Machine) (lines : List (List ℕ)) (answers : List Answer) : Type 0 where
+pub record AnswersWithHeadline (old new : Machine) (lines : List (List ℕ)) (answers : List Answer) : Type 0 where
   pub run : Runs old new lines answers
   pub headline : (history : ℕ) → old ≡ new_machine history → Headline history run.events (state_of new)
 
@@ -147,4 +147,4 @@ HeadlineHolds = (history : ℕ) (events : List Event) (now : EngineState) → Ru
 abbrev pub EntriesAreExact : Type 0
 EntriesAreExact =
     (old new : EngineState) (line : List ℕ) (answer : Answer) (entries : Entries)
-    → Step old line answer entries new → AreEntries old.views old.graph.content new.graph.content new.tick entries
+    → EngineStep old line answer entries new → AreEntries old.views old.graph.content new.graph.content new.tick entries

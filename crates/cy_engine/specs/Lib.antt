@@ -5,6 +5,6 @@ pub mod Model
 pub mod Requests
 pub mod Runs
 pub mod State
-pub mod Step
+pub mod EngineStep
 pub mod Verdicts
 pub mod internal

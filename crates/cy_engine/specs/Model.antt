@@ -5,7 +5,7 @@ use Rattle.cy_index.specs.Index.{StoreState}
 use Rattle.cy_index.specs.declared.keys.Pair.{Pair}
 use Rattle.cy_engine_views.specs.declared.views.Views.{Views}
 use Rattle.cy_engine_views.specs.Upkeep.{Held, held_in, upkeep_of, view_of}
-use Rattle.cy_engine_views.specs.Views.{Entries}
+use Rattle.cy_engine_views.specs.RegisteredViews.{Entries}
 use Rattle.cy_engine.specs.State.{EngineState}
 
 -- an engine between two lines, with the entries that the last line made

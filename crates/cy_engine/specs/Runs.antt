@@ -5,8 +5,8 @@ use Rattle.cy_engine.specs.declared.faults.Fault.TheVariants as fault
 use Rattle.cy_engine.specs.Model.{Machine, state_of}
 use Rattle.cy_engine.specs.declared.replies.Reply.TheVariants as reply
 use Rattle.cy_engine.specs.State.{EngineState, seen}
-use Rattle.cy_engine_views.specs.Views.{Entries}
-use Rattle.cy_engine.specs.Step.{Answer, Step}
+use Rattle.cy_engine_views.specs.RegisteredViews.{Entries}
+use Rattle.cy_engine.specs.EngineStep.{Answer, EngineStep}
 
 -- a line, its answer and the entries that it made
 pub record Event : Type 0 where
@@ -17,7 +17,7 @@ pub record Event : Type 0 where
 -- from old, lines may be answered so, one after another, and lead to new
 abbrev pub Run : EngineState → List Event → EngineState → Type 0
 Run old [] new = new ≡ old
-Run old (e ∷ events) new = (mid : EngineState) × Step old e.line e.answer e.entries mid × Run mid events new
+Run old (e ∷ events) new = (mid : EngineState) × EngineStep old e.line e.answer e.entries mid × Run mid events new
 
 -- the entries of the last line, or those from before where there is none
 abbrev pub last_entries : Entries → List Event → Entries
@@ -66,7 +66,7 @@ Agree answer other = (seen_answer answer ≡ seen_answer other) ⊎ (IsTrue (is_
 abbrev pub IsDetermined : Type 0
 IsDetermined =
     (old twin new other : EngineState) (line : List ℕ) (answer again : Answer) (entries more : Entries) → seen twin ≡ seen old
-    → Step old line answer entries new → Step twin line again more other → IsBound answer → IsBound again
+    → EngineStep old line answer entries new → EngineStep twin line again more other → IsBound answer → IsBound again
     → Agree answer again × (entries ≡ more) × (seen new ≡ seen other)
 
 -- ---- refused lines

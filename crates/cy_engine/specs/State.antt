@@ -4,7 +4,7 @@ use Rattle.cy_graph.specs.Graph.{State, empty_state}
 use Rattle.cy_index.specs.declared.keys.Pair.{Pair}
 use Rattle.cy_planner_algebra.specs.Plans as plan
 use Rattle.cy_engine_views.specs.Upkeep.{Upkeep}
-use Rattle.cy_engine_views.specs.Views.{View, view_among}
+use Rattle.cy_engine_views.specs.RegisteredViews.{View, view_among}
 
 -- the graph with its next numbers, the labels and keys that have an index and the views with their upkeep, each in the order in which they were
 -- made, the tick, and how many entries a view's history has

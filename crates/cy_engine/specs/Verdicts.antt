@@ -26,7 +26,7 @@ use Rattle.cy_updates_meaning.specs.Statements.{Outcome, statement_outcome}
 use Rattle.cy_engine.specs.Faults.{of_update}
 use Rattle.cy_feeds.specs.Feeds.{new_history}
 use Rattle.cy_engine.specs.State.{EngineState, view_at, last_tick}
-use Rattle.cy_engine_views.specs.Views.{View, view_limit}
+use Rattle.cy_engine_views.specs.RegisteredViews.{View, view_limit}
 
 -- nothing is against it, or this is
 abbrev pub passes : {F : Type 0} → (F → Fault) → Option F → Result (Unit {0}) Fault

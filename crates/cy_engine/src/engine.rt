@@ -8,11 +8,11 @@ ghost use Rattle.cy_updates.specs.Answers.{outcome_seen};
 ghost use Rattle.cy_graph.specs.Graph.{State};
 ghost use Rattle.cy_network_touches.specs.Changes.{before_change};
 ghost use Rattle.cy_engine_views.specs.Upkeep.{StandFor, held_in, upkeep_in};
-ghost use Rattle.cy_engine_views.specs.Views.{View, entry_at};
+ghost use Rattle.cy_engine_views.specs.RegisteredViews.{View, entry_at};
 ghost use Rattle.cy_engine.specs.Model.{new_machine, state_of};
 ghost use Rattle.cy_engine.specs.Requests.{StatementOf, ViewOf};
 ghost use Rattle.cy_engine.specs.State.{last_tick};
-ghost use Rattle.cy_engine.specs.Step.{AreRows, Drops, Step, changed_by};
+ghost use Rattle.cy_engine.specs.EngineStep.{AreRows, Drops, EngineStep, changed_by};
 ghost use Rattle.cy_engine.specs.Verdicts.{making_verdict, next_tick, rows_verdict};
 ghost use Rattle.cy_engine.specs.internal.Stages.{AddsIndex, AnswersOrWants, HasEffect, HasNoEffect, ListsSteps, ListsViews, ShowsRows, ShowsSince};
 
@@ -102,7 +102,7 @@ impl Engine {
     /// an index as `IndexThere`. `TooManyRows` may refuse a statement or a view that is otherwise executed, where a part of a plan has a row
     /// that counts more than 2^62 - 1, and `NoMemory` any line that has tokens and isn't too long.
     pub fn line(&mut self, line: &str) -> Result<Reply, Fault>
-        ensures { Step (state_of self.old) line.now result self.new.entries (state_of self.new) }
+        ensures { EngineStep (state_of self.old) line.now result self.new.entries (state_of self.new) }
     {
         let mut entries = Sequence::new(Vec::new(self.alloc));
         let answer = self.reply_to(line, &mut entries);
@@ -150,7 +150,7 @@ impl Engine {
         entries: &mut Sequence<(Text, Entry)>,
     ) -> Result<Reply, Fault>
         requires none { entries.old ≡ [] }
-        ensures { Step (state_of self.old) line.now result entries.new (state_of self.new) }
+        ensures { EngineStep (state_of self.old) line.now result entries.new (state_of self.new) }
     {
         let tokens = lex(self.alloc, line)?;
         match read_request(self.alloc, tokens.as_slice(), line)? {

@@ -1,7 +1,7 @@
 //! Runs over lists of lines.
 
 ghost use Rattle.std.specs.Prelude.{◌≡◌, IfErr, IfOk, OnErr, map};
-ghost use Rattle.cy_engine.specs.Headline.{Serves};
+ghost use Rattle.cy_engine.specs.Headline.{AnswersWithHeadline};
 
 use crate::engine::Engine;
 use crate::faults::Fault;
@@ -20,7 +20,7 @@ pub fn answer_all(
     engine: &mut Engine,
     lines: &[&str],
 ) -> Result<Vec<Result<Reply, Fault>>, Fault>
-    ensures run { IfOk result (λ results. Serves engine.old engine.new (map (λ line. line.now) lines.now) results.items) }
+    ensures run { IfOk result (λ results. AnswersWithHeadline engine.old engine.new (map (λ line. line.now) lines.now) results.items) }
     ensures refused { IfErr result (λ fault. fault ≡ Fault.NoMemory) }
     ensures err { OnErr result (engine.new ≡ engine.old) }
 {

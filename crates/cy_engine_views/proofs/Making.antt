@@ -4,7 +4,7 @@ use Rattle.cy_graph.specs.Graph.{Content}
 use Rattle.cy_engine_views.specs.declared.registered.Registered.{Registered}
 use Rattle.cy_engine_views.specs.declared.views.Views.{Views}
 use Rattle.cy_engine_views.specs.Upkeep.{AreNamed, Held, Registry, Rests, StandFor, held, held_in, view_of, views_in}
-use Rattle.cy_engine_views.specs.Views.{view_among, view_limit}
+use Rattle.cy_engine_views.specs.RegisteredViews.{view_among, view_limit}
 use Rattle.cy_engine_views.proofs.Going.{All}
 use Rattle.cy_engine_views.proofs.Named.{all_last, held_last, new_last, views, views_last}
 

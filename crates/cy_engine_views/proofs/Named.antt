@@ -7,7 +7,7 @@ use Rattle.std.proofs.lemmas.Slice.Eq.{bytes_eq-Decides}
 use Rattle.cy_trees.specs.Views.{statement_of}
 use Rattle.cy_engine_views.specs.declared.registered.Registered.{Registered}
 use Rattle.cy_engine_views.specs.Upkeep.{AreNamed, Held, IsNew, Registry, held, view_of}
-use Rattle.cy_engine_views.specs.Views.{View, view_among}
+use Rattle.cy_engine_views.specs.RegisteredViews.{View, view_among}
 use Rattle.cy_engine_views.proofs.Going.{All}
 
 pub same_name : (a b : List ℕ) → bytes_eq a b ≡ true → a ≡ b

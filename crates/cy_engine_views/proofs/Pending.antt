@@ -4,7 +4,7 @@ use Rattle.cy_trees.specs.Views.{statement_of}
 use Rattle.cy_graph.specs.Graph.{State}
 use Rattle.cy_bags.specs.declared.changes.Change.{Change}
 use Rattle.cy_engine_views.specs.Upkeep.{AreNamed, AreReady, IsItsChange, IsReady, Registry, entries_in, entry_if, held, views_in}
-use Rattle.cy_engine_views.specs.Views.{AreEntries, Entries, rows_of, view_limit}
+use Rattle.cy_engine_views.specs.RegisteredViews.{AreEntries, Entries, rows_of, view_limit}
 use Rattle.cy_engine_views.specs.declared.views.Views.{Views}
 use Rattle.cy_engine_views.proofs.Going.{All}
 use Rattle.cy_engine_views.proofs.Named.{views}

@@ -10,7 +10,7 @@ use Rattle.cy_bags.specs.Difference.{IsDifference, is_nothing}
 use Rattle.cy_feeds.specs.Feeds.{History, IsReserved, Kept, latest}
 use Rattle.cy_engine_views.specs.declared.registered.Registered.{Registered}
 use Rattle.cy_engine_views.specs.Upkeep.{IsItsChange, IsPrepared, IsReady, IsUntil, Rests, StandsFor}
-use Rattle.cy_engine_views.specs.Views.{rows_of}
+use Rattle.cy_engine_views.specs.RegisteredViews.{rows_of}
 use Rattle.cy_engine_views.specs.internal.Loops.{CanRest, IsPreparedAt}
 use Rattle.cy_engine_views.proofs.Served.{nothing_changes, something_changes}
 

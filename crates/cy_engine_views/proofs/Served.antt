@@ -33,7 +33,7 @@ use Rattle.cy_engine_views.specs.declared.faults.UpkeepFault.{UpkeepFault}
 use Rattle.cy_engine_views.specs.declared.faults.UpkeepFault.TheVariants as upkeep
 use Rattle.cy_engine_views.specs.declared.rows.QueryRows.{QueryRows}
 use Rattle.cy_engine_views.specs.Upkeep.{CannotFollow, CannotFollowBy, IsHeldByGraph, IsItsChange, IsPrepared, IsUnkept, SomeHasTooManyRows, StandsFor, Upkeep, network_of}
-use Rattle.cy_engine_views.specs.Views.{AreRowsOf, rows_of}
+use Rattle.cy_engine_views.specs.RegisteredViews.{AreRowsOf, rows_of}
 
 same_outcome : (rows : List (List Cell)) (meant : Result (List (List Cell)) EvalFault) → IsSameOutcome (Ok rows) meant → IsSameBag rows (result_unwrap_or meant [])
 same_outcome rows (Ok others) same = same

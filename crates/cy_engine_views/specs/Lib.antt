@@ -1,4 +1,4 @@
-pub mod Views
+pub mod RegisteredViews
 pub mod Upkeep
 pub mod Faults
 pub mod internal

@@ -28,7 +28,7 @@ use Rattle.cy_engine_views.specs.declared.faults.UpkeepFault.TheVariants.{PlanTo
 use Rattle.cy_engine_views.specs.declared.rows.QueryRows.{QueryRows}
 use Rattle.cy_engine_views.specs.declared.registered.Registered.{Registered}
 use Rattle.cy_engine_views.specs.declared.views.Views.{Views}
-use Rattle.cy_engine_views.specs.Views.{Entries, View, rows_of, view_limit}
+use Rattle.cy_engine_views.specs.RegisteredViews.{Entries, View, rows_of, view_limit}
 
 -- ---- what is seen
 

@@ -8,7 +8,7 @@ ghost use Rattle.cy_network_touches.specs.Changes.{IsChange, before_change};
 ghost use Rattle.cy_bags.specs.Difference.{IsDifference};
 ghost use Rattle.cy_network.specs.Networks.{operator_of};
 ghost use Rattle.cy_engine_views.specs.Upkeep.{CannotFollowBy, IsPrepared, IsUnkept, StandsFor, network_of};
-ghost use Rattle.cy_engine_views.specs.Views.{AreRowsOf, rows_of};
+ghost use Rattle.cy_engine_views.specs.RegisteredViews.{AreRowsOf, rows_of};
 
 use crate::faults::UpkeepFault;
 use cy_bags::Change;

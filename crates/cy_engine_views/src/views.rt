@@ -11,7 +11,7 @@ ghost use Rattle.cy_planner.specs.Serves.{Serves};
 ghost use Rattle.cy_planner.specs.Weight.{greatest_weight, weight};
 ghost use Rattle.cy_network_touches.specs.Changes.{before_change};
 ghost use Rattle.cy_engine_views.specs.Upkeep.{AreKeptUp, AreReady, CannotFollow, IsGoneFrom, IsUnkept, StandFor, held_in, new_held, upkeep_in, views_in};
-ghost use Rattle.cy_engine_views.specs.Views.{AreEntries, AreShown, Entries, fed, listed, view_among, view_limit};
+ghost use Rattle.cy_engine_views.specs.RegisteredViews.{AreEntries, AreShown, Entries, fed, listed, view_among, view_limit};
 ghost use Rattle.cy_engine_views.specs.internal.Loops.{AllCanRest};
 
 use crate::entries::entries_of;

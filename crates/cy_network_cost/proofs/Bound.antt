@@ -8,9 +8,9 @@ use Rattle.cy_planner_algebra.specs.Plans as plan
 use Rattle.cy_planner_algebra.specs.Plans.{Plan}
 use Rattle.cy_planner_algebra.specs.Parts.{parts}
 use Rattle.cy_planner_algebra.specs.Meaning.{rows_of}
-use Rattle.cy_network_operators.specs.Costs.{changed_pairs}
+use Rattle.cy_network_operators.specs.OperatorCosts.{changed_pairs}
 use Rattle.cy_network_touches.specs.Changes.{Touches}
-use Rattle.cy_network_touches.specs.Costs.{naming_rows}
+use Rattle.cy_network_touches.specs.LookupCosts.{naming_rows}
 use Rattle.cy_network_cost.specs.Costs.{changed, cost, part_cost, touched_entities}
 use Rattle.cy_network_cost.specs.Work.{all_reads, all_steps, asked_reads, in_all, looks_at_graph, own_reads, own_steps}
 

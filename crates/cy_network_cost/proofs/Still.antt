@@ -17,9 +17,9 @@ use Rattle.cy_planner_algebra.specs.Meaning.{each_once, rows_of}
 use Rattle.cy_planner_algebra.specs.Plans as plan
 use Rattle.cy_planner_algebra.specs.Plans.{Plan}
 use Rattle.cy_planner_algebra.specs.Parts.{parts}
-use Rattle.cy_network_operators.specs.Costs.{changed_pairs, changed_rows, is_changed, rows_either}
+use Rattle.cy_network_operators.specs.OperatorCosts.{changed_pairs, changed_rows, is_changed, rows_either}
 use Rattle.cy_network_touches.specs.Changes.{IsChange, IsImage, Touches, image_at}
-use Rattle.cy_network_touches.specs.Costs.{names_touched, naming_rows}
+use Rattle.cy_network_touches.specs.LookupCosts.{names_touched, naming_rows}
 use Rattle.cy_network_touches.proofs.Determined.{node_number, rel_number, same_naming}
 use Rattle.cy_network_cost.specs.Costs.{changed, cost, joining, part_cost, touched_entities}
 

@@ -8,9 +8,9 @@ use Rattle.cy_planner_algebra.specs.Plans as plan
 use Rattle.cy_planner_algebra.specs.Plans.{Plan}
 use Rattle.cy_planner_algebra.specs.Parts.{parts}
 use Rattle.cy_planner_algebra.specs.Meaning.{rows_of}
-use Rattle.cy_network_operators.specs.Costs.{changed_rows, changed_pairs}
+use Rattle.cy_network_operators.specs.OperatorCosts.{changed_rows, changed_pairs}
 use Rattle.cy_network_touches.specs.Changes.{Touches}
-use Rattle.cy_network_touches.specs.Costs.{naming_rows}
+use Rattle.cy_network_touches.specs.LookupCosts.{naming_rows}
 
 -- the nodes and relationships that a change touched
 abbrev pub touched_entities : Touches → ℕ

@@ -3,9 +3,9 @@ use Rattle.std.specs.Prelude.{ℕ, ◌+◌, ◌*◌, ◌||◌, Bool, true, false
 use Rattle.cy_values.specs.declared.rows.Cell.{Cell}
 use Rattle.cy_planner_algebra.specs.Plans as plan
 use Rattle.cy_planner_algebra.specs.Plans.{Plan}
-use Rattle.cy_network_operators.specs.Costs.{changed_pairs, changed_rows}
+use Rattle.cy_network_operators.specs.OperatorCosts.{changed_pairs, changed_rows}
 use Rattle.cy_network_touches.specs.Changes.{Touches}
-use Rattle.cy_network_touches.specs.Costs.{naming_rows}
+use Rattle.cy_network_touches.specs.LookupCosts.{naming_rows}
 
 -- how many steps the memories of a part take at most, where the rows of each part before and after are given
 abbrev pub own_steps : (Plan → List (List Cell)) → (Plan → List (List Cell)) → Touches → Plan → ℕ

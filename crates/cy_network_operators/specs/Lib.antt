@@ -1,4 +1,4 @@
-pub mod Costs
+pub mod OperatorCosts
 pub mod Deltas
 pub mod Reading
 pub mod internal

@@ -11,7 +11,7 @@ use Rattle.cy_planner_algebra.specs.Plans.{Plan}
 use Rattle.cy_planner_algebra.proofs.Counts.{count_cons}
 use Rattle.cy_planner_algebra.proofs.Numbers.{numbered_rows}
 use Rattle.cy_network_operators.specs.declared.shifts.Shift.{Shift}
-use Rattle.cy_network_operators.specs.Costs.{changed_rows}
+use Rattle.cy_network_operators.specs.OperatorCosts.{changed_rows}
 use Rattle.cy_network_operators.specs.Deltas.{IsDelta, counts, counts_after, rows_at}
 use Rattle.cy_network_operators.proofs.Same.{same_row}
 use Rattle.cy_network_operators.proofs.ShiftLemmas.{shift_there}

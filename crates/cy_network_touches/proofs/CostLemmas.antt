@@ -22,7 +22,7 @@ use Rattle.cy_network_operators.specs.Deltas.{IsDelta, counts, counts_after, shi
 use Rattle.cy_network_operators.proofs.Staging.{after_delta}
 use Rattle.cy_network_operators.proofs.Same.{is_row_back, row_itself, same_row}
 use Rattle.cy_network_touches.specs.Changes.{Touches}
-use Rattle.cy_network_touches.specs.Costs.{names_touched}
+use Rattle.cy_network_touches.specs.LookupCosts.{names_touched}
 use Rattle.cy_network_touches.specs.internal.Named.{AreAmong}
 use Rattle.cy_network_touches.proofs.Keys.{own_entries, same_number, sum_kept}
 use Rattle.cy_network_touches.proofs.LookupDeltas.{cell_is, cells_of, key_is, node_key, rel_key}

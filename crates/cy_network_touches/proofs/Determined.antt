@@ -12,7 +12,7 @@ use Rattle.cy_graph.specs.Graph.{State, node_at, rel_at}
 use Rattle.cy_planner_algebra.specs.Expressions.{cell_at}
 use Rattle.cy_planner_algebra.specs.Meaning.{each_once}
 use Rattle.cy_network_touches.specs.Changes.{IsChange, IsImage, Touches, image_at}
-use Rattle.cy_network_touches.specs.Costs.{names_touched, naming_rows}
+use Rattle.cy_network_touches.specs.LookupCosts.{names_touched, naming_rows}
 
 one_image : {V : Type 0} (before now : Option V) (a b : Option (Option V)) → IsImage before now a → IsImage before now b → a ≡ b
 one_image before now None None first second = refl

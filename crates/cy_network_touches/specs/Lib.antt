@@ -1,4 +1,4 @@
 pub mod Attributes
 pub mod Changes
-pub mod Costs
+pub mod LookupCosts
 pub mod internal

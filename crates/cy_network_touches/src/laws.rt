@@ -4,7 +4,7 @@ ghost use Rattle.std.specs.Prelude.{◌≡◌, ℕ, List, length};
 ghost use Rattle.cy_values.specs.declared.rows.Cell.{Cell};
 ghost use Rattle.cy_graph.specs.Graph.{State};
 ghost use Rattle.cy_network_touches.specs.Changes.{IsChange, Touches, image_at};
-ghost use Rattle.cy_network_touches.specs.Costs.{naming_rows};
+ghost use Rattle.cy_network_touches.specs.LookupCosts.{naming_rows};
 
 /// What leads from one graph to another is determined but for its order: which entities are touched and what each of them was, how many they are,
 /// and how many rows name one (own).

@@ -14,7 +14,7 @@ use Rattle.cy_shell.specs.Printed.{no_memory_text, IsAnswerText, IsFeedText, IsL
 use Rattle.cy_engine.specs.declared.faults.Fault.{Fault}
 use Rattle.cy_engine.specs.declared.replies.Reply.{Reply}
 use Rattle.cy_engine.specs.declared.replies.Reply.TheVariants as reply
-use Rattle.cy_engine.specs.Step.{Lexed}
+use Rattle.cy_engine.specs.EngineStep.{Lexed}
 use Rattle.cy_shell.specs.Runs.{Serving, Answered, TooLong, NotUtf8, Executed, PrintedRun, WritesRun, WritesBeginning}
 use Rattle.cy_shell.specs.Streams.{appended}
 use Rattle.cy_shell.specs.internal.Writing.{AppendsFront}

@@ -6,12 +6,12 @@ use Rattle.cy_lexer.specs.declared.faults.LexFault.TheVariants as lex
 use Rattle.cy_engine.specs.Headline.{Headline}
 use Rattle.cy_engine.specs.Runs.{Event, Run}
 use Rattle.cy_engine.specs.State.{EngineState, empty_engine}
-use Rattle.cy_engine.specs.Step.{Answer}
+use Rattle.cy_engine.specs.EngineStep.{Answer}
 use Rattle.cy_shell.specs.Lines.{line_limit, whole_lines, lines_of, lines_after}
 use Rattle.cy_shell.specs.Printed.{IsLineText}
 use Rattle.cy_shell.specs.Runs.{IsLexFaultText, PrintedRun, Serving, beginning}
 use Rattle.cy_shell.specs.Streams.{appended}
-use Rattle.cy_engine_views.specs.Views.{Entries}
+use Rattle.cy_engine_views.specs.RegisteredViews.{Entries}
 
 -- what is printed for a line that the engine isn't sent, since it is above the limit or isn't UTF-8
 abbrev pub IsUnsentText : List ℕ → List ℕ → Type 0

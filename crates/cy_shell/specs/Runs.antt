@@ -6,7 +6,7 @@ use Rattle.cy_lexer.specs.Faults.{at_of, code_of}
 use Rattle.cy_lexer.specs.declared.faults.LexFault.{LexFault}
 use Rattle.cy_lexer.specs.declared.faults.LexFault.TheVariants as lex
 use Rattle.cy_engine.specs.State.{EngineState, empty_engine}
-use Rattle.cy_engine.specs.Step.{Step}
+use Rattle.cy_engine.specs.EngineStep.{EngineStep}
 use Rattle.cy_bags.specs.declared.changes.Entry.{Entry}
 use Rattle.cy_engine.specs.declared.faults.Fault.{Fault}
 use Rattle.cy_engine.specs.declared.replies.Reply.{Reply}
@@ -35,7 +35,7 @@ pub data Answered : Serving → List ℕ → List ℕ → Serving → Type 0 whe
   NotUtf8 : {state : Serving} {line text : List ℕ} → length line ≤ line_limit → (IsUtf8 line → ⊥) → IsLexFaultText (lex.NotUtf8 (utf8_valid_len line)) text → Answered state line text state
   -- any other line is a step of the engine, and its answer is printed, with its entries after it where there is a feed
   Executed : {old new : Serving} {line text : List ℕ} (result : Result Reply Fault) (entries : List (List ℕ × Entry))
-      → length line ≤ line_limit → IsUtf8 line → Step old.engine line result entries new.engine → new.feed ≡ old.feed
+      → length line ≤ line_limit → IsUtf8 line → EngineStep old.engine line result entries new.engine → new.feed ≡ old.feed
       → IsLineText old.feed result entries text → Answered old line text new
 
 -- A printed run: from old, the text may be the answers to the lines, one after another and nothing else.

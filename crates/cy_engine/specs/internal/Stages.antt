@@ -16,10 +16,10 @@ use Rattle.cy_feeds.specs.declared.feeds.Answer.TheVariants.{Entries as Since, L
 use Rattle.cy_feeds.specs.Feeds.{answer_since}
 use Rattle.cy_engine.specs.Requests.{Request, Nothing, StatementOf, ViewOf, RowsOf, SinceOf, ListOfViews, ListOfSteps, DropOf, IndexOf}
 use Rattle.cy_engine.specs.State.{EngineState, last_tick}
-use Rattle.cy_engine_views.specs.Views.{AreEntries, Entries, View, listed}
+use Rattle.cy_engine_views.specs.RegisteredViews.{AreEntries, Entries, View, listed}
 use Rattle.cy_engine_views.specs.declared.views.Views.{Views}
 use Rattle.cy_engine_views.specs.Upkeep.{AreReady, SomeHasTooManyRows, Upkeep, held_in, views_in}
-use Rattle.cy_engine.specs.Step.{Answer, Answers, AreRows, HasTooMany, Indexes, IsRefused, IsUnspelt}
+use Rattle.cy_engine.specs.EngineStep.{Answer, Answers, AreRows, HasTooMany, Indexes, IsRefused, IsUnspelt}
 use Rattle.cy_engine.specs.Verdicts.{index_verdict, next_tick, rows_verdict, same_content, since_verdict, tick_after}
 
 -- the request that the code has

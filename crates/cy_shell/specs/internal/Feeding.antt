@@ -3,7 +3,7 @@ use Rattle.std.specs.Prelude.{◌≡◌, ℕ, ◌≤◌, Bool, true, false, List
 use Rattle.std.specs.Str.{IsUtf8}
 use Rattle.cy_engine.specs.Model.{Machine, state_of}
 use Rattle.cy_engine.specs.State.{EngineState}
-use Rattle.cy_engine.specs.Step.{Step}
+use Rattle.cy_engine.specs.EngineStep.{EngineStep}
 use Rattle.cy_bags.specs.declared.changes.Entry.{Entry}
 use Rattle.cy_engine.specs.declared.faults.Fault.{Fault}
 use Rattle.cy_engine.specs.declared.replies.Reply.{Reply}
@@ -15,7 +15,7 @@ use Rattle.cy_shell.specs.Streams.{appended}
 
 -- the engine answered a text so, and has the entries that it made
 abbrev pub Answers : EngineState → List ℕ → List ℕ → Machine → Type 0
-Answers old line text new = (result : Result Reply Fault) × Step old line result new.entries (state_of new) × IsAnswerText result text
+Answers old line text new = (result : Result Reply Fault) × EngineStep old line result new.entries (state_of new) × IsAnswerText result text
 
 -- the engine answered a line, and has the entries that it made, or the line is none for the engine
 abbrev pub IsAnswer : EngineState → List ℕ → List ℕ → Bool → Machine → Type 0

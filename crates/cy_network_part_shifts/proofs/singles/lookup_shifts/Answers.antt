@@ -15,7 +15,7 @@ use Rattle.cy_planner_algebra.specs.Views.{plan_of}
 use Rattle.cy_network_operators.specs.declared.shifts.Shift.{Shift}
 use Rattle.cy_network_operators.specs.Deltas.{IsBounded, IsDelta, counts, counts_after, rows_at}
 use Rattle.cy_network_touches.specs.Changes.{IsChange, Touches}
-use Rattle.cy_network_touches.specs.Costs.{naming_rows}
+use Rattle.cy_network_touches.specs.LookupCosts.{naming_rows}
 use Rattle.cy_network_parts.specs.Memories.{is_scan, none_where, own_keys}
 use Rattle.cy_network_parts.specs.Parts.{first_below}
 use Rattle.cy_network_parts.specs.Upkeep.{IsFed, IsOwnBegun, IsOwnDone, IsStep, content_of, state_of}

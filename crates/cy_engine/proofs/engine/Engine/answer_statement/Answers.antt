@@ -12,7 +12,7 @@ use Rattle.cy_engine_views.specs.Upkeep.{StandFor, upkeep_in, upkeep_of, view_of
 use Rattle.cy_engine.specs.declared.engine.Effect.{Effect}
 use Rattle.cy_engine.specs.Model.{machine_of, state_of}
 use Rattle.cy_engine.specs.State.{EngineState}
-use Rattle.cy_engine.specs.Step.{changed_by}
+use Rattle.cy_engine.specs.EngineStep.{changed_by}
 use Rattle.cy_engine.specs.Verdicts.{same_content}
 use Rattle.cy_engine.specs.declared.replies.Reply.TheVariants as reply
 use Rattle.cy_engine.specs.internal.Representation.{IsAtRest}

@@ -4,8 +4,8 @@ use Rattle.cy_lexer.specs.Tokens.{tokens_of}
 use Rattle.cy_engine.specs.internal.Stages.{AnswersOrWants, shown}
 use Rattle.cy_engine.specs.Requests.{Nothing, StatementOf, ViewOf, RowsOf, SinceOf, ListOfViews, ListOfSteps, DropOf, request}
 use Rattle.cy_engine.specs.Model.{state_of}
-use Rattle.cy_engine_views.specs.Views.{Entries}
-use Rattle.cy_engine.specs.Step.{Answers}
+use Rattle.cy_engine_views.specs.RegisteredViews.{Entries}
+use Rattle.cy_engine.specs.EngineStep.{Answers}
 use Rattle.cy_engine.proofs.Lines.{answered_step, asks_some, lex_refused, line_step, request_refused, rows_answered, since_answered, steps_answered, views_answered, no_error, same_error}
 use Rattle.cy_engine.proofs.engine.Engine.reply_to.Goals as goal
 

@@ -2,7 +2,7 @@ use Rattle.std.proofs.Common.{refl, inr}
 use Rattle.std.specs.Prelude.{IsOk}
 use Rattle.std.proofs.lemmas.Result.{err_from_is_err_and}
 use Rattle.cy_engine_views.specs.Upkeep.{views_in}
-use Rattle.cy_engine_views.specs.Views.{view_among}
+use Rattle.cy_engine_views.specs.RegisteredViews.{view_among}
 use Rattle.cy_engine.specs.Model.{state_of}
 use Rattle.cy_engine.specs.Verdicts.{rows_verdict}
 use Rattle.cy_engine.proofs.Since.{found_rows, is_found, missing_rows}

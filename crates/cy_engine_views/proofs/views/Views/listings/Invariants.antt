@@ -1,6 +1,6 @@
 use Rattle.std.proofs.Common.{◌≡◌, ◌++◌, map}
 use Rattle.cy_engine_views.specs.Upkeep.{held, view_of}
-use Rattle.cy_engine_views.specs.Views.{listed}
+use Rattle.cy_engine_views.specs.RegisteredViews.{listed}
 use Rattle.cy_engine_views.proofs.views.Views.listings.Given as goal
 
 -- the views so far and those that are left are all

@@ -3,7 +3,7 @@ use Rattle.std.specs.Prelude.{IsSome}
 use Rattle.cy_graph.specs.Graph.{Versions}
 use Rattle.cy_network_touches.specs.Changes.{before_change}
 use Rattle.cy_engine_views.specs.Upkeep.{Held, Rests, entries_in, view_of, views_in}
-use Rattle.cy_engine_views.specs.Views.{AreEntries, Entries}
+use Rattle.cy_engine_views.specs.RegisteredViews.{AreEntries, Entries}
 use Rattle.cy_engine_views.specs.internal.Loops.{AllCanRest, AllReady, AllRest, CanRest}
 use Rattle.cy_engine_views.specs.declared.views.Views.{Views}
 use Rattle.cy_engine_views.proofs.Going.{all_hold, none_done}

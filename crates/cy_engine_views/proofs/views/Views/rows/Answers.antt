@@ -1,7 +1,7 @@
 use Rattle.std.proofs.Common.{Option, Some, None, is_some, sym, ap, subst, ◌∙◌}
 use Rattle.std.proofs.lemmas.Result.{err_from_is_err_and}
 use Rattle.cy_engine_views.specs.Upkeep.{Rests}
-use Rattle.cy_engine_views.specs.Views.{AreShown, View}
+use Rattle.cy_engine_views.specs.RegisteredViews.{AreShown, View}
 use Rattle.cy_engine_views.proofs.Named.{holds_there, is_there, view_absent, view_there}
 use Rattle.cy_engine_views.proofs.views.Views.rows.Goals as goal
 

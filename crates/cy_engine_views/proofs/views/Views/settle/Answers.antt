@@ -1,7 +1,7 @@
 use Rattle.std.proofs.Common.{map, sym, ap, ◌∙◌, arith}
 use Rattle.std.proofs.lemmas.List.{length-map}
 use Rattle.cy_engine_views.specs.Upkeep.{IsReady, Rests, held}
-use Rattle.cy_engine_views.specs.Views.{Entries, fed}
+use Rattle.cy_engine_views.specs.RegisteredViews.{Entries, fed}
 use Rattle.cy_engine_views.specs.internal.Loops.{IsSettledFrom}
 use Rattle.cy_engine_views.proofs.Feeding.{all_take, kept_up, settled_named, settled_rests, views_fed}
 use Rattle.cy_engine_views.proofs.Going.{related_hold, related_length}

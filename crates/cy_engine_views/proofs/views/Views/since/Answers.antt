@@ -1,7 +1,7 @@
 use Rattle.std.proofs.Common.{Some, is_some, sym, ap, ◌∙◌}
 use Rattle.std.specs.Option.{option_map}
 use Rattle.cy_feeds.specs.Feeds.{answer_since}
-use Rattle.cy_engine_views.specs.Views.{View}
+use Rattle.cy_engine_views.specs.RegisteredViews.{View}
 use Rattle.cy_engine_views.proofs.Named.{view_absent, view_there}
 use Rattle.cy_engine_views.proofs.views.Views.since.Goals as goal
 

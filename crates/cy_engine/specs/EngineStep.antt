@@ -25,7 +25,7 @@ use Rattle.cy_planner_algebra.specs.Plans.{Plan}
 use Rattle.cy_network.specs.Networks.{HasTooManyRows}
 use Rattle.cy_planner.specs.Serves.{Serves}
 use Rattle.cy_engine_views.specs.Upkeep.{AreKeptUp, SomeHasTooManyRows, Upkeep}
-use Rattle.cy_engine_views.specs.Views.{AreEntries, AreRowsOf, Entries, View, fed, listed, rows_of, without}
+use Rattle.cy_engine_views.specs.RegisteredViews.{AreEntries, AreRowsOf, Entries, View, fed, listed, rows_of, without}
 use Rattle.cy_engine.specs.declared.faults.Fault.{Fault}
 use Rattle.cy_engine.specs.declared.faults.Fault.TheVariants as fault
 use Rattle.cy_engine.specs.declared.replies.Changed.{Changed}
@@ -134,14 +134,14 @@ Shows name (Ok view) old answer entries new =
 Shows name (Err why) old answer entries new = IsRefused why old answer entries new
 
 -- what a feed says of a tick is answered: the entries above it; or, where some of these may be gone, the rows
-abbrev pub Follows : List ℕ → View → feeds.Answer → EngineState → Answer → Entries → EngineState → Type 0
-Follows name view (Since changes) old = IsReplied (reply.Entries changes old.tick name) old
-Follows name view Lagged old = Shows name (Ok view) old
+abbrev pub ShowsAnswer : List ℕ → View → feeds.Answer → EngineState → Answer → Entries → EngineState → Type 0
+ShowsAnswer name view (Since changes) old = IsReplied (reply.Entries changes old.tick name) old
+ShowsAnswer name view Lagged old = Shows name (Ok view) old
 
 -- what changed in a view since a tick, or there is no such view or tick
-abbrev pub Tells : List ℕ → ℕ → Result View Fault → EngineState → Answer → Entries → EngineState → Type 0
-Tells name tick (Ok view) old = Follows name view (answer_since tick view.feed) old
-Tells name tick (Err why) old = IsRefused why old
+abbrev pub AnswersSince : List ℕ → ℕ → Result View Fault → EngineState → Answer → Entries → EngineState → Type 0
+AnswersSince name tick (Ok view) old = ShowsAnswer name view (answer_since tick view.feed) old
+AnswersSince name tick (Err why) old = IsRefused why old
 
 -- the parser may refuse tokens with this fault: they spell no statement, and it points at one of them or at the line's end. No
 -- tokens at all are unexpected there; and out of memory is none of its faults
@@ -163,7 +163,7 @@ Answers line Nothing old = IsReplied reply.Nothing old
 Answers line (StatementOf tokens) old = Reads line tokens (λ tree. Executes (statement_verdict tree old)) old
 Answers line (ViewOf name tokens) old = Reads line tokens (λ tree. Makes (view_verdict tree name old)) old
 Answers line (RowsOf name) old = Shows name (rows_verdict name old) old
-Answers line (SinceOf name tick) old = Tells name tick (since_verdict name tick old) old
+Answers line (SinceOf name tick) old = AnswersSince name tick (since_verdict name tick old) old
 Answers line ListOfViews old = IsReplied (reply.Views (map listed old.views)) old
 Answers line ListOfSteps old = IsReplied (reply.Steps (map (λ u. (u.name, u.steps)) old.upkeep)) old
 Answers line (DropOf name) old = Drops (rows_verdict name old) old
@@ -207,7 +207,7 @@ Lacks line old why =
     ⊎ ((why ≡ fault.TooManyRows) × ((asked : Request) × Asks line asked × HasTooMany line asked old))
 
 -- From old, the machine may answer the line so, make these entries and go on to new.
-abbrev pub Step : EngineState → List ℕ → Answer → Entries → EngineState → Type 0
-Step old line answer entries new =
+abbrev pub EngineStep : EngineState → List ℕ → Answer → Entries → EngineState → Type 0
+EngineStep old line answer entries new =
     ((why : Fault) × Lacks line old why × IsRefused why old answer entries new)
     ⊎ Lexed line (tokens_of line) old answer entries new

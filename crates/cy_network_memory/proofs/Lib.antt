@@ -6,3 +6,5 @@ pub mod Places
 pub mod Replacing
 pub mod LookUps
 pub mod RowLists
+pub mod CountsUnder
+pub mod ListedRows

@@ -4,3 +4,4 @@ pub mod Keys
 pub mod Maps
 pub mod Tables
 pub mod Lists
+pub mod Listings

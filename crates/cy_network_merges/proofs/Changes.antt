@@ -1,5 +1,5 @@
 -- What changes of a projection and of a union, by the sums of what changes below them.
-use Rattle.std.proofs.Common.{◌≡◌, ℕ, ◌+◌, ◌<◌, ◌≤◌, List, [], ◌∷◌, ◌++◌, map, length, sym, ap, subst, arith}
+use Rattle.std.proofs.Common.{◌≡◌, ℕ, ◌+◌, ◌<◌, ◌≤◌, List, [], ◌∷◌, ◌++◌, map, sym, ap, subst, arith}
 use Rattle.std.specs.Prelude.{Result, Ok, Err, OnOk, IfOk, IfErr}
 use Rattle.std.specs.List.{All}
 use Rattle.std.proofs.lemmas.List.Elements.{All-nil, All-cons, All-head, All-tail}
@@ -13,10 +13,9 @@ use Rattle.cy_planner_algebra.specs.Expressions.{projected}
 use Rattle.cy_network_operators.specs.declared.shifts.Shift.{Shift}
 use Rattle.cy_network_operators.specs.Deltas.{IsBounded, IsDelta, counts}
 use Rattle.cy_network_operators.proofs.ShiftLemmas.{delta_alike}
-use Rattle.cy_network_merges.specs.Merges.{IsProjectChange, IsUnionChange, Sides, IsWhole, all_columns}
+use Rattle.cy_network_merges.specs.Merges.{IsProjectChange, IsUnionChange, Sides}
 use Rattle.cy_network_merges.specs.internal.Sums.{lost, gained, image}
 use Rattle.cy_network_merges.proofs.Totals.{taken_of_images, sum_of_images, taken_of_both, sum_of_both}
-use Rattle.cy_network_merges.proofs.WholeRows.{projection_whole, union_whole}
 
 -- the counts after some changes are staged
 abbrev pub AreSums : Counts → Counts → List Shift → Type 0
@@ -47,13 +46,6 @@ module _ (outputs : List Output) (was : Counts) (shifts images : List Shift) (ar
     project_held row =
         subst (λ (xs : List Shift). lost row xs ≤ was row) (sym are)
         (subst (λ (w : Counts). lost row (map (image (projected outputs)) shifts) ≤ w row) (sym change.held) (taken_of_images (projected outputs) before after shifts change.delta row))
-
-    pub project_whole : (columns : List ℕ) (width : ℕ) → columns ≡ all_columns width → length outputs ≡ width → (row : List Cell) → 0 < was row + gained row images → IsWhole columns row
-    project_whole columns width is wide row some =
-        subst (λ (cs : List ℕ). IsWhole cs row) (sym is)
-        (projection_whole outputs width wide before shifts row
-        (subst (λ (w : Counts). 0 < w row + gained row (map (image (projected outputs)) shifts)) change.held
-        (subst (λ (xs : List Shift). 0 < was row + gained row xs) are some)))
 
     projection_is : (staged : Counts) → AreSums was staged images → (row : List Cell) → staged row ≡ count_of row (map (projected outputs) after)
     projection_is staged sums row =
@@ -95,11 +87,6 @@ module _ (columns : List ℕ) (was : Counts) (left right changes : List Shift) (
         subst (λ (xs : List Shift). lost row xs ≤ was row) (sym are)
         (subst (λ (w : Counts). lost row (left ++ right) ≤ w row) (sym change.held)
         (taken_of_both before.left after.left before.right after.right left right change.delta_left change.delta_right row))
-
-    pub both_whole : (row : List Cell) → 0 < was row + gained row changes → IsWhole columns row
-    both_whole row some =
-        union_whole columns before.left after.left before.right after.right left right change.delta_left change.delta_right change.whole_before change.whole_after row
-        (subst (λ (w : Counts). 0 < w row + gained row (left ++ right)) change.held (subst (λ (xs : List Shift). 0 < was row + gained row xs) are some))
 
     union_is : (staged : Counts) → AreSums was staged changes → (row : List Cell) → staged row ≡ count_of row (after.left ++ after.right)
     union_is staged sums row =

@@ -1,27 +1,24 @@
 -- The delta of counts, read row by row.
-use Rattle.std.proofs.Common.{◌≡◌, ℕ, suc, ◌+◌, ◌<◌, ◌≤◌, ◌==◌, Bool, true, false, cond, ◌&&◌, ◌||◌, List, [], ◌∷◌, ◌++◌, filter, refl, sym, ap, subst, ◌∙◌, length, arith, Option}
-use Rattle.std.specs.Prelude.{count_by, flat_map, replicate, nat_lt, Result, Ok, Err, IfOk, MatchResult, is_ok}
+use Rattle.std.proofs.Common.{◌≡◌, ℕ, suc, ◌+◌, ◌≤◌, ◌==◌, Bool, true, false, cond, ◌||◌, List, [], ◌∷◌, ◌++◌, filter, refl, sym, ap, subst, ◌∙◌, length, arith}
+use Rattle.std.specs.Prelude.{flat_map, replicate}
 use Rattle.std.specs.List.{All, list_any}
-use Rattle.std.proofs.lemmas.Bool.{false≢true, ltb-true}
+use Rattle.std.proofs.lemmas.Bool.{false≢true}
 use Rattle.std.proofs.lemmas.Bool.Decides.{nat_tests}
 use Rattle.std.proofs.lemmas.List.{append-nil, length_push}
-use Rattle.std.proofs.lemmas.List.Elements.{All-append, All-cons, All-head, All-nil}
+use Rattle.std.proofs.lemmas.List.Elements.{All-append, All-cons, All-nil}
 use Rattle.std.proofs.lemmas.List.Folds.{list_any-append}
-use Rattle.std.proofs.lemmas.List.Sums.{sum_by-cons, sum_by_push}
+use Rattle.std.proofs.lemmas.List.Sums.{sum_by_push}
 use Rattle.indexmap.specs.IndexSet.{insert_key}
 use Rattle.cy_values.specs.declared.rows.Cell.{Cell}
 use Rattle.cy_values.specs.Bag.{count_of}
-use Rattle.cy_network_memory.specs.declared.faults.MemoryFault.{MemoryFault}
-use Rattle.cy_network_memory.specs.declared.memory.Record.{Record}
-use Rattle.cy_network_memory.specs.Counts.{Counts, is_row, key_of}
-use Rattle.cy_network_memory.specs.Records.{IsAnswer, HasCounts, GivesFirst}
+use Rattle.cy_network_memory.specs.Counts.{Counts, is_row}
 use Rattle.cy_planner_algebra.proofs.Counts.{count_cons}
 use Rattle.cy_network_operators.specs.declared.shifts.Shift.{Shift}
 use Rattle.cy_network_operators.specs.Deltas.{IsBounded, IsDelta, shifts_of, shift_between}
 use Rattle.cy_network_operators.proofs.Same.{row_itself, same_row}
 use Rattle.cy_network_operators.proofs.ShiftLemmas.{shifts_made, shifts_between}
-use Rattle.cy_network_merges.specs.Merges.{AreBounded, IsWhole}
-use Rattle.cy_network_merges.specs.internal.Sums.{AreShiftsOf, lost, gained, is_changed, shift_in, shifts_at}
+use Rattle.cy_network_merges.specs.Merges.{AreBounded}
+use Rattle.cy_network_merges.specs.internal.Sums.{AreShiftsOf, lost, gained, is_changed, shifts_at}
 use Rattle.cy_network_merges.proofs.Totals.{takes, adds, weights_none}
 
 itself : (n : ℕ) → (n == n) ≡ true
@@ -73,49 +70,6 @@ delta_at was staged rows among once still = record {
     by : (row : List Cell) (b : Bool) → among row ≡ b → flat_map (λ x. shifts_of row (here x)) (replicate (cond b 1 0) row) ≡ here row
     by row true is = append-nil (shifts_of row (here row)) ∙ of_one row row ∙ ap (λ b. cond b (here row) []) (row_itself row)
     by row false is = sym (no_shift row (was row) (staged row) (still row is))
-
--- ---- the record of a row
-
-module _ (columns : List ℕ) (was staged : Counts) (key : List Cell) (whole : (row : List Cell) → 0 < was row + staged row → IsWhole columns row) where
-  -- none is given of a row that doesn't count
-  pub none_found : IsAnswer columns was staged key [] → shift_between key (was key) (staged key) ≡ []
-  none_found answer = no_shift key (was key) (staged key) (by (nat_lt 0 (was key + staged key)) refl (answer.once key))
-    where
-      by : (b : Bool) → nat_lt 0 (was key + staged key) ≡ b → ◌≡◌ {A = ℕ} 0 (cond (is_row key (key_of columns key) && nat_lt 0 (was key + staged key)) 1 0) → was key ≡ staged key
-      by true is none =
-          let same : is_row key (key_of columns key) ≡ true = ap (is_row key) (whole key (ltb-true 0 (was key + staged key) is)) ∙ row_itself key in
-          let wrong : ◌≡◌ {A = ℕ} 0 1 = none ∙ ap (λ b. cond (b && nat_lt 0 (was key + staged key)) 1 0) same ∙ ap (λ b. cond b 1 0) is in
-          absurd (omega (arith, wrong))
-      by false is none = nothing (was key) (staged key) is
-        where
-          nothing : (m n : ℕ) → nat_lt 0 (m + n) ≡ false → m ≡ n
-          nothing m n e = grind (arith, nat_tests)
-
-  -- the first is given of the row, with its counts
-  pub first_found : (r : Record) (rs : List Record) → IsAnswer columns was staged key (r ∷ rs) → shift_between r.row r.before r.after ≡ shift_between key (was key) (staged key)
-  first_found r rs answer =
-      let counts : HasCounts was staged r = All-head (HasCounts was staged) r rs answer.counts in
-      let some : cond (is_row r.row r.row) 1 0 + count_by (λ t. is_row r.row t.row) rs ≡ cond (is_row key (key_of columns r.row) && nat_lt 0 (was r.row + staged r.row)) 1 0 =
-      sym (sum_by-cons (λ (t : Record). cond (is_row r.row t.row) 1 0) r rs) ∙ answer.once r.row in
-      let found : (is_row key (key_of columns r.row) && nat_lt 0 (was r.row + staged r.row)) ≡ true =
-      must (is_row key (key_of columns r.row) && nat_lt 0 (was r.row + staged r.row)) (count_by (λ (t : Record). is_row r.row t.row) rs) (ap (λ b. cond b 1 0 + count_by (λ (t : Record). is_row r.row t.row) rs) (sym (row_itself r.row)) ∙ some) in
-      let both = parts (is_row key (key_of columns r.row)) (nat_lt 0 (was r.row + staged r.row)) found in
-      let same : key ≡ r.row = same_row key (key_of columns r.row) both.0 ∙ whole r.row (ltb-true 0 (was r.row + staged r.row) both.1) in
-      ap (λ n. shift_between r.row n r.after) counts.0 ∙ ap (λ n. shift_between r.row (was r.row) n) counts.1 ∙ ap (λ (x : List Cell). shift_between x (was x) (staged x)) (sym same)
-    where
-      must : (b : Bool) (n : ℕ) → 1 + n ≡ cond b 1 0 → b ≡ true
-      must true n e = refl
-      must false n e = absurd (omega (arith, e))
-
-      parts : (a b : Bool) → (a && b) ≡ true → (a ≡ true) × (b ≡ true)
-      parts true b e = (refl, e)
-      parts false b e = absurd (false≢true e)
-
-  -- so what a look-up gives has the shift of the row
-  pub found_shift : (records : List Record) (given : Option Record) (left : List Record) → IsAnswer columns was staged key records → GivesFirst records given left
-      → shift_in given ≡ shift_between key (was key) (staged key)
-  found_shift [] given left answer gives = ap shift_in gives.0 ∙ sym (none_found answer)
-  found_shift (r ∷ rs) given left answer gives = ap shift_in gives.0 ∙ first_found r rs answer
 
 -- ---- the rows of shifts, each once
 
@@ -254,12 +208,6 @@ merged_delta was was_now old losses gains now changes first second is_first is_s
         let down = falls row in
         let up = rises row in
         omega (arith, taken, added, start, down, up)
-
-pub merged_result : {T : Type 0} (R P : List Shift → Type 0) (Q : MemoryFault → Type 0) (made result : Result T MemoryFault) (items : T → List Shift)
-    → MatchResult made (λ x. result ≡ Ok x) Q → is_ok result ≡ is_ok made → IfOk made (λ x. R (items x)) → ((shifts : List Shift) → R shifts → P shifts) → IfOk result (λ x. P (items x))
-merged_result R P Q (Ok x) result items cases variant are holds = subst (λ r. IfOk r (λ y. P (items y))) (sym cases) (holds (items x) are)
-merged_result R P Q (Err e) (Ok x) items cases variant are holds = absurd (false≢true (sym variant))
-merged_result R P Q (Err e) (Err f) items cases variant are holds = tt
 
 -- shifts between bounded counts are bounded
 pub bounded_at : (was staged : Counts) → AreBounded was → AreBounded staged → (rows : List (List Cell)) → All IsBounded (shifts_at was staged rows)

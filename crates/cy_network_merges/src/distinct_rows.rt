@@ -1,23 +1,21 @@
 //! Rows that stand several times among others, each once.
 
-ghost use Rattle.std.specs.Prelude.{◌≡◌, ◌≤◌, ◌∷◌, ◌++◌, [], List, IfErr, IfOk, OnOk, if◌then◌else◌, length};
+ghost use Rattle.std.specs.Prelude.{◌≡◌, ◌≤◌, ◌∷◌, ◌++◌, [], List, IfOk, OnOk, if◌then◌else◌, length};
 ghost use Rattle.std.specs.List.{list_any};
 ghost use Rattle.cy_values.specs.declared.rows.Cell.{Cell};
-ghost use Rattle.cy_network_memory.specs.declared.faults.MemoryFault.TheVariants.{NoMemory};
 ghost use Rattle.cy_network_memory.specs.Counts.{is_row};
 ghost use Rattle.cy_values.specs.Bag.{count_of};
 ghost use Rattle.cy_network_merges.specs.internal.Sums.{is_changed};
 
-use cy_network_memory::{MemoryFault, rows_equal};
+use cy_network_memory::rows_equal;
 use cy_network_operators::Shift;
-use cy_values::Row;
+use cy_values::{Fault, Row};
 use indexmap::IndexSet;
 use std::alloc::Global;
 
 /// The rows of some shifts, each once. Fails only when out of memory.
-pub(crate) fn distinct_rows(alloc: Global, shifts: Vec<Shift>) -> Result<IndexSet<Row>, MemoryFault>
+pub(crate) fn distinct_rows(alloc: Global, shifts: Vec<Shift>) -> Result<IndexSet<Row>, Fault>
     ensures once { IfOk result (λ rows. (row : List Cell) → count_of row rows.keys ≡ (if is_changed row shifts.items then 1 else 0)) }
-    ensures memory { IfErr result (λ fault. fault ≡ NoMemory) }
     ensures few { IfOk result (λ rows. length rows.keys ≤ length shifts.items) }
 {
     rows_equal();
@@ -29,9 +27,8 @@ pub(crate) fn distinct_rows(alloc: Global, shifts: Vec<Shift>) -> Result<IndexSe
 }
 
 /// The rows of a few shifts, each once: each is compared with the others, and none is hashed. Fails only when out of memory.
-pub(crate) fn few_distinct_rows(alloc: Global, shifts: Vec<Shift>) -> Result<Vec<Row>, MemoryFault>
+pub(crate) fn few_distinct_rows(alloc: Global, shifts: Vec<Shift>) -> Result<Vec<Row>, Fault>
     ensures once { IfOk result (λ rows. (row : List Cell) → count_of row rows.items ≡ (if is_changed row shifts.items then 1 else 0)) }
-    ensures memory { IfErr result (λ fault. fault ≡ NoMemory) }
     ensures few { IfOk result (λ rows. length rows.items ≤ length shifts.items) }
 {
     let mut rows = Vec::with_capacity(alloc, shifts.len())?;
@@ -42,9 +39,8 @@ pub(crate) fn few_distinct_rows(alloc: Global, shifts: Vec<Shift>) -> Result<Vec
 }
 
 // Adds a row, unless it stands among the rows. Fails only when out of memory.
-fn add_new(rows: &mut Vec<Row>, row: Row) -> Result<(), MemoryFault>
+fn add_new(rows: &mut Vec<Row>, row: Row) -> Result<(), Fault>
     ensures added { OnOk result (rows.new.items ≡ (if list_any (is_row row) rows.old.items then rows.old.items else rows.old.items ++ row ∷ [])) }
-    ensures memory { IfErr result (λ fault. fault ≡ NoMemory) }
 {
     if !is_among(&row, rows) {
         rows.push(row)?;

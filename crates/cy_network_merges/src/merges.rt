@@ -7,14 +7,15 @@ ghost use Rattle.cy_network_memory.specs.declared.faults.MemoryFault.TheVariants
 ghost use Rattle.cy_network_memory.specs.Counts.{greatest_count};
 ghost use Rattle.cy_network_operators.specs.Deltas.{IsBounded, IsDelta, shift_between};
 ghost use Rattle.cy_network_operators.specs.Reading.{IsRead};
-ghost use Rattle.cy_network_merges.specs.Merges.{AreBounded, IsWhole};
-ghost use Rattle.cy_network_merges.specs.internal.Sums.{AreShiftsOf, lost, gained, shift_in, shifts_at};
+ghost use Rattle.cy_network_merges.specs.Merges.{AreBounded};
+ghost use Rattle.cy_network_merges.specs.internal.Sums.{AreShiftsOf, lost, gained, shifts_at};
 
 use crate::distinct_rows::{distinct_rows, few_distinct_rows};
 use crate::stages::{stage_gains, stage_losses};
-use cy_network_memory::{Memory, MemoryFault, Record};
+use cy_network_memory::{Memory, MemoryFault};
 use cy_network_operators::{Shift, add_shift};
 use cy_values::{Fault, Row};
+use indexmap::IndexSet;
 use std::alloc::Global;
 
 /// The rows of this many changes are compared with one another; those of more are hashed.
@@ -30,7 +31,6 @@ pub(crate) fn merge<M: Memory>(
 ) -> Result<Vec<Shift>, MemoryFault>
     requires settled { M.staged memory.old ≡ M.was memory.old }
     requires held { (row : List Cell) → lost row changes.items ≤ M.was memory.old row }
-    requires whole { (row : List Cell) → 0 < M.was memory.old row + gained row changes.items → IsWhole (M.key_columns memory.old) row }
     requires bounded { All IsBounded changes.items }
     requires counts { AreBounded (M.was memory.old) }
     ensures delta { IfOk result (λ made. IsDelta (M.was memory.old) (M.staged memory.new) made.items) }
@@ -49,40 +49,34 @@ pub(crate) fn merge<M: Memory>(
     }
     stage_losses(alloc, memory, &changes)?;
     stage_gains(alloc, memory, &changes)?;
-    let made = shifts_of_changes(alloc, memory, changes);
-    made.map_err(|_| MemoryFault::NoMemory)
+    let made = shifts_of_changes(alloc, memory, changes)?;
+    Ok(made)
 }
 
-// What changes of the rows of some changes.
+// What changes of the rows of some changes. Fails only when out of memory.
 fn shifts_of_changes<M: Memory>(
     alloc: Global,
     memory: &mut M,
     changes: Vec<Shift>,
-) -> Result<Vec<Shift>, MemoryFault>
-    requires whole { (row : List Cell) → 0 < M.was memory.old row + M.staged memory.old row → IsWhole (M.key_columns memory.old) row }
+) -> Result<Vec<Shift>, Fault>
     ensures made { IfOk result (λ made. AreShiftsOf (M.was memory.old) (M.staged memory.old) changes.items made.items) }
     ensures read { IsRead M.key_columns M.was M.staged M.step_count memory.old memory.new }
     ensures steps { M.EXACT ≡ true → M.step_count memory.new ≤ M.step_count memory.old + 2 * length changes.items }
 {
     if changes.len() == 1 {
-        return shift_of_change(alloc, memory, changes);
+        return shift_of_change(memory, changes);
     }
     if changes.len() <= FEW_CHANGES {
         let rows = few_distinct_rows(alloc, changes)?;
-        return shifts_of(alloc, memory, rows.as_slice());
+        return shifts_of_rows(alloc, memory, rows);
     }
     let rows = distinct_rows(alloc, changes)?;
-    shifts_of(alloc, memory, rows.as_slice())
+    shifts_of_set(alloc, memory, rows)
 }
 
-// What changes of the row of a single change.
-fn shift_of_change<M: Memory>(
-    alloc: Global,
-    memory: &mut M,
-    mut changes: Vec<Shift>,
-) -> Result<Vec<Shift>, MemoryFault>
+// What changes of the row of a single change. Fails only when out of memory.
+fn shift_of_change<M: Memory>(memory: &mut M, mut changes: Vec<Shift>) -> Result<Vec<Shift>, Fault>
     requires single { length changes.items ≡ 1 }
-    requires whole { (row : List Cell) → 0 < M.was memory.old row + M.staged memory.old row → IsWhole (M.key_columns memory.old) row }
     ensures made { IfOk result (λ made. AreShiftsOf (M.was memory.old) (M.staged memory.old) changes.items made.items) }
     ensures read { IsRead M.key_columns M.was M.staged M.step_count memory.old memory.new }
     ensures steps { M.EXACT ≡ true → M.step_count memory.new ≤ M.step_count memory.old + 2 }
@@ -90,52 +84,50 @@ fn shift_of_change<M: Memory>(
     let Some(change) = changes.pop() else {
         return Ok(changes);
     };
-    add_change(alloc, memory, &change.row, &mut changes)?;
+    add_change(memory, change.row, &mut changes)?;
     Ok(changes)
 }
 
-// What changes of some rows.
-fn shifts_of<M: Memory>(
+// What changes of some rows. Fails only when out of memory.
+fn shifts_of_rows<M: Memory>(
     alloc: Global,
     memory: &mut M,
-    rows: &[Row],
-) -> Result<Vec<Shift>, MemoryFault>
-    requires whole { (row : List Cell) → 0 < M.was memory.old row + M.staged memory.old row → IsWhole (M.key_columns memory.old) row }
-    ensures made { IfOk result (λ made. made.items ≡ shifts_at (M.was memory.old) (M.staged memory.old) rows.now) }
+    rows: Vec<Row>,
+) -> Result<Vec<Shift>, Fault>
+    ensures made { IfOk result (λ made. made.items ≡ shifts_at (M.was memory.old) (M.staged memory.old) rows.items) }
     ensures read { IsRead M.key_columns M.was M.staged M.step_count memory.old memory.new }
-    ensures steps { M.EXACT ≡ true → M.step_count memory.new ≤ M.step_count memory.old + 2 * length rows.now }
+    ensures steps { M.EXACT ≡ true → M.step_count memory.new ≤ M.step_count memory.old + 2 * length rows.items }
 {
     let mut made = Vec::new(alloc);
     for row in rows {
-        add_change(alloc, memory, row, &mut made)?;
+        add_change(memory, row, &mut made)?;
     }
     Ok(made)
 }
 
-// Adds what changes of a row.
-fn add_change<M: Memory>(
+// What changes of the rows of a set. Fails only when out of memory.
+fn shifts_of_set<M: Memory>(
     alloc: Global,
     memory: &mut M,
-    row: &Row,
-    made: &mut Vec<Shift>,
-) -> Result<(), MemoryFault>
-    requires whole { (other : List Cell) → 0 < M.was memory.old other + M.staged memory.old other → IsWhole (M.key_columns memory.old) other }
-    ensures made { OnOk result (made.new.items ≡ made.old.items ++ shift_between row.now (M.was memory.old row.now) (M.staged memory.old row.now)) }
+    rows: IndexSet<Row>,
+) -> Result<Vec<Shift>, Fault>
+    ensures made { IfOk result (λ made. made.items ≡ shifts_at (M.was memory.old) (M.staged memory.old) rows.keys) }
+    ensures read { IsRead M.key_columns M.was M.staged M.step_count memory.old memory.new }
+    ensures steps { M.EXACT ≡ true → M.step_count memory.new ≤ M.step_count memory.old + 2 * length rows.keys }
+{
+    let mut made = Vec::new(alloc);
+    for row in rows {
+        add_change(memory, row, &mut made)?;
+    }
+    Ok(made)
+}
+
+// Adds what changes of a row. Fails only when out of memory.
+fn add_change<M: Memory>(memory: &mut M, row: Row, made: &mut Vec<Shift>) -> Result<(), Fault>
+    ensures made { OnOk result (made.new.items ≡ made.old.items ++ shift_between row (M.was memory.old row) (M.staged memory.old row)) }
     ensures read { IsRead M.key_columns M.was M.staged M.step_count memory.old memory.new }
     ensures steps { M.EXACT ≡ true → M.step_count memory.new ≤ M.step_count memory.old + 2 }
 {
-    let mut cursor = memory.look(alloc, row)?;
-    let found = memory.take(alloc, &mut cursor)?;
-    add_found(made, found)?;
-    Ok(())
-}
-
-// Adds what changes of the row of a record, if there is one. Fails only when out of memory.
-fn add_found(made: &mut Vec<Shift>, found: Option<Record>) -> Result<(), Fault>
-    ensures { OnOk result (made.new.items ≡ made.old.items ++ shift_in found) }
-{
-    match found {
-        Some(record) => add_shift(made, record.row, record.before, record.after),
-        None => Ok(()),
-    }
+    let (before, after) = memory.counts(&row);
+    add_shift(made, row, before, after)
 }

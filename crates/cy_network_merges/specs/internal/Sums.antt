@@ -1,11 +1,10 @@
 -- By how much the count of a row changes in all, where it may stand in several shifts.
-use Rattle.std.specs.Prelude.{◌≡◌, ℕ, ◌-◌, Bool, List, [], ◌∷◌, Option, None, Some, if◌then◌else◌, flat_map, max, unwrap_or}
+use Rattle.std.specs.Prelude.{◌≡◌, ℕ, ◌-◌, Bool, List, [], ◌∷◌, if◌then◌else◌, flat_map, max, unwrap_or}
 use Rattle.std.specs.List.{sum_by, list_any}
 use Rattle.std.specs.Map.{lookup}
 use Rattle.cy_values.specs.declared.rows.Cell.{Cell}
 use Rattle.cy_values.specs.Bag.{count_of}
 use Rattle.cy_network_memory.specs.Counts.{Counts, is_row}
-use Rattle.cy_network_memory.specs.declared.memory.Record.{Record}
 use Rattle.cy_network_operators.specs.declared.shifts.Shift.{Shift}
 use Rattle.cy_network_operators.specs.Deltas.{shift_between, shifts_of}
 
@@ -42,11 +41,6 @@ pub record AreShiftsOf (before after : Counts) (changes shifts : List Shift) : T
   pub rows : List (List Cell)
   pub once : (row : List Cell) → count_of row rows ≡ (if is_changed row changes then 1 else 0)
   pub between : shifts ≡ shifts_at before after rows
-
--- the shift of the row of a record, if there is one
-abbrev pub shift_in : Option Record → List Shift
-shift_in None = []
-shift_in (Some r) = shift_between r.row r.before r.after
 
 -- the greatest of what some shifts weigh
 abbrev pub greatest : (Shift → ℕ) → List Shift → ℕ

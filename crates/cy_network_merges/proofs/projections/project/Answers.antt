@@ -1,21 +1,15 @@
-use Rattle.std.proofs.Common.{length, map, sym, subst}
+use Rattle.std.proofs.Common.{map, sym, subst}
 use Rattle.std.specs.List.{All}
-use Rattle.std.proofs.lemmas.List.{length-map}
 use Rattle.cy_network_memory.specs.Counts.{greatest_count}
 use Rattle.cy_planner_algebra.specs.Expressions.{projected}
 use Rattle.cy_planner_algebra.specs.Views.{output_of}
 use Rattle.cy_network_operators.specs.Deltas.{IsBounded}
-use Rattle.cy_network_merges.proofs.Changes.{images_bounded, project_held, project_whole, project_staged, project_delta, project_too_many}
+use Rattle.cy_network_merges.proofs.Changes.{images_bounded, project_held, project_staged, project_delta, project_too_many}
 use Rattle.cy_network_merges.proofs.projections.project.Goals as goal
 
 pub merge-requires-clause-held : goal.merge-requires-clause-held
 merge-requires-clause-held g c =
     project_held (map output_of c.args.outputs.now) (g.M.Memory.was c.args.memory.now) c.args.shifts.items c.in_ok-images.images.items c.in_ok-images.ensures.images c.requires.held.0 c.requires.held.1.0 c.requires.held.1.1
-
-pub merge-requires-clause-whole : goal.merge-requires-clause-whole
-merge-requires-clause-whole g c =
-    project_whole (map output_of c.args.outputs.now) (g.M.Memory.was c.args.memory.now) c.args.shifts.items c.in_ok-images.images.items c.in_ok-images.ensures.images c.requires.held.0 c.requires.held.1.0 c.requires.held.1.1
-    (g.M.Memory.key_columns c.args.memory.now) (length c.args.outputs.now) c.requires.columns (length-map c.args.outputs.now output_of)
 
 pub merge-requires-clause-bounded : goal.merge-requires-clause-bounded
 merge-requires-clause-bounded g c =

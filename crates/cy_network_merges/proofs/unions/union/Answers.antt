@@ -3,7 +3,7 @@ use Rattle.std.proofs.lemmas.List.{map-id}
 use Rattle.std.proofs.lemmas.Iterator.Consumers.{YieldsList-end}
 use Rattle.std.proofs.lemmas.Iterator.Adapters.{YieldsList-from_vec}
 use Rattle.cy_network_memory.specs.Counts.{greatest_count}
-use Rattle.cy_network_merges.proofs.Changes.{both_whole, union_held, union_staged, union_delta, union_too_many}
+use Rattle.cy_network_merges.proofs.Changes.{union_held, union_staged, union_delta, union_too_many}
 use Rattle.cy_network_merges.proofs.unions.union.Goals as goal
 
 pub merge-requires-clause-held : goal.merge-requires-clause-held
@@ -11,13 +11,6 @@ merge-requires-clause-held g c =
     let gives = c.into_iter-shift-iterator.ensures.into_iter_gives in
     let seen = YieldsList-end (YieldsList-from_vec {s = c.into_iter-shift-iterator.result} c.args.right.items gives.0 (gives.1 ∙ c.args.right.ok.0)) c.loop-shift.yielded c.loop-shift.shift-iterator c.loop-shift.yielded_by c.next.result c.next.new.self c.in-None.is c.next.ensures.steps in
     union_held (g.M.Memory.key_columns c.args.memory.now) (g.M.Memory.was c.args.memory.now) c.args.left.items c.args.right.items c.loop-shift.changes.items
-    (c.loop-shift.invariant ∙ ap (λ xs. c.args.left.items ++ xs) (sym (map-id c.loop-shift.yielded) ∙ seen.0)) c.requires.held.0 c.requires.held.1.0 c.requires.held.1.1
-
-pub merge-requires-clause-whole : goal.merge-requires-clause-whole
-merge-requires-clause-whole g c =
-    let gives = c.into_iter-shift-iterator.ensures.into_iter_gives in
-    let seen = YieldsList-end (YieldsList-from_vec {s = c.into_iter-shift-iterator.result} c.args.right.items gives.0 (gives.1 ∙ c.args.right.ok.0)) c.loop-shift.yielded c.loop-shift.shift-iterator c.loop-shift.yielded_by c.next.result c.next.new.self c.in-None.is c.next.ensures.steps in
-    both_whole (g.M.Memory.key_columns c.args.memory.now) (g.M.Memory.was c.args.memory.now) c.args.left.items c.args.right.items c.loop-shift.changes.items
     (c.loop-shift.invariant ∙ ap (λ xs. c.args.left.items ++ xs) (sym (map-id c.loop-shift.yielded) ∙ seen.0)) c.requires.held.0 c.requires.held.1.0 c.requires.held.1.1
 
 pub returns-clause-delta : goal.returns-clause-delta

@@ -10,7 +10,6 @@ use Rattle.cy_values.specs.declared.scalars.Value.{Value}
 use Rattle.cy_values.specs.declared.scalars.Value.TheVariants as value
 use Rattle.cy_values.specs.declared.rows.Cell.{Cell}
 use Rattle.cy_values.specs.declared.rows.Cell.TheVariants as cell
-use Rattle.cy_values.specs.declared.truth.Truth.{Truth}
 use Rattle.cy_values.specs.Order.{cell_order}
 use Rattle.cy_values.specs.Truth.{is_yes}
 use Rattle.cy_trees.specs.Trees.{Clause, Expression, MapEntry, Path, PathTest, Where, «match», unwind, «with», «return», create, set, remove, delete}

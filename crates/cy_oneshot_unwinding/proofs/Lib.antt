@@ -3,3 +3,4 @@ pub mod CarriedMatch
 pub mod CarriedRows
 pub mod Marked
 pub mod Filters
+pub mod Cleared

@@ -63,7 +63,7 @@ pub fn needed_after(
 }
 
 // Which of this many columns clauses need, where these rows stand before UNWIND. A clause that updates takes rows in their order, so
-// before one that does what tells rows apart is needed too.
+// before one that does what tells rows apart is needed too. Where all are needed no clause after the first ones is looked at.
 fn needed_by(
     alloc: Global,
     clauses: &[Clause],
@@ -75,6 +75,9 @@ fn needed_by(
     ensures within { IfOk result (λ needed. length needed.items ≤ columns) }
 {
     let mut needed = needed_ahead(alloc, clauses, columns, CLAUSES_AHEAD)?;
+    if needed.is_empty() {
+        return Ok(needed);
+    }
     if !updates_ahead(clauses) {
         return Ok(needed);
     }

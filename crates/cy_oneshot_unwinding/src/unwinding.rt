@@ -1,6 +1,6 @@
 //! UNWIND (openCypher 9, UNWIND; what isn't a list: own).
 
-ghost use Rattle.std.specs.Prelude.{◌≡◌, [], ◌∷◌, ◌++◌, IfOk, map, if◌then◌else◌};
+ghost use Rattle.std.specs.Prelude.{◌≡◌, [], ◌∷◌, ◌++◌, IfOk, map, slice_set, if◌then◌else◌};
 ghost use Rattle.cy_values.specs.declared.rows.Cell.TheVariants as cell;
 ghost use Rattle.cy_values.specs.declared.scalars.Value.TheVariants as value;
 ghost use Rattle.cy_values.specs.Compare.{value_in};
@@ -33,7 +33,7 @@ pub fn unwound(
 {
     let mut unwound = Gathered::new(alloc);
     for row in rows {
-        let outcome = unwound_row(alloc, store, list, needed, &row);
+        let outcome = unwound_row(alloc, store, list, needed, row);
         unwound.add_all(outcome)?;
     }
     unwound.finish()
@@ -45,20 +45,38 @@ fn unwound_row(
     store: &Store,
     list: &Expr,
     needed: &[bool],
-    row: &Row,
+    row: Row,
 ) -> Result<Vec<Row>, EvalFault>
-    requires { IsRowThere store.now.graph.now.content row.now }
-    ensures { IsAnswer result (λ unwound. unwound.items) (carried needed.now (spec.unwound store.now.graph.now.content (expression_of list.now) row.now)) }
+    requires { IsRowThere store.now.graph.now.content row }
+    ensures { IsAnswer result (λ unwound. unwound.items) (carried needed.now (spec.unwound store.now.graph.now.content (expression_of list.now) row)) }
 {
-    match value_on(alloc, store, list, row)? {
+    match value_on(alloc, store, list, &row)? {
         Value::List(elements) => Ok(with_each(alloc, needed, row, elements.into_vec())?),
         Value::Null => Ok(Vec::new(alloc)),
         Value::Text(_) | Value::Bool(_) | Value::Int(_) => Err(EvalFault::WrongType),
     }
 }
 
-// The row with each of the elements after it.
+// The row with each of the elements after it. It is copied for all of them but the last, which takes it over.
 fn with_each(
+    alloc: Global,
+    needed: &[bool],
+    row: Row,
+    elements: Vec<Scalar>,
+) -> Result<Vec<Row>, Fault>
+    ensures { IfOk result (λ rows. rows.items ≡ map (carried_from needed.now 0) (map (λ v. row ++ cell.Value v ∷ []) (map value_in elements.items))) }
+{
+    let mut others = elements;
+    let Some(last) = others.pop() else {
+        return Ok(Vec::new(alloc));
+    };
+    let mut rows = copies_with_each(alloc, needed, &row, others)?;
+    rows.push(extended(needed, row, Cell::Value(value_of(last)))?)?;
+    Ok(rows)
+}
+
+// Copies of the row with each of the elements after it, and room for one more.
+fn copies_with_each(
     alloc: Global,
     needed: &[bool],
     row: &Row,
@@ -66,12 +84,42 @@ fn with_each(
 ) -> Result<Vec<Row>, Fault>
     ensures { IfOk result (λ rows. rows.items ≡ map (carried_from needed.now 0) (map (λ v. row.now ++ cell.Value v ∷ []) (map value_in elements.items))) }
 {
-    let mut rows = Vec::with_capacity(alloc, elements.len())?;
+    let mut rows = Vec::with_capacity(alloc, elements.len().saturating_add(1))?;
     for element in elements {
         let last = Cell::Value(value_of(element));
         rows.push(with_cell(alloc, needed, row, last)?)?;
     }
     Ok(rows)
+}
+
+// The row itself with a cell after it, and with null for each cell that isn't needed.
+fn extended(needed: &[bool], row: Row, last: Cell) -> Result<Row, Fault>
+    ensures { IfOk result (λ longer. longer ≡ carried_from needed.now 0 (row ++ last ∷ [])) }
+{
+    let mut cells = row.into_vec();
+    cells.push(last)?;
+    clear_unneeded(needed, &mut cells);
+    Ok(Sequence::new(cells))
+}
+
+// Puts null in place of each cell that isn't needed.
+fn clear_unneeded(needed: &[bool], cells: &mut Vec<Cell>)
+    ensures { cells.new.items ≡ carried_from needed.now 0 cells.old.items }
+{
+    for place in 0..needed.len() {
+        if !needed[place] {
+            clear_at(cells, place);
+        }
+    }
+}
+
+// Puts null in a place, if there is one.
+fn clear_at(cells: &mut Vec<Cell>, place: usize)
+    ensures { cells.new.items ≡ slice_set cells.old.items place (cell.Value value.Null) }
+{
+    if place < cells.len() {
+        cells[place] = Cell::Value(Value::Null);
+    }
 }
 
 // A copy of the row with a cell after it, and with null for each cell that isn't needed.
@@ -84,11 +132,11 @@ fn with_cell(alloc: Global, needed: &[bool], row: &Row, last: Cell) -> Result<Ro
     Ok(Sequence::new(cells))
 }
 
-// Copies of cells, and null for each that isn't needed.
+// Copies of cells, and null for each that isn't needed, with room for one more.
 fn copied_cells(alloc: Global, needed: &[bool], row: &[Cell]) -> Result<Vec<Cell>, Fault>
     ensures { IfOk result (λ cells. cells.items ≡ carried_from needed.now 0 row.now) }
 {
-    let mut cells = Vec::with_capacity(alloc, row.len())?;
+    let mut cells = Vec::with_capacity(alloc, row.len().saturating_add(1))?;
     for cell in row {
         let place = cells.len();
         let next = copied_if_needed(alloc, needed, place, cell)?;

@@ -9,3 +9,4 @@ pub mod PathRows
 pub mod PathSteps
 pub mod SideSteps
 pub mod FilterSteps
+pub mod KeptSteps

@@ -5,7 +5,7 @@ use cy_network_memory::{KeyedMemory, ListMemory};
 use std::test::Fail;
 
 // The query of a view; then statements, each with the rows that are removed and added, and the rows after it.
-const SESSIONS: [&str; 19] = [
+const SESSIONS: [&str; 20] = [
     "\
 MATCH (a:A) OPTIONAL MATCH (a)-[:T]->(b:B) RETURN a, b
 CREATE (:A) => - + [node1,null]x1 = [node1,null]x1
@@ -137,6 +137,16 @@ MATCH (a:A) SET a:B => - + [node1]x1 = [node1]x1
 MATCH (a:A) REMOVE a.k => - + = [node1]x1
 MATCH (a:A) REMOVE a:B => - [node1]x1 + =
 MATCH (a:A) SET a.k = 1 => - + [node1]x1 = [node1]x1",
+    "\
+MATCH (a:A) WHERE (a)-[:T*0..1 {k: a.k}]->(:B) AND (a)-[:U*0..1 {k: a.k}]->(:C) RETURN a
+CREATE (a:A {k: 1})-[:T]->(:B), (a)-[:U]->(:C) => - + =
+MATCH ()-[r:T]->() SET r.k = 1 => - + =
+MATCH ()-[r:U]->() SET r.k = 1 => - + [node1]x1 = [node1]x1
+MATCH ()-[r:T]->() SET r.k = 2 => - [node1]x1 + =
+MATCH (a:A) SET a:B => - + [node1]x1 = [node1]x1
+MATCH (a:A) REMOVE a.k => - [node1]x1 + =
+MATCH (a:A) SET a:C => - + [node1]x1 = [node1]x1
+MATCH (a:A) REMOVE a:B => - [node1]x1 + =",
 ];
 
 // What changes in the rows of all nodes twice.

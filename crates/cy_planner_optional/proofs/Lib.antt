@@ -9,3 +9,4 @@ pub mod WholePlans
 pub mod CodeLemmas
 pub mod Predicates
 pub mod JoinedParts
+pub mod LookupLemmas

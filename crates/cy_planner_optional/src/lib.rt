@@ -4,6 +4,7 @@
 mod columns;
 mod conditions;
 mod joining;
+mod lookup_lists;
 mod lookups;
 mod place_keys;
 

@@ -4,3 +4,4 @@ pub mod ChainParts
 pub mod Popped
 pub mod Kept
 pub mod CutChains
+pub mod KeepsRows

@@ -5,6 +5,6 @@ mod kept_columns;
 mod memories;
 
 pub use memories::{
-    abandon_all, add_memories, count_at_cut, memory_count, next_count, own_count, settle_all,
-    steps_taken,
+    abandon_all, add_memories, count_at_cut, keeps_rows, memory_count, next_count, own_count,
+    settle_all, steps_taken,
 };

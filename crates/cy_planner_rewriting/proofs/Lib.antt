@@ -11,3 +11,4 @@ pub mod Rising
 pub mod Stacking
 pub mod Redirecting
 pub mod Splitting
+pub mod Putting

@@ -1,5 +1,5 @@
 -- Look-ups on a semi join, on its left part.
-use Rattle.std.proofs.Common.{◌≡◌, ℕ, ◌+◌, ◌<◌, ◌≤◌, Bool, List, [], ◌∷◌, ◌++◌, Vec, Global, length, map, filter, refl, sym, ap, subst, ◌∙◌, arith}
+use Rattle.std.proofs.Common.{◌≡◌, ℕ, ◌+◌, ◌<◌, List, [], ◌∷◌, ◌++◌, Vec, Global, length, map, refl, sym, ap, subst, arith}
 use Rattle.std.specs.List.{All, list_any}
 use Rattle.std.proofs.lemmas.List.Elements.{All-append, All-cons, All-head, All-tail, All-weaker}
 use Rattle.cy_values.specs.declared.rows.Cell.{Cell}
@@ -11,7 +11,7 @@ use Rattle.cy_planner_algebra.specs.declared.operators.Operator.{Operator}
 use Rattle.cy_planner_algebra.specs.Plans as plan
 use Rattle.cy_planner_algebra.specs.Plans.{Plan, width}
 use Rattle.cy_planner_algebra.specs.Views.{plan_of}
-use Rattle.cy_planner_algebra.specs.Keys.{is_same_key, meet, right_key}
+use Rattle.cy_planner_algebra.specs.Keys.{is_same_key, right_key}
 use Rattle.cy_planner_algebra.specs.Meaning.{has_partner, rows_of, stays, with_attribute}
 use Rattle.cy_planner_algebra.specs.Parts.{parts}
 use Rattle.cy_planner_algebra.specs.WellFormed.{IsKeyBetween, IsWellFormed}

@@ -1,4 +1,5 @@
 -- What private functions and proofs need.
+pub mod Above
 pub mod Columns
 pub mod Lowered
 pub mod Redirected

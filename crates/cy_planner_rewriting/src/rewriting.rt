@@ -3,33 +3,72 @@
 ghost use Rattle.std.specs.Prelude.{IfOk};
 ghost use Rattle.cy_planner_algebra.specs.Views.{plan_of};
 ghost use Rattle.cy_planner_algebra.specs.WellFormed.{IsWellFormed};
-ghost use Rattle.cy_planner_rows.specs.internal.Lookups.{over};
 ghost use Rattle.cy_planner_rewriting.specs.Rewritten.{IsRewritten};
+ghost use Rattle.cy_planner_rewriting.specs.internal.Above as standing;
+ghost use Rattle.cy_planner_rewriting.specs.internal.Splits as spec;
 
-use crate::layers::{Layers, taken_apart};
+use crate::layers::{Layer, Layers, taken_apart};
 use crate::parts::layered;
-use crate::splits::{Split, put_together, split_base};
-use cy_planner_algebra::{Operator, Plan};
-use cy_planner_lowering::Wanted;
+use crate::splits::{Joint, Side, Split, bare_side, put_together, split_base};
+use cy_planner_algebra::Plan;
 use cy_values::Fault;
 use std::alloc::Global;
 
-/// A part with look-ups on it.
-fn rewritten_part(alloc: Global, part: Operator, lookups: Vec<Wanted>) -> Result<Plan, Fault>
-    requires { IsWellFormed (over (plan_of part) lookups.items) }
-    ensures { IfOk result (λ p. IsRewritten (over (plan_of part) lookups.items) (plan_of p)) }
+/// What stands above the left one of two parts: how they go together, the right one, and the layers on that.
+#[derive(Drop)]
+pub(crate) struct Above {
+    joint: Joint,
+    right: Plan,
+    layers: Vec<Layer>,
+}
+
+/// A plan with what stands above it, the uppermost first.
+fn put_over(alloc: Global, base: Plan, above: Vec<Above>) -> Result<Plan, Fault>
+    requires { IsWellFormed (standing.put_over above.items (plan_of base)) }
+    ensures { IfOk result (λ p. IsRewritten (standing.put_over above.items (plan_of base)) (plan_of p)) }
 {
-    let Layers {
-        layers,
-        lookups,
-        base,
-    } = taken_apart(alloc, part, lookups)?;
-    match split_base(alloc, base, lookups)? {
-        Split::Leaf(base) => layered(alloc, base, layers),
-        Split::Both(joint, left, right) => {
-            let left = rewritten_part(alloc, left.part, left.lookups)?;
-            let right = rewritten_part(alloc, right.part, right.lookups)?;
-            put_together(alloc, joint, left, right, layers)
+    let mut above = above;
+    let mut plan = base;
+    while let Some(
+        Above {
+            joint,
+            right,
+            layers,
+        },
+    ) = above.pop()
+    {
+        plan = put_together(alloc, joint, plan, right, layers)?;
+    }
+    Ok(plan)
+}
+
+/// A part with look-ups on it. Of two parts below each other the left one is taken in a loop, and the right one by a call.
+fn rewritten_side(alloc: Global, side: Side) -> Result<Plan, Fault>
+    requires { IsWellFormed (spec.side_plan side) }
+    ensures { IfOk result (λ p. IsRewritten (spec.side_plan side) (plan_of p)) }
+{
+    let mut above = Vec::new(alloc);
+    let mut side = side;
+    loop {
+        let Layers {
+            layers,
+            lookups,
+            base,
+        } = taken_apart(alloc, side.part, side.lookups)?;
+        match split_base(alloc, base, lookups)? {
+            Split::Leaf(base) => {
+                let plan = layered(alloc, base, layers)?;
+                return put_over(alloc, plan, above);
+            }
+            Split::Both(joint, left, right) => {
+                let right = rewritten_side(alloc, right)?;
+                above.push(Above {
+                    joint,
+                    right,
+                    layers,
+                })?;
+                side = left;
+            }
         }
     }
 }
@@ -41,5 +80,5 @@ fn rewritten_part(alloc: Global, part: Operator, lookups: Vec<Wanted>) -> Result
 pub fn rewritten(alloc: Global, plan: Plan) -> Result<Plan, Fault>
     ensures { IfOk result (λ p. IsRewritten (plan_of plan) (plan_of p)) }
 {
-    rewritten_part(alloc, plan.into_root(), Vec::new(alloc))
+    rewritten_side(alloc, bare_side(alloc, plan.into_root()))
 }

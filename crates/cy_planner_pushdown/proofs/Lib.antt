@@ -3,8 +3,10 @@ pub mod Commuting
 pub mod ConditionsOnCells
 pub mod Conjunctions
 pub mod Moves
+pub mod Placing
 pub mod PushedPlans
 pub mod Readings
 pub mod RenumberedKinds
 pub mod SiftedRows
 pub mod Spread
+pub mod Stepping

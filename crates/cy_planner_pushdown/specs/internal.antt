@@ -1,4 +1,5 @@
 -- What private functions and proofs need.
 pub mod Conditions
 pub mod Pushed
+pub mod Steps
 pub mod Ways

@@ -10,29 +10,38 @@ ghost use Rattle.cy_planner_pushdown.specs.internal.Pushed as pushed;
 
 use crate::conditions::{cells_test, find_reading};
 use crate::pushing::push;
+use crate::steps::Place;
 use cy_planner_algebra::{Operator, Plan};
 use cy_planner_rows::filter_where;
 use cy_trees::{BinaryOperator, Expr};
 use cy_values::Fault;
 use std::alloc::Global;
 
-/// A plan with more parts than these is left as it is, so that what a condition costs is bounded.
+/// A plan with more parts than these is left as it is, so that what a condition costs is bounded: it passes over each part on its way,
+/// and asks at each for the width of what is below.
 const MOST_PARTS: usize = 192;
 
-/// What is left of a number after one for each part of a plan.
-fn left_after(part: &Operator, count: usize) -> Option<usize> {
-    let rest = count.checked_sub(1)?;
-    match part {
-        Operator::Unit | Operator::Nodes | Operator::Rels(_, _) => Some(rest),
-        Operator::Join(left, right, _)
-        | Operator::Outer(left, right, _, _)
-        | Operator::Semi(left, right, _, _)
-        | Operator::Union(left, right) => left_after(right, left_after(left, rest)?),
-        Operator::Lookup(below, _, _)
-        | Operator::Filter(below, _)
-        | Operator::AllDifferent(below, _)
-        | Operator::Project(below, _)
-        | Operator::Distinct(below) => left_after(below, rest),
+/// What is left of a number after one for each part of a plan, if there are no more parts.
+pub fn left_after(part: &Operator, count: usize) -> Option<usize> {
+    let mut part = part;
+    let mut rest = count;
+    loop {
+        rest = rest.checked_sub(1)?;
+        match part {
+            Operator::Unit | Operator::Nodes | Operator::Rels(_, _) => return Some(rest),
+            Operator::Join(left, right, _)
+            | Operator::Outer(left, right, _, _)
+            | Operator::Semi(left, right, _, _)
+            | Operator::Union(left, right) => {
+                rest = left_after(right, rest)?;
+                part = left;
+            }
+            Operator::Lookup(below, _, _)
+            | Operator::Filter(below, _)
+            | Operator::AllDifferent(below, _)
+            | Operator::Project(below, _)
+            | Operator::Distinct(below) => part = below,
+        }
     }
 }
 
@@ -80,7 +89,10 @@ fn filter_one(alloc: Global, below: Plan, test: &Expr) -> Result<Plan, Fault>
     ensures { IfOk result (λ p. spec.IsFiltered (plan_of below) (expression_of test.now) (plan_of p)) }
 {
     match find_test(alloc, &below, 0, test)? {
-        Some(found) => push(alloc, below.into_root(), &found.columns, &found.test),
+        Some(CellsTest { columns, test }) => {
+            let part = below.into_root();
+            push(alloc, Place { part, columns }, &test)
+        }
         None => filter_where(alloc, below, test),
     }
 }
@@ -113,8 +125,9 @@ pub fn keep_after(alloc: Global, before: usize, below: Plan, test: &Expr) -> Res
     ensures { IfOk result (λ k. IsKeptIf before (plan_of below) (expression_of test.now) k.is_kept (plan_of k.plan)) }
 {
     match find_test(alloc, &below, before, test)? {
-        Some(found) => {
-            let plan = push(alloc, below.into_root(), &found.columns, &found.test)?;
+        Some(CellsTest { columns, test }) => {
+            let part = below.into_root();
+            let plan = push(alloc, Place { part, columns }, &test)?;
             Ok(Kept {
                 plan,
                 is_kept: true,

@@ -2,12 +2,14 @@
 //! is a condition on the table where that comes from.
 #![tactic(auto)]
 
+mod above;
 mod columns;
 mod conditions;
 mod filters;
-mod moving;
 mod pushing;
 mod sides;
 mod sifting;
+mod steps;
 
-pub use filters::{Kept, filter_low, keep_after};
+pub use above::{Above, placed_over};
+pub use filters::{Kept, filter_low, keep_after, left_after};

@@ -1,5 +1,4 @@
 use Rattle.std.proofs.Common.{ℕ, ◌+◌, List, map, subst}
-use Rattle.std.specs.Prelude.{IfOk}
 use Rattle.cy_trees.specs.Trees.{Expression}
 use Rattle.cy_trees.specs.Views.{expression_of}
 use Rattle.cy_planner_algebra.specs.Plans.{Plan}
@@ -15,12 +14,11 @@ pub returns-in-Some : goal.returns-in-Some
 returns-in-Some c =
     let below : Plan = plan_of c.args.below in
     let test : Expression = expression_of c.args.test.now in
-    let columns : List ℕ = c.in-Some.found.columns.items in
-    let cells_test : Expression = expression_of c.in-Some.found.test in
-    let same : IsOnCells test (map (λ n. 0 + n) columns) cells_test = rw c.in-Some.is at c.in_ok-found.ensures.same in
-    if_ok_map (λ p. IsPushed (plan_of c.into_root.result) columns cells_test (plan_of p)) (λ p. IsFiltered below test (plan_of p))
+    let columns : List ℕ = c.in-Some.field-0.columns.items in
+    let cells_test : Expression = expression_of c.in-Some.field-0.test in
+    let same : IsOnCells test (map (λ n. 0 + n) columns) cells_test = rw c.in-Some.is at c.in_ok-columns.ensures.same in
+    if_ok_map (λ p. IsPushed (plan_of c.into_root-part.result) columns cells_test (plan_of p)) (λ p. IsFiltered below test (plan_of p))
     (λ p pushed.
     pushed_filters below test columns cells_test (from_first test columns cells_test same) (plan_of p)
-    (subst (λ q. IsPushed (plan_of q) columns cells_test (plan_of p)) c.into_root.ensures.same pushed))
-    c.push.result
-    (subst (λ (cs : List ℕ). IfOk c.push.result (λ p. IsPushed (plan_of c.into_root.result) cs cells_test (plan_of p))) c.deref.ensures.value c.push.ensures)
+    (subst (λ q. IsPushed (plan_of q) columns cells_test (plan_of p)) c.into_root-part.ensures.same pushed))
+    c.push.result c.push.ensures

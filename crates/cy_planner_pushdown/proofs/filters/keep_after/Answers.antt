@@ -13,9 +13,8 @@ returns-in_ok-plan-in-Some c =
     let below : Plan = plan_of c.args.below in
     let made : Plan = plan_of c.in_ok-plan-in-Some.plan in
     let test : Expression = expression_of c.args.test.now in
-    let columns : List ℕ = c.in-Some.found.columns.items in
-    let cells_test : Expression = expression_of c.in-Some.found.test in
-    let same : IsOnCells test (map (λ n. c.args.before + n) columns) cells_test = rw c.in-Some.is at c.in_ok-found.ensures.same in
+    let columns : List ℕ = c.in-Some.field-0.columns.items in
+    let cells_test : Expression = expression_of c.in-Some.field-0.test in
+    let same : IsOnCells test (map (λ n. c.args.before + n) columns) cells_test = rw c.in-Some.is at c.in_ok-columns.ensures.same in
     pushed_keeps c.args.before below test columns cells_test same made
-    (subst (λ q. IsPushed (plan_of q) columns cells_test made) c.into_root.ensures.same
-    (subst (λ (cs : List ℕ). IsPushed (plan_of c.into_root.result) cs cells_test made) c.deref.ensures.value c.in_ok-plan-in-Some.ensures))
+    (subst (λ q. IsPushed (plan_of q) columns cells_test made) c.into_root-part.ensures.same c.in_ok-plan-in-Some.ensures)

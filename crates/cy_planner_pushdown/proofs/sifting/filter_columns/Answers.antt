@@ -51,8 +51,8 @@ filter-requires c =
     (subst (λ (e : Expression). IsOver (width (over below (wanted_of test))) e) (sym condition)
     (lowered_over below (wanted_of test) test read (asked_among [] (asked test))))
 
-pub first_columns-requires : goal.first_columns-requires
-first_columns-requires c =
+pub narrowed-requires : goal.narrowed-requires
+narrowed-requires c =
     let below : Plan = plan_of c.args.below in
     let kept : width (plan_of c.in_ok-kept.kept) ≡ width (plan_of c.in_ok-wide.wide) = ap width c.in_ok-kept.ensures in
     let wide : width (plan_of c.in_ok-wide.wide) ≡ width (over below c.as_slice.result.now) = ap width c.in_ok-wide.ensures in
@@ -86,4 +86,4 @@ returns c =
     (λ p is.
     subst (λ (q : Plan). IsPushed below columns tested q) (sym (is ∙ (λ i. narrowed (c.width-width.ensures.width i) (kept i))))
     (sifted below columns tested well c.requires here (well_kept below test well here read)))
-    c.first_columns.result c.first_columns.ensures
+    c.narrowed.result c.narrowed.ensures

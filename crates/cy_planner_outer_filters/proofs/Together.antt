@@ -22,7 +22,7 @@ over_any (layer.AllDifferent columns) p q is = over_different p q is columns.ite
 over_any (layer.Project outputs) p q is = over_project p q is (map output_of outputs.items)
 over_any layer.Distinct p q is = over_distinct p q is
 
-over_all : (ls : List Layer) (p q : Plan) → StandsFor p q → StandsFor (layered ls p) (layered ls q)
+pub over_all : (ls : List Layer) (p q : Plan) → StandsFor p q → StandsFor (layered ls p) (layered ls q)
 over_all [] p q is = is
 over_all (l ∷ ls) p q is = over_any l (layered ls p) (layered ls q) (over_all ls p q is)
 

@@ -4,26 +4,67 @@ ghost use Rattle.std.specs.Prelude.{IfOk};
 ghost use Rattle.cy_planner_algebra.specs.Views.{plan_of};
 ghost use Rattle.cy_planner_algebra.specs.WellFormed.{IsWellFormed};
 ghost use Rattle.cy_planner_outer_filters.specs.Standing.{StandsFor};
+ghost use Rattle.cy_planner_outer_filters.specs.internal.Above as spec;
 
-use crate::bases::{Base, Layers, layers_of, open_base, put_together};
+use crate::bases::{Base, Joint, Layers, layers_of, open_base, put_together};
 use cy_planner_algebra::{Operator, Plan};
-use cy_planner_rewriting::layered;
+use cy_planner_rewriting::{Layer, layered};
 use cy_values::Fault;
 use std::alloc::Global;
 
-/// The plan that stands for a part and those below it.
+/// What stands above the left one of two parts: how they go together, the right one, and the layers on that.
+#[derive(Drop)]
+pub(crate) struct Above {
+    joint: Joint,
+    right: Plan,
+    layers: Vec<Layer>,
+}
+
+/// A plan with what stands above it, the uppermost first.
+fn put_over(alloc: Global, base: Plan, above: Vec<Above>) -> Result<Plan, Fault>
+    requires { IsWellFormed (spec.put_over above.items (plan_of base)) }
+    ensures { IfOk result (λ p. StandsFor (spec.put_over above.items (plan_of base)) (plan_of p)) }
+{
+    let mut above = above;
+    let mut plan = base;
+    while let Some(
+        Above {
+            joint,
+            right,
+            layers,
+        },
+    ) = above.pop()
+    {
+        let both = put_together(alloc, joint, plan, right)?;
+        plan = layered(alloc, both, layers)?;
+    }
+    Ok(plan)
+}
+
+/// The plan that stands for a part and those below it. Of two parts below another one the left one is taken in a loop, and the right one
+/// by a call.
 fn lowered(alloc: Global, part: Operator) -> Result<Plan, Fault>
     requires { IsWellFormed (plan_of part) }
     ensures { IfOk result (λ p. StandsFor (plan_of part) (plan_of p)) }
 {
-    let Layers { layers, base } = layers_of(alloc, part)?;
-    match open_base(base) {
-        Base::Leaf(leaf) => layered(alloc, leaf, layers),
-        Base::Both(joint, left, right) => {
-            let left = lowered(alloc, left)?;
-            let right = lowered(alloc, right)?;
-            let both = put_together(alloc, joint, left, right)?;
-            layered(alloc, both, layers)
+    let mut above = Vec::new(alloc);
+    let mut part = part;
+    loop {
+        let Layers { layers, base } = layers_of(alloc, part)?;
+        match open_base(base) {
+            Base::Leaf(leaf) => {
+                let plan = layered(alloc, leaf, layers)?;
+                return put_over(alloc, plan, above);
+            }
+            Base::Both(joint, left, right) => {
+                let right = lowered(alloc, right)?;
+                above.push(Above {
+                    joint,
+                    right,
+                    layers,
+                })?;
+                part = left;
+            }
         }
     }
 }

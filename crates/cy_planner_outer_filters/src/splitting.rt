@@ -6,6 +6,7 @@ ghost use Rattle.cy_planner_algebra.specs.Views.{plan_of};
 ghost use Rattle.cy_planner_outer_filters.specs.internal.Splits as spec;
 
 use cy_planner_algebra::Plan;
+use cy_planner_conjunctions::{conjuncts, halved};
 use cy_planner_pushdown::keep_after;
 use cy_trees::{BinaryOperator, Expr};
 use cy_values::Fault;
@@ -50,6 +51,16 @@ fn split_one(alloc: Global, before: usize, right: Plan, test: Expr) -> Result<Sp
     }
 }
 
+/// A condition, if there is one, with those that AND joins in it joined in halves: many of them make no deep tree.
+fn halves(alloc: Global, test: Option<Expr>) -> Result<Option<Expr>, Fault>
+    ensures { IfOk result (λ e. spec.AreAlike (option_map expression_of test) (option_map expression_of e)) }
+{
+    match test {
+        Some(test) => Ok(Some(halved(alloc, test)?)),
+        None => Ok(None),
+    }
+}
+
 /// Each of the conditions that AND joins is put on the right part, if it reads that alone and has a truth whatever stands there. Fails only
 /// when out of memory.
 pub(crate) fn taken_apart(
@@ -60,15 +71,23 @@ pub(crate) fn taken_apart(
 ) -> Result<Split, Fault>
     ensures { IfOk result (λ s. spec.IsSplit before (plan_of right) (expression_of test) (plan_of s.right) (option_map expression_of s.rest)) }
 {
-    match test {
-        Expr::Binary(BinaryOperator::And, first, second) => {
-            let one = taken_apart(alloc, before, right, Box::into_inner(first))?;
-            let two = taken_apart(alloc, before, one.right, Box::into_inner(second))?;
-            Ok(Split {
-                right: two.right,
-                rest: both(alloc, one.rest, two.rest)?,
-            })
-        }
-        test => split_one(alloc, before, right, test),
+    let mut tests = conjuncts(alloc, test)?;
+    tests.reverse();
+    let mut split = match tests.pop() {
+        Some(first) => split_one(alloc, before, right, first)?,
+        None => unreachable!(),
+    };
+    while let Some(test) = tests.pop() {
+        let next = split_one(alloc, before, split.right, test)?;
+        let rest = both(alloc, split.rest, next.rest)?;
+        split = Split {
+            right: next.right,
+            rest,
+        };
     }
+    let rest = halves(alloc, split.rest)?;
+    Ok(Split {
+        right: split.right,
+        rest,
+    })
 }

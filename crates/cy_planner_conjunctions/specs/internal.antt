@@ -1,0 +1,2 @@
+-- What private functions and proofs need.
+pub mod Opened

@@ -14,7 +14,7 @@ use Rattle.cy_values.specs.Bag.{IsCanonical}
 use Rattle.cy_values.specs.Order.{row_cmp}
 use Rattle.cy_network_memory.specs.Counts.{is_row}
 use Rattle.cy_network_memory.proofs.RowMaps.{row_itself}
-use Rattle.cy_network.specs.internal.Roots.{AreOnce}
+use Rattle.cy_network_memory.specs.Listings.{AreOnce}
 
 first_lt : (o then : Ordering) → is_lt (ordering_then o then) ≡ false → is_lt o ≡ false
 first_lt Less then h = h

@@ -11,26 +11,26 @@ use Rattle.cy_network_memory.specs.Counts.{is_row}
 use Rattle.cy_network_memory.proofs.RowMaps.{row_itself}
 use Rattle.cy_network_operators.proofs.Same.{same_row}
 use Rattle.cy_network_parts.specs.Counted.{ArePositive, IsPositive, counted}
-use Rattle.cy_network.specs.internal.Roots.{AreOnce}
+use Rattle.cy_network_memory.specs.Listings.{AreOnce}
 
 abbrev Entries : Type 0
 Entries = List (List Cell × ℕ)
 
 -- how often a row stands among entries
-abbrev standing : List Cell → Entries → ℕ
+abbrev pub standing : List Cell → Entries → ℕ
 standing row entries = sum_by (λ p. cond (is_row row p.0) 1 0) entries
 
-standing_cons : (row : List Cell) (e : List Cell × ℕ) (entries : Entries) → standing row (e ∷ entries) ≡ cond (is_row row e.0) 1 0 + standing row entries
+pub standing_cons : (row : List Cell) (e : List Cell × ℕ) (entries : Entries) → standing row (e ∷ entries) ≡ cond (is_row row e.0) 1 0 + standing row entries
 standing_cons row e entries = sum_by-cons (λ (p : List Cell × ℕ). cond (is_row row p.0) 1 0) e entries
 
-weight_cons : (row : List Cell) (e : List Cell × ℕ) (entries : Entries) → weight_of row (e ∷ entries) ≡ cond (is_row row e.0) e.1 0 + weight_of row entries
+pub weight_cons : (row : List Cell) (e : List Cell × ℕ) (entries : Entries) → weight_of row (e ∷ entries) ≡ cond (is_row row e.0) e.1 0 + weight_of row entries
 weight_cons row e entries = sum_by-cons (λ (p : List Cell × ℕ). cond (is_row row p.0) p.1 0) e entries
 
 nothing_added : (n : ℕ) → 0 + n ≡ n
 nothing_added n = omega arith
 
 -- what no row stands under counts nothing, and is not found
-none_counts : (row : List Cell) (entries : Entries) → standing row entries ≡ 0 → (weight_of row entries ≡ 0) × (lookup (is_row row) entries ≡ None)
+pub none_counts : (row : List Cell) (entries : Entries) → standing row entries ≡ 0 → (weight_of row entries ≡ 0) × (lookup (is_row row) entries ≡ None)
 none_counts row [] none = (refl, refl)
 none_counts row (e ∷ entries) none = by (is_row row e.0) refl (none_counts row entries)
   where

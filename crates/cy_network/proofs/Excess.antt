@@ -12,7 +12,8 @@ use Rattle.cy_network_operators.specs.declared.shifts.Shift.{Shift}
 use Rattle.cy_network_operators.specs.Deltas.{IsDelta, counts_after, shift_between, shifts_of}
 use Rattle.cy_network_operators.proofs.Same.{row_itself}
 use Rattle.cy_network_parts.specs.Counted.{written}
-use Rattle.cy_network.specs.internal.Roots.{AreOnce, excess}
+use Rattle.cy_network_memory.specs.Listings.{AreOnce}
+use Rattle.cy_network.specs.internal.Roots.{excess}
 
 nothing_added : (n : ℕ) → 0 + n ≡ n
 nothing_added n = omega arith

@@ -9,3 +9,5 @@ pub mod Partway
 pub mod Upwards
 pub mod Climbs
 pub mod Irrelevant
+pub mod LastMemory
+pub mod Once

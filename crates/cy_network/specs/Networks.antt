@@ -2,7 +2,6 @@
 use Rattle.std.specs.Prelude.{◌≡◌, ℕ, ◌≤◌, Bool, true, List, [], Option, Some, None, is_none, length, map, sum_by}
 use Rattle.std.specs.declared.alloc.Global.{Global}
 use Rattle.std.specs.declared.vec.Vec.{Vec}
-use Rattle.indexmap.specs.IndexMap.{spare}
 use Rattle.cy_values.specs.declared.rows.Cell.{Cell}
 use Rattle.cy_bags.specs.declared.changes.Change.{Change}
 use Rattle.cy_bags.specs.Difference.{IsDifference}
@@ -15,12 +14,13 @@ use Rattle.cy_planner_algebra.specs.Sure.{IsSure}
 use Rattle.cy_planner_algebra.specs.Views.{plan_of}
 use Rattle.cy_network_operators.specs.Deltas.{counts}
 use Rattle.cy_network.specs.declared.networks.Network.{Network}
+use Rattle.cy_network.specs.Places.{Place, entries_in, place_in, place_of, room_in, rows_by}
 use Rattle.cy_network_parts.specs.Counted.{ArePositive, counted, written}
 use Rattle.cy_network_parts.specs.Memories.{AreHeld}
 pub use Rattle.cy_network_parts.specs.Limits.{HasTooManyRows}
 
 -- A network: its plan; of its memories the key columns, how often each row counts as it was and as it is staged, and how many steps they took
--- since they were made; the rows that count, and how many there is room for beside them; the counts that are written over these when the change
+-- since they were made; where the rows that count stand, those in the table and how many it has room for beside them; the counts that are written over these when the change
 -- that is prepared is settled, and whether it leaves them and the memories as they are; what it changes, if one is prepared; and the steps of the last
 -- one.
 pub record NetworkState : Type 0 where
@@ -29,6 +29,7 @@ pub record NetworkState : Type 0 where
   pub was : List Counts
   pub staged : List Counts
   pub taken : ℕ
+  pub place : Place
   pub rows : List (List Cell × ℕ)
   pub room : ℕ
   pub next : List (List Cell × ℕ)
@@ -49,8 +50,9 @@ state_of key_columns was staged step_count n = record {
   was = map was n.memories.items;
   staged = map staged n.memories.items;
   taken = sum_by step_count n.memories.items;
-  rows = n.rows.entries;
-  room = spare n.rows;
+  place = place_in n.rows;
+  rows = entries_in n.rows;
+  room = room_in n.rows;
   next = next_counts n.next;
   unmoved = is_none n.next;
   pending = n.pending;
@@ -65,13 +67,14 @@ operator_of n = n.plan
 pub record StandsFor (graph : Content) (n : NetworkState) : Type 0 where
   pub sure : IsSure n.plan
   pub held : AreHeld (Some graph) n.plan n.columns n.was n.staged
-  pub rows : counted n.rows ≡ counts (rows_of graph n.plan)
+  pub placed : n.place ≡ place_of n.plan
+  pub rows : rows_by n.place (counted n.rows) n.was ≡ counts (rows_of graph n.plan)
   pub positive : ArePositive n.rows
   pub idle : n.pending ≡ None
 
 -- the network has the rows of its plan on the graph, whether or not a change is prepared
 pub record HasRows (graph : Content) (n : NetworkState) : Type 0 where
-  pub rows : counted n.rows ≡ counts (rows_of graph n.plan)
+  pub rows : rows_by n.place (counted n.rows) n.was ≡ counts (rows_of graph n.plan)
   pub positive : ArePositive n.rows
 
 -- The network is prepared from one graph to another: it still has the rows of the first, what is staged stands for the second, and the difference
@@ -80,9 +83,10 @@ pub record IsPrepared (before after : Content) (n : NetworkState) : Type 0 where
   pub sure : IsSure n.plan
   pub held : AreHeld (Some before) n.plan n.columns n.was n.was
   pub staged : AreHeld (Some after) n.plan n.columns n.staged n.staged
-  pub rows : counted n.rows ≡ counts (rows_of before n.plan)
+  pub placed : n.place ≡ place_of n.plan
+  pub rows : rows_by n.place (counted n.rows) n.was ≡ counts (rows_of before n.plan)
   pub positive : ArePositive n.rows
-  pub next : written n.next (counted n.rows) ≡ counts (rows_of after n.plan)
+  pub next : rows_by n.place (written n.next (counted n.rows)) n.staged ≡ counts (rows_of after n.plan)
   pub fits : length n.next ≤ n.room
   pub unmoved : n.unmoved ≡ true → n.staged ≡ n.was
   pub change : Change

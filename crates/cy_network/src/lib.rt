@@ -2,6 +2,7 @@
 #![tactic(auto)]
 
 mod changes;
+mod kept;
 mod networks;
 mod pending;
 mod rows;

@@ -65,6 +65,41 @@ fn gains(alloc: Global, shifts: &[Shift]) -> Result<Vec<(Row, u64)>, Fault>
     Ok(pairs)
 }
 
+/// What rows change, as a change: they go over into it. Fails only when out of memory.
+pub(crate) fn change_of(alloc: Global, shifts: Vec<Shift>) -> Result<Change, Fault>
+    requires { (before : List (List Cell)) × ((after : List (List Cell)) × IsDelta (counts before) (counts after) shifts.items) }
+    ensures { IfOk result (λ change. (before after : List (List Cell)) → IsDelta (counts before) (counts after) shifts.items → IsDifference before after change) }
+{
+    let pairs = losses_and_gains(alloc, shifts)?;
+    let removed = sorted(pairs.0)?;
+    let added = sorted(pairs.1)?;
+    Ok(Change {
+        removed: Sequence::new(removed),
+        added: Sequence::new(added),
+    })
+}
+
+// The rows that count less, and those that count more, each with by how much. Fails only when out of memory.
+fn losses_and_gains(
+    alloc: Global,
+    shifts: Vec<Shift>,
+) -> Result<(Vec<(Row, u64)>, Vec<(Row, u64)>), Fault>
+    ensures losses { IfOk result (λ pairs. pairs.0.items ≡ flat_map (excess (λ s. s.before) (λ s. s.after)) shifts.items) }
+    ensures gains { IfOk result (λ pairs. pairs.1.items ≡ flat_map (excess (λ s. s.after) (λ s. s.before)) shifts.items) }
+{
+    let mut removed = Vec::new(alloc);
+    let mut added = Vec::new(alloc);
+    for shift in shifts {
+        let Shift { row, before, after } = shift;
+        if after < before {
+            removed.push((row, before - after))?;
+        } else if before < after {
+            added.push((row, after - before))?;
+        }
+    }
+    Ok((removed, added))
+}
+
 /// The rows that change with their counts after it. Fails only when out of memory.
 pub(crate) fn counts_after(alloc: Global, shifts: Vec<Shift>) -> Result<Vec<(Row, u64)>, Fault>
     ensures { IfOk result (λ next. next.items ≡ map (λ s. (s.row, s.after)) shifts.items) }

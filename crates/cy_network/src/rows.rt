@@ -7,7 +7,7 @@ ghost use Rattle.cy_values.specs.declared.rows.Cell.{Cell};
 ghost use Rattle.cy_values.specs.Bag.{IsCanonical, weight_of};
 ghost use Rattle.cy_network_memory.specs.Counts.{is_row, with_count};
 ghost use Rattle.cy_network_parts.specs.Counted.{ArePositive, counted, written};
-ghost use Rattle.cy_network.specs.internal.Roots.{AreOnce};
+ghost use Rattle.cy_network_memory.specs.Listings.{AreOnce, IsListing};
 
 use cy_network_memory::rows_equal;
 use cy_values::{Duplicate, Fault, Row, row_order_laws};
@@ -26,17 +26,13 @@ pub(crate) fn write_counts(rows: &mut IndexMap<Row, u64>, next: Vec<(Row, u64)>)
     }
 }
 
-/// Copies of the rows with their counts, in canonical order. Fails only when out of memory.
-pub(crate) fn sorted_rows(
-    alloc: Global,
-    rows: &IndexMap<Row, u64>,
-) -> Result<Vec<(Row, u64)>, Fault>
-    requires positive { ArePositive rows.now.entries }
-    ensures counts { IfOk result (λ sorted. (row : List Cell) → weight_of row sorted.items ≡ counted rows.now.entries row) }
-    ensures canonical { IfOk result (λ sorted. IsCanonical sorted.items) }
+/// Copies of the rows with their counts, in no set order. Fails only when out of memory.
+pub(crate) fn table_rows(alloc: Global, rows: &IndexMap<Row, u64>) -> Result<Vec<(Row, u64)>, Fault>
+    requires { ArePositive rows.now.entries }
+    ensures { IfOk result (λ pairs. IsListing (counted rows.now.entries) pairs.items) }
 {
-    rows_equal();
-    sorted(copied(alloc, rows)?)
+    let pairs = copied(alloc, rows)?;
+    Ok(pairs)
 }
 
 // Copies of the rows with their counts. Fails only when out of memory.

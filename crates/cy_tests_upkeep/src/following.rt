@@ -14,7 +14,7 @@ use cy_bags::counted_in_order;
 use cy_index::Store;
 use cy_lexer::lex;
 use cy_network::Network;
-use cy_network_memory::{Memory, MemoryFault};
+use cy_network_memory::{Listed, Made, MemoryFault};
 use cy_network_touches::GraphChange;
 use cy_oneshot::answer;
 use cy_parser::parse;
@@ -48,7 +48,11 @@ fn executed(alloc: Global, store: &mut Store, line: &str) -> Result<(), Fail>
 }
 
 // A network of a plan of a view's query over a store. Where it is refused memory, it is made once more.
-fn built<M: Memory>(alloc: Global, query: &ViewQuery, store: &Store) -> Result<Network<M>, Fail>
+fn built<M: Made + Listed>(
+    alloc: Global,
+    query: &ViewQuery,
+    store: &Store,
+) -> Result<Network<M>, Fail>
     ensures { IfOk result (λ network. StandsFor store.now.graph.now.content (state_of M.key_columns M.was M.staged M.step_count network)) }
 {
     match Network::build(alloc, plan(alloc, query)?, store) {
@@ -77,7 +81,7 @@ fn add_rows(text: &mut String, rows: &[(Row, u64)]) -> Result<(), AllocError> {
 }
 
 // The rows of a network.
-fn rows_text<M: Memory>(alloc: Global, network: &Network<M>) -> Result<String, Fail>
+fn rows_text<M: Made + Listed>(alloc: Global, network: &Network<M>) -> Result<String, Fail>
     requires { (graph : Content) × HasRows graph (state_of M.key_columns M.was M.staged M.step_count network.now) }
 {
     let mut text = String::new(alloc);
@@ -87,7 +91,11 @@ fn rows_text<M: Memory>(alloc: Global, network: &Network<M>) -> Result<String, F
 
 // The rows of a network that is made over a store.
 #[tactic(auto, using(crate::proofs::Standing::rows_standing))]
-fn rows_built<M: Memory>(alloc: Global, query: &ViewQuery, store: &Store) -> Result<String, Fail> {
+fn rows_built<M: Made + Listed>(
+    alloc: Global,
+    query: &ViewQuery,
+    store: &Store,
+) -> Result<String, Fail> {
     let network: Network<M> = built(alloc, query, store)?;
     rows_text(alloc, &network)
 }
@@ -116,7 +124,7 @@ fn rows_answered(alloc: Global, query: &ViewQuery, store: &Store) -> Result<Stri
 }
 
 // What is pending in a network: what goes and what comes, each after a sign.
-fn pending_text<M: Memory>(alloc: Global, network: &Network<M>) -> Result<String, AllocError>
+fn pending_text<M: Made + Listed>(alloc: Global, network: &Network<M>) -> Result<String, AllocError>
     requires { IsSome network.now.pending }
 {
     let change = network.pending();
@@ -129,7 +137,7 @@ fn pending_text<M: Memory>(alloc: Global, network: &Network<M>) -> Result<String
 }
 
 // Prepares a network for the open change, where it is asked first what that touched.
-fn prepared_by_change<M: Memory>(
+fn prepared_by_change<M: Made + Listed>(
     alloc: Global,
     network: &mut Network<M>,
     store: &Store,
@@ -146,7 +154,7 @@ fn prepared_by_change<M: Memory>(
 
 // Prepares a network once more that was refused memory: its rows and its steps are as before.
 #[tactic(auto, using(crate::proofs::Standing::rows_standing))]
-fn prepared_again<M: Memory>(
+fn prepared_again<M: Made + Listed>(
     alloc: Global,
     network: &mut Network<M>,
     store: &Store,
@@ -165,7 +173,11 @@ fn prepared_again<M: Memory>(
 
 // Prepares a network for the open change, and once more where it is refused memory.
 #[tactic(auto, using(crate::proofs::Standing::rows_standing))]
-fn prepared<M: Memory>(alloc: Global, network: &mut Network<M>, store: &Store) -> Result<(), Fail>
+fn prepared<M: Made + Listed>(
+    alloc: Global,
+    network: &mut Network<M>,
+    store: &Store,
+) -> Result<(), Fail>
     requires open { IsSome store.now.graph.was }
     requires stands { StandsFor (before_change store.now.graph).content (state_of M.key_columns M.was M.staged M.step_count network.old) }
     ensures { OnOk result (IsPrepared (before_change store.now.graph).content store.now.graph.now.content (state_of M.key_columns M.was M.staged M.step_count network.new)) }
@@ -183,7 +195,7 @@ fn prepared<M: Memory>(alloc: Global, network: &mut Network<M>, store: &Store) -
 
 // What the open change changes in the rows of a network, which is prepared for it and abandoned: the rows are as before all the time.
 #[tactic(auto, using(crate::proofs::Standing::rows_standing, crate::proofs::Standing::rows_prepared, crate::proofs::Standing::change_pending))]
-fn abandoned_text<M: Memory>(
+fn abandoned_text<M: Made + Listed>(
     alloc: Global,
     network: &mut Network<M>,
     store: &Store,
@@ -207,7 +219,7 @@ fn abandoned_text<M: Memory>(
 
 // Executes a statement, and a network follows it: what that changes in its rows. What was abandoned before is the same.
 #[tactic(auto, using(crate::proofs::Standing::change_pending, crate::proofs::Standing::graphs_prepared))]
-fn changed<M: Memory>(
+fn changed<M: Made + Listed>(
     alloc: Global,
     network: &mut Network<M>,
     store: &mut Store,
@@ -231,7 +243,7 @@ fn changed<M: Memory>(
 }
 
 // A query answers these rows, and a network of it that is made anew has them too.
-fn expect_answered<M: Memory>(
+fn expect_answered<M: Made + Listed>(
     rt: &impl Abort,
     alloc: Global,
     query: &ViewQuery,
@@ -255,7 +267,7 @@ fn expect_answered<M: Memory>(
 // Executes a statement, and a network follows it: it changes as wanted, where that is said, and has the rows that its query answers, as has
 // one that is made anew.
 #[tactic(auto, using(crate::proofs::Standing::rows_standing))]
-fn expect_line<M: Memory>(
+fn expect_line<M: Made + Listed>(
     rt: &impl Abort,
     alloc: Global,
     query: Option<&ViewQuery>,
@@ -283,7 +295,7 @@ fn expect_line<M: Memory>(
 }
 
 // The store and the network are borrowed, since the proof of each exit of a function that owns one takes long.
-fn expect_lines<M: Memory>(
+fn expect_lines<M: Made + Listed>(
     rt: &impl Abort,
     alloc: Global,
     query: Option<&ViewQuery>,
@@ -301,7 +313,7 @@ fn expect_lines<M: Memory>(
 }
 
 // A network of the query is made over the store, and follows it.
-fn expect_over<M: Memory>(
+fn expect_over<M: Made + Listed>(
     rt: &impl Abort,
     alloc: Global,
     query: &ViewQuery,
@@ -316,7 +328,7 @@ fn expect_over<M: Memory>(
 
 /// A network of a query follows statements, each a line, from an empty store on. After ` =>` a line has what goes and what comes, and the
 /// rows after it.
-pub(crate) fn expect_query<M: Memory>(
+pub(crate) fn expect_query<M: Made + Listed>(
     rt: &impl Abort,
     alloc: Global,
     query: &str,
@@ -336,7 +348,7 @@ fn nodes_twice(alloc: Global) -> Result<Plan, Fail>
 }
 
 // A network of all nodes twice is made over the store, and follows it.
-fn expect_twice<M: Memory>(
+fn expect_twice<M: Made + Listed>(
     rt: &impl Abort,
     alloc: Global,
     store: &mut Store,
@@ -349,7 +361,7 @@ fn expect_twice<M: Memory>(
 }
 
 /// A network of all nodes twice follows statements from an empty store on, as one of a query does.
-pub(crate) fn expect_union<M: Memory>(
+pub(crate) fn expect_union<M: Made + Listed>(
     rt: &impl Abort,
     alloc: Global,
     lines: &str,

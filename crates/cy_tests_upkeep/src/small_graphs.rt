@@ -2,7 +2,7 @@
 //! graph to graph has the rows that the query answers there.
 
 use crate::following::expect_query;
-use cy_network_memory::{KeyedMemory, ListMemory, Memory};
+use cy_network_memory::{KeyedMemory, ListMemory, Listed, Made};
 use std::alloc::{AllocError, Global};
 use std::fmt::Write;
 use std::process::Abort;
@@ -135,7 +135,11 @@ fn changes(alloc: Global) -> Result<String, AllocError> {
 }
 
 // A network of each query, each a line, follows from graph to graph.
-fn expect_queries<M: Memory>(rt: &impl Abort, alloc: Global, queries: &str) -> Result<(), Fail> {
+fn expect_queries<M: Made + Listed>(
+    rt: &impl Abort,
+    alloc: Global,
+    queries: &str,
+) -> Result<(), Fail> {
     let lines = changes(alloc)?;
     for query in queries.lines() {
         expect_query::<M>(rt, alloc, query, lines.as_str())?;

@@ -1,13 +1,24 @@
 -- Rows with counts, and what a shift makes of them.
-use Rattle.std.specs.Prelude.{ℕ, ◌-◌, ◌≤◌, List, [], ◌∷◌, sum_by, nat_lt, if◌then◌else◌}
+use Rattle.std.specs.Prelude.{◌≡◌, ℕ, ◌-◌, List, [], ◌∷◌, Some, nat_lt, if◌then◌else◌}
+use Rattle.cy_bags.specs.declared.changes.Change.{Change}
+use Rattle.cy_bags.specs.Difference.{IsDifference}
+use Rattle.cy_graph.specs.Graph.{Content}
 use Rattle.cy_values.specs.declared.rows.Cell.{Cell}
-use Rattle.cy_network_memory.specs.Counts.{is_row}
+use Rattle.cy_network_memory.specs.Counts.{Counts}
 use Rattle.cy_network_operators.specs.declared.shifts.Shift.{Shift}
-
--- each row stands once at most
-abbrev pub AreOnce : List (List Cell × ℕ) → Type 0
-AreOnce pairs = (row : List Cell) → sum_by (λ p. if is_row row p.0 then 1 else 0) pairs ≤ 1
+use Rattle.cy_network_operators.specs.Deltas.{counts}
+use Rattle.cy_network_parts.specs.Counted.{written}
+use Rattle.cy_network_parts.specs.Memories.{AreHeld}
+use Rattle.cy_planner_algebra.specs.Meaning.{rows_of}
+use Rattle.cy_planner_algebra.specs.Plans.{Plan}
+use Rattle.cy_network.specs.Places.{Place, in_table, rows_by}
 
 -- the row of a shift with by how much its one count is greater than its other one, if it is
 abbrev pub excess : (Shift → ℕ) → (Shift → ℕ) → Shift → List (List Cell × ℕ)
 excess f g s = if nat_lt (g s) (f s) then (s.row, f s - g s) ∷ [] else []
+
+-- what is staged for a plan, where the graph changes: its memories, the counts of those of its rows that change in its table, and what changes
+pub record IsStaged (before after : Content) (p : Plan) (place : Place) (columns : List (List ℕ)) (staged : List Counts) (next : List (List Cell × ℕ)) (change : Change) : Type 0 where
+  pub held : AreHeld (Some after) p columns staged staged
+  pub leaves : (table : Counts) → (place ≡ in_table → table ≡ counts (rows_of before p)) → rows_by place (written next table) staged ≡ counts (rows_of after p)
+  pub difference : IsDifference (rows_of before p) (rows_of after p) change

@@ -3,7 +3,7 @@ use Rattle.std.specs.List.{All}
 use Rattle.cy_values.specs.declared.rows.Cell.{Cell}
 use Rattle.cy_values.specs.Bag.{IsCanonical, weight_of}
 use Rattle.cy_network_operators.specs.Deltas.{counts}
-use Rattle.cy_network.specs.internal.Roots.{AreOnce}
+use Rattle.cy_network_memory.specs.Listings.{AreOnce}
 use Rattle.cy_network.proofs.Excess.{excess_once, excess_positive, gains_weight, losses_weight}
 use Rattle.cy_network.proofs.pending.pending_change.Goals as goal
 

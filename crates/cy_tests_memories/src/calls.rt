@@ -1,27 +1,33 @@
 //! The calls of a memory, one after another, over both kinds.
 
-use cy_network_memory::{KeyedMemory, ListMemory, Memory, MemoryFault};
+use cy_network_memory::{KeyedMemory, ListMemory, Listed, Made, Memory, MemoryFault};
 use cy_values::{Cell, Row, Sequence, Value};
 use std::alloc::{AllocError, Global};
 use std::process::Abort;
 use std::test::Fail;
 
 // Calls of a memory of rows of two numbers, of which the first is the key. `stage` adds to the count of a row, and gives the number of
-// its fault. `look` gives how many rows of a key there are, how often they counted and how often they will. `steps` are those of a
-// memory whose steps are exact, and those of a list: one for each look-up, and one for each row that it goes over to stage another, passes
-// over or takes.
+// its fault. `look` gives how many rows of a key there are, how often they counted and how often they will, `counts` the latter two of one row,
+// and `counted` how many rows counted, and how often in all. `steps` are those of a memory whose steps are exact, and those of a list: one for each
+// look-up, and one for each row that it goes over to stage another, passes over or takes; where it is asked how often a row counts, as many as a
+// look-up that gives it takes, or more.
 const CALLS: &str = "\
 look 1 => 0 0 0
 stage 1 5 2 => ok
 look 1 => 1 0 2
+counts 1 5 => 0 2
+counted => 0 0
 stage 1 6 3 => ok
 stage 2 5 1 => ok
 look 1 => 2 0 5
 settle => ok
 look 1 => 2 5 5
 look 2 => 1 1 1
+counted => 3 6
 stage 2 5 7 => ok
 look 2 => 1 1 8
+counts 2 5 => 1 8
+counted => 3 6
 abandon => ok
 look 2 => 1 1 1
 stage 3 1 4294967295 => ok
@@ -29,7 +35,8 @@ stage 3 1 0 => ok
 look 3 => 1 0 4294967295
 abandon => ok
 look 3 => 0 0 0
-steps => 18, of a list 45";
+counts 3 1 => 0 0
+steps => 23, of a list 58";
 
 fn row_of(alloc: Global, numbers: &[u32]) -> Result<Row, AllocError> {
     let mut cells = Vec::new(alloc);
@@ -74,7 +81,23 @@ fn look<M: Memory>(alloc: Global, memory: &mut M, key: &Row) -> Result<String, F
     Ok(format!(in alloc; "{rows} {before} {after}")?)
 }
 
-fn called<M: Memory>(alloc: Global, memory: &mut M, words: &[&str]) -> Result<String, Fail> {
+// How often a row counted, and how often it will.
+fn counts<M: Memory>(alloc: Global, memory: &mut M, row: &Row) -> Result<String, Fail> {
+    let (before, after) = memory.counts(row);
+    Ok(format!(in alloc; "{before} {after}")?)
+}
+
+// How many rows counted, and the sum of their counts.
+fn counted<M: Listed>(alloc: Global, memory: &M) -> Result<String, Fail> {
+    let (mut rows, mut counts) = (0u64, 0u64);
+    for (_, count) in memory.counted(alloc)? {
+        rows = rows.saturating_add(1);
+        counts = counts.saturating_add(count);
+    }
+    Ok(format!(in alloc; "{rows} {counts}")?)
+}
+
+fn called<M: Listed>(alloc: Global, memory: &mut M, words: &[&str]) -> Result<String, Fail> {
     match *words {
         ["stage", key, value, count] => {
             let row = row_of(alloc, &[number(key)?, number(value)?])?;
@@ -87,6 +110,11 @@ fn called<M: Memory>(alloc: Global, memory: &mut M, words: &[&str]) -> Result<St
             }
         }
         ["look", key] => look(alloc, memory, &row_of(alloc, &[number(key)?])?),
+        ["counts", key, value] => {
+            let row = row_of(alloc, &[number(key)?, number(value)?])?;
+            counts(alloc, memory, &row)
+        }
+        ["counted"] => counted(alloc, memory),
         ["settle"] => {
             memory.settle();
             Ok(format!(in alloc; "ok")?)
@@ -99,7 +127,7 @@ fn called<M: Memory>(alloc: Global, memory: &mut M, words: &[&str]) -> Result<St
     }
 }
 
-fn expect_calls<M: Memory>(rt: &impl Abort, alloc: Global, memory: &mut M) -> Result<(), Fail> {
+fn expect_calls<M: Listed>(rt: &impl Abort, alloc: Global, memory: &mut M) -> Result<(), Fail> {
     for case in CALLS.lines() {
         let (call, wanted) = case.split_once(" => ").ok_or("no answer")?;
         if call == "steps" {

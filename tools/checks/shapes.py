@@ -151,6 +151,7 @@ LINES: List[Shape] = [
     Shape("a long path as a condition", lambda count: "MATCH (a) WHERE (a)" + "-->()" * count + " RETURN a", weight=2),
     Shape("a long path either way as a condition", lambda count: "MATCH (a) WHERE (a)" + "--()" * count + " RETURN a", weight=2),
     Shape("entries of a path as a condition", chain("k#:a.k#", ",", "MATCH (a) WHERE (a)-[{", "}]->() RETURN a"), weight=1),
+    Shape("comparisons before a path of a length", chain("a.k#", "<", "MATCH (a) WITH a, ", " AS c WHERE (a)-[*0..3 {k:c}]->() RETURN a")),
     Shape("conditions beside a path", chain("a.k#=1", " AND ", "MATCH (a) WHERE (a)-->() AND ", " RETURN a"), most=DEEPEST),
     Shape("UNION", chain("MATCH (a:L#) RETURN a", " UNION "), weight=6),
     Shape("UNION ALL", chain("RETURN # AS x", " UNION ALL "), weight=3),

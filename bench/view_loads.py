@@ -116,15 +116,15 @@ def near(size, k, count):
     return [(k + step) % size for step in random.sample((*range(-5, 0), *range(1, 6)), count)]
 
 
-def changed(lines, times, name):
+def changed(lines, times):
     """The statements of a trigger that add so many times what a SELECT gives to the table `seen`, whose rows go with their last count."""
-    return f"INSERT INTO seen {lines.format(times)} {COUNTED}; DELETE FROM seen WHERE times = 0 AND {name};"
+    return f"INSERT INTO seen {lines.format(times)} {COUNTED}; DELETE FROM seen WHERE times = 0;"
 
 
-def triggers(table, lines, name):
-    """Triggers that keep `seen` by the rows of a table. In the lines and in the name `row` stands for the row that comes or goes."""
+def triggers(table, lines):
+    """Triggers that keep `seen` by the rows of a table. In the lines `row` stands for the row that comes or goes."""
     for word, event, times in (("new", "INSERT", ""), ("old", "DELETE", "-")):
-        yield f"CREATE TRIGGER {table}_{word} AFTER {event} ON {table} BEGIN {changed(lines, times, name).replace('row.', word + '.')} END;\n"
+        yield f"CREATE TRIGGER {table}_{word} AFTER {event} ON {table} BEGIN {changed(lines, times).replace('row.', word + '.')} END;\n"
 
 
 def cascade(table, links):
@@ -149,8 +149,11 @@ WHERE true GROUP BY a"""
 RINGS = """SELECT a, {}count(*) FROM (SELECT row.a AS a FROM paid q JOIN paid r ON r.a = q.b WHERE q.a = row.b AND r.b = row.a AND q.id <> row.id AND r.id NOT IN (q.id, row.id)
 UNION ALL SELECT row.b FROM paid q JOIN paid r ON r.a = q.b WHERE q.a = row.b AND r.b = row.a AND q.id <> row.id AND r.id NOT IN (q.id, row.id)
 UNION ALL SELECT q.b FROM paid q JOIN paid r ON r.a = q.b WHERE q.a = row.b AND r.b = row.a AND q.id <> row.id AND r.id NOT IN (q.id, row.id)) WHERE true GROUP BY a"""
-# The rows of one machine; where it has no open alarm, with 0 in place of one.
-MACHINE = """SELECT name, coalesce(alarm.k, -1), {}1 FROM machine LEFT JOIN (has JOIN alarm ON alarm.k = has.b AND open) ON has.a = machine.k WHERE machine.k {}"""
+# The rows of some machines; of one without an open alarm, with -1 in place of it.
+MACHINES = """SELECT name, alarm.k, 1 FROM machine JOIN has ON has.a = machine.k JOIN alarm ON alarm.k = has.b WHERE open AND machine.k {0}
+UNION ALL SELECT name, -1, 1 FROM machine WHERE k {0} AND NOT EXISTS (SELECT 1 FROM has JOIN alarm ON alarm.k = has.b WHERE has.a = machine.k AND open)"""
+# The rows of `seen` with no count left are found by an index of their own.
+GONE = "CREATE INDEX seen_gone ON seen (times) WHERE times = 0;\n"
 
 
 def shown_again(table, event, machine):
@@ -158,7 +161,7 @@ def shown_again(table, event, machine):
     name = f"{table}_{re.sub('[^a-z]', '', event.lower())}"
     of = machine.replace("row.", "old." if "INSERT" not in event else "new.")
     yield f"CREATE TRIGGER {name}_before BEFORE {event} ON {table} BEGIN DELETE FROM seen WHERE name IN (SELECT name FROM machine WHERE k {of}); END;\n"
-    yield f"CREATE TRIGGER {name}_after AFTER {event} ON {table} BEGIN INSERT INTO seen {MACHINE.format('', of)} {COUNTED}; END;\n"
+    yield f"CREATE TRIGGER {name}_after AFTER {event} ON {table} BEGIN INSERT INTO seen SELECT * FROM ({MACHINES.format(of)}) WHERE true {COUNTED}; END;\n"
 
 
 OF_ALARM = "IN (SELECT a FROM has WHERE b = row.k)"
@@ -172,19 +175,18 @@ EXAMPLES = {
         "CREATE TABLE doc (k INTEGER PRIMARY KEY, name TEXT);\n" + ENDS.format("member") + ENDS.format("can"),
         access,
         "CREATE TABLE seen (u TEXT, d TEXT, times INTEGER, PRIMARY KEY (u, d)) WITHOUT ROWID; CREATE INDEX seen_d ON seen (d);\n"
-        "INSERT INTO seen SELECT user.name, doc.name, count(*) FROM member JOIN can ON can.a = member.b JOIN user ON user.k = member.a JOIN doc ON doc.k = can.b GROUP BY 1, 2;\n"
+        + GONE
+        + "INSERT INTO seen SELECT user.name, doc.name, count(*) FROM member JOIN can ON can.a = member.b JOIN user ON user.k = member.a JOIN doc ON doc.k = can.b GROUP BY 1, 2;\n"
         + "".join(
             triggers(
                 "member",
                 "SELECT user.name, doc.name, {}count(*) FROM can JOIN doc ON doc.k = can.b JOIN user ON user.k = row.a WHERE can.a = row.b GROUP BY 1, 2",
-                "u = (SELECT name FROM user WHERE k = row.a)",
             )
         )
         + "".join(
             triggers(
                 "can",
                 "SELECT user.name, doc.name, {}count(*) FROM member JOIN user ON user.k = member.a JOIN doc ON doc.k = row.b WHERE member.b = row.a GROUP BY 1, 2",
-                "d = (SELECT name FROM doc WHERE k = row.b)",
             )
         )
         + "CREATE TRIGGER user_named AFTER UPDATE OF name ON user BEGIN UPDATE seen SET u = new.name WHERE u = old.name; END;\n"
@@ -207,12 +209,13 @@ EXAMPLES = {
         services,
         # The ways from each service to one that is down are counted.
         "CREATE TABLE seen (a INTEGER PRIMARY KEY, times INTEGER);\n"
-        + f"INSERT INTO seen SELECT a, count(*) FROM (SELECT p.a, p.b FROM needs p UNION ALL SELECT p.a, q.b FROM needs p JOIN needs q ON q.a = p.b WHERE p.id <> q.id"
+        + GONE
+        + "INSERT INTO seen SELECT a, count(*) FROM (SELECT p.a, p.b FROM needs p UNION ALL SELECT p.a, q.b FROM needs p JOIN needs q ON q.a = p.b WHERE p.id <> q.id"
         " UNION ALL SELECT p.a, r.b FROM needs p JOIN needs q ON q.a = p.b JOIN needs r ON r.a = q.b WHERE p.id <> q.id AND q.id <> r.id AND p.id <> r.id)"
         " JOIN service ON k = b WHERE state = 'down' GROUP BY a;\n"
-        + "".join(triggers("needs", THROUGH, "true"))
+        + "".join(triggers("needs", THROUGH))
         + f"CREATE TRIGGER down AFTER UPDATE OF state ON service WHEN new.state = 'down' AND old.state <> 'down' BEGIN INSERT INTO seen {TOWARDS.format('')} {COUNTED}; END;\n"
-        + f"CREATE TRIGGER up AFTER UPDATE OF state ON service WHEN new.state <> 'down' AND old.state = 'down' BEGIN {changed(TOWARDS, '-', 'true')} END;\n"
+        + f"CREATE TRIGGER up AFTER UPDATE OF state ON service WHEN new.state <> 'down' AND old.state = 'down' BEGIN {changed(TOWARDS, '-')} END;\n"
         + cascade("service", [("needs", "a"), ("needs", "b")]),
         (
             lambda size: link("Service", "NEEDS", "Service", k := any_of(size), others(size, k, 1)[0]),
@@ -229,8 +232,9 @@ EXAMPLES = {
         "CREATE TABLE account (k INTEGER PRIMARY KEY, name TEXT);\n" + ENDS.format("paid"),
         accounts,
         "CREATE TABLE seen (a INTEGER PRIMARY KEY, times INTEGER);\n"
-        "INSERT INTO seen SELECT p.a, count(*) FROM paid p JOIN paid q ON q.a = p.b JOIN paid r ON r.a = q.b AND r.b = p.a WHERE p.id <> q.id AND q.id <> r.id AND p.id <> r.id GROUP BY p.a;\n"
-        + "".join(triggers("paid", RINGS, "true"))
+        + GONE
+        + "INSERT INTO seen SELECT p.a, count(*) FROM paid p JOIN paid q ON q.a = p.b JOIN paid r ON r.a = q.b AND r.b = p.a WHERE p.id <> q.id AND q.id <> r.id AND p.id <> r.id GROUP BY p.a;\n"
+        + "".join(triggers("paid", RINGS))
         + cascade("account", [("paid", "a"), ("paid", "b")]),
         (
             lambda size: link("Account", "PAID", "Account", k := any_of(size), near(size, k, 1)[0]),
@@ -246,7 +250,7 @@ EXAMPLES = {
         "CREATE TABLE machine (k INTEGER PRIMARY KEY, name TEXT, load INTEGER); CREATE TABLE alarm (k INTEGER PRIMARY KEY, open INTEGER);\n" + ENDS.format("has"),
         machines,
         "CREATE TABLE seen (name TEXT, alarm INTEGER, times INTEGER, PRIMARY KEY (name, alarm)) WITHOUT ROWID;\n"
-        + f"INSERT INTO seen {MACHINE.format('', 'IS NOT NULL')} {COUNTED};\n"
+        + f"INSERT INTO seen SELECT * FROM ({MACHINES.format('IS NOT NULL')}) WHERE true {COUNTED};\n"
         + "".join(shown_again("alarm", "UPDATE OF open", OF_ALARM))
         + "".join(shown_again("has", "INSERT", "= row.a"))
         + "".join(shown_again("has", "DELETE", "= row.a"))

@@ -9,7 +9,7 @@ ghost use Rattle.cy_expr.specs.Arithmetic as spec;
 ghost use Rattle.cy_expr.specs.internal.Joins.{joins};
 
 use crate::faults::EvalFault;
-use cy_values::{Duplicate, Scalar, Sequence, Text, Value, ValueRef};
+use cy_values::{Duplicate, Scalar, Shared, Text, Value, ValueRef};
 use std::alloc::Global;
 
 /// `+`: the sum of two integers, or two texts or two lists joined, which alone take memory.
@@ -148,14 +148,14 @@ fn joined_texts(alloc: Global, left: &str, right: &str) -> Result<Text, EvalFaul
     let mut joined = String::with_capacity(alloc, left.len() + right.len())?;
     joined.push_str(left)?;
     joined.push_str(right)?;
-    Ok(Text::new(joined))
+    Ok(Text::new(joined)?)
 }
 
 fn joined_lists(
     alloc: Global,
     left: &[Scalar],
     right: &[Scalar],
-) -> Result<Sequence<Scalar>, EvalFault>
+) -> Result<Shared<Scalar>, EvalFault>
     ensures { MatchResult result (λ joined. joined ≡ left.now ++ right.now) (λ fault. fault ≡ NoMemory) }
 {
     let mut joined = Vec::with_capacity(alloc, left.len() + right.len())?;
@@ -165,5 +165,5 @@ fn joined_lists(
     for element in right {
         joined.push(element.copy(alloc)?)?;
     }
-    Ok(Sequence::new(joined))
+    Ok(Shared::new(joined)?)
 }

@@ -15,7 +15,7 @@ pub(crate) fn to_text(alloc: Global, value: ValueRef<'_>) -> Result<Value, EvalF
     ensures { (result ≡ spec.as_text (lent value.entry)) ⊎ (result ≡ Err NoMemory) }
 {
     match value {
-        ValueRef::Int(number) => Ok(Value::Text(Text::new(number.to_string(alloc)?))),
+        ValueRef::Int(number) => Ok(Value::Text(Text::new(number.to_string(alloc)?)?)),
         ValueRef::Bool(true) => Ok(Value::Text(Text::from_str(alloc, "true")?)),
         ValueRef::Bool(false) => Ok(Value::Text(Text::from_str(alloc, "false")?)),
         ValueRef::Text(text) => Ok(Value::Text(Text::from_str(alloc, text)?)),

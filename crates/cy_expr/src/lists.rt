@@ -10,7 +10,7 @@ ghost use Rattle.cy_expr.specs.internal.Membership.{equals_also};
 use crate::faults::EvalFault;
 use crate::logic::value_of;
 use crate::views::CellView;
-use cy_values::{Scalar, Sequence, Truth, Value, ValueRef};
+use cy_values::{Scalar, Shared, Truth, Value, ValueRef};
 use std::alloc::Global;
 
 /// `[..]`: the list of the values, which it takes over. `NestedList` where one of them is a list.
@@ -22,7 +22,7 @@ pub fn list_of(alloc: Global, values: Vec<Value>) -> Result<Value, EvalFault>
     for value in values {
         elements.push(element(value)?)?;
     }
-    Ok(Value::List(Sequence::new(elements)))
+    Ok(Value::List(Shared::new(elements)?))
 }
 
 // A value as an element of a list, which no list is.

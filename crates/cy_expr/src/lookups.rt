@@ -14,7 +14,7 @@ ghost use Rattle.cy_expr.specs.internal.Empty.{empty};
 
 use crate::faults::EvalFault;
 use crate::views::CellView;
-use cy_values::{Entity, Fault, NodeId, RelId, Scalar, Sequence, Text, Value, ValueRef};
+use cy_values::{Entity, Fault, NodeId, RelId, Scalar, Shared, Text, Value, ValueRef};
 use std::alloc::Global;
 
 /// A graph, as far as expressions read it (Francis et al., property graphs). Its ghost member `lookups` is what it answers.
@@ -126,7 +126,7 @@ pub(crate) fn labels_in<G: Lookups>(
     ensures { (result ≡ spec.labels_value (G.lookups graph.now) (lent_cell cell.entry)) ⊎ (result ≡ Err NoMemory) }
 {
     match cell {
-        CellView::Node(number) => Ok(Value::List(Sequence::new(graph.labels(alloc, number)?))),
+        CellView::Node(number) => Ok(Value::List(Shared::new(graph.labels(alloc, number)?)?)),
         CellView::Value(ValueRef::Null) => Ok(Value::Null),
         CellView::Value(_) | CellView::Rel(_) | CellView::Rels(_) => Err(EvalFault::WrongType),
     }

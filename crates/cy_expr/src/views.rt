@@ -6,7 +6,7 @@ ghost use Rattle.cy_expr.specs.declared.faults.EvalFault.TheVariants.{NoMemory};
 ghost use Rattle.cy_expr.specs.internal.Lent.{lent_cell};
 
 use crate::faults::EvalFault;
-use cy_values::{Cell, Duplicate, NodeId, RelId, Scalar, Sequence, Text, Value, ValueRef};
+use cy_values::{Cell, Duplicate, NodeId, RelId, Scalar, Shared, Text, Value, ValueRef};
 use std::alloc::Global;
 
 /// A cell that is lent: what it holds stays where it is.
@@ -44,12 +44,12 @@ pub(crate) fn copy(alloc: Global, value: ValueRef<'_>) -> Result<Value, EvalFaul
 }
 
 /// The items that are lent, as a list of their own.
-pub(crate) fn copy_items<T: Duplicate>(alloc: Global, items: &[T]) -> Result<Sequence<T>, EvalFault>
+pub(crate) fn copy_items<T: Duplicate>(alloc: Global, items: &[T]) -> Result<Shared<T>, EvalFault>
     ensures { MatchResult result (λ twins. twins ≡ items.now) (λ fault. fault ≡ NoMemory) }
 {
     let mut twins = Vec::with_capacity(alloc, items.len())?;
     for item in items {
         twins.push(item.copy(alloc)?)?;
     }
-    Ok(Sequence::new(twins))
+    Ok(Shared::new(twins)?)
 }

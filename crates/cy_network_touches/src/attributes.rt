@@ -15,7 +15,7 @@ use crate::changes::GraphChange;
 use cy_graph::{Labels, Node, Props, Rel};
 use cy_index::Sight;
 use cy_planner_algebra::Attribute;
-use cy_values::{Cell, Duplicate, Fault, NodeId, RelId, Row, Scalar, Sequence, Text, Value};
+use cy_values::{Cell, Duplicate, Fault, NodeId, RelId, Row, Scalar, Shared, Text, Value};
 use std::alloc::Global;
 
 /// The value that an attribute of an entity has, and the one that it had, where that differs.
@@ -143,7 +143,7 @@ pub fn node_value(alloc: Global, attribute: &Attribute, node: Option<&Node>) -> 
     match (attribute, node) {
         (Attribute::Property(key), Some(node)) => property(alloc, &node.props, key),
         (Attribute::Labels, Some(node)) => label_names(alloc, &node.labels),
-        (Attribute::Labels, None) => Ok(Value::List(Sequence::new(Vec::new(alloc)))),
+        (Attribute::Labels, None) => Ok(Value::List(Shared::new(Vec::new(alloc))?)),
         (Attribute::Property(_), None) | (Attribute::RelType, _) => Ok(Value::Null),
     }
 }
@@ -179,5 +179,5 @@ fn label_names(alloc: Global, labels: &Labels) -> Result<Value, Fault>
     for entry in entries {
         names.push(Scalar::Text(entry.0.copy(alloc)?))?;
     }
-    Ok(Value::List(Sequence::new(names)))
+    Ok(Value::List(Shared::new(names)?))
 }

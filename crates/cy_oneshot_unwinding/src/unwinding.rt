@@ -51,7 +51,7 @@ fn unwound_row(
     ensures { IsAnswer result (λ unwound. unwound.items) (carried needed.now (spec.unwound store.now.graph.now.content (expression_of list.now) row)) }
 {
     match value_on(alloc, store, list, &row)? {
-        Value::List(elements) => Ok(with_each(alloc, needed, row, elements.into_vec())?),
+        Value::List(elements) => Ok(with_each(alloc, needed, row, elements.as_slice())?),
         Value::Null => Ok(Vec::new(alloc)),
         Value::Text(_) | Value::Bool(_) | Value::Int(_) => Err(EvalFault::WrongType),
     }
@@ -62,16 +62,16 @@ fn with_each(
     alloc: Global,
     needed: &[bool],
     row: Row,
-    elements: Vec<Scalar>,
+    elements: &[Scalar],
 ) -> Result<Vec<Row>, Fault>
-    ensures { IfOk result (λ rows. rows.items ≡ map (carried_from needed.now 0) (map (λ v. row ++ cell.Value v ∷ []) (map value_in elements.items))) }
+    ensures { IfOk result (λ rows. rows.items ≡ map (carried_from needed.now 0) (map (λ v. row ++ cell.Value v ∷ []) (map value_in elements.now))) }
 {
-    let mut others = elements;
-    let Some(last) = others.pop() else {
+    let Some((last, others)) = elements.split_last() else {
         return Ok(Vec::new(alloc));
     };
     let mut rows = copies_with_each(alloc, needed, &row, others)?;
-    rows.push(extended(needed, row, Cell::Value(value_of(last)))?)?;
+    let last = Cell::Value(value_of(last.copy(alloc)?));
+    rows.push(extended(needed, row, last)?)?;
     Ok(rows)
 }
 
@@ -80,13 +80,13 @@ fn copies_with_each(
     alloc: Global,
     needed: &[bool],
     row: &Row,
-    elements: Vec<Scalar>,
+    elements: &[Scalar],
 ) -> Result<Vec<Row>, Fault>
-    ensures { IfOk result (λ rows. rows.items ≡ map (carried_from needed.now 0) (map (λ v. row.now ++ cell.Value v ∷ []) (map value_in elements.items))) }
+    ensures { IfOk result (λ rows. rows.items ≡ map (carried_from needed.now 0) (map (λ v. row.now ++ cell.Value v ∷ []) (map value_in elements.now))) }
 {
     let mut rows = Vec::with_capacity(alloc, elements.len().saturating_add(1))?;
     for element in elements {
-        let last = Cell::Value(value_of(element));
+        let last = Cell::Value(value_of(element.copy(alloc)?));
         rows.push(with_cell(alloc, needed, row, last)?)?;
     }
     Ok(rows)

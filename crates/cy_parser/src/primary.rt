@@ -120,7 +120,8 @@ impl<'l, F: Fn(Global, &str, &mut Cursor<'_>, usize, Nested) -> Result<Operand, 
         let name = tokens.name(self.alloc, self.line)?;
         if tokens.eat_symbol(Symbol::LeftParenthesis) {
             self.open_level(tokens)?;
-            return self.called(tokens, lowered(name));
+            let name = lowered(self.alloc, &name)?;
+            return self.called(tokens, name);
         }
         Ok(leaf(Expr::Variable(Variable { name, column: None })))
     }

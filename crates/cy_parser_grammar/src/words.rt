@@ -33,7 +33,7 @@ pub fn denoted_text(alloc: Global, line: &str, token: &Token) -> Result<Text, Fa
     ensures { IfOk result (λ text. text ≡ spec.denotes line.now token.now) }
 {
     match token.denoted(alloc, line) {
-        Ok(string) => Ok(Text::new(string)),
+        Ok(string) => Text::new(string),
         Err(_) => Err(Fault::NoMemory),
     }
 }
@@ -77,10 +77,10 @@ pub fn product_operator(kind: TokenKind) -> Option<BinaryOperator>
 }
 
 /// The text with its ASCII letters in lower case, as a function's name is read (own).
-pub fn lowered(text: Text) -> Text
-    ensures { result ≡ spec.lowered text }
+pub fn lowered(alloc: Global, text: &Text) -> Result<Text, Fault>
+    ensures { IfOk result (λ t. t ≡ spec.lowered text.now) }
 {
-    let mut string = text.into_string();
+    let mut string = String::from_str(alloc, text.as_str())?;
     string.make_ascii_lowercase();
     Text::new(string)
 }

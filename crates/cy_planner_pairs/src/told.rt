@@ -116,7 +116,7 @@ pub(crate) fn alike_keys(
 fn is_not_null_at(alloc: Global, column: usize) -> Result<Expr, Fault>
     ensures { IfOk result (λ e. expression_of e ≡ spec.is_not_null_at column) }
 {
-    let operand = Box::new(alloc, column_at(alloc, column))?;
+    let operand = Box::new(alloc, column_at(column))?;
     Ok(Expr::Unary(UnaryOperator::IsNotNull, operand))
 }
 

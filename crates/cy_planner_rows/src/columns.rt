@@ -12,10 +12,10 @@ use cy_values::{Fault, Text};
 use std::alloc::Global;
 
 /// A column as it is.
-pub fn column_output(alloc: Global, column: usize) -> Output
+pub fn column_output(column: usize) -> Output
     ensures { output_of result ≡ shape.column_output column }
 {
-    let name = Text::new(String::new(alloc));
+    let name = Text::empty();
     Output::Cell(Expr::Variable(Variable {
         name,
         column: Some(column),
@@ -28,7 +28,7 @@ pub fn column_outputs(alloc: Global, columns: &[usize]) -> Result<Vec<Output>, F
 {
     let mut outputs = Vec::with_capacity(alloc, columns.len())?;
     for column in columns {
-        outputs.push(column_output(alloc, *column))?;
+        outputs.push(column_output(*column))?;
     }
     Ok(outputs)
 }
@@ -38,7 +38,7 @@ fn first_columns(alloc: Global, count: usize) -> Result<Vec<Output>, Fault>
 {
     let mut outputs = Vec::with_capacity(alloc, count)?;
     for column in 0..count {
-        outputs.push(column_output(alloc, column))?;
+        outputs.push(column_output(column))?;
     }
     Ok(outputs)
 }

@@ -4,7 +4,7 @@ ghost use Rattle.std.specs.Prelude.{◌≡◌, ◌++◌, OnOk};
 ghost use Rattle.cy_shell.specs.Json.{list_json};
 ghost use Rattle.cy_shell.specs.internal.Tokens.{tokens_of, field_tokens, integer_json};
 
-use cy_values::{Cell, NodeId, RelId, Row, Scalar, Sequence, Text, Value};
+use cy_values::{Cell, NodeId, RelId, Row, Scalar, Sequence, Shared, Text, Value};
 use json::{Token, Writer};
 use std::alloc::AllocError;
 
@@ -133,6 +133,14 @@ impl WriteJson for (Row, u64) {
 }
 
 impl<T: WriteJson> WriteJson for Sequence<T> {
+    ghost json = { list_json T.json };
+
+    fn write_json(&self, out: &mut Writer) -> Result<(), AllocError> {
+        write_list(out, self.as_slice())
+    }
+}
+
+impl<T: WriteJson> WriteJson for Shared<T> {
     ghost json = { list_json T.json };
 
     fn write_json(&self, out: &mut Writer) -> Result<(), AllocError> {

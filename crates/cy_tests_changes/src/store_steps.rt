@@ -6,7 +6,7 @@ ghost use Rattle.cy_graph.specs.Stored.{is_storable, IsStorable};
 
 use cy_graph::{GraphFault, Labels, Props, RelsAt, TextMap};
 use cy_index::Store;
-use cy_values::{Entity, Fault, NodeId, RelId, Scalar, Sequence, Text, Value};
+use cy_values::{Entity, Fault, NodeId, RelId, Scalar, Shared, Text, Value};
 use std::alloc::{AllocError, Global};
 
 /// A value: a number, or a list of one.
@@ -38,7 +38,7 @@ fn value(alloc: Global, given: Given) -> Result<Value, Fault>
         Given::Number(number) => Ok(Value::Int(number)),
         Given::List(number) => {
             let elements = vec![in alloc; Scalar::Int(number)]?;
-            Ok(Value::List(Sequence::new(elements)))
+            Ok(Value::List(Shared::new(elements)?))
         }
     }
 }

@@ -13,7 +13,7 @@ use cy_lexer::lex;
 use cy_parser::parse;
 use cy_scope::{Checked, check};
 use cy_trees::{Clause, Expr, Variable};
-use cy_values::{Cell, Fault, NodeId, RelId, Row, Scalar, Sequence, Text, Truth, Value};
+use cy_values::{Cell, Fault, NodeId, RelId, Row, Scalar, Sequence, Shared, Text, Truth, Value};
 use std::alloc::{AllocError, Global};
 use std::process::Abort;
 use std::test::Fail;
@@ -335,11 +335,11 @@ fn sample(alloc: Global) -> Result<Store, Fail> {
 }
 
 // The row of `n`, `r`, `rs`, `lost`, `gone`, `nothing` and `list`.
-fn sample_row(alloc: Global) -> Result<Row, AllocError>
+fn sample_row(alloc: Global) -> Result<Row, Fault>
     ensures { IfOk result (λ row. All IsNumbered row) }
 {
-    let rels = Sequence::new(vec![in alloc; RelId(2)]?);
-    let list = Sequence::new(vec![in alloc; Scalar::Int(2)]?);
+    let rels = Shared::new(vec![in alloc; RelId(2)]?)?;
+    let list = Shared::new(vec![in alloc; Scalar::Int(2)]?)?;
     let mut cells = Vec::new(alloc);
     cells.push(Cell::Node(NodeId(1)))?;
     cells.push(Cell::Rel(RelId(1)))?;
@@ -533,7 +533,7 @@ fn lists(rt: HostRuntime) -> Result<(), Fail> {
     let mut text = String::new(rt.alloc());
     add_cell(&mut text, &Cell::Value(list))?;
     assert_eq!(rt; text.as_str(), "[7,null,true]");
-    let empty = Value::List(Sequence::new(Vec::new(rt.alloc())));
+    let empty = Value::List(Shared::new(Vec::new(rt.alloc())).ok().ok_or("no list")?);
     assert!(rt; matches!(list_with(rt.alloc(), empty), Err(EvalFault::NestedList)));
     Ok(())
 }

@@ -1,7 +1,7 @@
 //! Rows in their order, values compared, and copies of both.
 
 use cy_values::{
-    Cell, Duplicate, Fault, NodeId, RelId, Row, Scalar, Sequence, Text, Truth, Value, equal3,
+    Cell, Duplicate, Fault, NodeId, RelId, Row, Scalar, Sequence, Shared, Text, Truth, Value, equal3,
     less3, row_order,
 };
 use std::alloc::Global;
@@ -109,12 +109,12 @@ fn scalar(alloc: Global, given: Given<'_>) -> Result<Scalar, Fault> {
     }
 }
 
-fn list(alloc: Global, givens: &[Given<'_>]) -> Result<Sequence<Scalar>, Fault> {
+fn list(alloc: Global, givens: &[Given<'_>]) -> Result<Shared<Scalar>, Fault> {
     let mut scalars = Vec::new(alloc);
     for given in givens {
         scalars.push(scalar(alloc, *given)?)?;
     }
-    Ok(Sequence::new(scalars))
+    Shared::new(scalars)
 }
 
 fn value(alloc: Global, given: Given<'_>) -> Result<Value, Fault> {
@@ -131,7 +131,7 @@ fn cell(alloc: Global, given: Given<'_>) -> Result<Cell, Fault> {
     match given {
         Node(number) => Ok(Cell::Node(NodeId(number))),
         Rel(number) => Ok(Cell::Rel(RelId(number))),
-        Rels(rels) => Ok(Cell::Rels(Sequence::new(rels.to_vec(alloc)?))),
+        Rels(rels) => Ok(Cell::Rels(Shared::new(rels.to_vec(alloc)?)?)),
         _ => Ok(Cell::Value(value(alloc, given)?)),
     }
 }

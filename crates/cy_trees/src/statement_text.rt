@@ -47,5 +47,5 @@ pub fn show(alloc: Global, statement: &Statement) -> Result<Text, Fault>
 {
     let mut text = String::new(alloc);
     write_separated(&mut text, union_of(statement.all), &statement.queries)?;
-    Ok(Text::new(text))
+    Ok(Text::new(text)?)
 }

@@ -2,3 +2,4 @@ pub mod Order
 pub mod Bag
 pub mod Truth
 pub mod Compare
+pub mod internal

@@ -3,7 +3,8 @@
 ghost use Rattle.std.specs.Prelude.{◌≡◌, IfOk};
 
 use crate::faults::Fault;
-use crate::sequences::{Duplicate, Sequence};
+use crate::sequences::Duplicate;
+use crate::shared::Shared;
 use crate::texts::Text;
 use std::alloc::Global;
 
@@ -19,7 +20,7 @@ pub enum Scalar {
 /// A value: a list of scalars, or one scalar. The variants stand in the order of values.
 #[derive(Debug, Drop, PartialEq, Eq, PartialOrd, Ord, Hash)]
 pub enum Value {
-    List(Sequence<Scalar>),
+    List(Shared<Scalar>),
     Text(Text),
     Bool(bool),
     Int(i64),

@@ -1,6 +1,8 @@
 //! Text, which a clause sees as the list of its bytes.
 
-ghost use Rattle.std.specs.Prelude.{◌≡◌, List, ℕ, Some, IfOk, string_bytes};
+ghost use Rattle.std.specs.Prelude.{◌≡◌, List, [], ℕ, Some, IfOk, string_bytes};
+ghost use Rattle.std.specs.Option.{option_map_or};
+ghost use Rattle.std.specs.Arc.{arc_str_bytes};
 
 use crate::faults::Fault;
 use crate::sequences::Duplicate;
@@ -8,25 +10,35 @@ use std::alloc::Global;
 use std::cmp::Ordering;
 use std::hash::{Hash, Hasher};
 use std::marker::Model;
+use std::sync::ArcStr;
 
 /// A text, in UTF-8. Texts are ordered by their bytes, which is the order of their code points.
 #[derive(Debug, Drop)]
 pub struct Text {
-    string: String,
+    string: Option<ArcStr>,
 }
 
 impl Model for Text {
     ghost Value = { List ℕ };
 
-    ghost view = { λ t. string_bytes t.string };
+    ghost view = { λ t. option_map_or arc_str_bytes t.string [] };
 }
 
 impl Text {
-    /// The text of a string, which is taken over as it is.
-    pub fn new(string: String) -> Self
-        ensures { result ≡ string_bytes string }
+    /// The text of a string. Fails only when out of memory.
+    pub fn new(string: String) -> Result<Self, Fault>
+        ensures { IfOk result (λ t. t ≡ string_bytes string) }
     {
-        Text { string }
+        Ok(Text {
+            string: Some(ArcStr::from_string(string)?),
+        })
+    }
+
+    /// The empty text.
+    pub fn empty() -> Self
+        ensures { result ≡ [] }
+    {
+        Text { string: None }
     }
 
     /// A copy of a text. Fails only when out of memory.
@@ -34,27 +46,29 @@ impl Text {
         ensures { IfOk result (λ t. t ≡ text.now) }
     {
         Ok(Text {
-            string: String::from_str(alloc, text)?,
+            string: Some(ArcStr::from_str(alloc, text)?),
         })
     }
 
     pub fn as_str(&self) -> &str
         ensures { result.now ≡ self.now }
     {
-        self.string.as_str()
-    }
-
-    /// Gives the string back.
-    pub fn into_string(self) -> String
-        ensures { string_bytes result ≡ self }
-    {
-        self.string
+        match &self.string {
+            Some(string) => string.as_str(),
+            None => "",
+        }
     }
 }
 
 impl Duplicate for Text {
-    fn copy(&self, alloc: Global) -> Result<Self, Fault> {
-        Text::from_str(alloc, self.as_str())
+    /// A text that shares the string of this one.
+    fn copy(&self, _alloc: Global) -> Result<Self, Fault> {
+        match &self.string {
+            Some(string) => Ok(Text {
+                string: Some(string.clone()?),
+            }),
+            None => Ok(Text::empty()),
+        }
     }
 }
 
@@ -68,7 +82,7 @@ impl PartialEq for Text {
     ghost laws = { laws_of.partial_equiv_from_equiv nat_list_eq_equiv };
 
     fn eq(&self, other: &Text) -> bool {
-        self.string == other.string
+        self.as_str() == other.as_str()
     }
 }
 
@@ -88,7 +102,7 @@ impl Hash for Text {
     ghost respects_eq = { Prim.search (hashing, rules) };
 
     fn hash<H: Hasher>(&self, state: &mut H) {
-        self.string.hash(state);
+        self.as_str().hash(state);
     }
 }
 
@@ -119,6 +133,6 @@ impl Ord for Text {
     ghost matches_eq = { λ x y. texts_ties x y };
 
     fn cmp(&self, other: &Text) -> Ordering {
-        self.string.cmp(&other.string)
+        self.as_str().cmp(other.as_str())
     }
 }

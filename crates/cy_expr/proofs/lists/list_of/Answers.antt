@@ -25,4 +25,4 @@ pub returns : goal.returns
 returns c =
     let left = into_iter_items c.loop-value.value-iterator in
     let none = nil_from_length left (sym c.loop-value.value-iterator.rest.ok.0 ∙ c.in-None.ensures.steps.0) in
-    inl (rw c.new.ensures (all_made c.loop-value.elements.items left c.args.values.items none c.loop-value.invariant))
+    inl (rw c.in_ok-new.ensures (all_made c.loop-value.elements.items left c.args.values.items none c.loop-value.invariant))

@@ -1,4 +1,5 @@
 pub mod Plans
+pub mod Fields
 pub mod Parts
 pub mod Expressions
 pub mod Keys

@@ -10,7 +10,7 @@ ghost use Rattle.cy_planner_outer_filters.specs.Standing.{StandsFor};
 ghost use Rattle.cy_planner_outer_filters.specs.internal.Bases as spec;
 
 use crate::outers::outer;
-use cy_planner_algebra::{Keeping, KeyColumns, Operator, Plan};
+use cy_planner_algebra::{Fields, Keeping, KeyColumns, Operator, Plan};
 use cy_planner_rewriting::{Layer, Opened, open_part};
 use cy_trees::Expr;
 use cy_values::Fault;
@@ -69,39 +69,39 @@ pub(crate) fn open_base(base: Operator) -> Base
     ensures depth { spec.AreLessDeep base result }
     ensures well_formed { spec.AreWellFormed result }
 {
-    match base {
-        Operator::Unit => Base::Leaf(Plan::unit()),
-        Operator::Nodes => Base::Leaf(Plan::nodes()),
-        Operator::Rels(types, orientation) => Base::Leaf(Plan::rels(types, orientation)),
-        Operator::Join(left, right, keys) => {
+    match base.into_fields() {
+        Fields::Unit => Base::Leaf(Plan::unit()),
+        Fields::Nodes => Base::Leaf(Plan::nodes()),
+        Fields::Rels(types, orientation) => Base::Leaf(Plan::rels(types, orientation)),
+        Fields::Join(left, right, keys) => {
             Base::Both(
                 Joint::Join(keys),
                 Box::into_inner(left),
                 Box::into_inner(right),
             )
         }
-        Operator::Outer(left, right, keys, test) => {
+        Fields::Outer(left, right, keys, test) => {
             Base::Both(
                 Joint::Outer(keys, test),
                 Box::into_inner(left),
                 Box::into_inner(right),
             )
         }
-        Operator::Semi(left, right, keys, keeping) => {
+        Fields::Semi(left, right, keys, keeping) => {
             Base::Both(
                 Joint::Semi(keys, keeping),
                 Box::into_inner(left),
                 Box::into_inner(right),
             )
         }
-        Operator::Union(left, right) => {
+        Fields::Union(left, right) => {
             Base::Both(Joint::Union, Box::into_inner(left), Box::into_inner(right))
         }
-        Operator::Lookup(_, _, _)
-        | Operator::Filter(_, _)
-        | Operator::AllDifferent(_, _)
-        | Operator::Project(_, _)
-        | Operator::Distinct(_) => unreachable!(),
+        Fields::Lookup(_, _, _)
+        | Fields::Filter(_, _)
+        | Fields::AllDifferent(_, _)
+        | Fields::Project(_, _)
+        | Fields::Distinct(_) => unreachable!(),
     }
 }
 

@@ -12,7 +12,7 @@ ghost use Rattle.cy_planner_pushdown.specs.internal.Steps as spec;
 use crate::above::{Above, Pair};
 use crate::columns::{are_below, columns_of};
 use crate::sides::{Way, way_from};
-use cy_planner_algebra::{Attribute, KeyColumns, Operator, Output, Plan};
+use cy_planner_algebra::{Attribute, Fields, KeyColumns, Operator, Output, Plan};
 use cy_trees::Expr;
 use cy_values::Fault;
 use std::alloc::Global;
@@ -185,44 +185,44 @@ pub(crate) fn step_from(alloc: Global, place: Place, test: &Expr) -> Result<Step
     ensures less { IfOk result (λ s. spec.AreBelow (size-Operator place.part) s) }
 {
     let Place { part, columns } = place;
-    match part {
-        Operator::Unit => Ok(Step::Here(Place {
+    match part.into_fields() {
+        Fields::Unit => Ok(Step::Here(Place {
             part: Operator::Unit,
             columns,
         })),
-        Operator::Nodes => Ok(Step::Here(Place {
+        Fields::Nodes => Ok(Step::Here(Place {
             part: Operator::Nodes,
             columns,
         })),
-        Operator::Rels(types, orientation) => {
+        Fields::Rels(types, orientation) => {
             let part = Operator::Rels(types, orientation);
             Ok(Step::Here(Place { part, columns }))
         }
-        Operator::Join(left, right, keys) => below_join(alloc, left, right, keys, columns, test),
-        Operator::Outer(left, right, keys, predicate) => Ok(below_outer(
+        Fields::Join(left, right, keys) => below_join(alloc, left, right, keys, columns, test),
+        Fields::Outer(left, right, keys, predicate) => Ok(below_outer(
             left, right, keys, predicate, columns, test,
         )),
-        Operator::Semi(left, right, keys, keeping) => {
+        Fields::Semi(left, right, keys, keeping) => {
             let right = Plan::from_root(Box::into_inner(right));
             let part = Box::into_inner(left);
             Ok(Step::Below(Above::Semi(right, keys, keeping), Place { part, columns }))
         }
-        Operator::Lookup(below, at, attribute) => Ok(below_lookup(
+        Fields::Lookup(below, at, attribute) => Ok(below_lookup(
             below, at, attribute, columns, test,
         )),
-        Operator::Filter(below, condition) => {
+        Fields::Filter(below, condition) => {
             let part = Box::into_inner(below);
             Ok(Step::Below(Above::Filter(condition), Place { part, columns }))
         }
-        Operator::AllDifferent(below, others) => {
+        Fields::AllDifferent(below, others) => {
             let part = Box::into_inner(below);
             Ok(Step::Below(Above::AllDifferent(others), Place { part, columns }))
         }
-        Operator::Project(below, outputs) => below_project(alloc, below, outputs, columns, test),
-        Operator::Distinct(below) => {
+        Fields::Project(below, outputs) => below_project(alloc, below, outputs, columns, test),
+        Fields::Distinct(below) => {
             let part = Box::into_inner(below);
             Ok(Step::Below(Above::Distinct, Place { part, columns }))
         }
-        Operator::Union(left, right) => below_union(alloc, left, right, columns, test),
+        Fields::Union(left, right) => below_union(alloc, left, right, columns, test),
     }
 }

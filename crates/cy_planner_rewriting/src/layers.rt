@@ -15,7 +15,7 @@ ghost use Rattle.cy_planner_rewriting.specs.internal.Layers as spec;
 
 use crate::lookups::{are_inside, below_projection, with_columns};
 use crate::outputs::{columns_of, merged, renumber_members};
-use cy_planner_algebra::{Attribute, Operator, Output};
+use cy_planner_algebra::{Attribute, Fields, Operator, Output};
 use cy_planner_lowering::Wanted;
 use cy_planner_renumbering::renumber;
 use cy_trees::Expr;
@@ -64,37 +64,37 @@ fn is_unit(part: &Operator) -> bool
 pub fn open_part(part: Operator) -> Opened
     ensures { spec.IsOpened part result }
 {
-    match part {
-        Operator::Lookup(below, column, attribute) => {
+    match part.into_fields() {
+        Fields::Lookup(below, column, attribute) => {
             Opened::Over(Layer::Lookup(column, attribute), Box::into_inner(below))
         }
-        Operator::Filter(below, test) => {
+        Fields::Filter(below, test) => {
             Opened::Over(Layer::Filter(test), Box::into_inner(below))
         }
-        Operator::AllDifferent(below, columns) => {
+        Fields::AllDifferent(below, columns) => {
             Opened::Over(Layer::AllDifferent(columns), Box::into_inner(below))
         }
-        Operator::Project(below, outputs) => {
+        Fields::Project(below, outputs) => {
             Opened::Over(Layer::Project(outputs), Box::into_inner(below))
         }
-        Operator::Distinct(below) => Opened::Over(Layer::Distinct, Box::into_inner(below)),
-        Operator::Join(left, right, keys) => {
+        Fields::Distinct(below) => Opened::Over(Layer::Distinct, Box::into_inner(below)),
+        Fields::Join(left, right, keys) => {
             if keys.is_empty() && is_unit(&left) {
                 Opened::Same(Box::into_inner(right))
             } else {
                 Opened::Base(Operator::Join(left, right, keys))
             }
         }
-        Operator::Unit => Opened::Base(Operator::Unit),
-        Operator::Nodes => Opened::Base(Operator::Nodes),
-        Operator::Rels(types, orientation) => Opened::Base(Operator::Rels(types, orientation)),
-        Operator::Outer(left, right, keys, test) => {
+        Fields::Unit => Opened::Base(Operator::Unit),
+        Fields::Nodes => Opened::Base(Operator::Nodes),
+        Fields::Rels(types, orientation) => Opened::Base(Operator::Rels(types, orientation)),
+        Fields::Outer(left, right, keys, test) => {
             Opened::Base(Operator::Outer(left, right, keys, test))
         }
-        Operator::Semi(left, right, keys, keeping) => {
+        Fields::Semi(left, right, keys, keeping) => {
             Opened::Base(Operator::Semi(left, right, keys, keeping))
         }
-        Operator::Union(left, right) => Opened::Base(Operator::Union(left, right)),
+        Fields::Union(left, right) => Opened::Base(Operator::Union(left, right)),
     }
 }
 

@@ -7,6 +7,7 @@ use Rattle.cy_planner_algebra.specs.declared.operators.Operator.{Operator, size-
 use Rattle.cy_planner_algebra.specs.declared.operators.Operator.TheFolds.{fold-roll-Operator}
 use Rattle.cy_planner_algebra.specs.declared.operators.Operator.TheOpen.{Operator-F}
 use Rattle.cy_planner_algebra.specs.declared.operators.Operator.TheVariants.{rolls-AllDifferent, rolls-Distinct, rolls-Filter, rolls-Semi}
+use Rattle.cy_planner_algebra.specs.Fields.{operator_of}
 use Rattle.cy_planner_algebra.specs.Plans as plan
 use Rattle.cy_planner_algebra.specs.Plans.{Plan}
 use Rattle.cy_planner_algebra.specs.Views.{plan_of, plan_step}
@@ -36,7 +37,7 @@ returns-in-Semi-clause-is c =
     let keys : List KeyColumns = c.in-Semi.keys.items in
     let keeping : Keeping = c.in-Semi.keeping in
     let whole : Plan = plan.semi left right keys keeping in
-    let part : plan_of c.args.place.part ≡ whole = ap plan_of c.in-Semi.is ∙ ap plan_of (sym (rolls-Semi c.in-Semi.left c.in-Semi.right c.in-Semi.keys c.in-Semi.keeping)) ∙ fold-roll-Operator Plan plan_step (Operator-F.Semi c.in-Semi.left c.in-Semi.right c.in-Semi.keys c.in-Semi.keeping) in
+    let part : plan_of c.args.place.part ≡ whole = ap plan_of (c.into_fields.ensures ∙ ap operator_of c.in-Semi.is) ∙ ap plan_of (sym (rolls-Semi c.in-Semi.left c.in-Semi.right c.in-Semi.keys c.in-Semi.keeping)) ∙ fold-roll-Operator Plan plan_step (Operator-F.Semi c.in-Semi.left c.in-Semi.right c.in-Semi.keys c.in-Semi.keeping) in
     let well : IsWellFormed whole = subst IsWellFormed part c.requires.good in
     let can : CanBePushed whole columns test = subst (λ (q : Plan). CanBePushed q columns test) part c.requires.can in
     subst (λ (q : Plan). LeadsTo q columns test (plan_of c.into_inner-part.result) columns (placed (above.Semi c.from_root-right.result c.in-Semi.keys keeping))) (sym part)
@@ -51,7 +52,7 @@ returns-in-Filter-clause-is c =
     let below : Plan = plan_of c.in-Filter.below.value in
     let condition : Expression = expression_of c.in-Filter.condition in
     let whole : Plan = plan.filter below condition in
-    let part : plan_of c.args.place.part ≡ whole = ap plan_of c.in-Filter.is ∙ ap plan_of (sym (rolls-Filter c.in-Filter.below c.in-Filter.condition)) ∙ fold-roll-Operator Plan plan_step (Operator-F.Filter c.in-Filter.below c.in-Filter.condition) in
+    let part : plan_of c.args.place.part ≡ whole = ap plan_of (c.into_fields.ensures ∙ ap operator_of c.in-Filter.is) ∙ ap plan_of (sym (rolls-Filter c.in-Filter.below c.in-Filter.condition)) ∙ fold-roll-Operator Plan plan_step (Operator-F.Filter c.in-Filter.below c.in-Filter.condition) in
     let well : IsWellFormed whole = subst IsWellFormed part c.requires.good in
     let can : CanBePushed whole columns test = subst (λ (q : Plan). CanBePushed q columns test) part c.requires.can in
     subst (λ (q : Plan). LeadsTo q columns test (plan_of c.into_inner-part-in-Filter.result) columns (placed (above.Filter c.in-Filter.condition))) (sym part)
@@ -65,7 +66,7 @@ returns-in-AllDifferent-clause-is c =
     let below : Plan = plan_of c.in-AllDifferent.below.value in
     let others : List ℕ = c.in-AllDifferent.others.items in
     let whole : Plan = plan.all_different below others in
-    let part : plan_of c.args.place.part ≡ whole = ap plan_of c.in-AllDifferent.is ∙ ap plan_of (sym (rolls-AllDifferent c.in-AllDifferent.below c.in-AllDifferent.others)) ∙ fold-roll-Operator Plan plan_step (Operator-F.AllDifferent c.in-AllDifferent.below c.in-AllDifferent.others) in
+    let part : plan_of c.args.place.part ≡ whole = ap plan_of (c.into_fields.ensures ∙ ap operator_of c.in-AllDifferent.is) ∙ ap plan_of (sym (rolls-AllDifferent c.in-AllDifferent.below c.in-AllDifferent.others)) ∙ fold-roll-Operator Plan plan_step (Operator-F.AllDifferent c.in-AllDifferent.below c.in-AllDifferent.others) in
     let well : IsWellFormed whole = subst IsWellFormed part c.requires.good in
     let can : CanBePushed whole columns test = subst (λ (q : Plan). CanBePushed q columns test) part c.requires.can in
     subst (λ (q : Plan). LeadsTo q columns test (plan_of c.into_inner-part-in-AllDifferent.result) columns (placed (above.AllDifferent c.in-AllDifferent.others))) (sym part)
@@ -78,7 +79,7 @@ returns-in-Distinct-clause-is c =
     let test : Expression = expression_of c.args.test.now in
     let below : Plan = plan_of c.in-Distinct.below.value in
     let whole : Plan = plan.distinct below in
-    let part : plan_of c.args.place.part ≡ whole = ap plan_of c.in-Distinct.is ∙ ap plan_of (sym (rolls-Distinct c.in-Distinct.below)) ∙ fold-roll-Operator Plan plan_step (Operator-F.Distinct c.in-Distinct.below) in
+    let part : plan_of c.args.place.part ≡ whole = ap plan_of (c.into_fields.ensures ∙ ap operator_of c.in-Distinct.is) ∙ ap plan_of (sym (rolls-Distinct c.in-Distinct.below)) ∙ fold-roll-Operator Plan plan_step (Operator-F.Distinct c.in-Distinct.below) in
     let well : IsWellFormed whole = subst IsWellFormed part c.requires.good in
     let can : CanBePushed whole columns test = subst (λ (q : Plan). CanBePushed q columns test) part c.requires.can in
     subst (λ (q : Plan). LeadsTo q columns test (plan_of c.into_inner-part-in-Distinct.result) columns (placed above.Distinct)) (sym part)

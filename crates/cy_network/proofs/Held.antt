@@ -12,11 +12,11 @@ use Rattle.cy_network_operators.specs.Deltas.{IsDelta, counts, rows_at}
 use Rattle.cy_network_operators.proofs.Staging.{after_delta}
 use Rattle.cy_network_merges.specs.Merges.{AreBounded}
 use Rattle.cy_network_touches.specs.Changes.{IsChange, Touches}
-use Rattle.cy_network_cost.specs.Costs.{cost}
+use Rattle.cy_network_touches.specs.Costs.{cost}
 use Rattle.cy_network_parts.specs.Counted.{written}
 use Rattle.cy_network_parts.specs.Memories.{AreHeld, contents, keys}
 use Rattle.cy_network_parts.specs.internal.Upkeep.{IsDone, IsUpkeep}
-use Rattle.cy_network_cost.specs.Work.{all_reads, all_steps, asked_reads}
+use Rattle.cy_network_touches.specs.Work.{all_reads, all_steps, asked_reads}
 use Rattle.cy_network.proofs.Excess.{written_shifts}
 
 -- what was staged for a graph is held there

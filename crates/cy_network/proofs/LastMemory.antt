@@ -6,12 +6,12 @@ use Rattle.std.proofs.lemmas.Option.{slice_get-map}
 use Rattle.cy_graph.specs.Graph.{Content}
 use Rattle.cy_values.specs.declared.rows.Cell.{Cell}
 use Rattle.cy_values.specs.Bag.{count_of}
-use Rattle.cy_network_apart.specs.Lists.{are_apart}
+use Rattle.cy_network_relevance.specs.Lists.{are_apart}
 use Rattle.cy_network_memory.specs.Counts.{Counts, no_rows}
 use Rattle.cy_network_memory.proofs.Places.{put_last}
 use Rattle.cy_network_memory.proofs.Soundness.{number_itself}
 use Rattle.cy_network_operators.specs.Deltas.{counts, rows_at}
-use Rattle.cy_network_part_memories.specs.KeptRows.{keeps_rows}
+use Rattle.cy_network_parts.specs.KeptRows.{keeps_rows}
 use Rattle.cy_network_parts.specs.Memories.{contents, is_row_by_row, none_where}
 use Rattle.cy_planner_algebra.specs.Meaning.{rows_of}
 use Rattle.cy_planner_algebra.specs.Plans as plan

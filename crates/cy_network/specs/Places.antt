@@ -3,7 +3,7 @@ use Rattle.std.specs.Prelude.{ℕ, ◌-◌, Bool, List, [], if◌then◌else◌,
 use Rattle.indexmap.specs.IndexMap.{spare}
 use Rattle.cy_values.specs.declared.rows.Cell.{Cell}
 use Rattle.cy_network_memory.specs.Counts.{Counts, no_rows}
-use Rattle.cy_network_part_memories.specs.KeptRows.{keeps_rows}
+use Rattle.cy_network_parts.specs.KeptRows.{keeps_rows}
 use Rattle.cy_planner_algebra.specs.Plans as plan
 use Rattle.cy_planner_algebra.specs.Plans.{Plan}
 use Rattle.cy_network.specs.declared.kept.Rows.{Rows}

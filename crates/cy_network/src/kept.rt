@@ -15,7 +15,7 @@ use crate::rows::{table_rows, write_counts};
 use cy_bags::Change;
 use cy_network_memory::Listed;
 use cy_network_operators::Shift;
-use cy_network_part_memories::keeps_rows;
+use cy_network_parts::keeps_rows;
 use cy_planner_algebra::Operator;
 use cy_values::{Fault, Row};
 use indexmap::IndexMap;

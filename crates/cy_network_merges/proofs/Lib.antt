@@ -1,9 +1,14 @@
+pub mod KeyNumbers
+pub mod Sent
+pub mod KeySteps
+pub mod SemiRows
+pub mod Answering
 pub mod Bags
 pub mod Totals
 pub mod Staging
 pub mod Merged
 pub mod WholeRows
-pub mod Changes
+pub mod ChangedRows
 pub mod OneToOne
 pub mod GreatestCounts
 pub mod Gathered

@@ -1,2 +1,3 @@
+pub mod Semi
 pub mod Merges
 pub mod internal

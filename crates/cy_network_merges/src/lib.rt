@@ -1,13 +1,20 @@
-//! How a change of rows goes through the parts of a plan whose counts are sums, `Project` and `Union`: each keeps a memory of its
-//! own rows.
+//! How a change of rows goes through the parts of a plan that count: `Project` and `Union`, whose counts are sums, each with a memory of
+//! its own rows, and `Semi`, the rows of a left part that have a partner in the right part, or that have none.
 #![tactic(auto)]
 
+mod changes;
+mod columns;
 mod distinct_rows;
 mod greatest;
 mod merges;
+mod numbers;
 mod projections;
+mod semi_joins;
+pub mod semi_laws;
+mod sends;
 mod stages;
 mod unions;
 
 pub use projections::{gather, project, rearrange};
+pub use semi_joins::semi;
 pub use unions::union;

@@ -10,7 +10,7 @@ ghost use Rattle.cy_network_operators.specs.Deltas.{shift_between};
 ghost use Rattle.cy_network_parts.specs.Memories.{is_scan};
 ghost use Rattle.cy_network_parts.specs.Parts as parts;
 ghost use Rattle.cy_network_parts.specs.Upkeep.{IsDeltaOf, IsStep};
-ghost use Rattle.cy_network_cost.specs.Work.{all_reads};
+ghost use Rattle.cy_network_touches.specs.Work.{all_reads};
 
 use cy_index::Sight;
 use cy_network_operators::{Shift, add_shift};

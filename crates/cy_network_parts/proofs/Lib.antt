@@ -1,3 +1,10 @@
+pub mod Passes
+pub mod Nothing
+pub mod ChainParts
+pub mod Popped
+pub mod Kept
+pub mod CutChains
+pub mod KeepsRows
 pub mod Slices
 pub mod PlanParts
 pub mod Steps

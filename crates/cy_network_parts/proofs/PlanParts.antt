@@ -7,12 +7,12 @@ use Rattle.cy_planner_algebra.specs.Plans.{Plan, width}
 use Rattle.cy_planner_algebra.specs.Parts.{parts}
 use Rattle.cy_planner_algebra.specs.Sure.{IsSure}
 use Rattle.cy_planner_algebra.specs.WellFormed.{IsWellFormed}
-use Rattle.cy_network_apart.specs.Lists.{are_apart}
+use Rattle.cy_network_relevance.specs.Lists.{are_apart}
 use Rattle.cy_network_operators.specs.Deltas.{counts}
 use Rattle.cy_network_merges.specs.Merges.{all_columns}
 use Rattle.cy_network_parts.specs.Memories.{contents, is_row_by_row, is_scan, keys, none_where, own_contents, own_keys}
 use Rattle.cy_network_parts.specs.Parts.{below_count, first_below, second_below}
-use Rattle.cy_network_cost.specs.Work.{in_all}
+use Rattle.cy_network_touches.specs.Work.{in_all}
 
 -- what a part with one part below it is made of
 pub record IsOverOne (p : Plan) : Type 0 where

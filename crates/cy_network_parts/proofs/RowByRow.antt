@@ -5,8 +5,8 @@ use Rattle.std.proofs.lemmas.List.{ext_get_or, length-map}
 use Rattle.std.proofs.lemmas.List.Folds.{list_all_at}
 use Rattle.std.proofs.lemmas.List.FromFn.{get_or-range_with_len, length-range_with_len}
 use Rattle.cy_values.specs.declared.rows.Cell.{Cell}
-use Rattle.cy_network_apart.specs.Trails as trails
-use Rattle.cy_network_apart.specs.Trails.{tells_apart}
+use Rattle.cy_network_relevance.specs.Trails as trails
+use Rattle.cy_network_relevance.specs.Trails.{tells_apart}
 use Rattle.cy_network_merges.specs.Merges.{IsOneToOne, IsOneToOneOn, all_columns}
 use Rattle.cy_planner_algebra.specs.Expressions.{cell_at, null, projected}
 use Rattle.cy_planner_algebra.specs.Plans as plan

@@ -22,7 +22,7 @@ use Rattle.cy_network_parts.specs.Memories.{AreWithin, contents, is_scan, keys, 
 use Rattle.cy_network_parts.specs.Parts.{below_count, chain, first_below}
 use Rattle.cy_network_parts.specs.internal.Upkeep.{IsBegun, IsDone}
 use Rattle.cy_network_parts.specs.Upkeep.{IsDeltaOf, IsStep, content_of, state_of}
-use Rattle.cy_network_cost.specs.Work.{all_reads}
+use Rattle.cy_network_touches.specs.Work.{all_reads}
 use Rattle.cy_network_parts.proofs.Steps.{done_leaf, old_content}
 
 -- ---- what is a scan

@@ -23,7 +23,7 @@ use Rattle.cy_network_parts.specs.Limits.{HasTooManyRows}
 use Rattle.cy_network_parts.specs.Parts.{below_count, first_below, second_below}
 use Rattle.cy_network_parts.specs.Upkeep.{HasTooMany, IsDeltaOf, IsOwnBegun, IsOwnDone, content_of, state_of}
 use Rattle.cy_network_parts.specs.internal.Upkeep.{IsBegun, IsDone}
-use Rattle.cy_network_cost.specs.Work.{in_all}
+use Rattle.cy_network_touches.specs.Work.{in_all}
 use Rattle.cy_network_parts.proofs.PlanParts.{all_long, over_one, over_two, own_long}
 use Rattle.cy_network_parts.proofs.Slices.{all_left, all_right, any_first, any_later, any_left, any_right, same_mapped}
 

@@ -1,3 +1,4 @@
+pub mod KeptRows
 pub mod Chains
 pub mod Counted
 pub mod Limits

@@ -1,3 +1,4 @@
 -- What proofs alone need.
+pub mod Kept
 pub mod Parts
 pub mod Upkeep

@@ -1,6 +1,13 @@
-//! The parts of a plan: those right below a part, and the chain that it begins.
+//! The parts of a plan: those right below a part, and the chain that it begins; and their memories: which ones they keep, how these are
+//! made, settled and abandoned, and how many steps they took.
 #![tactic(auto)]
 
+mod kept_columns;
+mod memories;
 mod parts;
 
+pub use memories::{
+    abandon_all, add_memories, count_at_cut, keeps_rows, memory_count, next_count, own_count,
+    settle_all, steps_taken,
+};
 pub use parts::{Chain, below_count, cut_of, first_below, is_unit, second_below};

@@ -1,3 +1,8 @@
+pub mod Bounds
+pub mod RowsApart
+pub mod Links
+pub mod Told
+pub mod AnyOutput
 pub mod Rules
 pub mod Ranges
 pub mod Scanned

@@ -18,7 +18,7 @@ use Rattle.cy_planner_algebra.specs.Expressions.{holds, projected, relationships
 use Rattle.cy_planner_algebra.specs.Meaning.{are_different, has_type, ways}
 use Rattle.cy_planner_algebra.specs.Plans as plan
 use Rattle.cy_planner_algebra.specs.Plans.{Output, Plan, computed, gathered}
-use Rattle.cy_network_apart.specs.Lists.{column_alone}
+use Rattle.cy_network_relevance.specs.Lists.{column_alone}
 use Rattle.cy_network_sources.specs.Scans.{if_this, is_column, is_this, kept, kept_at, scan_parts}
 use Rattle.cy_network_touches.specs.Attributes.{node_attribute, rel_attribute}
 use Rattle.cy_network_sources.specs.internal.Rows.{rel_rows}

@@ -1,2 +1,4 @@
+pub mod Lists
+pub mod Trails
 pub mod Relevance
 pub mod internal

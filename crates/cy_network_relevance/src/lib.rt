@@ -1,9 +1,19 @@
-//! Whether a change of the graph is relevant to a plan: whether what it touched may make other rows of its parts.
+//! Whether a change of the graph is relevant to a plan: whether what it touched may make other rows of its parts; and what the plan alone
+//! shows of its rows: parts that have none in common, since the lists of relationships in the rows of the one are longer than those of the
+//! other, and projections that leave out columns and yet tell the rows below them apart.
 #![tactic(auto)]
 
+mod apart;
+mod at_least;
+mod at_most;
+mod columns;
 mod entities;
 mod parts;
 mod plans;
 mod reads;
+mod trails;
 
+pub use apart::are_apart;
+pub use columns::column_alone;
 pub use plans::is_relevant;
+pub use trails::tells_apart;

@@ -9,11 +9,11 @@ ghost use Rattle.cy_planner_algebra.specs.Views.{output_of, plan_of};
 ghost use Rattle.cy_network_sources.specs.Scans as scans;
 ghost use Rattle.cy_network_relevance.specs.internal.Kept.{IsAbsent, IsUnchanged, KeepsRows};
 
+use crate::columns::column_alone;
 use crate::entities::{
     Entity, has_same, keeps_node, keeps_rel, lacks_label, makes_no_node, makes_no_rel,
 };
 use crate::reads::{is_labels, reads_the_same};
-use cy_network_apart::column_alone;
 use cy_network_sources::label_in;
 use cy_planner_algebra::{Operator, Output};
 use cy_trees::Expr;

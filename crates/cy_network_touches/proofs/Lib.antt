@@ -1,3 +1,6 @@
+pub mod Bound
+pub mod Examples
+pub mod Still
 pub mod Keys
 pub mod Gathering
 pub mod Owners

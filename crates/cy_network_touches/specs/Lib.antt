@@ -1,3 +1,5 @@
+pub mod Costs
+pub mod Work
 pub mod Attributes
 pub mod Changes
 pub mod LookupCosts

@@ -1,8 +1,10 @@
-//! What an open change of the store touched, by number, and what changes by it of rows with an attribute of an entity that they name.
+//! What an open change of the store touched, by number, what changes by it of rows with an attribute of an entity that they name, and what
+//! the upkeep of a plan's rows costs, with the law that what its parts may do is within it.
 #![tactic(auto)]
 
 mod attributes;
 mod changes;
+pub mod cost_laws;
 pub mod laws;
 mod lookups;
 

@@ -1,3 +1,6 @@
+mod WhereLemmas
+mod MatchLemmas
+mod KnownPaths
 mod ClauseAnswers
 mod NewNames
 mod UnionAnswers

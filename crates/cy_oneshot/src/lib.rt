@@ -1,7 +1,9 @@
-//! Reading clauses on the graph as it is: the tables that they give.
+//! Reading clauses on the graph as it is: the tables that they give, and WHERE on the rows of a table.
 #![tactic(auto)]
 
 mod clauses;
+mod conditions;
+mod matching;
 mod names;
 mod table;
 

@@ -11,7 +11,7 @@ use Rattle.cy_graph.specs.Graph.{Content}
 use Rattle.cy_expr.specs.declared.faults.EvalFault.{EvalFault}
 use Rattle.cy_oneshot_patterns.specs.Outcomes.{joined, together}
 use Rattle.cy_oneshot_meaning.specs.Reading.{AreInGraph, IsInGraph}
-use Rattle.cy_expr_columns.specs.Columns.{AgreeOn}
+use Rattle.cy_oneshot_outcomes.specs.Columns.{AgreeOn}
 use Rattle.cy_oneshot_unwinding.specs.Carried.{AreNeeded, carried, carried_by, carried_from, is_needed}
 
 -- ---- one row

@@ -27,8 +27,8 @@ use Rattle.cy_oneshot_patterns.specs.Matching.{assigned, elements_of, fitting, i
 use Rattle.cy_oneshot_patterns.specs.Outcomes.{and_also, gathered, joined, together}
 use Rattle.cy_oneshot_patterns.specs.Places.{Place, assignments, column_at, entries_at, path_places, places}
 use Rattle.cy_oneshot_meaning.specs.Queries.{rows_after}
-use Rattle.cy_expr_columns.specs.Columns.{columns_read}
-use Rattle.cy_expr_columns.proofs.Agreeing.{cell-same}
+use Rattle.cy_oneshot_outcomes.specs.Columns.{columns_read}
+use Rattle.cy_oneshot_outcomes.proofs.Agreeing.{cell-same}
 use Rattle.cy_oneshot_unwinding.specs.Carried.{AreEntriesRead, AreNeeded, ArePlacesRead, IsClauseRead, IsTestRead, IsWhereRead, carried, carried_from, is_needed, is_projection}
 use Rattle.cy_oneshot_unwinding.proofs.Carried.{AreLong, NeededFrom, agree_carried, carried_together, from_long, from_more, get_from, less_last, row_length}
 use Rattle.cy_oneshot_meaning.proofs.Each.{each_joined, each_made, each_map, if_ok_any, if_ok_then}

@@ -21,8 +21,8 @@ use Rattle.cy_expr.specs.Graphs.{lookups}
 use Rattle.cy_oneshot_meaning.specs.Order.{Keyed, each_once}
 use Rattle.cy_oneshot_patterns.specs.Matching.{kept}
 use Rattle.cy_oneshot_patterns.specs.Outcomes.{and_also, gathered, joined}
-use Rattle.cy_expr_columns.specs.Columns.{AgreeOn, columns_read}
-use Rattle.cy_expr_columns.proofs.Agreeing.{cell-same}
+use Rattle.cy_oneshot_outcomes.specs.Columns.{AgreeOn, columns_read}
+use Rattle.cy_oneshot_outcomes.proofs.Agreeing.{cell-same}
 use Rattle.cy_oneshot_meaning.specs.Groups.{Grouped, aggregate_if, aggregated, argument_of, arguments, cells_on, group_cells, group_keys, group_rows, grouped, grouping, key_on, looked_at_with, over_rows, rows_of_group, taken, values_among}
 use Rattle.cy_oneshot_meaning.specs.Projection.{Projected, cut, distinct_rows, item_of_key, item_rows, key_cell, keyed, project, projection_rows, with_columns_alone}
 use Rattle.cy_oneshot_meaning.specs.Queries.{rows_after, rows_after_all}

@@ -11,7 +11,7 @@ use Rattle.cy_trees.specs.Trees.{Clause, Expression, Item, Key, MapEntry, Path, 
 use Rattle.cy_trees.specs.Trees as trees
 use Rattle.cy_scope.specs.Views.{is_update}
 use Rattle.cy_oneshot_patterns.specs.Places.{Place, column_at, entries_at, link_place, node, path_places, places, relationship, step_places}
-use Rattle.cy_expr_columns.specs.Columns.{column_list, columns_read}
+use Rattle.cy_oneshot_outcomes.specs.Columns.{column_list, columns_read}
 use Rattle.cy_oneshot_meaning.proofs.Each.{each_append, each_flat_map, each_then}
 use Rattle.cy_oneshot_unwinding.specs.Carried.{AreAlike, AreEntriesRead, AreKeysRead, AreNeeded, ArePlacesRead, AreRead, AreSeen, IsAlike, IsClauseRead, IsEnough, IsKeyRead, IsPlaceRead, IsProjectionRead, IsRemoveRead, IsSeen, IsSetRead, IsTestRead, IsVariableRead, IsWhereRead, first_row, is_last, is_needed, is_projection, keys_of, updates_ahead}
 use Rattle.cy_oneshot_unwinding.specs.internal.Carried.{StillNeeded}

@@ -10,7 +10,7 @@ use Rattle.cy_scope.specs.Views.{is_update}
 use Rattle.cy_expr.specs.declared.faults.EvalFault.{EvalFault}
 use Rattle.cy_expr.specs.Faults.{on_one}
 use Rattle.cy_oneshot_patterns.specs.Places.{Place, column_at, entries_at, places}
-use Rattle.cy_expr_columns.specs.Columns.{column_list, columns_read}
+use Rattle.cy_oneshot_outcomes.specs.Columns.{column_list, columns_read}
 use Rattle.cy_oneshot_meaning.specs.Projection.{item_of_key}
 
 -- whether the cell in a column is needed; past the end of what is known each is

@@ -3,7 +3,7 @@
 ghost use Rattle.std.specs.Prelude.{◌≡◌, ◌⊎◌, ◌≤◌, ℕ, [], IfOk, IfSome, OnOk, flat_map, length, map, option_map, slice_get, true, false};
 ghost use Rattle.std.specs.List.{AllByRecursion};
 ghost use Rattle.cy_trees.specs.Views.{clause_of, entry_of, expression_of, item_of, path_of, path_test_of, projection_of, remove_item_of, set_item_of, step_of, where_of};
-ghost use Rattle.cy_expr_columns.specs.Columns.{columns_read};
+ghost use Rattle.cy_oneshot_outcomes.specs.Columns.{columns_read};
 ghost use Rattle.cy_oneshot_patterns.specs.Places.{path_places, places, step_places};
 ghost use Rattle.cy_oneshot_patterns.specs.internal.Patterns.{place_of};
 ghost use Rattle.cy_oneshot_projections.specs.SortKeys.{sort_key_of};
@@ -11,8 +11,7 @@ ghost use Rattle.cy_oneshot_unwinding.specs.Carried as spec;
 ghost use Rattle.cy_oneshot_unwinding.specs.Carried.{AreEntriesRead, AreKeysRead, AreNeeded, ArePlacesRead, AreRead, AreSeen, IsClauseRead, IsEnough, IsKeyRead, IsPlaceRead, IsProjectionRead, IsRemoveRead, IsSeen, IsSetRead, IsTestRead, IsVariableRead, IsWhereRead, AreAlike, IsAlike, updates_ahead};
 ghost use Rattle.cy_oneshot_unwinding.specs.internal.Carried.{StillNeeded};
 
-use cy_expr_columns::columns_read;
-use cy_oneshot_outcomes::cell_order;
+use cy_oneshot_outcomes::{cell_order, columns_read};
 use cy_oneshot_patterns::Place;
 use cy_oneshot_projections::{SortKey, sort_keys};
 use cy_scope::is_update;

@@ -1,3 +1,5 @@
+pub mod OwnPlaces
+pub mod OwnNames
 pub mod Extended
 pub mod MatchPlans
 pub mod MatchedPlans

@@ -1,3 +1,5 @@
+pub mod OwnPatterns
+pub mod Shared
 pub mod Columns
 pub mod Matched
 pub mod Projections

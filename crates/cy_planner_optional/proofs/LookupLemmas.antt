@@ -11,10 +11,10 @@ use Rattle.std.proofs.lemmas.Option.{none-some, slice_get-get_or, slice_get_past
 use Rattle.std.proofs.lemmas.Slice.Eq.{bytes_eq-Decides}
 use Rattle.cy_planner_algebra.specs.declared.operators.Attribute.{Attribute}
 use Rattle.cy_planner_algebra.specs.declared.operators.Attribute.TheVariants.{Property, RelType, Labels}
-use Rattle.cy_planner_lowering.specs.declared.places.Wanted.{Wanted}
-use Rattle.cy_planner_lowering.specs.Places.{added, is_of, place, same_attribute}
-use Rattle.cy_planner_lowering.specs.internal.WantedLists.{has_words, words_of}
-use Rattle.cy_planner_lowering.proofs.WantedLemmas.{place_found, same_place}
+use Rattle.cy_planner_rows.specs.declared.places.Wanted.{Wanted}
+use Rattle.cy_planner_rows.specs.Places.{added, is_of, place, same_attribute}
+use Rattle.cy_planner_rows.specs.internal.WantedLists.{has_words, words_of}
+use Rattle.cy_planner_rows.proofs.WantedLemmas.{place_found, same_place}
 use Rattle.cy_planner_optional.specs.internal.LookupLists.{AreFirsts}
 use Rattle.cy_scope_kinds.proofs.ScopesLemmas.{position_both, position_inside}
 

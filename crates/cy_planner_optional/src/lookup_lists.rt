@@ -2,11 +2,10 @@
 
 ghost use Rattle.std.specs.Prelude.{◌≡◌, ◌+◌, ◌++◌, ◌∷◌, ◌≤◌, [], IfOk, OnOk, if◌then◌else◌, length, nat_lt};
 ghost use Rattle.cy_planner_algebra.specs.WellFormed.{greatest_width};
-ghost use Rattle.cy_planner_lowering.specs.Places as places;
+ghost use Rattle.cy_planner_rows.specs.Places as places;
 
 use cy_planner_algebra::Attribute;
-use cy_planner_lowering::{Wanted, WantedList};
-use cy_planner_rows::copy_attribute;
+use cy_planner_rows::{Wanted, WantedList, copy_attribute};
 use cy_values::Fault;
 use std::alloc::Global;
 use std::marker::Model;
@@ -23,7 +22,7 @@ pub(crate) struct LookupList {
 
 impl Model for LookupList {
     ghost use Rattle.std.specs.Prelude.{List};
-    ghost use Rattle.cy_planner_lowering.specs.declared.places.Wanted.{Wanted};
+    ghost use Rattle.cy_planner_rows.specs.declared.places.Wanted.{Wanted};
     ghost use Rattle.cy_planner_optional.specs.internal.LookupLists.{AreFirsts};
 
     ghost Value = { List Wanted };

@@ -1,3 +1,4 @@
+pub mod Extended
 pub mod Columns
 pub mod OwnTables
 pub mod OwnRows

@@ -14,11 +14,11 @@ use Rattle.cy_planner_algebra.specs.Expressions.{holds, is_true, no_graph, truth
 use Rattle.cy_planner_algebra.specs.Plans.{Plan}
 use Rattle.cy_planner_algebra.specs.Sure.{HasTruth}
 use Rattle.cy_planner_algebra.specs.WellFormed.{IsOver}
-use Rattle.cy_planner_conjunctions.specs.Alike.{IsAlike, if_ok}
-use Rattle.cy_planner_conjunctions.specs.Conjuncts.{conjuncts}
-use Rattle.cy_planner_conjunctions.specs.internal.Opened.{waiting}
-use Rattle.cy_planner_conjunctions.proofs.Alike.{alike}
-use Rattle.cy_planner_conjunctions.proofs.Stacks.{waiting_last}
+use Rattle.cy_planner_rows.specs.Alike.{IsAlike, if_ok}
+use Rattle.cy_planner_rows.specs.Conjuncts.{conjuncts}
+use Rattle.cy_planner_rows.specs.internal.Opened.{waiting}
+use Rattle.cy_planner_rows.proofs.Alike.{alike}
+use Rattle.cy_planner_rows.proofs.Stacks.{waiting_last}
 use Rattle.cy_planner_outer_filters.specs.internal.Splits as spec
 use Rattle.cy_planner_outer_filters.specs.internal.Splits.{AreAlike, IsPartway, IsSplit}
 use Rattle.cy_planner_outer_filters.proofs.Predicates.{both_split}

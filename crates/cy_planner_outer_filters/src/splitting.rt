@@ -6,8 +6,8 @@ ghost use Rattle.cy_planner_algebra.specs.Views.{plan_of};
 ghost use Rattle.cy_planner_outer_filters.specs.internal.Splits as spec;
 
 use cy_planner_algebra::Plan;
-use cy_planner_conjunctions::{conjuncts, halved};
 use cy_planner_pushdown::keep_after;
+use cy_planner_rows::{conjuncts, halved};
 use cy_trees::{BinaryOperator, Expr};
 use cy_values::Fault;
 use std::alloc::Global;

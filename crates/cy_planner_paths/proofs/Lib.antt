@@ -1,3 +1,4 @@
+pub mod Copying
 pub mod Equal
 pub mod Meets
 pub mod Ranges

@@ -35,8 +35,8 @@ use Rattle.cy_expr.specs.Reading.{all_read_below, arms_read_below, else_reads_be
 use Rattle.cy_expr.proofs.KindLemmas.{kind-holds}
 use Rattle.cy_expr.proofs.SureLemmas.{sure-ok}
 use Rattle.cy_planner_algebra.specs.Expressions.{is_true}
-use Rattle.cy_planner_renumbering.specs.Renumbered.{new_column, renumbered, renumbered_arms, renumbered_expressions, renumbered_links, renumbered_otherwise, renumbered_variable}
-use Rattle.cy_planner_renumbering.proofs.RenumberedLemmas.{same_cell}
+use Rattle.cy_planner_rows.specs.Renumbered.{new_column, renumbered, renumbered_arms, renumbered_expressions, renumbered_links, renumbered_otherwise, renumbered_variable}
+use Rattle.cy_planner_rows.proofs.RenumberedLemmas.{same_cell}
 use Rattle.cy_planner_rows.specs.Rows.{condition_on, keeps}
 use Rattle.cy_scope.proofs.KindedExpressions.{has_kind}
 use Rattle.cy_planner_pushdown.specs.internal.Conditions.{IsOnCells, IsTest, all_ask_of, arms_ask_of, asks_of, else_asks_of, is_that, links_ask_of, same_column}

@@ -9,7 +9,7 @@ use Rattle.cy_scope_kinds.specs.declared.kinds.Kind.{Kind}
 use Rattle.cy_scope_kinds.specs.Functions.{fit, is_aggregate, is_none, is_one, is_property, takes}
 use Rattle.cy_scope_kinds.specs.Kinded.{AreComparable, ArmsHaveKinds, HasKind, HaveKinds, LastHasKind, is_call_of}
 use Rattle.cy_scope_kinds.specs.Scopes.{Scope}
-use Rattle.cy_planner_renumbering.specs.Renumbered.{new_column, renumbered, renumbered_arms, renumbered_expressions, renumbered_links, renumbered_otherwise}
+use Rattle.cy_planner_rows.specs.Renumbered.{new_column, renumbered, renumbered_arms, renumbered_expressions, renumbered_links, renumbered_otherwise}
 
 module _ (columns : List ℕ) where
   none_renumbered : (es : Expressions) → is_none (renumbered_expressions columns es) ≡ is_none es

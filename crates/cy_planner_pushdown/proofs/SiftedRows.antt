@@ -27,11 +27,11 @@ use Rattle.cy_planner_algebra.specs.Sure.{HasTruth, IsSureOn}
 use Rattle.cy_planner_algebra.specs.WellFormed.{IsWellFormed, greatest_width}
 use Rattle.cy_planner_algebra.specs.Within.{IsWithin}
 use Rattle.cy_planner_algebra.proofs.Counts.{count_passing}
-use Rattle.cy_planner_lowering.specs.declared.places.Wanted.{Wanted}
-use Rattle.cy_planner_lowering.specs.Lowered.{lowered}
-use Rattle.cy_planner_lowering.specs.Places.{place}
-use Rattle.cy_planner_renumbering.specs.Renumbered.{renumbered}
-use Rattle.cy_planner_renumbering.proofs.RenumberedLemmas.{same_cell}
+use Rattle.cy_planner_rows.specs.declared.places.Wanted.{Wanted}
+use Rattle.cy_planner_rows.specs.Lowered.{lowered}
+use Rattle.cy_planner_rows.specs.Places.{place}
+use Rattle.cy_planner_rows.specs.Renumbered.{renumbered}
+use Rattle.cy_planner_rows.proofs.RenumberedLemmas.{same_cell}
 use Rattle.cy_planner_rows.specs.internal.Asked.{asked}
 use Rattle.cy_planner_rows.specs.internal.Lookups.{narrowed, over, with_values}
 use Rattle.cy_planner_rows.specs.Rows.{IsFiltered, condition_on, keeps}

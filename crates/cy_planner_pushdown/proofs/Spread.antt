@@ -19,7 +19,7 @@ use Rattle.cy_planner_algebra.specs.Plans.{Plan, width}
 use Rattle.cy_planner_algebra.specs.Expressions.{cell_at}
 use Rattle.cy_planner_algebra.specs.Meaning.{nulls, rows_of}
 use Rattle.cy_planner_algebra.specs.WellFormed.{IsWellFormed}
-use Rattle.cy_planner_renumbering.specs.Renumbered.{new_column, renumbered}
+use Rattle.cy_planner_rows.specs.Renumbered.{new_column, renumbered}
 use Rattle.cy_planner_rows.specs.Rows.{IsReadOver}
 use Rattle.cy_planner_rows.proofs.Lists.{each_both_of, each_weaker}
 use Rattle.cy_planner_pushdown.specs.internal.Conditions.{IsTest, cells_at}

@@ -28,9 +28,9 @@ use Rattle.cy_expr.specs.Faults.{on_one}
 use Rattle.cy_expr.specs.Reading.{reads_below}
 use Rattle.cy_expr.specs.Logic.{truth_of}
 use Rattle.cy_expr.specs.Operators.{value_in_cell}
-use Rattle.cy_planner_lowering.specs.declared.places.Wanted.{Wanted}
-use Rattle.cy_planner_renumbering.specs.Renumbered.{renumbered}
-use Rattle.cy_planner_renumbering.proofs.RenumberedLemmas.{reads_inside, same_cell, same_reading}
+use Rattle.cy_planner_rows.specs.declared.places.Wanted.{Wanted}
+use Rattle.cy_planner_rows.specs.Renumbered.{renumbered}
+use Rattle.cy_planner_rows.proofs.RenumberedLemmas.{reads_inside, same_cell, same_reading}
 use Rattle.cy_planner_rows.specs.Columns.{column_output}
 use Rattle.cy_planner_rows.specs.internal.Lookups.{over, value_on, with_values}
 use Rattle.cy_planner_rows.proofs.OverRows.{IsInside, IsLong, any_rows, columns_have_cells, columns_over, cond_less, long_rows, own_part, parts_over, rows_over, smaller_within, well_over, width_bounded, width_over}

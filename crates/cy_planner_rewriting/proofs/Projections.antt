@@ -17,8 +17,8 @@ use Rattle.cy_planner_algebra.specs.Expressions as expressions
 use Rattle.cy_planner_algebra.specs.Expressions.{cell_at, cell_or_null, no_graph, output_cell, projected, relationships_at, relationships_in}
 use Rattle.cy_planner_algebra.specs.Sure.{HasCell, HasCells}
 use Rattle.cy_planner_algebra.specs.WellFormed.{IsColumn, IsOutputOver}
-use Rattle.cy_planner_renumbering.specs.Renumbered.{new_column}
-use Rattle.cy_planner_renumbering.proofs.RenumberedLemmas.{reads_inside, same_cell, same_reading}
+use Rattle.cy_planner_rows.specs.Renumbered.{new_column}
+use Rattle.cy_planner_rows.proofs.RenumberedLemmas.{reads_inside, same_cell, same_reading}
 use Rattle.cy_planner_rewriting.specs.internal.Columns.{AreColumns, are_columns_from, is_column, renumbered_output, taken_column}
 
 -- the variable that an output is

@@ -18,7 +18,7 @@ use Rattle.cy_planner_algebra.specs.Meaning.{attribute_of, joined, paired, rows_
 use Rattle.cy_planner_algebra.specs.WellFormed.{IsKeyBetween, IsWellFormed, greatest_width}
 use Rattle.cy_planner_algebra.specs.Within.{IsWithin}
 use Rattle.cy_planner_algebra.proofs.Counts.{identity, same}
-use Rattle.cy_planner_lowering.specs.declared.places.Wanted.{Wanted}
+use Rattle.cy_planner_rows.specs.declared.places.Wanted.{Wanted}
 use Rattle.cy_planner_rows.specs.internal.Lookups.{over, value_on, with_values}
 use Rattle.cy_planner_rows.proofs.Lists.{map_alike}
 use Rattle.cy_planner_rows.proofs.OverRows.{IsInside, IsLong, long_rows, own_part, parts_over, rows_over, well_over, width_bounded, width_over}

@@ -22,8 +22,8 @@ use Rattle.cy_planner_algebra.specs.Parts.{parts}
 use Rattle.cy_planner_algebra.specs.Sure.{HasCells, HasTruth}
 use Rattle.cy_planner_algebra.specs.WellFormed.{IsColumn, IsWellFormed}
 use Rattle.cy_planner_algebra.specs.Within.{IsWithin}
-use Rattle.cy_planner_renumbering.specs.Renumbered.{new_column, renumbered}
-use Rattle.cy_planner_renumbering.proofs.RenumberedLemmas.{reads_inside, same_cell, same_reading}
+use Rattle.cy_planner_rows.specs.Renumbered.{new_column, renumbered}
+use Rattle.cy_planner_rows.proofs.RenumberedLemmas.{reads_inside, same_cell, same_reading}
 use Rattle.cy_planner_rows.proofs.OverRows.{filter_within, own_part}
 use Rattle.cy_planner_rewriting.specs.declared.layers.Layer.{Layer}
 use Rattle.cy_planner_rewriting.specs.declared.layers.Layer.TheVariants as layer

@@ -16,7 +16,7 @@ use Rattle.cy_planner_algebra.specs.Meaning.{has_partner, rows_of, stays, with_a
 use Rattle.cy_planner_algebra.specs.Parts.{parts}
 use Rattle.cy_planner_algebra.specs.WellFormed.{IsKeyBetween, IsWellFormed}
 use Rattle.cy_planner_algebra.specs.Within.{IsWithin}
-use Rattle.cy_planner_lowering.specs.declared.places.Wanted.{Wanted}
+use Rattle.cy_planner_rows.specs.declared.places.Wanted.{Wanted}
 use Rattle.cy_planner_rows.specs.internal.Lookups.{over}
 use Rattle.cy_planner_rows.proofs.OverRows.{IsLong, long_rows}
 use Rattle.cy_planner_rewriting.specs.declared.splits.Joint.TheVariants as joint

@@ -14,7 +14,7 @@ use Rattle.cy_planner_algebra.specs.declared.operators.Attribute.TheVariants.{Pr
 use Rattle.cy_planner_algebra.specs.Expressions as expressions
 use Rattle.cy_planner_algebra.specs.Expressions.{cell_at, projected}
 use Rattle.cy_planner_algebra.specs.Meaning.{attribute_of, nulls}
-use Rattle.cy_planner_lowering.specs.declared.places.Wanted.{Wanted}
+use Rattle.cy_planner_rows.specs.declared.places.Wanted.{Wanted}
 use Rattle.cy_planner_rows.specs.Columns.{column_output}
 use Rattle.cy_planner_rows.specs.internal.Lookups.{value_on, with_values}
 use Rattle.cy_planner_rows.proofs.OverRows.{IsInside, columns_read}

@@ -14,8 +14,8 @@ use Rattle.cy_planner_algebra.specs.Plans as plan
 use Rattle.cy_planner_algebra.specs.Plans.{Plan, width}
 use Rattle.cy_planner_algebra.specs.Views.{output_of, plan_of}
 use Rattle.cy_planner_algebra.specs.WellFormed.{IsWellFormed, greatest_width}
-use Rattle.cy_planner_lowering.specs.declared.places.Wanted.{Wanted}
-use Rattle.cy_planner_renumbering.specs.Renumbered.{renumbered}
+use Rattle.cy_planner_rows.specs.declared.places.Wanted.{Wanted}
+use Rattle.cy_planner_rows.specs.Renumbered.{renumbered}
 use Rattle.cy_planner_rows.specs.Columns.{column_output}
 use Rattle.cy_planner_rows.specs.internal.Lookups.{over}
 use Rattle.cy_planner_rows.proofs.OverRows.{IsInside, width_bounded, width_over}

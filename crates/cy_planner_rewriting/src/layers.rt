@@ -16,8 +16,7 @@ ghost use Rattle.cy_planner_rewriting.specs.internal.Layers as spec;
 use crate::lookups::{are_inside, below_projection, with_columns};
 use crate::outputs::{columns_of, merged, renumber_members};
 use cy_planner_algebra::{Attribute, Fields, Operator, Output};
-use cy_planner_lowering::Wanted;
-use cy_planner_renumbering::renumber;
+use cy_planner_rows::{Wanted, renumber};
 use cy_trees::Expr;
 use cy_values::Fault;
 use std::alloc::Global;
@@ -68,9 +67,7 @@ pub fn open_part(part: Operator) -> Opened
         Fields::Lookup(below, column, attribute) => {
             Opened::Over(Layer::Lookup(column, attribute), Box::into_inner(below))
         }
-        Fields::Filter(below, test) => {
-            Opened::Over(Layer::Filter(test), Box::into_inner(below))
-        }
+        Fields::Filter(below, test) => { Opened::Over(Layer::Filter(test), Box::into_inner(below)) }
         Fields::AllDifferent(below, columns) => {
             Opened::Over(Layer::AllDifferent(columns), Box::into_inner(below))
         }

@@ -3,11 +3,11 @@
 ghost use Rattle.std.specs.Prelude.{◌≡◌, IfOk, IfSome, map};
 ghost use Rattle.cy_trees.specs.Views.{expression_of};
 ghost use Rattle.cy_planner_algebra.specs.Views.{output_of};
-ghost use Rattle.cy_planner_renumbering.specs.Renumbered.{new_column};
+ghost use Rattle.cy_planner_rows.specs.Renumbered.{new_column};
 ghost use Rattle.cy_planner_rewriting.specs.internal.Columns as spec;
 
 use cy_planner_algebra::Output;
-use cy_planner_renumbering::renumber;
+use cy_planner_rows::renumber;
 use cy_trees::Expr;
 use cy_values::Fault;
 use std::alloc::Global;

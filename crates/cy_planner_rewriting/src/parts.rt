@@ -11,7 +11,7 @@ ghost use Rattle.cy_planner_rewriting.specs.internal.Layers as spec;
 use crate::layers::{Layer, add_projection, settle};
 use crate::outputs::are_first_columns;
 use cy_planner_algebra::{Output, Plan};
-use cy_planner_lowering::Wanted;
+use cy_planner_rows::Wanted;
 use cy_values::Fault;
 use std::alloc::Global;
 

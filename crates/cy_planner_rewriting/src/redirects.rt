@@ -11,7 +11,7 @@ ghost use Rattle.cy_planner_rewriting.specs.internal.Redirected as spec;
 
 use crate::lookups::{lookup_at, output_column};
 use cy_planner_algebra::{KeyColumns, Operator};
-use cy_planner_lowering::Wanted;
+use cy_planner_rows::Wanted;
 use cy_values::Fault;
 use std::alloc::Global;
 

@@ -6,7 +6,7 @@ use Rattle.cy_trees.specs.Trees.{Expression, null, boolean, integer, text, varia
 use Rattle.cy_scope_kinds.specs.declared.functions.Function.{Function}
 use Rattle.cy_scope_kinds.specs.declared.functions.Function.TheVariants as function
 use Rattle.cy_scope_kinds.specs.Functions.{function_named}
-use Rattle.cy_planner_lowering.specs.declared.places.Wanted.{Wanted}
+use Rattle.cy_planner_rows.specs.declared.places.Wanted.{Wanted}
 use Rattle.cy_planner_rows.specs.internal.Asked.{added, all_asked, asked, asked_by_arms, asked_by_call, asked_by_else, asked_by_links, with_arms, with_asked, with_call, with_elements, with_else, with_links, with_tree}
 
 pub with_more_asked : (wanted asked others : List Wanted) → with_asked wanted (asked ++ others) ≡ with_asked (with_asked wanted asked) others

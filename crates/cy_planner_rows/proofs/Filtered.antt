@@ -26,10 +26,10 @@ use Rattle.cy_planner_algebra.specs.Sure.{HasTruth, IsSureOn}
 use Rattle.cy_planner_algebra.specs.WellFormed.{IsOver, IsWellFormed, greatest_width}
 use Rattle.cy_planner_algebra.specs.Within.{IsWithin}
 use Rattle.cy_planner_algebra.proofs.Counts.{count_passing}
-use Rattle.cy_planner_lowering.specs.declared.places.Wanted.{Wanted}
-use Rattle.cy_planner_lowering.specs.Lowered.{lowered}
-use Rattle.cy_planner_lowering.specs.Places.{place}
-use Rattle.cy_planner_lowering.proofs.LoweredLemmas.{same}
+use Rattle.cy_planner_rows.specs.declared.places.Wanted.{Wanted}
+use Rattle.cy_planner_rows.specs.Lowered.{lowered}
+use Rattle.cy_planner_rows.specs.Places.{place}
+use Rattle.cy_planner_rows.proofs.LoweredLemmas.{same}
 use Rattle.cy_planner_rows.specs.internal.Asked.{asked, with_asked}
 use Rattle.cy_planner_rows.specs.internal.Lookups.{narrowed, over, with_values}
 use Rattle.cy_planner_rows.specs.Rows.{FitsRows, IsFiltered, IsReadOver, condition_on, keeps}

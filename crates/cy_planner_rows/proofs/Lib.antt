@@ -1,3 +1,10 @@
+pub mod RenumberedLists
+pub mod RenumberedLemmas
+pub mod Alike
+pub mod Stacks
+pub mod LoweredLemmas
+pub mod LoweredLists
+pub mod WantedLemmas
 pub mod AskedLists
 pub mod Attributes
 pub mod Filtered

@@ -25,7 +25,7 @@ use Rattle.cy_planner_algebra.specs.Within.{CountsWithin, IsWithin}
 use Rattle.cy_planner_algebra.proofs.Counts.{count_cons, count_passing, identity, same}
 use Rattle.cy_planner_algebra.proofs.PartCounts.{lookup_counts}
 use Rattle.cy_planner_algebra.proofs.Widths.{wide_rows}
-use Rattle.cy_planner_lowering.specs.declared.places.Wanted.{Wanted}
+use Rattle.cy_planner_rows.specs.declared.places.Wanted.{Wanted}
 use Rattle.cy_planner_rows.specs.Columns.{column_output}
 use Rattle.cy_planner_rows.specs.internal.Lookups.{first_columns, narrowed, over, value_on, with_values}
 use Rattle.cy_planner_rows.proofs.Lists.{each_mapped, each_of_all, each_weaker, first_elements, map_alike, map_same, map_twice}

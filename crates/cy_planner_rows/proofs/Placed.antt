@@ -10,8 +10,8 @@ use Rattle.cy_values.specs.declared.rows.Cell.{Cell}
 use Rattle.cy_planner_algebra.specs.declared.operators.Attribute.{Attribute}
 use Rattle.cy_planner_algebra.specs.declared.operators.Attribute.TheVariants.{Property, RelType, Labels}
 use Rattle.cy_planner_algebra.specs.Expressions.{null}
-use Rattle.cy_planner_lowering.specs.declared.places.Wanted.{Wanted}
-use Rattle.cy_planner_lowering.specs.Places.{is_of, place, same_attribute}
+use Rattle.cy_planner_rows.specs.declared.places.Wanted.{Wanted}
+use Rattle.cy_planner_rows.specs.Places.{is_of, place, same_attribute}
 use Rattle.cy_planner_rows.specs.internal.Asked.{added, with_asked}
 
 -- a look-up is wanted

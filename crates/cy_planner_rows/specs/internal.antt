@@ -1,3 +1,5 @@
 -- What proofs and private functions alone need.
+pub mod Opened
+pub mod WantedLists
 pub mod Asked
 pub mod Lookups

@@ -8,8 +8,9 @@ ghost use Rattle.cy_scope_kinds.specs.internal.ExpressionTrees.{otherwise_of};
 ghost use Rattle.cy_planner_algebra.specs.declared.operators.Attribute.TheVariants as attribute;
 ghost use Rattle.cy_planner_rows.specs.internal.Asked as spec;
 
+use crate::places::Wanted;
+use crate::wanted::WantedList;
 use cy_planner_algebra::Attribute;
-use cy_planner_lowering::{Wanted, WantedList};
 use cy_scope_kinds::Function;
 use cy_trees::{Arm, Expr, Link};
 use cy_values::{Duplicate, Fault, Text};

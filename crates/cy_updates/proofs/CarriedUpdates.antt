@@ -19,7 +19,7 @@ use Rattle.cy_trees.specs.declared.expressions.Variable.{Variable}
 use Rattle.cy_trees.specs.Trees.{Expression, MapEntry, NodePattern, RelationshipPattern, Step, Path, Clause, «match», unwind, «with», «return», create, set, remove, delete, SetItem, set_property, set_labels, RemoveItem, remove_property, remove_labels}
 use Rattle.cy_scope.specs.Views.{is_update}
 use Rattle.cy_graph.specs.Graph.{State, with_label, with_node, with_rel, without_label}
-use Rattle.cy_expr_columns.specs.Columns.{column_list, columns_read}
+use Rattle.cy_oneshot_outcomes.specs.Columns.{column_list, columns_read}
 use Rattle.cy_expr.specs.Evaluation.{column_value}
 use Rattle.cy_expr.specs.Faults.{on_one}
 use Rattle.cy_expr.specs.Operators.{value_in_cell}

@@ -11,7 +11,7 @@ use Rattle.cy_planner_algebra.specs.Meaning.{rows_of}
 use Rattle.cy_network_operators.specs.declared.shifts.Shift.{Shift}
 use Rattle.cy_network_operators.specs.Deltas.{counts, rows_at}
 use Rattle.cy_network_touches.specs.Changes.{IsChange, Touches}
-use Rattle.cy_network_cost.specs.Work.{all_reads, all_steps, asked_reads}
+use Rattle.cy_network_touches.specs.Work.{all_reads, all_steps, asked_reads}
 use Rattle.cy_network_parts.specs.Memories.{AreHeld, AreWithin, contents, is_scan, keys, own_contents}
 use Rattle.cy_network_parts.specs.Parts.{chain}
 use Rattle.cy_network_parts.specs.internal.Parts.{own_of_all}

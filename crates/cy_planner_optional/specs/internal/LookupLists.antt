@@ -3,8 +3,8 @@ use Rattle.std.specs.Prelude.{◌≡◌, ℕ, ◌≤◌, List, length}
 use Rattle.std.specs.List.{position_from, slice_get}
 use Rattle.std.specs.Option.{option_and_then}
 use Rattle.cy_planner_algebra.specs.declared.operators.Attribute.{Attribute}
-use Rattle.cy_planner_lowering.specs.declared.places.Wanted.{Wanted}
-use Rattle.cy_planner_lowering.specs.Places.{is_of}
+use Rattle.cy_planner_rows.specs.declared.places.Wanted.{Wanted}
+use Rattle.cy_planner_rows.specs.Places.{is_of}
 
 pub record AreFirsts (lookups distinct : List Wanted) (firsts : List ℕ) : Type 0 where
   pub each : length firsts ≡ length distinct

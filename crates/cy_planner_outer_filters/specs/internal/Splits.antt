@@ -14,8 +14,8 @@ use Rattle.cy_planner_algebra.specs.Parts.{parts}
 use Rattle.cy_planner_algebra.specs.Sure.{HasTruth, IsSureOn}
 use Rattle.cy_planner_algebra.specs.WellFormed.{IsOver}
 use Rattle.cy_planner_algebra.specs.Within.{IsWithin}
-use Rattle.cy_planner_conjunctions.specs.Conjuncts.{conjuncts}
-use Rattle.cy_planner_conjunctions.specs.internal.Opened.{waiting}
+use Rattle.cy_planner_rows.specs.Conjuncts.{conjuncts}
+use Rattle.cy_planner_rows.specs.internal.Opened.{waiting}
 
 -- both conditions, or the one that there is
 abbrev pub both : Option Expression → Option Expression → Option Expression

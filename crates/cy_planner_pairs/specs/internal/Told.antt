@@ -12,7 +12,7 @@ use Rattle.cy_planner_algebra.specs.Plans.{Plan}
 use Rattle.cy_planner_algebra.specs.WellFormed.{IsWellFormed}
 use Rattle.cy_planner_rows.specs.internal.Lookups.{narrowed}
 use Rattle.cy_planner_optional.specs.internal.Pairs.{all_of, keys_from}
-use Rattle.cy_planner_values.specs.Columns.{reading_entries, values_of}
+use Rattle.cy_planner_optional_rows.specs.Columns.{reading_entries, values_of}
 use Rattle.cy_planner_pairs.specs.internal.Pairs.{column_at}
 
 -- whether a value is null, and the value, or another one where it is null: neither is null

@@ -2,7 +2,7 @@
 use Rattle.std.specs.Prelude.{◌≡◌, ℕ, ◌+◌, ◌==◌, Bool, true, false, ◌&&◌, List, [], ◌∷◌, map, Option, Some, None}
 use Rattle.cy_trees.specs.Trees.{Expression, variable}
 use Rattle.cy_planner_algebra.specs.Plans.{Output, computed, gathered}
-use Rattle.cy_planner_renumbering.specs.Renumbered.{new_column, renumbered}
+use Rattle.cy_planner_rows.specs.Renumbered.{new_column, renumbered}
 
 abbrev pub variable_column : Expression → Option ℕ
 variable_column (variable v) = v.column

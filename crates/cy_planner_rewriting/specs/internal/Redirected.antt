@@ -2,7 +2,7 @@
 use Rattle.std.specs.Prelude.{◌≡◌, ◌⊎◌, ℕ, ◌+◌, ◌==◌, List, [], ◌∷◌, if◌then◌else◌}
 use Rattle.std.specs.List.{Contains}
 use Rattle.cy_planner_algebra.specs.declared.operators.KeyColumns.{KeyColumns}
-use Rattle.cy_planner_lowering.specs.declared.places.Wanted.{Wanted}
+use Rattle.cy_planner_rows.specs.declared.places.Wanted.{Wanted}
 use Rattle.cy_planner_rewriting.specs.declared.redirects.Redirect.{Redirect}
 use Rattle.cy_planner_rewriting.specs.internal.Lowered.{lookup_at}
 

@@ -6,8 +6,8 @@ use Rattle.cy_scope_kinds.specs.declared.functions.Function.TheVariants as funct
 use Rattle.cy_scope_kinds.specs.Functions.{function_named}
 use Rattle.cy_planner_algebra.specs.declared.operators.Attribute.{Attribute}
 use Rattle.cy_planner_algebra.specs.declared.operators.Attribute.TheVariants.{Property, RelType, Labels}
-use Rattle.cy_planner_lowering.specs.declared.places.Wanted.{Wanted}
-pub use Rattle.cy_planner_lowering.specs.Places.{added}
+use Rattle.cy_planner_rows.specs.declared.places.Wanted.{Wanted}
+pub use Rattle.cy_planner_rows.specs.Places.{added}
 
 abbrev pub asked_in : Option ℕ → Attribute → List Wanted
 asked_in None attribute = []

@@ -5,7 +5,7 @@ use Rattle.cy_planner_algebra.specs.Expressions.{projected}
 use Rattle.cy_planner_algebra.specs.Views.{output_of}
 use Rattle.cy_network_operators.specs.declared.shifts.Shift.{Shift}
 use Rattle.cy_network_operators.specs.Deltas.{IsBounded}
-use Rattle.cy_network_merges.proofs.Changes.{images_bounded}
+use Rattle.cy_network_merges.proofs.ChangedRows.{images_bounded}
 use Rattle.cy_network_merges.proofs.Gathered.{none_come_delta, none_go_delta, together_delta}
 use Rattle.cy_network_merges.proofs.GreatestCounts.{greatest_bounded}
 use Rattle.cy_network_merges.proofs.OneToOne.{if_ok_more}

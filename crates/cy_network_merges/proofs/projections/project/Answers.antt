@@ -4,7 +4,7 @@ use Rattle.cy_network_memory.specs.Counts.{greatest_count}
 use Rattle.cy_planner_algebra.specs.Expressions.{projected}
 use Rattle.cy_planner_algebra.specs.Views.{output_of}
 use Rattle.cy_network_operators.specs.Deltas.{IsBounded}
-use Rattle.cy_network_merges.proofs.Changes.{images_bounded, project_held, project_staged, project_delta, project_too_many}
+use Rattle.cy_network_merges.proofs.ChangedRows.{images_bounded, project_held, project_staged, project_delta, project_too_many}
 use Rattle.cy_network_merges.proofs.projections.project.Goals as goal
 
 pub merge-requires-clause-held : goal.merge-requires-clause-held

@@ -3,7 +3,7 @@ use Rattle.std.proofs.lemmas.List.{map-id}
 use Rattle.std.proofs.lemmas.Iterator.Consumers.{YieldsList-end}
 use Rattle.std.proofs.lemmas.Iterator.Adapters.{YieldsList-from_vec}
 use Rattle.cy_network_memory.specs.Counts.{greatest_count}
-use Rattle.cy_network_merges.proofs.Changes.{union_held, union_staged, union_delta, union_too_many}
+use Rattle.cy_network_merges.proofs.ChangedRows.{union_held, union_staged, union_delta, union_too_many}
 use Rattle.cy_network_merges.proofs.unions.union.Goals as goal
 
 pub merge-requires-clause-held : goal.merge-requires-clause-held

@@ -19,7 +19,7 @@ use Rattle.cy_network_touches.specs.LookupCosts.{naming_rows}
 use Rattle.cy_network_parts.specs.Memories.{is_scan, none_where, own_keys}
 use Rattle.cy_network_parts.specs.Parts.{first_below}
 use Rattle.cy_network_parts.specs.Upkeep.{IsFed, IsOwnBegun, IsOwnDone, IsStep, content_of, state_of}
-use Rattle.cy_network_cost.specs.Work.{own_reads, own_steps}
+use Rattle.cy_network_touches.specs.Work.{own_reads, own_steps}
 use Rattle.cy_network_parts.proofs.Lent.{begun_as, done_as, own_length, steps_of_one}
 use Rattle.cy_network_part_shifts.proofs.OwnSingles.{lookup_counted, lookup_done, lookup_keyed, lookup_leads, lookup_settled, lookup_within}
 use Rattle.cy_network_parts.proofs.Refusals.{if_memory}

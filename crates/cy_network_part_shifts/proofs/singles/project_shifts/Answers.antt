@@ -17,7 +17,7 @@ use Rattle.cy_network_touches.specs.Changes.{Touches}
 use Rattle.cy_network_parts.specs.Memories.{is_row_by_row, none_where, own_keys}
 use Rattle.cy_network_parts.specs.Parts.{first_below}
 use Rattle.cy_network_parts.specs.Upkeep.{HasTooMany, IsFed, IsOwnBegun, IsOwnDone, IsStep, content_of}
-use Rattle.cy_network_cost.specs.Work.{own_reads, own_steps}
+use Rattle.cy_network_touches.specs.Work.{own_reads, own_steps}
 use Rattle.cy_network_parts.proofs.Lent.{begun_as, done_as, own_length, steps_of_one}
 use Rattle.cy_network_parts.proofs.Outcomes.{if_err_more, if_ok_from, if_ok_three}
 use Rattle.cy_network_part_shifts.proofs.OwnSingles.{project_change, project_done, project_keyed, project_settled, project_sure, project_within}

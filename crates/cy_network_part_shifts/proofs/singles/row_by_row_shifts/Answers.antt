@@ -1,5 +1,5 @@
 use Rattle.std.proofs.Common.{map, sym, subst, ap, ◌∙◌}
-use Rattle.cy_network_apart.specs.Trails.{TellsRowsApart, tells_apart}
+use Rattle.cy_network_relevance.specs.Trails.{TellsRowsApart, tells_apart}
 use Rattle.cy_planner_algebra.specs.Plans.{Plan}
 use Rattle.cy_planner_algebra.specs.Views.{output_of, plan_of}
 use Rattle.cy_planner_algebra.specs.WellFormed.{IsWellFormed}

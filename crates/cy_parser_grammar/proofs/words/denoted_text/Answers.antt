@@ -10,5 +10,5 @@ returns-in-Ok c =
     let line = c.args.line.now in
     let token = c.args.token.now in
     IfOk-weaker c.new.result _ (λ text. text ≡ spec.denotes line token)
-        (λ text same. same ∙ denoted-denotes line token _ (is_within line token) refl c.in-Ok.ensures.value c.in-Ok.ensures.elsewhere)
-        c.new.ensures
+    (λ text same. same ∙ denoted-denotes line token _ (is_within line token) refl c.in-Ok.ensures.value c.in-Ok.ensures.elsewhere)
+    c.new.ensures

@@ -6,10 +6,10 @@ use Rattle.cy_trees.specs.Trees.{Expression}
 use Rattle.cy_trees.specs.Views.{expression_of}
 use Rattle.cy_planner_algebra.specs.Plans.{Plan}
 use Rattle.cy_planner_algebra.specs.Views.{plan_of}
-use Rattle.cy_planner_conjunctions.specs.Conjuncts.{conjuncts}
-use Rattle.cy_planner_conjunctions.specs.internal.Opened.{waiting}
-use Rattle.cy_planner_conjunctions.proofs.Alike.{one_at_least}
-use Rattle.cy_planner_conjunctions.proofs.Stacks.{conjuncts_again, waiting_reversed}
+use Rattle.cy_planner_rows.specs.Conjuncts.{conjuncts}
+use Rattle.cy_planner_rows.specs.internal.Opened.{waiting}
+use Rattle.cy_planner_rows.proofs.Alike.{one_at_least}
+use Rattle.cy_planner_rows.proofs.Stacks.{conjuncts_again, waiting_reversed}
 use Rattle.cy_planner_outer_filters.specs.internal.Splits.{IsPartway}
 use Rattle.cy_planner_outer_filters.proofs.Partway.{all_apart, first_apart, next_apart}
 use Rattle.cy_planner_outer_filters.proofs.splitting.taken_apart.Goals as goal

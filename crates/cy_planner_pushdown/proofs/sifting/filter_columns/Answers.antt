@@ -7,10 +7,10 @@ use Rattle.cy_planner_algebra.specs.Plans as plan
 use Rattle.cy_planner_algebra.specs.Plans.{Plan, width}
 use Rattle.cy_planner_algebra.specs.Views.{plan_of}
 use Rattle.cy_planner_algebra.specs.WellFormed.{IsOver, greatest_width}
-use Rattle.cy_planner_lowering.specs.declared.places.Wanted.{Wanted}
-use Rattle.cy_planner_lowering.specs.Lowered.{lowered}
-use Rattle.cy_planner_lowering.specs.Places.{place}
-use Rattle.cy_planner_renumbering.specs.Renumbered.{renumbered}
+use Rattle.cy_planner_rows.specs.declared.places.Wanted.{Wanted}
+use Rattle.cy_planner_rows.specs.Lowered.{lowered}
+use Rattle.cy_planner_rows.specs.Places.{place}
+use Rattle.cy_planner_rows.specs.Renumbered.{renumbered}
 use Rattle.cy_planner_rows.specs.internal.Asked.{asked, with_tree}
 use Rattle.cy_planner_rows.specs.internal.Lookups.{narrowed, over}
 use Rattle.cy_planner_rows.specs.Rows.{IsReadOver}

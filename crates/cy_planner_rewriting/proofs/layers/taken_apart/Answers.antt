@@ -3,7 +3,7 @@ use Rattle.std.proofs.lemmas.List.{reverse-reverse}
 use Rattle.cy_planner_algebra.specs.Plans.{Plan}
 use Rattle.cy_planner_algebra.specs.Views.{plan_of}
 use Rattle.cy_planner_algebra.specs.WellFormed.{IsWellFormed}
-use Rattle.cy_planner_lowering.specs.declared.places.Wanted.{Wanted}
+use Rattle.cy_planner_rows.specs.declared.places.Wanted.{Wanted}
 use Rattle.cy_planner_rows.specs.internal.Lookups.{over}
 use Rattle.cy_planner_rewriting.specs.internal.Layers.{over_layer, stacked}
 use Rattle.cy_planner_rewriting.specs.Rewritten.{IsRewritten}

@@ -5,7 +5,7 @@ use Rattle.cy_planner_algebra.specs.Plans as plan
 use Rattle.cy_planner_algebra.specs.Plans.{Plan, width}
 use Rattle.cy_planner_algebra.specs.Views.{plan_of}
 use Rattle.cy_planner_algebra.specs.WellFormed.{IsKeyBetween}
-use Rattle.cy_planner_lowering.specs.declared.places.Wanted.{Wanted}
+use Rattle.cy_planner_rows.specs.declared.places.Wanted.{Wanted}
 use Rattle.cy_planner_rewriting.specs.declared.redirects.Redirect.{Redirect}
 use Rattle.cy_planner_rewriting.specs.internal.Lowered.{CanBeSplit}
 use Rattle.cy_planner_rewriting.specs.internal.Redirected.{IsRedirect, redirected}

@@ -3,8 +3,8 @@ use Rattle.cy_trees.specs.Views.{expression_of}
 use Rattle.cy_planner_algebra.specs.Plans as plan
 use Rattle.cy_planner_algebra.specs.Plans.{Plan, width}
 use Rattle.cy_planner_algebra.specs.Views.{plan_of}
-use Rattle.cy_planner_renumbering.specs.Renumbered.{renumbered}
-use Rattle.cy_planner_lowering.specs.declared.places.Wanted.{Wanted}
+use Rattle.cy_planner_rows.specs.Renumbered.{renumbered}
+use Rattle.cy_planner_rows.specs.declared.places.Wanted.{Wanted}
 use Rattle.cy_planner_rewriting.specs.internal.Lowered.{CanBeSplit, both_columns, lefts}
 use Rattle.cy_planner_rewriting.proofs.Passing.{well_looked_up}
 use Rattle.cy_planner_rewriting.proofs.Sides.{as_many_sides}

@@ -3,8 +3,8 @@ use Rattle.std.proofs.Common.{◌≡◌, map, take}
 use Rattle.cy_trees.specs.Views.{expression_of}
 use Rattle.cy_planner_algebra.specs.Plans.{computed}
 use Rattle.cy_planner_algebra.specs.Views.{output_of}
-use Rattle.cy_planner_lowering.specs.Lowered.{lowered}
-use Rattle.cy_planner_lowering.specs.Places.{place}
+use Rattle.cy_planner_rows.specs.Lowered.{lowered}
+use Rattle.cy_planner_rows.specs.Places.{place}
 use Rattle.cy_planner_rows.proofs.projections.item_outputs.Given as goal
 
 abbrev pub invariant-loop-item : goal.invariant-loop-item

@@ -8,9 +8,9 @@ use Rattle.cy_planner_algebra.specs.Plans as plan
 use Rattle.cy_planner_algebra.specs.Plans.{Output, Plan, computed, width}
 use Rattle.cy_planner_algebra.specs.Views.{output_of, plan_of}
 use Rattle.cy_planner_algebra.specs.WellFormed.{IsOutputOver, greatest_width}
-use Rattle.cy_planner_lowering.specs.declared.places.Wanted.{Wanted}
-use Rattle.cy_planner_lowering.specs.Lowered.{lowered}
-use Rattle.cy_planner_lowering.specs.Places.{place}
+use Rattle.cy_planner_rows.specs.declared.places.Wanted.{Wanted}
+use Rattle.cy_planner_rows.specs.Lowered.{lowered}
+use Rattle.cy_planner_rows.specs.Places.{place}
 use Rattle.cy_planner_rows.specs.internal.Lookups.{over}
 use Rattle.cy_planner_rows.specs.Rows.{IsProjected}
 use Rattle.cy_planner_rows.proofs.Filtered.{if_ok_map}

@@ -1,5 +1,5 @@
 use Rattle.std.proofs.Common.{◌≤◌, ◌*◌, refl, sym, subst}
-use Rattle.cy_network_cost.specs.Costs.{cost}
+use Rattle.cy_network_touches.specs.Costs.{cost}
 use Rattle.std.proofs.lemmas.Result.{err_from_is_err_and}
 use Rattle.cy_trees.specs.Views.{statement_of}
 use Rattle.cy_planner_algebra.specs.Views.{plan_of}

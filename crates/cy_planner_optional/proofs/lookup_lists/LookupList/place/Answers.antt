@@ -2,7 +2,7 @@
 use Rattle.std.proofs.Common.{◌≡◌, ℕ, ◌+◌, ◌<◌, ◌≤◌, List, length, ap, sym, subst, ◌∙◌, arith}
 use Rattle.std.specs.Prelude.{get_or}
 use Rattle.std.proofs.lemmas.Bool.Decides.{nat_tests}
-use Rattle.cy_planner_lowering.specs.Places as places
+use Rattle.cy_planner_rows.specs.Places as places
 use Rattle.cy_planner_optional.proofs.CodeLemmas.{place_most}
 use Rattle.cy_planner_optional.proofs.LookupLemmas.{place_known, place_unknown}
 use Rattle.cy_planner_optional.proofs.lookup_lists.LookupList.place.Goals as goal

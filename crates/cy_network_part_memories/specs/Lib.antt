@@ -1,2 +1,0 @@
-pub mod KeptRows
-pub mod internal

@@ -1,3 +1,0 @@
-mod CertainSteps
-pub mod Certainties
-pub mod Conjuncts

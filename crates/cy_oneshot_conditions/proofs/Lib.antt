@@ -1,3 +1,0 @@
-mod WhereLemmas
-mod MatchLemmas
-mod KnownPaths

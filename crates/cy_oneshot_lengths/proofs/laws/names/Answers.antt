@@ -1,5 +1,0 @@
-use Rattle.cy_oneshot_lengths.proofs.Tables.{rows_by_names}
-use Rattle.cy_oneshot_lengths.proofs.laws.names.Goals as goal
-
-pub returns : goal.returns
-returns c = λ graph paths row. rows_by_names graph paths row

@@ -1,0 +1,4 @@
+pub mod Columns
+pub mod Lengths
+pub mod Certain
+pub mod internal

@@ -1,2 +1,0 @@
--- What private functions and proofs need.
-pub mod Opened

@@ -1,6 +1,0 @@
-//! Copies of plans.
-#![tactic(auto)]
-
-mod copies;
-
-pub use copies::copied;

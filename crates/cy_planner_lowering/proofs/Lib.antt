@@ -1,3 +1,0 @@
-pub mod LoweredLemmas
-pub mod LoweredLists
-pub mod WantedLemmas

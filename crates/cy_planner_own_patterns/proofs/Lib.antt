@@ -1,2 +1,0 @@
-pub mod OwnPlaces
-pub mod OwnNames

@@ -1,2 +1,0 @@
-pub mod OwnPatterns
-pub mod Shared

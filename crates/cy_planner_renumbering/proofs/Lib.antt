@@ -1,2 +1,0 @@
-pub mod RenumberedLists
-pub mod RenumberedLemmas

@@ -1,5 +1,0 @@
-use Rattle.cy_planner_renumbering.proofs.RenumberedLemmas.{same_cell}
-use Rattle.cy_planner_renumbering.proofs.expressions.renumbering_keeps_values.Goals as goal
-
-pub returns : goal.returns
-returns c = λ graph row columns e reads. same_cell graph row columns e reads

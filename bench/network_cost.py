@@ -7,7 +7,7 @@ there, and then it is changed by statements, of which each is counted by itself.
 subtracted, so what is counted is the upkeep, with the entry of the view's feed. A statement that concerns no part of a view is counted
 so too. The script prints the medians of both sizes with their ratio, what the dearest statement takes, in which a table of the view
 grows, and the most steps of a statement. Beside these stands what the contract of a network allows the first statement at the smaller
-size, worked out from the plan that crates/cy_tests_plans prints. Then it builds a program over a copy of the crates of memories in a
+size, worked out from the plan that crates/cypher_plan prints. Then it builds a program over a copy of the crates of memories in a
 temporary folder, which puts rows into a memory and looks them up, and prints what a look-up takes at both sizes, and the bytes of a row
 in each kind. A ratio or a count above its limit ends the script with status 1, and so does a line that isn't answered as it should be.
 """
@@ -130,7 +130,7 @@ fn main(rt: HostRuntime) -> io::Result<()> {
 """
 
 # Prints the plans of queries.
-PLANS = "crates/cy_tests_plans"
+PLANS = "crates/cypher_plan"
 # The properties of the graphs, and what shows all nodes and relationships with them.
 KEYS = ("k", "name", "open", "text", "role", "amount")
 NODES = f"MATCH (n) RETURN n, labels(n) AS l, {', '.join(f'n.{key} AS {key}' for key in KEYS)}"
@@ -276,9 +276,9 @@ def graph_of(nodes, rels):
 
 
 def plan_of(plans, query):
-    """The text of the plan of a query, which is printed after the query."""
+    """The text of the plan of a query, which is printed after its weight."""
     printed = subprocess.run([plans], input=query, capture_output=True, check=True, text=True).stdout
-    return printed.removeprefix(f"{query}\n").split("\n\n")[0]
+    return printed.partition("\n")[2].split("\n\n")[0]
 
 
 def most_steps_allowed(program, plans, name, size):

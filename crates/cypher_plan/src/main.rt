@@ -3,9 +3,11 @@
 #![tactic(auto)]
 
 mod explaining;
+mod expression_texts;
+mod plan_texts;
 
 use crate::explaining::{Explained, explain};
-use cy_planner_explain::PlanText;
+use crate::plan_texts::PlanText;
 use std::fmt::Display;
 use std::io::{self, BufRead, BufReader};
 

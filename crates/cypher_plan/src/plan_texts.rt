@@ -1,6 +1,6 @@
 //! The text of plans: a line for each part, with the parts below it further to the right.
 
-use crate::expressions::{write_column, write_columns, write_expression};
+use crate::expression_texts::{write_column, write_columns, write_expression};
 use cy_planner_algebra::{Attribute, Keeping, KeyColumns, Operator, Orientation, Output, Plan};
 use cy_trees::Expr;
 use cy_values::Text;

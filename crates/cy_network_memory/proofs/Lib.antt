@@ -1,4 +1,5 @@
 pub mod RowMaps
+pub mod FewNumbers
 pub mod OwnKeys
 pub mod Soundness
 pub mod OwnRows

@@ -3,6 +3,7 @@
 
 mod buckets;
 mod faults;
+mod few;
 mod keyed;
 mod keys;
 mod listed;

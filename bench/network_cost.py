@@ -36,7 +36,7 @@ ROWS = (1_000, 101_000)
 # So many rows have one key where look-ups are counted, and so many look-ups are.
 DEGREE, LOOK_UPS = 5, 100
 # Bytes that a row of a keyed memory may take: its cells three times, one of a node and one of an integer, and so much more.
-KEYED_LIMIT = 3 * 2 * 32 + 64
+KEYED_LIMIT = 3 * 2 * 16 + 64
 # Reads the kind of memory, a number of nodes and one of rows, and puts so many rows for each node into a memory whose key is the node. Then it
 # reads numbers of nodes, looks up the rows of each, and prints how many there are.
 PROGRAM = """#![tactic(auto)]

@@ -1,7 +1,6 @@
 #!/usr/bin/env python3
 """Counts the instructions of queries on graphs of 10,000 and of 100,000 nodes, of UNWIND over lists of 3,000 and of 30,000 elements, and
-of 700 and 2,800 keys of ORDER BY, and of lists of relationships along chains of 100 and of 300 nodes, by valgrind, and the memory of UNWIND
-and of lists of relationships.
+of 700 and 2,800 keys of ORDER BY, by valgrind, and the memory of UNWIND and of lists of relationships.
 
 Run it at the top of the repository. It builds the program by `rt run` in crates/cypher_live, or takes the one that is named
 after it. Each node has five relationships, and a value of its own at `k`, which has an index. For each cost the script
@@ -22,8 +21,6 @@ TIMES = 20
 ELEMENTS = 3_000, 30_000
 # How many relationships a list has at most. In a group of ten nodes a node has 105 lists of up to three, and 20,119 of up to seven.
 LENGTHS = 3, 7
-# How many nodes a chain has, along which all lists of relationships are found.
-CHAIN = 100, 300
 # How many keys a line has, and how many items that they repeat.
 KEYS = 700, 2_800
 
@@ -179,15 +176,6 @@ def trail_costs(program, length):
     yield "lists of relationships that WHERE drops, bytes of memory", peak([program], lines), True
 
 
-def chain_costs(program, size):
-    """The cost of all lists of relationships along a chain of so many nodes, for each relationship in them."""
-    chain = statement("CREATE (:C)" + "-[:T]->(:C)" * (size - 1), made=size, rels_made=size - 1)
-    line = answer("MATCH (a)-[*]->(b) RETURN count(*) AS n", ["n"], [size * (size - 1) // 2])
-    with Session(program) as session:
-        session.give([chain])
-        yield "all lists along a chain, a relationship in them", session.count([line]) / (size * (size * size - 1) // 6), True
-
-
 def main():
     program = sys.argv[1] if len(sys.argv) > 1 else built()
     is_flat = report(lambda size: costs(program, size), *SIZES, LIMIT)
@@ -196,8 +184,7 @@ def main():
     is_linear = report(lambda count: list_costs(program, count), *ELEMENTS, SORT_LIMIT)
     is_looked_up = report(lambda count: key_costs(program, count), *KEYS, SORT_LIMIT)
     is_dropped = report(lambda length: trail_costs(program, length), *LENGTHS, LIMIT)
-    is_followed = report(lambda size: chain_costs(program, size), *CHAIN, LIMIT)
-    return 0 if is_flat and is_sorted and is_near and is_linear and is_looked_up and is_dropped and is_followed else 1
+    return 0 if is_flat and is_sorted and is_near and is_linear and is_looked_up and is_dropped else 1
 
 
 if __name__ == "__main__":

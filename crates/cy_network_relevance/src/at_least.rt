@@ -2,6 +2,7 @@
 
 ghost use Rattle.std.specs.Prelude.{◌≡◌, map, min, slice_get, sum_by};
 ghost use Rattle.std.specs.Option.{option_map_or};
+ghost use Rattle.cy_planner_algebra.specs.Plans.{width};
 ghost use Rattle.cy_planner_algebra.specs.Views.{output_of, plan_of};
 ghost use Rattle.cy_planner_algebra.specs.WellFormed.{IsWellFormed};
 ghost use Rattle.cy_network_relevance.specs.Lists as lists;
@@ -10,41 +11,65 @@ use crate::columns::variable_column;
 use cy_planner_algebra::{Operator, Output};
 
 /// How many relationships the cell in a column of a part's rows names at least, counted up to this many.
-#[cycle(at_least)]
 pub(crate) fn least_named(part: &Operator, column: usize, enough: usize) -> usize
     requires { IsWellFormed (plan_of part.now) }
+    ensures { result ≡ min enough (lists.least_named (plan_of part.now) column) }
+{
+    least_below(part, part.width(), column, enough)
+}
+
+/// How many the cell in a column of the rows of a part of this width names at least. What has one part below it is gone through in a loop,
+/// and so is the part of a join that has the column.
+#[cycle(at_least)]
+fn least_below(part: &Operator, wide: usize, column: usize, enough: usize) -> usize
+    requires part { IsWellFormed (plan_of part.now) }
+    requires wide { wide ≡ width (plan_of part.now) }
     ensures { result ≡ min enough (lists.least_named (plan_of part.now) column) }
 {
     if enough == 0 {
         return 0;
     }
-    match part {
-        Operator::Unit | Operator::Nodes => 0,
-        Operator::Rels(_, _) => usize::from(column == 0),
-        Operator::Join(left, right, _) => {
-            let width = left.width();
-            if column < width {
-                least_named(left, column, enough)
-            } else {
-                least_named(right, column - width, enough)
+    let mut part = part;
+    let mut wide = wide;
+    let mut column = column;
+    loop {
+        match part {
+            Operator::Unit | Operator::Nodes => return 0,
+            Operator::Rels(_, _) => return usize::from(column == 0),
+            Operator::Join(left, right, _) => {
+                let second = right.width();
+                wide -= second;
+                if column < wide {
+                    part = left;
+                } else {
+                    column -= wide;
+                    wide = second;
+                    part = right;
+                }
             }
-        }
-        Operator::Outer(below, _, _, _) | Operator::Lookup(below, _, _) => {
-            if column < below.width() {
-                least_named(below, column, enough)
-            } else {
-                0
+            Operator::Outer(left, right, _, _) => {
+                wide -= right.width();
+                if column >= wide {
+                    return 0;
+                }
+                part = left;
             }
-        }
-        Operator::Filter(below, _) | Operator::AllDifferent(below, _) => {
-            least_named(below, column, enough)
-        }
-        Operator::Semi(left, _, _, _) => least_named(left, column, enough),
-        Operator::Distinct(below) => least_named(below, column, enough),
-        Operator::Project(below, outputs) => least_in(below, outputs, column, enough),
-        Operator::Union(left, right) => {
-            let few = least_named(left, column, enough);
-            least_named(right, column, few)
+            Operator::Lookup(below, _, _) => {
+                wide -= 1;
+                if column >= wide {
+                    return 0;
+                }
+                part = below;
+            }
+            Operator::Semi(below, _, _, _)
+            | Operator::Filter(below, _)
+            | Operator::AllDifferent(below, _)
+            | Operator::Distinct(below) => part = below,
+            Operator::Project(below, outputs) => return least_in(below, outputs, column, enough),
+            Operator::Union(left, right) => {
+                let few = least_below(left, wide, column, enough);
+                return least_below(right, wide, column, few);
+            }
         }
     }
 }
@@ -56,21 +81,22 @@ fn least_in(below: &Operator, outputs: &[Output], column: usize, enough: usize) 
     ensures { result ≡ min enough (option_map_or (lists.least_made (lists.least_named (plan_of below.now))) (slice_get (map output_of outputs.now) column) 0) }
 {
     match outputs.get(column) {
-        Some(output) => least_made(below, output, enough),
+        Some(output) => least_made(below, below.width(), output, enough),
         None => 0,
     }
 }
 
 /// How many relationships a cell that a projection makes names at least.
 #[cycle(at_least)]
-fn least_made(below: &Operator, output: &Output, enough: usize) -> usize
-    requires { IsWellFormed (plan_of below.now) }
+fn least_made(below: &Operator, wide: usize, output: &Output, enough: usize) -> usize
+    requires below { IsWellFormed (plan_of below.now) }
+    requires wide { wide ≡ width (plan_of below.now) }
     ensures { result ≡ min enough (lists.least_made (lists.least_named (plan_of below.now)) (output_of output.now)) }
 {
     match output {
-        Output::Rels(columns) => least_of_all(below, columns, enough),
+        Output::Rels(columns) => least_of_all(below, wide, columns, enough),
         Output::Cell(expression) => match variable_column(expression) {
-            Some(column) => least_named(below, column, enough),
+            Some(column) => least_below(below, wide, column, enough),
             None => 0,
         },
     }
@@ -78,13 +104,14 @@ fn least_made(below: &Operator, output: &Output, enough: usize) -> usize
 
 /// How many relationships a list of what is named in some columns has at least.
 #[cycle(at_least)]
-fn least_of_all(below: &Operator, columns: &[usize], enough: usize) -> usize
-    requires { IsWellFormed (plan_of below.now) }
+fn least_of_all(below: &Operator, wide: usize, columns: &[usize], enough: usize) -> usize
+    requires below { IsWellFormed (plan_of below.now) }
+    requires wide { wide ≡ width (plan_of below.now) }
     ensures { result ≡ min enough (sum_by (lists.least_named (plan_of below.now)) columns.now) }
 {
     let mut found = 0;
     for column in columns {
-        found += least_named(below, *column, enough - found);
+        found += least_below(below, wide, *column, enough - found);
     }
     found
 }

@@ -33,31 +33,47 @@ pub(crate) fn is_unchanged(part: &Operator, entity: &Entity<'_>) -> bool
 fn is_kept(part: &Operator, entity: &Entity<'_>, asked: bool) -> bool
     ensures { result ≡ true → IsUnchanged entity.now (plan_of part.now) }
 {
-    match part {
-        Operator::Unit => true,
-        Operator::Nodes => keeps_node(*entity),
-        Operator::Rels(types, _) => makes_the_same(types, entity),
-        Operator::Lookup(below, column, attribute) => {
-            if *column == 0 && !asked && makes_nothing(below, entity) {
-                return true;
+    let mut part = part;
+    let mut asked = asked;
+    loop {
+        match part {
+            Operator::Unit => return true,
+            Operator::Nodes => return keeps_node(*entity),
+            Operator::Rels(types, _) => return makes_the_same(types, entity),
+            Operator::Lookup(below, column, attribute) => {
+                if *column == 0 && !asked && makes_nothing(below, entity) {
+                    return true;
+                }
+                if !has_same(*entity, attribute) {
+                    return false;
+                }
+                asked = asked || *column == 0;
+                part = below;
             }
-            has_same(*entity, attribute) && is_kept(below, entity, asked || *column == 0)
-        }
-        Operator::Filter(below, test) => {
-            is_left_out(below, test, *entity) || is_kept(below, entity, asked)
-        }
-        Operator::AllDifferent(below, _) => is_kept(below, entity, false),
-        Operator::Project(below, outputs) => {
-            is_kept(below, entity, asked && keeps_first(outputs))
-        }
-        Operator::Distinct(below) => is_kept(below, entity, false),
-        Operator::Join(left, right, _)
-        | Operator::Outer(left, right, _, _)
-        | Operator::Semi(left, right, _, _) => {
-            is_kept(left, entity, false) && is_kept(right, entity, false)
-        }
-        Operator::Union(left, right) => {
-            is_kept(left, entity, false) && is_kept(right, entity, false)
+            Operator::Filter(below, test) => {
+                if is_left_out(below, test, *entity) {
+                    return true;
+                }
+                part = below;
+            }
+            Operator::Project(below, outputs) => {
+                asked = asked && keeps_first(outputs);
+                part = below;
+            }
+            Operator::AllDifferent(below, _) | Operator::Distinct(below) => {
+                asked = false;
+                part = below;
+            }
+            Operator::Join(left, right, _)
+            | Operator::Outer(left, right, _, _)
+            | Operator::Semi(left, right, _, _)
+            | Operator::Union(left, right) => {
+                if !is_kept(right, entity, false) {
+                    return false;
+                }
+                asked = false;
+                part = left;
+            }
         }
     }
 }
@@ -73,21 +89,37 @@ fn makes_the_same(types: &[Text], entity: &Entity<'_>) -> bool
 fn makes_nothing(part: &Operator, entity: &Entity<'_>) -> bool
     ensures { result ≡ true → IsAbsent entity.now (plan_of part.now) }
 {
-    match part {
-        Operator::Nodes => makes_no_node(*entity),
-        Operator::Rels(types, _) => makes_no_rel(*entity, types),
-        Operator::Lookup(below, column, _) => *column == 0 && makes_nothing(below, entity),
-        Operator::Filter(below, test) => {
-            is_left_out(below, test, *entity) || makes_nothing(below, entity)
+    let mut part = part;
+    loop {
+        match part {
+            Operator::Nodes => return makes_no_node(*entity),
+            Operator::Rels(types, _) => return makes_no_rel(*entity, types),
+            Operator::Lookup(below, column, _) => {
+                if *column > 0 {
+                    return false;
+                }
+                part = below;
+            }
+            Operator::Filter(below, test) => {
+                if is_left_out(below, test, *entity) {
+                    return true;
+                }
+                part = below;
+            }
+            Operator::Project(below, outputs) => {
+                if !keeps_first(outputs) {
+                    return false;
+                }
+                part = below;
+            }
+            Operator::Unit
+            | Operator::Join(_, _, _)
+            | Operator::Outer(_, _, _, _)
+            | Operator::Semi(_, _, _, _)
+            | Operator::AllDifferent(_, _)
+            | Operator::Distinct(_)
+            | Operator::Union(_, _) => return false,
         }
-        Operator::Project(below, outputs) => keeps_first(outputs) && makes_nothing(below, entity),
-        Operator::Unit
-        | Operator::Join(_, _, _)
-        | Operator::Outer(_, _, _, _)
-        | Operator::Semi(_, _, _, _)
-        | Operator::AllDifferent(_, _)
-        | Operator::Distinct(_)
-        | Operator::Union(_, _) => false,
     }
 }
 

@@ -37,16 +37,25 @@ pub fn is_relevant<'a>(part: &Operator, change: &GraphChange<'a>, sight: &mut Si
 fn looks_at_graph(part: &Operator) -> bool
     ensures { result ≡ work.looks_at_graph (plan_of part.now) }
 {
-    match part {
-        Operator::Unit => false,
-        Operator::Nodes | Operator::Rels(_, _) | Operator::Lookup(_, _, _) => true,
-        Operator::Filter(below, _) | Operator::AllDifferent(below, _) => looks_at_graph(below),
-        Operator::Project(below, _) => looks_at_graph(below),
-        Operator::Distinct(below) => looks_at_graph(below),
-        Operator::Join(left, right, _)
-        | Operator::Outer(left, right, _, _)
-        | Operator::Semi(left, right, _, _) => looks_at_graph(left) || looks_at_graph(right),
-        Operator::Union(left, right) => looks_at_graph(left) || looks_at_graph(right),
+    let mut part = part;
+    loop {
+        match part {
+            Operator::Unit => return false,
+            Operator::Nodes | Operator::Rels(_, _) | Operator::Lookup(_, _, _) => return true,
+            Operator::Filter(below, _)
+            | Operator::AllDifferent(below, _)
+            | Operator::Project(below, _)
+            | Operator::Distinct(below) => part = below,
+            Operator::Join(left, right, _)
+            | Operator::Outer(left, right, _, _)
+            | Operator::Semi(left, right, _, _)
+            | Operator::Union(left, right) => {
+                if looks_at_graph(left) {
+                    return true;
+                }
+                part = right;
+            }
+        }
     }
 }
 

@@ -37,38 +37,35 @@ fn is_there_twice(entity: &Entity<'_>) -> bool {
 fn labels_matter(part: &Operator, entity: &Entity<'_>) -> Option<bool>
     ensures { IfSome result (λ matter. (matter ≡ true → KeepsValue entity.now Labels) → IsUnchanged entity.now (plan_of part.now)) }
 {
-    match part {
-        Operator::Unit => Some(false),
-        Operator::Nodes => unless_changed(keeps_node(*entity)),
-        Operator::Rels(_, _) => unless_changed(keeps_rel(*entity)),
-        Operator::Lookup(below, column, attribute) => {
-            if is_of_others(below, *column, entity) {
-                Some(false)
-            } else if is_labels(attribute) {
-                labels_matter(below, entity)?;
-                Some(true)
-            } else if has_same(*entity, attribute) {
-                labels_matter(below, entity)
-            } else {
-                None
+    let mut part = part;
+    let mut matter = false;
+    loop {
+        match part {
+            Operator::Unit => return Some(matter),
+            Operator::Nodes => return unless_changed(keeps_node(*entity), matter),
+            Operator::Rels(_, _) => return unless_changed(keeps_rel(*entity), matter),
+            Operator::Lookup(below, column, attribute) => {
+                if is_of_others(below, *column, entity) {
+                    return Some(matter);
+                }
+                if is_labels(attribute) {
+                    matter = true;
+                } else if !has_same(*entity, attribute) {
+                    return None;
+                }
+                part = below;
             }
-        }
-        Operator::Filter(below, _) | Operator::AllDifferent(below, _) => {
-            labels_matter(below, entity)
-        }
-        Operator::Project(below, _) => labels_matter(below, entity),
-        Operator::Distinct(below) => labels_matter(below, entity),
-        Operator::Join(left, right, _)
-        | Operator::Outer(left, right, _, _)
-        | Operator::Semi(left, right, _, _) => {
-            let left = labels_matter(left, entity)?;
-            let right = labels_matter(right, entity)?;
-            Some(left || right)
-        }
-        Operator::Union(left, right) => {
-            let left = labels_matter(left, entity)?;
-            let right = labels_matter(right, entity)?;
-            Some(left || right)
+            Operator::Filter(below, _)
+            | Operator::AllDifferent(below, _)
+            | Operator::Project(below, _)
+            | Operator::Distinct(below) => part = below,
+            Operator::Join(left, right, _)
+            | Operator::Outer(left, right, _, _)
+            | Operator::Semi(left, right, _, _)
+            | Operator::Union(left, right) => {
+                matter = labels_matter(right, entity)? || matter;
+                part = left;
+            }
         }
     }
 }
@@ -86,11 +83,11 @@ fn is_of_others(below: &Operator, column: usize, entity: &Entity<'_>) -> bool
     }
 }
 
-// Of a leaf: labels don't matter, where it makes the same of the entity.
-fn unless_changed(kept: bool) -> Option<bool>
-    ensures { IfSome result (λ matter. kept ≡ true) }
+// Of a leaf: whether labels matter to the parts above it, where it makes the same of the entity.
+fn unless_changed(kept: bool, matter: bool) -> Option<bool>
+    ensures { IfSome result (λ found. (kept ≡ true) × (found ≡ matter)) }
 {
-    if kept { Some(false) } else { None }
+    if kept { Some(matter) } else { None }
 }
 
 /// Whether an attribute is the list of labels.

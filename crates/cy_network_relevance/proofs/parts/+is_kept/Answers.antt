@@ -13,7 +13,7 @@ pub returns-then-makes_nothing : goal.returns-then-makes_nothing
 returns-then-makes_nothing t c = λ yes.
     let e = c.args.entity.now in
     let p = plan_of c.in-Lookup.below.value in
-    let is : plan_of c.args.part.now ≡ plan.lookup p c.in-Lookup.column c.in-Lookup.attribute =
+    let is : plan_of c.loop-part.part.now ≡ plan.lookup p c.in-Lookup.column c.in-Lookup.attribute =
     ap plan_of (c.in-Lookup.is ∙ sym (rolls-Lookup c.in-Lookup.below c.in-Lookup.column c.in-Lookup.attribute)) ∙ fold-roll-Operator Plan plan_step _ in
-    subst (IsUnchanged e) (sym is) (unchanged_absent_lookup e p c.in-Lookup.column c.in-Lookup.attribute c.if-column-eq0.true
-    (subst (λ (q : Operator). IsAbsent e (plan_of q)) c.deref-then-not-asked.ensures (c.makes_nothing.ensures c.if-makes_nothing.true)))
+    c.loop-part.invariant.0 (subst (IsUnchanged e) (sym is) (unchanged_absent_lookup e p c.in-Lookup.column c.in-Lookup.attribute c.if-column-eq0.true
+    (subst (λ (q : Operator). IsAbsent e (plan_of q)) c.deref-then-not-asked.ensures (c.makes_nothing.ensures c.if-makes_nothing.true))))

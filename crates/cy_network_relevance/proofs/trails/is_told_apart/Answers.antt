@@ -5,12 +5,13 @@ use Rattle.cy_planner_algebra.specs.Plans as plan
 use Rattle.cy_planner_algebra.specs.Plans.{Plan}
 use Rattle.cy_planner_algebra.specs.Views.{output_of, plan_of, plan_step}
 use Rattle.cy_network_relevance.proofs.Told.{joins_told}
-use Rattle.cy_network_relevance.proofs.trails.+is_told_apart.Goals as goal
+use Rattle.cy_network_relevance.proofs.trails.is_told_apart.Goals as goal
 
 pub returns-in-Join : goal.returns-in-Join
-returns-in-Join t c =
-    let is : plan_of c.args.part.now ≡ plan.join (plan_of c.in-Join.left.value) (plan_of c.in-Join.right.value) c.in-Join.keys.items =
+returns-in-Join c =
+    let is : plan_of c.loop-part.part.now ≡ plan.join (plan_of c.in-Join.left.value) (plan_of c.in-Join.right.value) c.in-Join.keys.items =
     ap plan_of (c.in-Join.is ∙ sym (rolls-Join c.in-Join.left c.in-Join.right c.in-Join.keys)) ∙ fold-roll-Operator Plan plan_step _ in
     c.tells_joined.ensures
-    ∙ joins_told (plan_of c.args.part.now) (plan_of c.in-Join.left.value) (plan_of c.in-Join.right.value) (plan_of c.deref.result.now) (plan_of c.deref-in-Join.result.now) c.in-Join.keys.items c.deref-in-Join-2.result.now
+    ∙ joins_told (plan_of c.loop-part.part.now) (plan_of c.in-Join.left.value) (plan_of c.in-Join.right.value) (plan_of c.deref.result.now) (plan_of c.deref-in-Join.result.now) c.in-Join.keys.items c.deref-in-Join-2.result.now
     (map output_of c.args.outputs.now) is (ap plan_of c.deref.ensures) (ap plan_of c.deref-in-Join.ensures) c.deref-in-Join-2.ensures.value
+    ∙ sym c.loop-part.invariant.1

@@ -1,0 +1,40 @@
+use Rattle.std.proofs.Common.{◌≡◌, Some, map, sym, ap, subst, ◌∙◌, arith}
+use Rattle.cy_trees.specs.Views.{expression_of}
+use Rattle.cy_planner_algebra.specs.declared.operators.Operator.{Operator}
+use Rattle.cy_planner_algebra.specs.declared.operators.Operator.TheFolds.{fold-roll-Operator}
+use Rattle.cy_planner_algebra.specs.declared.operators.Operator.TheVariants.{rolls-Filter, rolls-Lookup, rolls-Project}
+use Rattle.cy_planner_algebra.specs.Plans as plan
+use Rattle.cy_planner_algebra.specs.Plans.{Plan}
+use Rattle.cy_planner_algebra.specs.Views.{output_of, plan_of, plan_step}
+use Rattle.cy_network_sources.specs.Scans.{kept_at}
+use Rattle.cy_network_relevance.specs.internal.Kept.{IsAbsent}
+use Rattle.cy_network_relevance.proofs.Rules.{absent_filter, absent_lookup, absent_project}
+use Rattle.cy_network_relevance.proofs.parts.makes_nothing.Goals as goal
+
+pub loop-part-preserved-in-Lookup-1 : goal.loop-part-preserved-in-Lookup-1
+loop-part-preserved-in-Lookup-1 c = λ absent.
+    let e = c.args.entity.now in
+    let p = plan_of c.in-Lookup.below.value in
+    let is : plan_of c.loop-part.part.now ≡ plan.lookup p c.in-Lookup.column c.in-Lookup.field-2 =
+    ap plan_of (c.in-Lookup.is ∙ sym (rolls-Lookup c.in-Lookup.below c.in-Lookup.column c.in-Lookup.field-2)) ∙ fold-roll-Operator Plan plan_step _ in
+    let few = c.if-column-gt0.false in
+    let first : c.in-Lookup.column ≡ 0 = omega (arith, few) in
+    c.loop-part.invariant (subst (IsAbsent e) (sym is) (absent_lookup e p c.in-Lookup.column c.in-Lookup.field-2 first
+    (subst (λ (q : Operator). IsAbsent e (plan_of q)) c.deref-part.ensures absent)))
+
+pub loop-part-preserved-in-Filter-1 : goal.loop-part-preserved-in-Filter-1
+loop-part-preserved-in-Filter-1 c = λ absent.
+    let e = c.args.entity.now in
+    let p = plan_of c.in-Filter.below.value in
+    let test = expression_of c.in-Filter.test in
+    let is : plan_of c.loop-part.part.now ≡ plan.filter p test = ap plan_of (c.in-Filter.is ∙ sym (rolls-Filter c.in-Filter.below c.in-Filter.test)) ∙ fold-roll-Operator Plan plan_step _ in
+    c.loop-part.invariant (subst (IsAbsent e) (sym is) (absent_filter e p test (subst (λ (q : Operator). IsAbsent e (plan_of q)) c.deref-part-in-Filter.ensures absent)))
+
+pub loop-part-preserved : goal.loop-part-preserved
+loop-part-preserved c = λ absent.
+    let e = c.args.entity.now in
+    let p = plan_of c.in-Project.below.value in
+    let outputs = map output_of c.in-Project.outputs.items in
+    let is : plan_of c.loop-part.part.now ≡ plan.project p outputs = ap plan_of (c.in-Project.is ∙ sym (rolls-Project c.in-Project.below c.in-Project.outputs)) ∙ fold-roll-Operator Plan plan_step _ in
+    let first : kept_at 0 outputs ≡ Some 0 = sym (ap (λ os. kept_at 0 (map output_of os)) c.deref-in-Project.ensures.value) ∙ c.keeps_first.ensures c.if-not-keeps_first.false in
+    c.loop-part.invariant (subst (IsAbsent e) (sym is) (absent_project e p outputs first (subst (λ (q : Operator). IsAbsent e (plan_of q)) c.deref-part-in-Project.ensures absent)))

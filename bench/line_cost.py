@@ -1,10 +1,11 @@
 #!/usr/bin/env python3
-"""Counts the instructions of lines with many parts, of lists of relationships along a chain, and of views of long paths, by valgrind.
+"""Counts the instructions of lines with many parts, of changes below views of many properties, of lists of relationships along a chain, and
+of views of long paths, by valgrind.
 
 Run it at the top of the repository. It builds the program by `rt run` in crates/cypher_live, or takes the one that is named after
 it; words after that name the costs that are counted, where not all are. Each cost is counted at two sizes, a fresh program each, and the
 script prints the counts, those by the size, and the ratio of these. What is linear in its size has a ratio of about 1; what takes n log n, or
-keeps a map, somewhat more. The size of a line is the number of its parts. That of a query for the lists along a chain is the number of
+keeps a map, somewhat more. The size of a line is the number of its parts, and that of a change below a view the number of the view's properties. That of a query for the lists along a chain is the number of
 relationships in all lists that it finds: each has to be made, and a relationship that is added is compared with those before it. Of a
 view of a path, over two relationships from a node to itself, it is the number of relationships that the path has: no row of it uses one
 of the two twice, so nothing else is to be kept. A ratio above its limit ends the script with status 1, and so does a line that isn't
@@ -37,6 +38,11 @@ def parts(count: int, template: str, between: str) -> str:
 def view(query: str) -> List[Line]:
     """A view of a query over two nodes with a relationship between them."""
     return [("CREATE (:A {k: 1})-[:T {k: 1}]->(:B {k: 2})", CHANGED), (f":view v {query}", MADE)]
+
+
+def below_union(count: int) -> List[Line]:
+    """A node more below a view of a UNION, of whose parts one reads so many properties of each node."""
+    return [*view(f"MATCH (a) WHERE {parts(count, 'a.k#', '<')}<1 RETURN a UNION MATCH (b:B) RETURN b AS a"), ("CREATE (:C {k: 1})", CHANGED)]
 
 
 def changes(count: int, *clauses: Tuple[str, str]) -> List[Line]:
@@ -73,6 +79,7 @@ COSTS = {
     "a view, properties in WHERE of OPTIONAL MATCH": Cost(
         lambda n: view(f"MATCH (b) OPTIONAL MATCH (a) WHERE {parts(n, 'a.k#', '<')}<1 RETURN a"), (FEW, MANY), int, 1.5
     ),
+    "a change below a UNION, properties in WHERE": Cost(below_union, (FEW, MANY), int, 1.5),
     "UNWINDs, each with a column": Cost(unwinds, (750, 3_000), int, 1.5),
     "items of SET, each of a key of one node": Cost(lambda n: changes(n, SET), (FEW, MANY), int, 1.5),
     "items of REMOVE, each of a key of one node": Cost(lambda n: changes(n, SET, REMOVE), (FEW, MANY), int, 1.5),

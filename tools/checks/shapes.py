@@ -1,5 +1,7 @@
 """Shapes of lines that are as long as a line may be, or as deep."""
+import string
 from dataclasses import dataclass
+from functools import lru_cache
 from typing import Callable, List
 
 LONGEST = 65536
@@ -8,6 +10,9 @@ WEIGHT = 500
 # The deepest expression, and the most open brackets.
 DEEPEST = 62
 BRACKETS = 250
+# What a name may begin with, and go on with, of ASCII.
+BEGINNINGS = string.ascii_letters + "_"
+CONTINUATIONS = BEGINNINGS + string.digits
 
 
 @dataclass(frozen=True)
@@ -22,6 +27,8 @@ class Shape:
     most: int = LONGEST
     # Whether the line may be the query of a view.
     is_query: bool = True
+    # Whether it is tried as a statement: it isn't where that would make more rows than there is memory for.
+    is_statement: bool = True
 
     def longest(self, room: int, most: int) -> str:
         """The line with as many parts as there is room for, in bytes, and not more than so many."""
@@ -44,8 +51,24 @@ class Shape:
         return begin + self.longest(LONGEST - len(begin), most)
 
 
+@lru_cache(maxsize=None)
+def short_name(number: int) -> str:
+    """The name with this number, of those with one character, then those with two, and so on."""
+    length, names = 1, len(BEGINNINGS)
+    while number >= names:
+        number -= names
+        length, names = length + 1, names * len(CONTINUATIONS)
+    made = ""
+    for _ in range(length - 1):
+        number, last = divmod(number, len(CONTINUATIONS))
+        made = CONTINUATIONS[last] + made
+    return BEGINNINGS[number] + made
+
+
 def parts(template: str, between: str, count: int) -> str:
-    """A template so many times, with `#` as the number of each."""
+    """A template so many times, with `#` as the number of each, or `~` as the name with that number."""
+    if "~" in template:
+        return between.join(template.replace("~", short_name(it)) for it in range(count))
     return between.join(template.replace("#", str(it)) for it in range(count))
 
 
@@ -118,6 +141,15 @@ FILTER = ["in WHERE", "MATCH (a) WHERE ", " RETURN a"]
 OPTIONAL = ["in WHERE of OPTIONAL MATCH", "MATCH (b) OPTIONAL MATCH (a) WHERE ", " RETURN a"]
 LINK = ["of a relationship", "MATCH ()-[a]->() WHERE ", " RETURN 1 AS x"]
 BELOW = ["in WHERE of WITH", "MATCH (a)-[r:T]->(b) WITH a, r WHERE ", " RETURN r"]
+UNITED = ["in WHERE of the first part of UNION", "MATCH (a) WHERE ", " RETURN a UNION MATCH (b:B) RETURN b AS a"]
+SECOND = ["in WHERE of the second part of UNION", "MATCH (b:B) RETURN b AS a UNION MATCH (a) WHERE ", " RETURN a"]
+# Over two nodes each row counts 2^62 times, which no row of a view may.
+AGAIN = " AS c " + "MATCH () WITH a, c " * 62 + "RETURN a, c"
+# As many properties as fit, each with the shortest key that is left.
+DEEP: List[Shape] = [
+    Shape("properties with short keys", chain("a.~", "<", end="<1")),
+    Shape("coalesce of short keys", chain("a.~", ",", "coalesce(", ")=1")),
+]
 # Lines of many clauses, places, items and the like. Those that no view may have are statements alone.
 LINES: List[Shape] = [
     Shape("MATCH", chain("MATCH (n#:A)", " ", end=" RETURN 1 AS x"), weight=3),
@@ -152,6 +184,9 @@ LINES: List[Shape] = [
     Shape("a long path either way as a condition", lambda count: "MATCH (a) WHERE (a)" + "--()" * count + " RETURN a", weight=2),
     Shape("entries of a path as a condition", chain("k#:a.k#", ",", "MATCH (a) WHERE (a)-[{", "}]->() RETURN a"), weight=1),
     Shape("comparisons before a path of a length", chain("a.k#", "<", "MATCH (a) WITH a, ", " AS c WHERE (a)-[*0..3 {k:c}]->() RETURN a")),
+    Shape("short keys beside a path", chain("a.~", "<", "MATCH (a) WHERE (a)-->() AND ", "<1 RETURN a")),
+    Shape("short keys of a relationship and its ends", chain("a.~<b.~<c.~", "<", "MATCH (a)-[b]->(c) WHERE ", " RETURN a")),
+    Shape("short keys of rows that count too often", chain("a.~", "<", "MATCH (a) WITH a, ", AGAIN), is_statement=False),
     Shape("conditions beside a path", chain("a.k#=1", " AND ", "MATCH (a) WHERE (a)-->() AND ", " RETURN a"), most=DEEPEST),
     Shape("UNION", chain("MATCH (a:L#) RETURN a", " UNION "), weight=6),
     Shape("UNION ALL", chain("RETURN # AS x", " UNION ALL "), weight=3),
@@ -188,5 +223,6 @@ LINES: List[Shape] = [
 
 def all_shapes() -> List[Shape]:
     shapes = [made for it in CONDITIONS for made in places(it, [ITEM, FILTER, OPTIONAL, LINK, BELOW])]
+    shapes += [made for it in DEEP for made in places(it, [ITEM, FILTER, OPTIONAL, LINK, BELOW, UNITED, SECOND])]
     shapes += [made for it in VALUES for made in places(it, [ITEM])]
     return shapes + LINES

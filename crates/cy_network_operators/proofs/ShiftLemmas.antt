@@ -2,7 +2,7 @@
 use Rattle.std.proofs.Common.{◌≡◌, ℕ, ◌+◌, ◌<◌, ◌≤◌, ◌==◌, Bool, true, false, cond, List, [], ◌∷◌, ◌++◌, refl, sym, ap, subst, ◌∙◌, filter, length, take, get_or, arith}
 use Rattle.std.specs.Prelude.{flat_map}
 use Rattle.std.specs.List.{All}
-use Rattle.std.proofs.lemmas.List.{append-nil, append_assoc, take_more}
+use Rattle.std.proofs.lemmas.List.{append-nil, append_assoc, flat_map_more, take_more}
 use Rattle.std.proofs.lemmas.List.Elements.{All-append, All-cons, All-filter, All-head, All-nil, All-tail, filter-append}
 use Rattle.std.proofs.lemmas.List.Concat.{flat_map-append}
 use Rattle.std.proofs.lemmas.Bool.Decides.{nat_tests}
@@ -132,6 +132,11 @@ made_alike P f g alike (x ∷ xs) each =
     ap (λ made. made ++ flat_map f xs) (alike x (All-head P x xs each)) ∙ ap (λ rest. g x ++ rest) (made_alike P f g alike xs (All-tail P x xs each))
 
 -- what the shifts so far made of a row, and one more
+pub pairs_next : (row : List Cell) (h : Shift → List Shift) (shifts : List Shift) (s : Shift) (start so_far new : List Shift)
+    → shifts_of row so_far ≡ shifts_of row start ++ flat_map h shifts → shifts_of row new ≡ shifts_of row so_far ++ h s
+    → shifts_of row new ≡ shifts_of row start ++ flat_map h (shifts ++ s ∷ [])
+pairs_next row h shifts s start so_far new before made = made ∙ ap (λ l. l ++ h s) before ∙ flat_map_more h (shifts_of row start) shifts s
+
 pub pairs_more : (row : List Cell) (h : Shift → List Shift) (shifts : List Shift) (i : ℕ) (s : Shift) (start so_far new : List Shift) → i < length shifts → s ≡ get_or shifts i s
     → shifts_of row so_far ≡ shifts_of row start ++ flat_map h (take i shifts) → shifts_of row new ≡ shifts_of row so_far ++ h s
     → shifts_of row new ≡ shifts_of row start ++ flat_map h (take (i + 1) shifts)

@@ -76,7 +76,6 @@ change_fits count before after change is makes = subst (λ z. pos 0 ≤ℤ z) (s
 pub change_makes : (count before after : ℕ) (change : ℤ) → count ≡ before → (pos before +ℤ change) ≡ pos after → changed change count ≡ after
 change_makes count before after change is makes = ap unsigned_abs (ap (λ n. pos n +ℤ change) is ∙ makes)
 
--- one more shift is staged
 pub held_now : (was after staged : Counts) (shifts : List Shift) (i : ℕ) (s : Shift) → IsDelta was after shifts → i < length shifts → s ≡ get_or shifts i s
     → staged ≡ counts_after (take i shifts) was → staged s.row ≡ s.before
 held_now was after staged shifts i s delta below is so_far =
@@ -85,15 +84,21 @@ held_now was after staged shifts i s delta below is so_far =
     ∙ held_at was after shifts delta i s below
     ∙ ap (λ (t : Shift). t.before) (sym is)
 
+-- one more shift is staged
+pub staged_next : (was staged new : Counts) (shifts : List Shift) (i : ℕ) (s : Shift) → i < length shifts → s ≡ get_or shifts i s
+    → staged ≡ counts_after (take i shifts) was → new ≡ with_count s.row s.after staged → new ≡ counts_after (take (i + 1) shifts) was
+staged_next was staged new shifts i s below is so_far made =
+    made
+    ∙ ap (with_count s.row s.after) so_far
+    ∙ sym (after_more (take i shifts) s was)
+    ∙ ap (λ xs. counts_after xs was) (ap (λ t. take i shifts ++ t ∷ []) is ∙ sym (take_more shifts i s below))
+
 pub staged_more : (was after staged new : Counts) (shifts : List Shift) (i : ℕ) (s : Shift) (change : ℤ) → IsDelta was after shifts → i < length shifts → s ≡ get_or shifts i s
     → staged ≡ counts_after (take i shifts) was → (pos s.before +ℤ change) ≡ pos s.after
     → new ≡ with_count s.row (changed change (staged s.row)) staged → new ≡ counts_after (take (i + 1) shifts) was
 staged_more was after staged new shifts i s change delta below is so_far makes made =
-    made
-    ∙ ap (λ n. with_count s.row n staged) (change_makes (staged s.row) s.before s.after change (held_now was after staged shifts i s delta below is so_far) makes)
-    ∙ ap (with_count s.row s.after) so_far
-    ∙ sym (after_more (take i shifts) s was)
-    ∙ ap (λ xs. counts_after xs was) (ap (λ t. take i shifts ++ t ∷ []) is ∙ sym (take_more shifts i s below))
+    staged_next was staged new shifts i s below is so_far
+    (made ∙ ap (λ n. with_count s.row n staged) (change_makes (staged s.row) s.before s.after change (held_now was after staged shifts i s delta below is so_far) makes))
 
 pub on_ok : {T E P : Type 0} (r : Result T E) → is_err r ≡ false → OnOk r P → P
 on_ok (Ok x) is holds = holds

@@ -153,7 +153,7 @@ TYPICAL = [
     ("n:A:B", "true", 350, 0),
     ("n.z IS NULL AND n.m > 3", "true", 1200, 0),
     ("coalesce(n.z, n.m) + 1", "8", 1100, 0),
-    ("CASE WHEN n.m < 5 THEN 'few' ELSE 'many' END", "'many'", 1150, 1),
+    ("CASE WHEN n.m < 5 THEN 'few' ELSE 'many' END", "'many'", 1150, 2),
 ]
 
 

@@ -1,7 +1,6 @@
 //! Text, which a clause sees as the list of its bytes.
 
-ghost use Rattle.std.specs.Prelude.{◌≡◌, List, [], ℕ, Some, IfOk, string_bytes};
-ghost use Rattle.std.specs.Option.{option_map_or};
+ghost use Rattle.std.specs.Prelude.{◌≡◌, List, ℕ, Some, IfOk, string_bytes};
 ghost use Rattle.std.specs.Arc.{arc_str_bytes};
 
 use crate::faults::Fault;
@@ -15,13 +14,13 @@ use std::sync::ArcStr;
 /// A text, in UTF-8. Texts are ordered by their bytes, which is the order of their code points.
 #[derive(Debug, Drop)]
 pub struct Text {
-    string: Option<ArcStr>,
+    string: ArcStr,
 }
 
 impl Model for Text {
     ghost Value = { List ℕ };
 
-    ghost view = { λ t. option_map_or arc_str_bytes t.string [] };
+    ghost view = { λ t. arc_str_bytes t.string };
 }
 
 impl Text {
@@ -30,15 +29,8 @@ impl Text {
         ensures { IfOk result (λ t. t ≡ string_bytes string) }
     {
         Ok(Text {
-            string: Some(ArcStr::from_string(string)?),
+            string: ArcStr::from_string(string)?,
         })
-    }
-
-    /// The empty text.
-    pub fn empty() -> Self
-        ensures { result ≡ [] }
-    {
-        Text { string: None }
     }
 
     /// A copy of a text. Fails only when out of memory.
@@ -46,29 +38,23 @@ impl Text {
         ensures { IfOk result (λ t. t ≡ text.now) }
     {
         Ok(Text {
-            string: Some(ArcStr::from_str(alloc, text)?),
+            string: ArcStr::from_str(alloc, text)?,
         })
     }
 
     pub fn as_str(&self) -> &str
         ensures { result.now ≡ self.now }
     {
-        match &self.string {
-            Some(string) => string.as_str(),
-            None => "",
-        }
+        self.string.as_str()
     }
 }
 
 impl Duplicate for Text {
     /// A text that shares the string of this one.
     fn copy(&self, _alloc: Global) -> Result<Self, Fault> {
-        match &self.string {
-            Some(string) => Ok(Text {
-                string: Some(string.clone()?),
-            }),
-            None => Ok(Text::empty()),
-        }
+        Ok(Text {
+            string: self.string.clone()?,
+        })
     }
 }
 

@@ -80,7 +80,7 @@ fn row_outputs(alloc: Global, width: usize) -> Result<Vec<Output>, Fault>
 {
     let mut outputs = Vec::with_capacity(alloc, width)?;
     for column in 0..width {
-        outputs.push(column_output(column))?;
+        outputs.push(column_output(alloc, column)?)?;
     }
     Ok(outputs)
 }

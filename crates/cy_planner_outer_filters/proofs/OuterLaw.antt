@@ -24,7 +24,8 @@ use Rattle.cy_planner_pushdown.proofs.Commuting.{right_sifted}
 use Rattle.cy_planner_pushdown.proofs.Conjunctions.{sifted_both}
 use Rattle.cy_planner_rewriting.proofs.Congruent.{all_split, same_within}
 use Rattle.cy_planner_outer_filters.specs.Standing.{StandsFor}
-use Rattle.cy_planner_outer_filters.specs.internal.Splits.{IsSplit, or_true}
+use Rattle.cy_planner_rows.specs.Conditions.{or_true}
+use Rattle.cy_planner_outer_filters.specs.internal.Splits.{IsSplit}
 use Rattle.cy_planner_outer_filters.proofs.Predicates.{and_over}
 
 flat_alike : {A B : Type 0} (P : A → Type 0) (f g : A → List B) → ((x : A) → P x → f x ≡ g x) → (xs : List A) → AllByRecursion P xs → flat_map f xs ≡ flat_map g xs

@@ -24,7 +24,8 @@ use Rattle.cy_planner_rows.specs.Rows.{keeps}
 use Rattle.cy_planner_pushdown.specs.After.{IsKept}
 use Rattle.cy_planner_pushdown.proofs.Conjunctions.{in_cell, joined_truth, sifted_both, truth_back, whole, whole_ok, whole_true}
 use Rattle.cy_planner_outer_filters.specs.internal.Splits as spec
-use Rattle.cy_planner_outer_filters.specs.internal.Splits.{IsSplit, or_true}
+use Rattle.cy_planner_rows.specs.Conditions.{or_true}
+use Rattle.cy_planner_outer_filters.specs.internal.Splits.{IsSplit}
 
 -- ---- what a condition is
 

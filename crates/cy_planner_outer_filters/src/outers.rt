@@ -1,28 +1,19 @@
 //! Outer joins of plans.
 
-ghost use Rattle.std.specs.Prelude.{◌≡◌, ◌+◌, ◌≤◌, IfOk, option_map};
+ghost use Rattle.std.specs.Prelude.{◌+◌, ◌≤◌, IfOk};
 ghost use Rattle.std.specs.List.{All};
 ghost use Rattle.cy_trees.specs.Views.{expression_of};
 ghost use Rattle.cy_planner_algebra.specs.Plans as plan;
 ghost use Rattle.cy_planner_algebra.specs.Views.{plan_of};
 ghost use Rattle.cy_planner_algebra.specs.WellFormed.{IsKeyBetween, IsOver, IsWellFormed, greatest_width};
 ghost use Rattle.cy_planner_outer_filters.specs.Standing.{StandsFor};
-ghost use Rattle.cy_planner_outer_filters.specs.internal.Splits as spec;
 
 use crate::splitting::{Split, taken_apart};
 use cy_planner_algebra::{KeyColumns, Plan};
+use cy_planner_rows::or_true;
 use cy_trees::Expr;
 use cy_values::Fault;
 use std::alloc::Global;
-
-fn or_true(rest: Option<Expr>) -> Expr
-    ensures { expression_of result ≡ spec.or_true (option_map expression_of rest) }
-{
-    match rest {
-        Some(test) => test,
-        None => Expr::Boolean(true),
-    }
-}
 
 /// A plan is one that can be meant.
 fn meant(plan: &Plan)

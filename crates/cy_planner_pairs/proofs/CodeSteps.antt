@@ -9,7 +9,8 @@ use Rattle.cy_trees.specs.Trees.{Expression}
 use Rattle.cy_oneshot_patterns.specs.Places.{Place}
 use Rattle.cy_planner_clauses.specs.Shared.{other_entries}
 use Rattle.cy_planner_optional.specs.Own.{common_count, common_counts, row_size}
-use Rattle.cy_planner_optional.specs.internal.Pairs.{all_of, or_true, with_test, with_tests}
+use Rattle.cy_planner_rows.specs.Conditions.{or_true, with_test, with_tests}
+use Rattle.cy_planner_optional.specs.internal.Pairs.{all_of}
 use Rattle.cy_planner_optional.proofs.CodeLemmas.{tests_all, tests_append}
 use Rattle.cy_planner_optional_rows.specs.Columns.{reading_entries}
 use Rattle.cy_planner_pairs.specs.internal.Pairs.{empty_or_equal, empty_or_equal_from, equal_columns, equal_from, looked_count, looked_counts, path_tests, place_tests, places_tests}

@@ -8,10 +8,10 @@ ghost use Rattle.cy_oneshot_patterns.specs.internal.Patterns.{place_of};
 ghost use Rattle.cy_planner_algebra.specs.WellFormed.{greatest_width};
 ghost use Rattle.cy_planner_pairs.specs.internal.Told as spec;
 
-use crate::conditions::{and_also, column_at, or_true};
 use cy_oneshot_patterns::Place;
 use cy_planner_algebra::KeyColumns;
 use cy_planner_optional::keys;
+use cy_planner_rows::{and_also, column_variable, or_true};
 use cy_trees::{Expr, UnaryOperator};
 use cy_values::{Fault, Text};
 use std::alloc::Global;
@@ -116,7 +116,7 @@ pub(crate) fn alike_keys(
 fn is_not_null_at(alloc: Global, column: usize) -> Result<Expr, Fault>
     ensures { IfOk result (λ e. expression_of e ≡ spec.is_not_null_at column) }
 {
-    let operand = Box::new(alloc, column_at(column))?;
+    let operand = Box::new(alloc, column_variable(alloc, column)?)?;
     Ok(Expr::Unary(UnaryOperator::IsNotNull, operand))
 }
 

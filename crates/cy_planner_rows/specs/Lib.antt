@@ -3,6 +3,7 @@ pub mod Alike
 pub mod Conjuncts
 pub mod Places
 pub mod Lowered
+pub mod Conditions
 pub mod Columns
 pub mod Rows
 pub mod internal

@@ -6,20 +6,16 @@ ghost use Rattle.cy_planner_algebra.specs.Views.{plan_of, output_of};
 ghost use Rattle.cy_planner_rows.specs.Columns as shape;
 ghost use Rattle.cy_planner_rows.specs.internal.Lookups as spec;
 
+use crate::conditions::column_variable;
 use cy_planner_algebra::{Output, Plan};
-use cy_trees::{Expr, Variable};
-use cy_values::{Fault, Text};
+use cy_values::Fault;
 use std::alloc::Global;
 
-/// A column as it is.
-pub fn column_output(column: usize) -> Output
-    ensures { output_of result ≡ shape.column_output column }
+/// A column as it is. Fails only when out of memory.
+pub fn column_output(alloc: Global, column: usize) -> Result<Output, Fault>
+    ensures { IfOk result (λ o. output_of o ≡ shape.column_output column) }
 {
-    let name = Text::empty();
-    Output::Cell(Expr::Variable(Variable {
-        name,
-        column: Some(column),
-    }))
+    Ok(Output::Cell(column_variable(alloc, column)?))
 }
 
 /// What a projection to these columns makes. Fails only when out of memory.
@@ -28,7 +24,7 @@ pub fn column_outputs(alloc: Global, columns: &[usize]) -> Result<Vec<Output>, F
 {
     let mut outputs = Vec::with_capacity(alloc, columns.len())?;
     for column in columns {
-        outputs.push(column_output(*column))?;
+        outputs.push(column_output(alloc, *column)?)?;
     }
     Ok(outputs)
 }
@@ -38,7 +34,7 @@ fn first_columns(alloc: Global, count: usize) -> Result<Vec<Output>, Fault>
 {
     let mut outputs = Vec::with_capacity(alloc, count)?;
     for column in 0..count {
-        outputs.push(column_output(column))?;
+        outputs.push(column_output(alloc, column)?)?;
     }
     Ok(outputs)
 }

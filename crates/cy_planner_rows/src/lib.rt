@@ -4,6 +4,7 @@
 
 mod asked;
 mod columns;
+mod conditions;
 mod conjunctions;
 mod filters;
 mod lookups;
@@ -15,6 +16,7 @@ mod wanted;
 
 pub use asked::add_asked;
 pub use columns::{column_output, column_outputs, narrowed};
+pub use conditions::{and_also, column_variable, equals, or_true, size_of};
 pub use conjunctions::{all_of, conjuncts, halved};
 pub use filters::{check_room, filter_where};
 pub use lookups::{copy_attribute, with_lookups};

@@ -4,7 +4,7 @@ use Rattle.std.specs.List.{All}
 use Rattle.cy_values.specs.declared.rows.Cell.{Cell}
 use Rattle.cy_trees.specs.declared.expressions.BinaryOperator.TheVariants.{And}
 use Rattle.cy_trees.specs.declared.expressions.Expr.{Expr}
-use Rattle.cy_trees.specs.Trees.{Expression, binary, boolean}
+use Rattle.cy_trees.specs.Trees.{Expression, binary}
 use Rattle.cy_graph.specs.Graph.{Content, State, IsGraph}
 use Rattle.cy_expr.specs.Reading.{reads_columns}
 use Rattle.cy_planner_algebra.specs.Plans.{Plan, width}
@@ -14,6 +14,7 @@ use Rattle.cy_planner_algebra.specs.Parts.{parts}
 use Rattle.cy_planner_algebra.specs.Sure.{HasTruth, IsSureOn}
 use Rattle.cy_planner_algebra.specs.WellFormed.{IsOver}
 use Rattle.cy_planner_algebra.specs.Within.{IsWithin}
+use Rattle.cy_planner_rows.specs.Conditions.{or_true}
 use Rattle.cy_planner_rows.specs.Conjuncts.{conjuncts}
 use Rattle.cy_planner_rows.specs.internal.Opened.{waiting}
 
@@ -22,10 +23,6 @@ abbrev pub both : Option Expression → Option Expression → Option Expression
 both None second = second
 both (Some first) None = Some first
 both (Some first) (Some second) = Some (binary And first second)
-
-abbrev pub or_true : Option Expression → Expression
-or_true None = boolean true
-or_true (Some e) = e
 
 -- A predicate is true of a left and a right row where the right row is kept and the rest of the predicate is true.
 pub record IsSplit (before : ℕ) (right : Plan) (test : Expression) (made : Plan) (rest : Option Expression) : Type 0 where

@@ -13,7 +13,7 @@ use Rattle.cy_planner_algebra.specs.WellFormed.{IsWellFormed}
 use Rattle.cy_planner_rows.specs.internal.Lookups.{narrowed}
 use Rattle.cy_planner_optional.specs.internal.Pairs.{all_of, keys_from}
 use Rattle.cy_planner_optional_rows.specs.Columns.{reading_entries, values_of}
-use Rattle.cy_planner_pairs.specs.internal.Pairs.{column_at}
+use Rattle.cy_planner_rows.specs.Conditions.{column_variable}
 
 -- whether a value is null, and the value, or another one where it is null: neither is null
 abbrev pub told_by : Expression → List Expression
@@ -39,7 +39,7 @@ abbrev pub alike : List ℕ → List KeyColumns
 alike columns = map (λ column. record { left = column; right = column }) columns
 
 abbrev pub is_not_null_at : ℕ → Expression
-is_not_null_at column = unary IsNotNull (column_at column)
+is_not_null_at column = unary IsNotNull (column_variable column)
 
 -- each of these columns has something
 abbrev pub all_there : List ℕ → Expression

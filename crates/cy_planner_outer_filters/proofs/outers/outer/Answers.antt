@@ -9,7 +9,8 @@ use Rattle.cy_planner_algebra.specs.Plans.{Plan, width}
 use Rattle.cy_planner_algebra.specs.Views.{plan_of}
 use Rattle.cy_planner_algebra.specs.WellFormed.{IsKeyBetween, IsOver, IsWellFormed, greatest_width}
 use Rattle.cy_planner_outer_filters.specs.Standing.{StandsFor}
-use Rattle.cy_planner_outer_filters.specs.internal.Splits.{IsSplit, or_true}
+use Rattle.cy_planner_rows.specs.Conditions.{or_true}
+use Rattle.cy_planner_outer_filters.specs.internal.Splits.{IsSplit}
 use Rattle.cy_planner_outer_filters.proofs.OuterLaw.{outer_law}
 use Rattle.cy_planner_outer_filters.proofs.outers.outer.Goals as goal
 

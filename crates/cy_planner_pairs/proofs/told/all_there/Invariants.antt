@@ -2,7 +2,7 @@
 use Rattle.std.proofs.Common.{◌≡◌, drop, map}
 use Rattle.std.specs.Prelude.{None, option_map}
 use Rattle.cy_trees.specs.Views.{expression_of}
-use Rattle.cy_planner_optional.specs.internal.Pairs.{with_tests}
+use Rattle.cy_planner_rows.specs.Conditions.{with_tests}
 use Rattle.cy_planner_pairs.specs.internal.Told.{is_not_null_at}
 use Rattle.cy_planner_pairs.proofs.told.all_there.Given as goal
 

@@ -16,5 +16,6 @@ pub use clauses::{
     Projection, Query, RelationshipPattern, RemoveItem, SetItem, Statement, Step, Unwind, Where,
     With,
 };
+pub use copying::copy_names;
 pub use expressions::{Arm, BinaryOperator, Comparator, Expr, Link, UnaryOperator, Variable};
 pub use statement_text::show;

@@ -7,7 +7,7 @@ use Rattle.cy_planner_rows.specs.Places as places
 use Rattle.cy_planner_rows.specs.internal.WantedLists.{ArePlaced, by_items, has, has_words, words_of}
 use Rattle.cy_planner_rows.proofs.WantedLemmas.{added_if, placed_more, unless_new}
 use Rattle.cy_planner_rows.proofs.wanted.WantedList.add.Goals as goal
-use Rattle.cy_planner_rows.proofs.wanted.WantedList.add.Goals.{in-Property+in-None-4, in-Property+in-Some-4, in-RelType-4}
+use Rattle.cy_planner_rows.proofs.wanted.WantedList.add.Goals.{in-Property-4, in-RelType-4}
 
 grown : (c : goal.After-push_reserved) → c.push_reserved.new.self.items ≡ c.self.inside.wanted.items ++ c.args.asked ∷ []
 grown c = c.push_reserved.ensures.items ∙ ap (λ (ws : List Wanted). ws ++ c.args.asked ∷ []) c.in_ok-reserve.ensures.items
@@ -43,9 +43,8 @@ returns-else-branch c =
     let found = lookup (has c.in_ok-words.words.items) c.self.inside.places.entries in
     let at : found ≡ position_from (has_words (words_of asked.column asked.attribute)) 0 before = c.self.invariant c.in_ok-words.words.items ∙ ap (λ l. position_from (has_words l) 0 before) c.in_ok-words.ensures in
     let there : before ≡ places.added before asked = sym (added_if before asked true found at (sym (unless_new (is_some found) false (sym c.in_ok-add_place.ensures.new ∙ c.if-branch.false)))) in
-    let same : c.match-asked-7.self ≡ before = elim c.match-asked-7.branch [
-      | in-Property+in-None-4 w ↦ w.self-is ∙ c.in_ok-reserve.ensures.items
-      | in-Property+in-Some-4 w ↦ w.self-is ∙ c.in_ok-reserve.ensures.items
+    let same : c.match-asked-4.self ≡ before = elim c.match-asked-4.branch [
+      | in-Property-4 w ↦ w.self-is ∙ c.in_ok-reserve.ensures.items
       | in-RelType-4 w ↦ w.self-is ∙ c.in_ok-reserve.ensures.items
     ] in
     same ∙ there ∙ ap (λ ws. places.added ws asked) c.self.view_is

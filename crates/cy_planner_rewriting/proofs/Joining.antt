@@ -64,7 +64,7 @@ inside_below : (ws : List Wanted) (p : Plan) (n : ℕ) → n ≡ width p → All
 inside_below ws p n is each = subst (λ (m : ℕ). AllByRecursion (IsInside m) ws) is each
 
 -- a row stands no more often among some rows than what is made of it among what is made of these
-count_least : IsTotalOrder row_cmp → (f : List Cell → List Cell) (x : List Cell) (rows : List (List Cell)) → count_of x rows ≤ count_of (f x) (map f rows)
+pub count_least : IsTotalOrder row_cmp → (f : List Cell → List Cell) (x : List Cell) (rows : List (List Cell)) → count_of x rows ≤ count_of (f x) (map f rows)
 count_least total f x [] = omega arith
 count_least total f x (row ∷ rows) =
     let rest = count_least total f x rows in
@@ -79,7 +79,7 @@ count_least total f x (row ∷ rows) =
     step false true is are rest one two = (let p = one ∙ ap (λ (d : Bool). cond d 1 0 + count_of x rows) is in let q = two ∙ ap (λ (d : Bool). cond d 1 0 + count_of (f x) (map f rows)) are in omega (arith, rest, p, q))
     step false false is are rest one two = (let p = one ∙ ap (λ (d : Bool). cond d 1 0 + count_of x rows) is in let q = two ∙ ap (λ (d : Bool). cond d 1 0 + count_of (f x) (map f rows)) are in omega (arith, rest, p, q))
 
-below_projection : IsTotalOrder row_cmp → (graph : Content) (tables : List (List (List Cell))) (p : Plan) (outputs : List Output) → IsWithin graph tables (plan.project p outputs) → IsWithin graph tables p
+pub below_projection : IsTotalOrder row_cmp → (graph : Content) (tables : List (List (List Cell))) (p : Plan) (outputs : List Output) → IsWithin graph tables (plan.project p outputs) → IsWithin graph tables p
 below_projection total graph tables p outputs within row =
     smaller_within tables (count_of row (rows_of graph p)) (count_of (projected outputs row) (map (projected outputs) (rows_of graph p)))
     (count_least total (projected outputs) row (rows_of graph p)) (within (projected outputs row))

@@ -73,7 +73,7 @@ first_cells row outputs is long = from_column row 0 outputs is (omega (arith, lo
 
 -- ---- a projection of a projection
 
-cell_moved : (row : List Cell) (columns : List ℕ) (i d : ℕ) → i < length columns → cell_at row (slice_index_or columns i d) ≡ cell_at (map (cell_at row) columns) i
+pub cell_moved : (row : List Cell) (columns : List ℕ) (i d : ℕ) → i < length columns → cell_at row (slice_index_or columns i d) ≡ cell_at (map (cell_at row) columns) i
 cell_moved row [] i d less = absurd (omega (arith, less))
 cell_moved row (c ∷ columns) zero d less = refl
 cell_moved row (c ∷ columns) (suc i) d less = cell_moved row columns i d (omega (arith, less))
@@ -119,7 +119,7 @@ columns_inside n (o ∷ outputs) (c ∷ columns) is each =
     let rest : AreColumns outputs columns = cc in
     (column_inside n c o first (All-head (IsOutputOver n) o outputs each), columns_inside n outputs columns rest (All-tail (IsOutputOver n) o outputs each))
 
-member_inside : (n : ℕ) (columns : List ℕ) (i d : ℕ) → AllByRecursion (λ c. c < n) columns → i < length columns → slice_index_or columns i d < n
+pub member_inside : (n : ℕ) (columns : List ℕ) (i d : ℕ) → AllByRecursion (λ c. c < n) columns → i < length columns → slice_index_or columns i d < n
 member_inside n [] i d each less = absurd (omega (arith, less))
 member_inside n (c ∷ columns) zero d each less = each.0
 member_inside n (c ∷ columns) (suc i) d each less = member_inside n columns i d each.1 (omega (arith, less))

@@ -10,5 +10,6 @@ mod rewriting;
 mod splits;
 
 pub use layers::{Layer, Opened, open_part};
+pub use outputs::{columns_of, renumber_members, renumber_outputs};
 pub use parts::layered;
 pub use rewriting::rewritten;

@@ -6,6 +6,7 @@ use Rattle.cy_values.specs.declared.rows.Cell.{Cell}
 use Rattle.cy_values.specs.Bag.{count_of}
 use Rattle.cy_trees.specs.Trees.{Expression}
 use Rattle.cy_graph.specs.Graph.{IsGraph, State}
+use Rattle.cy_expr.specs.Graphs.{are_different}
 use Rattle.cy_network_memory.specs.Counts.{Counts, greatest_count}
 use Rattle.cy_network_merges.specs.Merges.{AreBounded, IsProjectChange, all_columns}
 use Rattle.cy_planner_algebra.specs.declared.operators.Attribute.{Attribute}
@@ -13,7 +14,7 @@ use Rattle.cy_planner_algebra.specs.Plans as plan
 use Rattle.cy_planner_algebra.specs.Plans.{Output, Plan}
 use Rattle.cy_planner_algebra.specs.Parts.{parts}
 use Rattle.cy_planner_algebra.specs.Expressions.{holds, projected, relationships_at}
-use Rattle.cy_planner_algebra.specs.Meaning.{are_different, each_once, with_attribute}
+use Rattle.cy_planner_algebra.specs.Meaning.{each_once, with_attribute}
 use Rattle.cy_planner_algebra.specs.Sure.{HasCells, HasTruth, IsSure}
 use Rattle.cy_network_operators.specs.declared.shifts.Shift.{Shift}
 use Rattle.cy_network_operators.specs.Deltas.{IsBounded, IsDelta, counts, counts_after, rows_at}

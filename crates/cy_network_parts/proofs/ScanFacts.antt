@@ -15,12 +15,13 @@ use Rattle.cy_graph.specs.declared.nodes.Node.{Node}
 use Rattle.cy_graph.specs.declared.nodes.Rel.{Rel}
 use Rattle.cy_graph.specs.Graph.{IsGraph, State, node_at, rel_at}
 use Rattle.cy_expr.specs.Evaluation.{column_value}
+use Rattle.cy_expr.specs.Graphs.{has_type}
 use Rattle.cy_network_memory.specs.Counts.{greatest_count}
 use Rattle.cy_planner_algebra.specs.declared.operators.Attribute.{Attribute}
 use Rattle.cy_planner_algebra.specs.declared.operators.Orientation.{Orientation}
 use Rattle.cy_planner_algebra.specs.declared.operators.Orientation.TheVariants.{Directed, Either}
 use Rattle.cy_planner_algebra.specs.Expressions.{cell_at, output_cell, projected}
-use Rattle.cy_planner_algebra.specs.Meaning.{attribute_of, backwards, forwards, has_type, is_loop, rows_of, ways}
+use Rattle.cy_planner_algebra.specs.Meaning.{attribute_of, backwards, forwards, is_loop, rows_of, ways}
 use Rattle.cy_planner_algebra.specs.Plans as plan
 use Rattle.cy_planner_algebra.specs.Plans.{Output, Plan, computed, gathered}
 use Rattle.cy_network_sources.specs.Scans.{is_column, is_this, kept_at, scan_column, scan_parts}

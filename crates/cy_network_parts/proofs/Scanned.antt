@@ -5,13 +5,14 @@ use Rattle.std.specs.List.{All}
 use Rattle.std.proofs.lemmas.List.Elements.{All-cons, All-nil}
 use Rattle.cy_values.specs.declared.rows.Cell.{Cell}
 use Rattle.cy_graph.specs.Graph.{Content, IsGraph, State}
+use Rattle.cy_expr.specs.Graphs.{are_different}
 use Rattle.cy_network_memory.specs.Counts.{Counts}
 use Rattle.cy_network_merges.specs.Merges.{AreBounded, all_columns}
 use Rattle.cy_planner_algebra.specs.Plans as plan
 use Rattle.cy_planner_algebra.specs.Plans.{Output, Plan, width}
 use Rattle.cy_planner_algebra.specs.Parts.{parts}
 use Rattle.cy_planner_algebra.specs.Expressions.{holds, projected, relationships_at}
-use Rattle.cy_planner_algebra.specs.Meaning.{are_different, rows_of, with_attribute}
+use Rattle.cy_planner_algebra.specs.Meaning.{rows_of, with_attribute}
 use Rattle.cy_network_operators.specs.declared.shifts.Shift.{Shift}
 use Rattle.cy_network_operators.specs.Deltas.{IsBounded, IsDelta, content_at, counts, rows_at}
 use Rattle.cy_network_operators.proofs.PlanLemmas.{different_at, filter_at, lookup_at, nodes_at, project_at, rels_at}

@@ -15,6 +15,7 @@ use Rattle.cy_graph.specs.Graph.{Content}
 use Rattle.cy_graph.specs.declared.nodes.Rel.{Rel}
 use Rattle.cy_trees.specs.Trees.{Name, null, boolean, integer, text, variable, property, has_labels, unary, binary, comparison, list, case, call, call_star}
 use Rattle.cy_expr.specs.Evaluation.{column_value}
+use Rattle.cy_expr.specs.Graphs.{has_type}
 use Rattle.cy_planner_algebra.specs.declared.operators.Orientation.{Orientation}
 use Rattle.cy_planner_algebra.specs.declared.operators.Orientation.TheVariants.{Directed, Either}
 use Rattle.cy_planner_algebra.specs.Plans as plan
@@ -22,7 +23,7 @@ use Rattle.cy_planner_algebra.specs.Plans.{Output, Plan, computed, gathered, wid
 use Rattle.cy_planner_algebra.specs.Expressions as expressions
 use Rattle.cy_planner_algebra.specs.Expressions.{cell_at, output_cell, projected, relationships_in}
 use Rattle.cy_planner_algebra.specs.Keys.{meet}
-use Rattle.cy_planner_algebra.specs.Meaning.{backwards, forwards, has_type, is_loop, is_partner, or_nulls, paired, rows_of, rows_of_rel, ways}
+use Rattle.cy_planner_algebra.specs.Meaning.{backwards, forwards, is_loop, is_partner, or_nulls, paired, rows_of, rows_of_rel, ways}
 use Rattle.cy_planner_algebra.specs.WellFormed.{IsWellFormed}
 use Rattle.cy_planner_algebra.proofs.Widths.{all_made, all_made_of_any, all_mapped, all_once, wide_rows}
 use Rattle.cy_network_relevance.specs.Lists.{IsAtMost, greater, least_made, least_named, most_made, most_named, named, together}

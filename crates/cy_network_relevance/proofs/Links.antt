@@ -21,13 +21,14 @@ use Rattle.cy_graph.specs.Graph.{Content, IsGraph, State, rel_order, relationshi
 use Rattle.cy_graph.specs.declared.nodes.Rel.{Rel}
 use Rattle.cy_trees.specs.Trees.{Name, null, boolean, integer, text, variable, property, has_labels, unary, binary, comparison, list, case, call, call_star}
 use Rattle.cy_expr.specs.Evaluation.{column_value}
+use Rattle.cy_expr.specs.Graphs.{has_type}
 use Rattle.cy_planner_algebra.specs.declared.operators.Orientation.{Orientation}
 use Rattle.cy_planner_algebra.specs.declared.operators.Orientation.TheVariants.{Directed, Either}
 use Rattle.cy_planner_algebra.specs.Plans as plan
 use Rattle.cy_planner_algebra.specs.Plans.{Output, Plan, computed, gathered}
 use Rattle.cy_planner_algebra.specs.Expressions as expressions
 use Rattle.cy_planner_algebra.specs.Expressions.{cell_at, output_cell, projected, relationships_at}
-use Rattle.cy_planner_algebra.specs.Meaning.{backwards, forwards, has_type, is_loop, rows_of, rows_of_rel, ways, with_attribute}
+use Rattle.cy_planner_algebra.specs.Meaning.{backwards, forwards, is_loop, rows_of, rows_of_rel, ways, with_attribute}
 use Rattle.cy_planner_algebra.proofs.Widths.{all_made, all_mapped}
 use Rattle.cy_network_relevance.specs.Trails.{has_links, has_lists, is_alone, is_at, is_list, keeps_links}
 

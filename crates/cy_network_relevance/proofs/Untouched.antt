@@ -10,9 +10,10 @@ use Rattle.cy_trees.specs.Trees.{Expression}
 use Rattle.cy_graph.specs.declared.nodes.Node.{Node}
 use Rattle.cy_graph.specs.declared.nodes.Rel.{Rel}
 use Rattle.cy_graph.specs.Graph.{Content, State}
+use Rattle.cy_expr.specs.Graphs.{are_different}
 use Rattle.cy_planner_algebra.specs.declared.operators.Attribute.{Attribute}
 use Rattle.cy_planner_algebra.specs.Expressions.{cell_at, holds, projected, relationships_at}
-use Rattle.cy_planner_algebra.specs.Meaning.{are_different, attribute_of, each_once, joined, outer_joined, rows_of, semi_joined}
+use Rattle.cy_planner_algebra.specs.Meaning.{attribute_of, each_once, joined, outer_joined, rows_of, semi_joined}
 use Rattle.cy_planner_algebra.specs.Plans as plan
 use Rattle.cy_planner_algebra.specs.Plans.{Output, Plan, width}
 use Rattle.cy_network_touches.specs.Changes.{IsChange, IsImage, Touches}

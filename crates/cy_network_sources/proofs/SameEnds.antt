@@ -7,9 +7,10 @@ use Rattle.cy_values.specs.declared.scalars.Value.TheVariants as value
 use Rattle.cy_values.specs.declared.rows.Cell.TheVariants as cell
 use Rattle.cy_trees.specs.Trees.{Name}
 use Rattle.cy_graph.specs.declared.nodes.Rel.{Rel}
+use Rattle.cy_expr.specs.Graphs.{has_type}
 use Rattle.cy_planner_algebra.specs.declared.operators.Orientation.{Orientation}
 use Rattle.cy_planner_algebra.specs.declared.operators.Orientation.TheVariants.{Directed, Either}
-use Rattle.cy_planner_algebra.specs.Meaning.{backwards, forwards, has_type, ways}
+use Rattle.cy_planner_algebra.specs.Meaning.{backwards, forwards, ways}
 use Rattle.cy_network_sources.specs.internal.Rows.{rel_rows}
 use Rattle.cy_network_sources.specs.Ends.{HaveSameEnds}
 

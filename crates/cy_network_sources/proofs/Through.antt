@@ -16,9 +16,10 @@ use Rattle.cy_trees.specs.Trees.{Expression, null, boolean, integer, text, varia
 use Rattle.cy_graph.specs.Graph.{Content}
 use Rattle.cy_expr.specs.Evaluation.{column_value}
 use Rattle.cy_expr.specs.Lookups.{IsNumbered}
+use Rattle.cy_expr.specs.Graphs.{are_different}
 use Rattle.cy_planner_algebra.specs.declared.operators.Attribute.{Attribute}
 use Rattle.cy_planner_algebra.specs.Expressions.{cell_at, cell_of, cell_or_null, holds, output_cell, projected, relationships_at}
-use Rattle.cy_planner_algebra.specs.Meaning.{are_different, attribute_of, rows_of, with_attribute}
+use Rattle.cy_planner_algebra.specs.Meaning.{attribute_of, rows_of, with_attribute}
 use Rattle.cy_planner_algebra.specs.Plans as plan
 use Rattle.cy_planner_algebra.specs.Plans.{Plan, Output, computed, gathered}
 use Rattle.cy_planner_algebra.specs.Sure.{HasCells, HasTruth, IsSureOn}

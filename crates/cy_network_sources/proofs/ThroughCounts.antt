@@ -20,11 +20,12 @@ use Rattle.cy_trees.specs.Trees.{Name}
 use Rattle.cy_graph.specs.declared.nodes.Node.{Node}
 use Rattle.cy_graph.specs.declared.nodes.Rel.{Rel}
 use Rattle.cy_graph.specs.Graph.{IsGraph, State, node_at, rel_at}
+use Rattle.cy_expr.specs.Graphs.{has_type}
 use Rattle.cy_planner_algebra.specs.declared.operators.Attribute.{Attribute}
 use Rattle.cy_planner_algebra.specs.declared.operators.Orientation.{Orientation}
 use Rattle.cy_planner_algebra.specs.declared.operators.Orientation.TheVariants.{Directed, Either}
 use Rattle.cy_planner_algebra.specs.Expressions.{cell_at}
-use Rattle.cy_planner_algebra.specs.Meaning.{attribute_of, backwards, forwards, has_type, is_loop, rows_of, ways}
+use Rattle.cy_planner_algebra.specs.Meaning.{attribute_of, backwards, forwards, is_loop, rows_of, ways}
 use Rattle.cy_planner_algebra.specs.Plans as plan
 use Rattle.cy_planner_algebra.specs.Plans.{Plan}
 use Rattle.cy_planner_algebra.specs.Sure.{IsSure}

@@ -14,11 +14,12 @@ use Rattle.cy_graph.specs.declared.nodes.Node.{Node}
 use Rattle.cy_graph.specs.declared.nodes.Rel.{Rel}
 use Rattle.cy_network_memory.specs.Counts.{greatest_count}
 use Rattle.cy_expr.specs.Lookups.{IsNumbered}
+use Rattle.cy_expr.specs.Graphs.{are_different, has_type}
 use Rattle.cy_planner_algebra.specs.declared.operators.Attribute.{Attribute}
 use Rattle.cy_planner_algebra.specs.declared.operators.Orientation.{Orientation}
 use Rattle.cy_planner_algebra.specs.declared.operators.Orientation.TheVariants.{Directed, Either}
 use Rattle.cy_planner_algebra.specs.Expressions.{holds, projected, relationships_at}
-use Rattle.cy_planner_algebra.specs.Meaning.{are_different, backwards, forwards, has_type, is_loop, ways}
+use Rattle.cy_planner_algebra.specs.Meaning.{backwards, forwards, is_loop, ways}
 use Rattle.cy_planner_algebra.specs.Plans as plan
 use Rattle.cy_planner_algebra.specs.Plans.{Output, Plan}
 use Rattle.cy_planner_algebra.specs.Sure.{HasCells, HasTruth}

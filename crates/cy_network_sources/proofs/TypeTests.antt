@@ -4,7 +4,7 @@ use Rattle.std.specs.List.{list_any}
 use Rattle.std.specs.Str.{bytes_eq}
 use Rattle.cy_trees.specs.Trees.{Name}
 use Rattle.cy_graph.specs.declared.nodes.Rel.{Rel}
-use Rattle.cy_planner_algebra.specs.Meaning.{has_type}
+use Rattle.cy_expr.specs.Graphs.{has_type}
 
 -- where a type is named, the relationship has to be of one
 pub type_test : (types : List Name) (rel : Rel) → (length types == 0) ≡ false → list_any (λ name. bytes_eq name rel.kind) types ≡ has_type types rel

@@ -16,7 +16,8 @@ use Rattle.cy_trees.specs.Trees.{NodePattern, RelationshipPattern}
 use Rattle.cy_graph.specs.Graph.{Content}
 use Rattle.cy_graph.specs.declared.nodes.Node.{Node}
 use Rattle.cy_graph.specs.declared.nodes.Rel.{Rel}
-use Rattle.cy_oneshot_patterns.specs.Fits.{agrees, are_different, are_linked, extended, fits, has_entries, has_entry, is_labelled, is_link, relationships_of}
+use Rattle.cy_expr.specs.Graphs.{are_different}
+use Rattle.cy_oneshot_patterns.specs.Fits.{agrees, are_linked, extended, fits, has_entries, has_entry, is_labelled, is_link, relationships_of}
 use Rattle.cy_oneshot_patterns.specs.Places.{Place, node, relationship, relationships, assignments, entries_if}
 use Rattle.cy_oneshot_outcomes.specs.Lengths.{any_node, nameless, single, places_between}
 use Rattle.cy_oneshot_outcomes.proofs.Sums.{all_flat_map, all_follow, all_map, all_true}

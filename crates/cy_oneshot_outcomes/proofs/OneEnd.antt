@@ -16,7 +16,8 @@ use Rattle.cy_trees.specs.Trees.{Name, RelationshipPattern}
 use Rattle.cy_graph.specs.Graph.{Content, node_order, relationship_in}
 use Rattle.cy_graph.specs.declared.nodes.Node.{Node}
 use Rattle.cy_graph.specs.declared.nodes.Rel.{Rel}
-use Rattle.cy_oneshot_patterns.specs.Fits.{goes_from_to, has_type, joins, leads}
+use Rattle.cy_expr.specs.Graphs.{has_type}
+use Rattle.cy_oneshot_patterns.specs.Fits.{goes_from_to, joins, leads}
 use Rattle.cy_oneshot_outcomes.proofs.Sums.{sum_each_alike, sum_none}
 
 goes_to_one : (r : Rel) (a m n : NodeId) → goes_from_to a r m ≡ true → goes_from_to a r n ≡ true → m.0 ≡ n.0

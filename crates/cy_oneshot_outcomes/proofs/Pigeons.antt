@@ -5,7 +5,7 @@ use Rattle.std.specs.List.{list_any, AllByRecursion}
 use Rattle.std.proofs.lemmas.Bool.{false≢true, and_parts, and_from, or_parts, or_left, or_right, not-true, eqb-true, eq-eqb, false_from_ne_true}
 use Rattle.std.proofs.lemmas.List.Sums.{sum_by-cons}
 use Rattle.cy_values.specs.declared.numbers.RelId.{RelId}
-use Rattle.cy_oneshot_patterns.specs.Fits.{are_different}
+use Rattle.cy_expr.specs.Graphs.{are_different}
 use Rattle.cy_oneshot_patterns.specs.Places.{lists_up_to}
 use Rattle.cy_oneshot_outcomes.proofs.Sums.{all_true, all_follow, all_map, all_flat_map, sum_alike, sum_map, sum_flat_map}
 use Rattle.cy_oneshot_outcomes.proofs.Totals.{total, total_alike, total_sum}

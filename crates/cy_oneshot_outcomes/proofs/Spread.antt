@@ -15,7 +15,8 @@ use Rattle.cy_trees.specs.declared.clauses.Length.{Length}
 use Rattle.cy_trees.specs.Trees.{NodePattern, RelationshipPattern}
 use Rattle.cy_graph.specs.Graph.{Content, node_order}
 use Rattle.cy_graph.specs.declared.nodes.Rel.{Rel}
-use Rattle.cy_oneshot_patterns.specs.Fits.{are_different, are_linked, fits, is_in_range, leads_on, relationships_of}
+use Rattle.cy_expr.specs.Graphs.{are_different}
+use Rattle.cy_oneshot_patterns.specs.Fits.{are_linked, fits, is_in_range, leads_on, relationships_of}
 use Rattle.cy_oneshot_patterns.specs.Places.{Place, node, relationships, assignments, candidates, lists_up_to}
 use Rattle.cy_oneshot_outcomes.specs.Lengths.{counts_in, nameless, places_between, ranged, starts_twice}
 use Rattle.cy_oneshot_outcomes.proofs.Sums.{sum_alike, sum_each_alike, sum_exchanged, sum_map, sum_none}

@@ -9,7 +9,8 @@ use Rattle.cy_values.specs.Order.{row_cmp}
 use Rattle.cy_values.specs.declared.rows.Cell.{Cell}
 use Rattle.cy_trees.specs.Trees.{Path}
 use Rattle.cy_graph.specs.Graph.{Content, node_order}
-use Rattle.cy_oneshot_patterns.specs.Fits.{agrees, are_different, are_linked, extended, fits, has_entries, is_labelled, is_link, relationships_of}
+use Rattle.cy_expr.specs.Graphs.{are_different}
+use Rattle.cy_oneshot_patterns.specs.Fits.{agrees, are_linked, extended, fits, has_entries, is_labelled, is_link, relationships_of}
 use Rattle.cy_oneshot_patterns.specs.Matching.{fitting}
 use Rattle.cy_oneshot_patterns.specs.Places.{Place, node, relationship, relationships, assignments, places}
 use Rattle.cy_oneshot_outcomes.specs.Lengths.{LongStep, counts_in, ends_meet, nameless, names_agree, own_table, packed, packed_table, packed_tables, pattern, places_before, rows_of, written_out}

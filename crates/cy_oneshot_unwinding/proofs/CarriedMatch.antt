@@ -19,10 +19,10 @@ use Rattle.cy_graph.specs.Maps.{value_at}
 use Rattle.cy_expr.specs.declared.faults.EvalFault.{EvalFault}
 use Rattle.cy_expr.specs.Evaluation.{cell_of}
 use Rattle.cy_expr.specs.Faults.{on_one}
-use Rattle.cy_expr.specs.Graphs.{lookups, properties_in}
+use Rattle.cy_expr.specs.Graphs.{lookups, properties_in, are_different}
 use Rattle.cy_expr.specs.Logic.{truth_of}
 use Rattle.cy_expr.specs.Operators.{value_in_cell}
-use Rattle.cy_oneshot_patterns.specs.Fits.{agrees, are_different, are_linked, entities_of, extended, fits, has_entries, has_entry, is_equal, is_labelled, is_new, relationships_of}
+use Rattle.cy_oneshot_patterns.specs.Fits.{agrees, are_linked, entities_of, extended, fits, has_entries, has_entry, is_equal, is_labelled, is_new, relationships_of}
 use Rattle.cy_oneshot_patterns.specs.Matching.{assigned, elements_of, fitting, is_met, is_there, kept, map_values, matched_where, optionally_matched, test_truth, unless_none, unwound, where_truth, with_nulls}
 use Rattle.cy_oneshot_patterns.specs.Outcomes.{and_also, gathered, joined, together}
 use Rattle.cy_oneshot_patterns.specs.Places.{Place, assignments, column_at, entries_at, path_places, places}

@@ -20,13 +20,14 @@ use Rattle.cy_graph.specs.declared.nodes.Rel.{Rel}
 use Rattle.cy_expr.specs.declared.faults.EvalFault.{EvalFault}
 use Rattle.cy_expr.proofs.ReadingLemmas.{cell-holds}
 use Rattle.cy_expr.specs.Lookups.{IsNumbered}
+use Rattle.cy_expr.specs.Graphs.{has_type}
 use Rattle.cy_planner_algebra.specs.declared.operators.Orientation.{Orientation}
 use Rattle.cy_planner_algebra.specs.declared.operators.Orientation.TheVariants.{Directed, Either}
 use Rattle.cy_planner_algebra.specs.Plans as plan
 use Rattle.cy_planner_algebra.specs.Plans.{Plan, Output, computed, gathered, width}
 use Rattle.cy_planner_algebra.specs.Expressions.{cell_of, cell_or_null, no_graph, output_cell, projected}
 use Rattle.cy_planner_algebra.specs.Keys.{meet}
-use Rattle.cy_planner_algebra.specs.Meaning.{backwards, forwards, has_type, is_loop, is_partner, nulls, or_nulls, paired, rows_of, rows_of_rel, ways, with_attribute}
+use Rattle.cy_planner_algebra.specs.Meaning.{backwards, forwards, is_loop, is_partner, nulls, or_nulls, paired, rows_of, rows_of_rel, ways, with_attribute}
 use Rattle.cy_planner_algebra.proofs.Widths.{all_made, all_once}
 
 abbrev IsNumberedRow : List Cell → Type 0

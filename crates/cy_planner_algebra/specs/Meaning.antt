@@ -1,9 +1,8 @@
 -- The rows of a plan on the content of a graph, as a bag: one equation for each part. (Francis et al., bags of records; the parts: own)
-use Rattle.std.specs.Prelude.{ℕ, ◌==◌, Bool, true, false, not, ◌&&◌, List, [], ◌∷◌, ◌++◌, map, flat_map, replicate, Result, Ok, Err, if◌then◌else◌}
+use Rattle.std.specs.Prelude.{ℕ, ◌==◌, Bool, true, not, ◌&&◌, List, [], ◌∷◌, ◌++◌, map, flat_map, replicate, Result, Ok, Err, if◌then◌else◌}
 use Rattle.std.specs.Prelude as std
 use Rattle.std.specs.List.{list_any}
 use Rattle.std.specs.Ordering.{eq_by_cmp}
-use Rattle.std.specs.Str.{bytes_eq}
 use Rattle.cy_values.specs.declared.numbers.RelId.{RelId}
 use Rattle.cy_values.specs.declared.scalars.Value.{Value}
 use Rattle.cy_values.specs.declared.scalars.Value.TheVariants as value
@@ -14,7 +13,7 @@ use Rattle.cy_trees.specs.Trees.{Name, Expression}
 use Rattle.cy_graph.specs.Graph.{Content}
 use Rattle.cy_graph.specs.declared.nodes.Rel.{Rel}
 use Rattle.cy_expr.specs.declared.faults.EvalFault.{EvalFault}
-use Rattle.cy_expr.specs.Graphs.{lookups}
+use Rattle.cy_expr.specs.Graphs.{are_different, has_type, lookups}
 use Rattle.cy_expr.specs.Lookups.{property_value, type_value, labels_value}
 use Rattle.cy_planner_algebra.specs.declared.operators.Attribute.{Attribute}
 use Rattle.cy_planner_algebra.specs.declared.operators.Attribute.TheVariants.{Property, RelType, Labels}
@@ -27,11 +26,6 @@ use Rattle.cy_planner_algebra.specs.Plans as plan
 use Rattle.cy_planner_algebra.specs.Plans.{Plan, width}
 use Rattle.cy_planner_algebra.specs.Expressions.{null, cell_at, holds, relationships_at, projected}
 use Rattle.cy_planner_algebra.specs.Keys.{meet}
-
--- a relationship is of one of the types; where none is named, each is
-abbrev pub has_type : List Name → Rel → Bool
-has_type [] rel = true
-has_type (t ∷ ts) rel = list_any (λ u. bytes_eq u rel.kind) (t ∷ ts)
 
 -- a relationship, its source, its target and its type
 abbrev pub forwards : RelId × Rel → List Cell
@@ -102,11 +96,6 @@ stays Unmatched found = not found
 -- the rows of the left part that have a partner, or that have none
 abbrev pub semi_joined : List KeyColumns → Keeping → List (List Cell) → List (List Cell) → List (List Cell)
 semi_joined keys keeping lefts rights = std.filter (λ left. stays keeping (has_partner keys rights left)) lefts
-
--- no relationship stands twice
-abbrev pub are_different : List RelId → Bool
-are_different [] = true
-are_different (rel ∷ rels) = not (list_any (λ other. other.0 == rel.0) rels) && are_different rels
 
 -- a row is among others
 abbrev pub is_among : List Cell → List (List Cell) → Bool

@@ -23,6 +23,7 @@ use Rattle.cy_graph.specs.declared.nodes.Node.{Node}
 use Rattle.cy_graph.specs.declared.nodes.Rel.{Rel}
 use Rattle.cy_expr.specs.declared.faults.EvalFault.{EvalFault}
 use Rattle.cy_expr.specs.Evaluation.{as_cell, column_value}
+use Rattle.cy_expr.specs.Graphs.{has_type}
 use Rattle.cy_planner_algebra.specs.declared.operators.Attribute.{Attribute}
 use Rattle.cy_planner_algebra.specs.declared.operators.Orientation.{Orientation}
 use Rattle.cy_planner_algebra.specs.declared.operators.Orientation.TheVariants.{Directed, Either}
@@ -31,7 +32,7 @@ use Rattle.cy_planner_algebra.specs.Plans.{Plan, Output, computed, gathered, wid
 use Rattle.cy_planner_algebra.specs.Expressions as language
 use Rattle.cy_planner_algebra.specs.Expressions.{cell_at, cell_or_null, output_cell, projected}
 use Rattle.cy_planner_algebra.specs.Keys.{meet}
-use Rattle.cy_planner_algebra.specs.Meaning.{backwards, each_once, forwards, has_type, is_among, is_loop, is_partner, nulls, or_nulls, paired, rows_of, rows_of_rel, ways, with_attribute}
+use Rattle.cy_planner_algebra.specs.Meaning.{backwards, each_once, forwards, is_among, is_loop, is_partner, nulls, or_nulls, paired, rows_of, rows_of_rel, ways, with_attribute}
 use Rattle.cy_planner_algebra.specs.WellFormed.{IsWellFormed}
 use Rattle.cy_planner_rows.proofs.Lists.{each_both_of, each_mapped}
 use Rattle.cy_planner_rows.proofs.Lowerable.{each_both}

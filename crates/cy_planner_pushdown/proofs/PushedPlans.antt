@@ -7,6 +7,7 @@ use Rattle.cy_values.specs.declared.rows.Cell.{Cell}
 use Rattle.cy_values.specs.Bag.{count_of}
 use Rattle.cy_trees.specs.Trees.{Expression}
 use Rattle.cy_graph.specs.Graph.{Content, State, IsGraph}
+use Rattle.cy_expr.specs.Graphs.{are_different}
 use Rattle.cy_planner_algebra.specs.declared.operators.Attribute.{Attribute}
 use Rattle.cy_planner_algebra.specs.declared.operators.Keeping.{Keeping}
 use Rattle.cy_planner_algebra.specs.declared.operators.KeyColumns.{KeyColumns}
@@ -14,7 +15,7 @@ use Rattle.cy_planner_algebra.specs.Plans as plan
 use Rattle.cy_planner_algebra.specs.Plans.{Plan, Output, width}
 use Rattle.cy_planner_algebra.specs.Expressions.{holds, projected, relationships_at}
 use Rattle.cy_planner_algebra.specs.Keys.{meet}
-use Rattle.cy_planner_algebra.specs.Meaning.{are_different, each_once, has_partner, is_partner, or_nulls, paired, rows_of, stays, with_attribute}
+use Rattle.cy_planner_algebra.specs.Meaning.{each_once, has_partner, is_partner, or_nulls, paired, rows_of, stays, with_attribute}
 use Rattle.cy_planner_algebra.specs.Parts.{parts}
 use Rattle.cy_planner_algebra.specs.Sure.{HasCells, HasTruth, IsSureOn}
 use Rattle.cy_planner_algebra.specs.WellFormed.{IsWellFormed}

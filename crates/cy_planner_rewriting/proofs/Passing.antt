@@ -12,12 +12,13 @@ use Rattle.cy_values.specs.declared.rows.Cell.{Cell}
 use Rattle.cy_values.specs.declared.rows.Cell.TheVariants as cell
 use Rattle.cy_trees.specs.Trees.{Expression}
 use Rattle.cy_graph.specs.Graph.{Content}
+use Rattle.cy_expr.specs.Graphs.{are_different}
 use Rattle.cy_planner_algebra.specs.declared.operators.Attribute.{Attribute}
 use Rattle.cy_planner_algebra.specs.Plans as plan
 use Rattle.cy_planner_algebra.specs.Plans.{Plan, Output, width}
 use Rattle.cy_planner_algebra.specs.Expressions as expressions
 use Rattle.cy_planner_algebra.specs.Expressions.{cell_at, holds, output_cell, projected, relationships_at}
-use Rattle.cy_planner_algebra.specs.Meaning.{are_different, attribute_of, rows_of, with_attribute}
+use Rattle.cy_planner_algebra.specs.Meaning.{attribute_of, rows_of, with_attribute}
 use Rattle.cy_planner_algebra.specs.Parts.{parts}
 use Rattle.cy_planner_algebra.specs.Sure.{HasCell, HasCells, HasTruth}
 use Rattle.cy_planner_algebra.specs.WellFormed.{IsColumn, IsOutputOver, IsOver, IsWellFormed, greatest_width}

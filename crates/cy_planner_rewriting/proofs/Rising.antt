@@ -12,12 +12,13 @@ use Rattle.cy_expr.specs.Faults.{on_one}
 use Rattle.cy_expr.specs.Logic.{truth_of}
 use Rattle.cy_expr.specs.Operators.{value_in_cell}
 use Rattle.cy_expr.specs.Reading.{reads_below}
+use Rattle.cy_expr.specs.Graphs.{are_different}
 use Rattle.cy_planner_algebra.specs.declared.operators.Output.{Output}
 use Rattle.cy_planner_algebra.specs.Plans as plan
 use Rattle.cy_planner_algebra.specs.Plans.{Plan, width}
 use Rattle.cy_planner_algebra.specs.Views.{output_of}
 use Rattle.cy_planner_algebra.specs.Expressions.{cell_of, holds, is_true, no_graph, projected, relationships_at, truth_on}
-use Rattle.cy_planner_algebra.specs.Meaning.{are_different, rows_of}
+use Rattle.cy_planner_algebra.specs.Meaning.{rows_of}
 use Rattle.cy_planner_algebra.specs.Parts.{parts}
 use Rattle.cy_planner_algebra.specs.Sure.{HasCells, HasTruth}
 use Rattle.cy_planner_algebra.specs.WellFormed.{IsColumn, IsWellFormed}

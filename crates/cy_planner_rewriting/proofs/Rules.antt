@@ -4,11 +4,12 @@ use Rattle.std.specs.List.{All}
 use Rattle.std.proofs.lemmas.List.{append-nil, length-map}
 use Rattle.std.proofs.lemmas.List.Elements.{All-cons, All-head, All-nil, All-tail}
 use Rattle.cy_values.specs.declared.rows.Cell.{Cell}
+use Rattle.cy_expr.specs.Graphs.{are_different}
 use Rattle.cy_planner_algebra.specs.Plans as plan
 use Rattle.cy_planner_algebra.specs.Plans.{Plan, Output, width}
 use Rattle.cy_planner_algebra.specs.Expressions.{projected, relationships_at}
 use Rattle.cy_planner_algebra.specs.Keys.{meet}
-use Rattle.cy_planner_algebra.specs.Meaning.{are_different, paired, rows_of}
+use Rattle.cy_planner_algebra.specs.Meaning.{paired, rows_of}
 use Rattle.cy_planner_algebra.specs.Parts.{parts}
 use Rattle.cy_planner_algebra.specs.Sure.{HasCells}
 use Rattle.cy_planner_algebra.specs.WellFormed.{IsOutputOver, IsWellFormed, greatest_width}

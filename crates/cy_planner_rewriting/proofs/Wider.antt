@@ -15,10 +15,10 @@ use Rattle.cy_expr.specs.Logic.{truth_of}
 use Rattle.cy_expr.specs.Operators.{value_in_cell}
 use Rattle.cy_expr.specs.Reading.{all_read_below, arms_read_below, else_reads_below, links_read_below, reads_below}
 use Rattle.cy_expr.proofs.ReadingLemmas.{longer-row}
+use Rattle.cy_expr.specs.Graphs.{are_different}
 use Rattle.cy_planner_algebra.specs.Plans.{Output, computed, gathered}
 use Rattle.cy_planner_algebra.specs.Expressions as expressions
 use Rattle.cy_planner_algebra.specs.Expressions.{cell_at, cell_or_null, holds, is_true, no_graph, output_cell, projected, relationships_at, relationships_in, truth_on}
-use Rattle.cy_planner_algebra.specs.Meaning.{are_different}
 use Rattle.cy_planner_algebra.specs.Sure.{HasCell, HasCells}
 use Rattle.cy_planner_algebra.specs.WellFormed.{IsColumn, IsOutputOver, IsOver}
 

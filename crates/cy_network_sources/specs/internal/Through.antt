@@ -12,11 +12,11 @@ use Rattle.cy_graph.specs.declared.nodes.Node.{Node}
 use Rattle.cy_graph.specs.declared.nodes.Rel.{Rel}
 use Rattle.cy_graph.specs.Graph.{State}
 use Rattle.cy_expr.specs.Lookups.{IsNumbered}
+use Rattle.cy_expr.specs.Graphs.{are_different}
 use Rattle.cy_planner_algebra.specs.declared.operators.Attribute.{Attribute}
 use Rattle.cy_planner_algebra.specs.declared.operators.Attribute.TheVariants.{Labels}
 use Rattle.cy_planner_algebra.specs.declared.operators.Orientation.{Orientation}
 use Rattle.cy_planner_algebra.specs.Expressions.{holds, projected, relationships_at}
-use Rattle.cy_planner_algebra.specs.Meaning.{are_different}
 use Rattle.cy_planner_algebra.specs.Plans as plan
 use Rattle.cy_planner_algebra.specs.Plans.{Plan}
 use Rattle.cy_planner_algebra.specs.Sure.{HasCells, HasTruth}

@@ -5,13 +5,13 @@ use Rattle.cy_trees.specs.Trees.{Expression}
 use Rattle.cy_trees.specs.Views.{expression_of}
 use Rattle.cy_graph.specs.Graph.{State}
 use Rattle.cy_expr.specs.Lookups.{IsNumbered}
+use Rattle.cy_expr.specs.Graphs.{are_different}
 use Rattle.cy_network_memory.specs.Counts.{Counts}
 use Rattle.cy_planner_algebra.specs.declared.operators.Operator.TheFolds.{fold-roll-Operator}
 use Rattle.cy_planner_algebra.specs.declared.operators.Operator.TheVariants.{rolls-AllDifferent, rolls-Filter}
 use Rattle.cy_planner_algebra.specs.Plans as plan
 use Rattle.cy_planner_algebra.specs.Plans.{Plan}
 use Rattle.cy_planner_algebra.specs.Expressions.{relationships_at}
-use Rattle.cy_planner_algebra.specs.Meaning.{are_different}
 use Rattle.cy_planner_algebra.specs.Sure.{HasTruth}
 use Rattle.cy_planner_algebra.specs.Views.{plan_of, plan_step}
 use Rattle.cy_network_operators.specs.declared.shifts.Shift.{Shift}

@@ -8,8 +8,8 @@ use Rattle.std.proofs.lemmas.List.Sums.{sum_by-append, sum_by-cons}
 use Rattle.cy_values.specs.declared.rows.Cell.{Cell}
 use Rattle.cy_values.specs.Bag.{weight_of}
 use Rattle.cy_network_memory.specs.Counts.{Counts, is_row}
-use Rattle.cy_network_operators.specs.declared.shifts.Shift.{Shift}
-use Rattle.cy_network_operators.specs.Deltas.{IsDelta, counts_after, shift_between, shifts_of}
+use Rattle.cy_network_memory.specs.declared.memory.RowDelta.{RowDelta}
+use Rattle.cy_network_operators.specs.Deltas.{IsDelta, counts_after, row_delta_between, deltas_of}
 use Rattle.cy_network_operators.proofs.Same.{row_itself}
 use Rattle.cy_network_parts.specs.Counted.{written}
 use Rattle.cy_network_memory.specs.Listings.{AreOnce}
@@ -22,17 +22,17 @@ nothing_after : (n : ℕ) → n + 0 ≡ n
 nothing_after n = omega arith
 
 -- what things of a row sum up to, where those of other rows are nothing
-sum_of_row : (v : List Cell × ℕ → ℕ) (row : List Cell) (h : Shift → List (List Cell × ℕ)) → ((s : Shift) → is_row row s.row ≡ false → sum_by v (h s) ≡ 0) → (shifts : List Shift)
-    → sum_by v (flat_map h shifts) ≡ sum_by v (flat_map h (shifts_of row shifts))
+sum_of_row : (v : List Cell × ℕ → ℕ) (row : List Cell) (h : RowDelta → List (List Cell × ℕ)) → ((s : RowDelta) → is_row row s.row ≡ false → sum_by v (h s) ≡ 0) → (deltas : List RowDelta)
+    → sum_by v (flat_map h deltas) ≡ sum_by v (flat_map h (deltas_of row deltas))
 sum_of_row v row h none [] = refl
-sum_of_row v row h none (s ∷ shifts) = step (is_row row s.row) refl (sum_of_row v row h none shifts)
+sum_of_row v row h none (s ∷ deltas) = step (is_row row s.row) refl (sum_of_row v row h none deltas)
   where
-    step : (b : Bool) → is_row row s.row ≡ b → sum_by v (flat_map h shifts) ≡ sum_by v (flat_map h (shifts_of row shifts))
-        → sum_by v (flat_map h (s ∷ shifts)) ≡ sum_by v (flat_map h (cond b (s ∷ shifts_of row shifts) (shifts_of row shifts)))
+    step : (b : Bool) → is_row row s.row ≡ b → sum_by v (flat_map h deltas) ≡ sum_by v (flat_map h (deltas_of row deltas))
+        → sum_by v (flat_map h (s ∷ deltas)) ≡ sum_by v (flat_map h (cond b (s ∷ deltas_of row deltas) (deltas_of row deltas)))
     step true is later =
-        sum_by-append v (h s) (flat_map h shifts) ∙ ap (λ n. sum_by v (h s) + n) later ∙ sym (sum_by-append v (h s) (flat_map h (shifts_of row shifts)))
+        sum_by-append v (h s) (flat_map h deltas) ∙ ap (λ n. sum_by v (h s) + n) later ∙ sym (sum_by-append v (h s) (flat_map h (deltas_of row deltas)))
     step false is later =
-        sum_by-append v (h s) (flat_map h shifts) ∙ ap (λ n. n + sum_by v (flat_map h shifts)) (none s is) ∙ nothing_added (sum_by v (flat_map h shifts)) ∙ later
+        sum_by-append v (h s) (flat_map h deltas) ∙ ap (λ n. n + sum_by v (flat_map h deltas)) (none s is) ∙ nothing_added (sum_by v (flat_map h deltas)) ∙ later
 
 module _ (row : List Cell) (number : ℕ → ℕ) where
   -- what an entry gives for the row
@@ -42,24 +42,24 @@ module _ (row : List Cell) (number : ℕ → ℕ) where
   value_one : (x : List Cell × ℕ) → sum_by value (x ∷ []) ≡ cond (is_row row x.0) (number x.1) 0
   value_one x = sum_by-cons value x [] ∙ nothing_after (value x)
 
-  value_other : (f g : Shift → ℕ) (s : Shift) → is_row row s.row ≡ false → sum_by value (excess f g s) ≡ 0
+  value_other : (f g : RowDelta → ℕ) (s : RowDelta) → is_row row s.row ≡ false → sum_by value (excess f g s) ≡ 0
   value_other f g s other = by (nat_lt (g s) (f s))
     where
       by : (b : Bool) → sum_by value (cond b ((s.row, f s - g s) ∷ []) []) ≡ 0
       by true = value_one (s.row, f s - g s) ∙ ap (λ b. cond b (number (f s - g s)) 0) other
       by false = refl
 
-  value_itself : (f g : Shift → ℕ) (s : Shift) → is_row row s.row ≡ true → sum_by value (flat_map (excess f g) (s ∷ [])) ≡ cond (nat_lt (g s) (f s)) (number (f s - g s)) 0
+  value_itself : (f g : RowDelta → ℕ) (s : RowDelta) → is_row row s.row ≡ true → sum_by value (flat_map (excess f g) (s ∷ [])) ≡ cond (nat_lt (g s) (f s)) (number (f s - g s)) 0
   value_itself f g s same = sum_by-append value (excess f g s) [] ∙ nothing_after (sum_by value (excess f g s)) ∙ by (nat_lt (g s) (f s))
     where
       by : (b : Bool) → sum_by value (cond b ((s.row, f s - g s) ∷ []) []) ≡ cond b (number (f s - g s)) 0
       by true = value_one (s.row, f s - g s) ∙ ap (λ b. cond b (number (f s - g s)) 0) same
       by false = refl
 
-  value_of_row : (f g : Shift → ℕ) (before after : Counts) (shifts : List Shift) → IsDelta before after shifts
-      → sum_by value (flat_map (excess f g) shifts) ≡ sum_by value (flat_map (excess f g) (shift_between row (before row) (after row)))
-  value_of_row f g before after shifts delta =
-      sum_of_row value row (excess f g) (value_other f g) shifts ∙ ap (λ found. sum_by value (flat_map (excess f g) found)) (delta.each row)
+  value_of_row : (f g : RowDelta → ℕ) (before after : Counts) (deltas : List RowDelta) → IsDelta before after deltas
+      → sum_by value (flat_map (excess f g) deltas) ≡ sum_by value (flat_map (excess f g) (row_delta_between row (before row) (after row)))
+  value_of_row f g before after deltas delta =
+      sum_of_row value row (excess f g) (value_other f g) deltas ∙ ap (λ found. sum_by value (flat_map (excess f g) found)) (delta.each row)
 
 -- ---- how much
 
@@ -76,10 +76,10 @@ less_or_none m n = by (nat_lt n m) refl
     by true is = refl
     by false is = grind (arith, nat_tests)
 
-pub losses_weight : (before after : Counts) (shifts : List Shift) → IsDelta before after shifts → (row : List Cell)
-    → weight_of row (flat_map (excess (λ s. s.before) (λ s. s.after)) shifts) ≡ before row - after row
-losses_weight before after shifts delta row =
-    value_of_row row (λ n. n) (λ s. s.before) (λ s. s.after) before after shifts delta ∙ step (before row == after row) refl
+pub losses_weight : (before after : Counts) (deltas : List RowDelta) → IsDelta before after deltas → (row : List Cell)
+    → weight_of row (flat_map (excess (λ s. s.before) (λ s. s.after)) deltas) ≡ before row - after row
+losses_weight before after deltas delta row =
+    value_of_row row (λ n. n) (λ s. s.before) (λ s. s.after) before after deltas delta ∙ step (before row == after row) refl
   where
     step : (b : Bool) → (before row == after row) ≡ b
         → sum_by (value row (λ n. n)) (flat_map (excess (λ s. s.before) (λ s. s.after)) (cond b [] ((record { row = row; before = before row; after = after row }) ∷ []))) ≡ before row - after row
@@ -87,10 +87,10 @@ losses_weight before after shifts delta row =
     step false is =
         value_itself row (λ n. n) (λ s. s.before) (λ s. s.after) (record { row = row; before = before row; after = after row }) (row_itself row) ∙ less_or_none (before row) (after row)
 
-pub gains_weight : (before after : Counts) (shifts : List Shift) → IsDelta before after shifts → (row : List Cell)
-    → weight_of row (flat_map (excess (λ s. s.after) (λ s. s.before)) shifts) ≡ after row - before row
-gains_weight before after shifts delta row =
-    value_of_row row (λ n. n) (λ s. s.after) (λ s. s.before) before after shifts delta ∙ step (before row == after row) refl
+pub gains_weight : (before after : Counts) (deltas : List RowDelta) → IsDelta before after deltas → (row : List Cell)
+    → weight_of row (flat_map (excess (λ s. s.after) (λ s. s.before)) deltas) ≡ after row - before row
+gains_weight before after deltas delta row =
+    value_of_row row (λ n. n) (λ s. s.after) (λ s. s.before) before after deltas delta ∙ step (before row == after row) refl
   where
     step : (b : Bool) → (before row == after row) ≡ b
         → sum_by (value row (λ n. n)) (flat_map (excess (λ s. s.after) (λ s. s.before)) (cond b [] ((record { row = row; before = before row; after = after row }) ∷ []))) ≡ after row - before row
@@ -104,20 +104,20 @@ one_or_none : (b : Bool) → cond b 1 0 ≤ 1
 one_or_none true = omega arith
 one_or_none false = omega arith
 
-pub excess_once : (f g : Shift → ℕ) (before after : Counts) (shifts : List Shift) → IsDelta before after shifts → AreOnce (flat_map (excess f g) shifts)
-excess_once f g before after shifts delta row =
-    subst (λ n. n ≤ 1) (sym (value_of_row row (λ n. 1) f g before after shifts delta)) (step (before row == after row))
+pub excess_once : (f g : RowDelta → ℕ) (before after : Counts) (deltas : List RowDelta) → IsDelta before after deltas → AreOnce (flat_map (excess f g) deltas)
+excess_once f g before after deltas delta row =
+    subst (λ n. n ≤ 1) (sym (value_of_row row (λ n. 1) f g before after deltas delta)) (step (before row == after row))
   where
     step : (b : Bool) → sum_by (value row (λ n. 1)) (flat_map (excess f g) (cond b [] ((record { row = row; before = before row; after = after row }) ∷ []))) ≤ 1
     step true = omega arith
     step false =
-        let s : Shift = record { row = row; before = before row; after = after row } in
+        let s : RowDelta = record { row = row; before = before row; after = after row } in
         subst (λ n. n ≤ 1) (sym (value_itself row (λ n. 1) f g s (row_itself row))) (one_or_none (nat_lt (g s) (f s)))
 
-pub excess_positive : (f g : Shift → ℕ) (shifts : List Shift) → All (λ p. 0 < p.1) (flat_map (excess f g) shifts)
+pub excess_positive : (f g : RowDelta → ℕ) (deltas : List RowDelta) → All (λ p. 0 < p.1) (flat_map (excess f g) deltas)
 excess_positive f g [] = All-nil (λ (p : List Cell × ℕ). 0 < p.1)
-excess_positive f g (s ∷ shifts) =
-    All-append (λ (p : List Cell × ℕ). 0 < p.1) (excess f g s) (flat_map (excess f g) shifts) (by (nat_lt (g s) (f s)) refl) (excess_positive f g shifts)
+excess_positive f g (s ∷ deltas) =
+    All-append (λ (p : List Cell × ℕ). 0 < p.1) (excess f g s) (flat_map (excess f g) deltas) (by (nat_lt (g s) (f s)) refl) (excess_positive f g deltas)
   where
     more : nat_lt (g s) (f s) ≡ true → 0 < f s - g s
     more is = grind (arith, nat_tests)
@@ -128,6 +128,6 @@ excess_positive f g (s ∷ shifts) =
 
 -- ---- the counts after it
 
-pub written_shifts : (shifts : List Shift) (before : Counts) → written (map (λ s. (s.row, s.after)) shifts) before ≡ counts_after shifts before
-written_shifts [] before = refl
-written_shifts (s ∷ shifts) before = written_shifts shifts (λ other. cond (is_row s.row other) s.after (before other))
+pub written_deltas : (deltas : List RowDelta) (before : Counts) → written (map (λ s. (s.row, s.after)) deltas) before ≡ counts_after deltas before
+written_deltas [] before = refl
+written_deltas (s ∷ deltas) before = written_deltas deltas (λ other. cond (is_row s.row other) s.after (before other))

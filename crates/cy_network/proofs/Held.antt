@@ -7,7 +7,7 @@ use Rattle.cy_network_memory.specs.Counts.{Counts}
 use Rattle.cy_planner_algebra.specs.Plans.{Plan}
 use Rattle.cy_planner_algebra.specs.Parts.{parts}
 use Rattle.cy_planner_algebra.specs.Meaning.{rows_of}
-use Rattle.cy_network_operators.specs.declared.shifts.Shift.{Shift}
+use Rattle.cy_network_memory.specs.declared.memory.RowDelta.{RowDelta}
 use Rattle.cy_network_operators.specs.Deltas.{IsDelta, counts, rows_at}
 use Rattle.cy_network_operators.proofs.Staging.{after_delta}
 use Rattle.cy_network_merges.specs.Merges.{AreBounded}
@@ -17,12 +17,12 @@ use Rattle.cy_network_parts.specs.Counted.{written}
 use Rattle.cy_network_parts.specs.Memories.{AreHeld, contents, keys}
 use Rattle.cy_network_parts.specs.internal.Upkeep.{IsDone, IsUpkeep}
 use Rattle.cy_network_touches.specs.Work.{all_reads, all_steps, asked_reads}
-use Rattle.cy_network.proofs.Excess.{written_shifts}
+use Rattle.cy_network.proofs.Excess.{written_deltas}
 
 -- what was staged for a graph is held there
-pub held_now : (old : Option State) (now : State) (p : Plan) (columns : List (List ℕ)) (staged : List Counts) (shifts : List Shift) → columns ≡ keys p → IsDone old now p staged shifts
+pub held_now : (old : Option State) (now : State) (p : Plan) (columns : List (List ℕ)) (staged : List Counts) (deltas : List RowDelta) → columns ≡ keys p → IsDone old now p staged deltas
     → AreHeld (Some now.content) p columns staged staged
-held_now old now p columns staged shifts keyed done = record { keyed = keyed; held = done.holds; settled = done.holds; within = done.within }
+held_now old now p columns staged deltas keyed done = record { keyed = keyed; held = done.holds; settled = done.holds; within = done.within }
 
 none_within : (ps : List Plan) → All (λ part. AreBounded (counts (rows_at None part))) ps
 none_within [] = All-nil (λ (part : Plan). AreBounded (counts (rows_at None part)))
@@ -43,8 +43,8 @@ held_new key_columns was staged p q old new none same columns before after =
     (after ∙ ap (λ xs. map staged xs ++ contents (rows_at None) q) none ∙ ap (contents (rows_at None)) same)
 
 -- the counts after a delta, written over those before it
-pub written_delta : (shifts : List Shift) (before after : Counts) → IsDelta before after shifts → written (map (λ s. (s.row, s.after)) shifts) before ≡ after
-written_delta shifts before after delta = written_shifts shifts before ∙ (λ i row. after_delta before after shifts delta row i)
+pub written_delta : (deltas : List RowDelta) (before after : Counts) → IsDelta before after deltas → written (map (λ s. (s.row, s.after)) deltas) before ≡ after
+written_delta deltas before after delta = written_deltas deltas before ∙ (λ i row. after_delta before after deltas delta row i)
 
 at_most : (rose read work bound greatest : ℕ) → rose + read ≤ work → work ≤ bound → min (rose + read) greatest ≤ bound
 at_most rose read work bound greatest few within = omega (arith, few, within)

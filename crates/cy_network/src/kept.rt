@@ -13,8 +13,7 @@ ghost use Rattle.cy_network.specs.Places as places;
 use crate::pending::{change_of, prepared, rows_from};
 use crate::rows::{table_rows, write_counts};
 use cy_bags::Change;
-use cy_network_memory::Listed;
-use cy_network_operators::Shift;
+use cy_network_memory::{Listed, RowDelta};
 use cy_network_parts::keeps_rows;
 use cy_planner_algebra::Operator;
 use cy_values::{Fault, Row};
@@ -37,10 +36,14 @@ impl Rows {
 
     /// The rows of a plan, where there were none before and these come. Those that its last memory holds stand there. Fails only when out of
     /// memory.
-    pub(crate) fn first(alloc: Global, root: &Operator, shifts: Vec<Shift>) -> Result<Rows, Fault>
+    pub(crate) fn first(
+        alloc: Global,
+        root: &Operator,
+        deltas: Vec<RowDelta>,
+    ) -> Result<Rows, Fault>
         requires { IsWellFormed (plan_of root.now) }
         ensures place { IfOk result (λ rows. place_in rows ≡ place_of (plan_of root.now)) }
-        ensures counts { IfOk result (λ rows. place_in rows ≡ in_table → (after : List (List Cell)) → IsDelta (counts []) (counts after) shifts.items → counted (entries_in rows) ≡ counts after) }
+        ensures counts { IfOk result (λ rows. place_in rows ≡ in_table → (after : List (List Cell)) → IsDelta (counts []) (counts after) deltas.items → counted (entries_in rows) ≡ counts after) }
         ensures positive { IfOk result (λ rows. ArePositive (entries_in rows)) }
     {
         match root {
@@ -48,13 +51,13 @@ impl Rows {
                 if keeps_rows(alloc, below)? {
                     return Ok(Rows::LastMemoryOnce);
                 }
-                Rows::table(alloc, shifts)
+                Rows::table(alloc, deltas)
             }
             Operator::Project(_, _) | Operator::Union(_, _) => {
                 if keeps_rows(alloc, root)? {
                     return Ok(Rows::LastMemory);
                 }
-                Rows::table(alloc, shifts)
+                Rows::table(alloc, deltas)
             }
             Operator::Unit
             | Operator::Nodes
@@ -64,17 +67,17 @@ impl Rows {
             | Operator::AllDifferent(_, _)
             | Operator::Join(_, _, _)
             | Operator::Outer(_, _, _, _)
-            | Operator::Semi(_, _, _, _) => Rows::table(alloc, shifts),
+            | Operator::Semi(_, _, _, _) => Rows::table(alloc, deltas),
         }
     }
 
     // A table of rows, where there were none before and these come. Fails only when out of memory.
-    fn table(alloc: Global, shifts: Vec<Shift>) -> Result<Rows, Fault>
+    fn table(alloc: Global, deltas: Vec<RowDelta>) -> Result<Rows, Fault>
         ensures place { IfOk result (λ rows. place_in rows ≡ in_table) }
-        ensures counts { IfOk result (λ rows. (after : List (List Cell)) → IsDelta (counts []) (counts after) shifts.items → counted (entries_in rows) ≡ counts after) }
+        ensures counts { IfOk result (λ rows. (after : List (List Cell)) → IsDelta (counts []) (counts after) deltas.items → counted (entries_in rows) ≡ counts after) }
         ensures positive { IfOk result (λ rows. ArePositive (entries_in rows)) }
     {
-        let rows = rows_from(alloc, shifts)?;
+        let rows = rows_from(alloc, deltas)?;
         Ok(Rows::Table(rows))
     }
 
@@ -83,19 +86,19 @@ impl Rows {
     pub(crate) fn prepare(
         &mut self,
         alloc: Global,
-        shifts: Vec<Shift>,
+        deltas: Vec<RowDelta>,
     ) -> Result<(Vec<(Row, u64)>, Change), Fault>
-        requires { (before : List (List Cell)) × ((after : List (List Cell)) × IsDelta (counts before) (counts after) shifts.items) }
-        ensures leaves { IfOk result (λ made. place_in self.old ≡ in_table → (before after : List (List Cell)) → IsDelta (counts before) (counts after) shifts.items → written made.0.items (counts before) ≡ counts after) }
-        ensures difference { IfOk result (λ made. (before after : List (List Cell)) → IsDelta (counts before) (counts after) shifts.items → IsDifference before after made.1) }
+        requires { (before : List (List Cell)) × ((after : List (List Cell)) × IsDelta (counts before) (counts after) deltas.items) }
+        ensures leaves { IfOk result (λ made. place_in self.old ≡ in_table → (before after : List (List Cell)) → IsDelta (counts before) (counts after) deltas.items → written made.0.items (counts before) ≡ counts after) }
+        ensures difference { IfOk result (λ made. (before after : List (List Cell)) → IsDelta (counts before) (counts after) deltas.items → IsDifference before after made.1) }
         ensures room { IfOk result (λ made. length made.0.items ≤ room_in self.new) }
         ensures entries { entries_in self.new ≡ entries_in self.old }
         ensures place { place_in self.new ≡ place_in self.old }
     {
         match self {
-            Rows::Table(rows) => prepared(alloc, shifts, rows),
+            Rows::Table(rows) => prepared(alloc, deltas, rows),
             Rows::LastMemory | Rows::LastMemoryOnce => {
-                let change = change_of(alloc, shifts)?;
+                let change = change_of(alloc, deltas)?;
                 Ok((Vec::new(alloc), change))
             }
         }

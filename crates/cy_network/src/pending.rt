@@ -10,7 +10,7 @@ ghost use Rattle.cy_network.specs.internal.Roots.{excess};
 
 use crate::rows::{sorted, write_counts};
 use cy_bags::Change;
-use cy_network_operators::Shift;
+use cy_network_memory::RowDelta;
 use cy_values::{Duplicate, Fault, Row, Sequence};
 use indexmap::IndexMap;
 use std::alloc::Global;
@@ -27,12 +27,12 @@ pub(crate) fn nothing(alloc: Global) -> Change
 }
 
 /// What rows change, as a change. Fails only when out of memory.
-pub(crate) fn pending_change(alloc: Global, shifts: &[Shift]) -> Result<Change, Fault>
-    requires { (before : List (List Cell)) × ((after : List (List Cell)) × IsDelta (counts before) (counts after) shifts.now) }
-    ensures { IfOk result (λ change. (before after : List (List Cell)) → IsDelta (counts before) (counts after) shifts.now → IsDifference before after change) }
+pub(crate) fn pending_change(alloc: Global, deltas: &[RowDelta]) -> Result<Change, Fault>
+    requires { (before : List (List Cell)) × ((after : List (List Cell)) × IsDelta (counts before) (counts after) deltas.now) }
+    ensures { IfOk result (λ change. (before after : List (List Cell)) → IsDelta (counts before) (counts after) deltas.now → IsDifference before after change) }
 {
-    let removed = sorted(losses(alloc, shifts)?)?;
-    let added = sorted(gains(alloc, shifts)?)?;
+    let removed = sorted(losses(alloc, deltas)?)?;
+    let added = sorted(gains(alloc, deltas)?)?;
     Ok(Change {
         removed: Sequence::new(removed),
         added: Sequence::new(added),
@@ -40,37 +40,43 @@ pub(crate) fn pending_change(alloc: Global, shifts: &[Shift]) -> Result<Change, 
 }
 
 // The rows that count less, with by how much. Fails only when out of memory.
-fn losses(alloc: Global, shifts: &[Shift]) -> Result<Vec<(Row, u64)>, Fault>
-    ensures { IfOk result (λ pairs. pairs.items ≡ flat_map (excess (λ s. s.before) (λ s. s.after)) shifts.now) }
+fn losses(alloc: Global, deltas: &[RowDelta]) -> Result<Vec<(Row, u64)>, Fault>
+    ensures { IfOk result (λ pairs. pairs.items ≡ flat_map (excess (λ s. s.before) (λ s. s.after)) deltas.now) }
 {
     let mut pairs = Vec::new(alloc);
-    for shift in shifts {
-        if shift.after < shift.before {
-            pairs.push((shift.row.copy(alloc)?, shift.before - shift.after))?;
+    for row_delta in deltas {
+        if row_delta.after < row_delta.before {
+            pairs.push((
+                row_delta.row.copy(alloc)?,
+                row_delta.before - row_delta.after,
+            ))?;
         }
     }
     Ok(pairs)
 }
 
 // The rows that count more, with by how much. Fails only when out of memory.
-fn gains(alloc: Global, shifts: &[Shift]) -> Result<Vec<(Row, u64)>, Fault>
-    ensures { IfOk result (λ pairs. pairs.items ≡ flat_map (excess (λ s. s.after) (λ s. s.before)) shifts.now) }
+fn gains(alloc: Global, deltas: &[RowDelta]) -> Result<Vec<(Row, u64)>, Fault>
+    ensures { IfOk result (λ pairs. pairs.items ≡ flat_map (excess (λ s. s.after) (λ s. s.before)) deltas.now) }
 {
     let mut pairs = Vec::new(alloc);
-    for shift in shifts {
-        if shift.before < shift.after {
-            pairs.push((shift.row.copy(alloc)?, shift.after - shift.before))?;
+    for row_delta in deltas {
+        if row_delta.before < row_delta.after {
+            pairs.push((
+                row_delta.row.copy(alloc)?,
+                row_delta.after - row_delta.before,
+            ))?;
         }
     }
     Ok(pairs)
 }
 
 /// What rows change, as a change: they go over into it. Fails only when out of memory.
-pub(crate) fn change_of(alloc: Global, shifts: Vec<Shift>) -> Result<Change, Fault>
-    requires { (before : List (List Cell)) × ((after : List (List Cell)) × IsDelta (counts before) (counts after) shifts.items) }
-    ensures { IfOk result (λ change. (before after : List (List Cell)) → IsDelta (counts before) (counts after) shifts.items → IsDifference before after change) }
+pub(crate) fn change_of(alloc: Global, deltas: Vec<RowDelta>) -> Result<Change, Fault>
+    requires { (before : List (List Cell)) × ((after : List (List Cell)) × IsDelta (counts before) (counts after) deltas.items) }
+    ensures { IfOk result (λ change. (before after : List (List Cell)) → IsDelta (counts before) (counts after) deltas.items → IsDifference before after change) }
 {
-    let pairs = losses_and_gains(alloc, shifts)?;
+    let pairs = losses_and_gains(alloc, deltas)?;
     let removed = sorted(pairs.0)?;
     let added = sorted(pairs.1)?;
     Ok(Change {
@@ -82,15 +88,15 @@ pub(crate) fn change_of(alloc: Global, shifts: Vec<Shift>) -> Result<Change, Fau
 // The rows that count less, and those that count more, each with by how much. Fails only when out of memory.
 fn losses_and_gains(
     alloc: Global,
-    shifts: Vec<Shift>,
+    deltas: Vec<RowDelta>,
 ) -> Result<(Vec<(Row, u64)>, Vec<(Row, u64)>), Fault>
-    ensures losses { IfOk result (λ pairs. pairs.0.items ≡ flat_map (excess (λ s. s.before) (λ s. s.after)) shifts.items) }
-    ensures gains { IfOk result (λ pairs. pairs.1.items ≡ flat_map (excess (λ s. s.after) (λ s. s.before)) shifts.items) }
+    ensures losses { IfOk result (λ pairs. pairs.0.items ≡ flat_map (excess (λ s. s.before) (λ s. s.after)) deltas.items) }
+    ensures gains { IfOk result (λ pairs. pairs.1.items ≡ flat_map (excess (λ s. s.after) (λ s. s.before)) deltas.items) }
 {
     let mut removed = Vec::new(alloc);
     let mut added = Vec::new(alloc);
-    for shift in shifts {
-        let Shift { row, before, after } = shift;
+    for row_delta in deltas {
+        let RowDelta { row, before, after } = row_delta;
         if after < before {
             removed.push((row, before - after))?;
         } else if before < after {
@@ -101,22 +107,22 @@ fn losses_and_gains(
 }
 
 /// The rows that change with their counts after it. Fails only when out of memory.
-pub(crate) fn counts_after(alloc: Global, shifts: Vec<Shift>) -> Result<Vec<(Row, u64)>, Fault>
-    ensures { IfOk result (λ next. next.items ≡ map (λ s. (s.row, s.after)) shifts.items) }
+pub(crate) fn counts_after(alloc: Global, deltas: Vec<RowDelta>) -> Result<Vec<(Row, u64)>, Fault>
+    ensures { IfOk result (λ next. next.items ≡ map (λ s. (s.row, s.after)) deltas.items) }
 {
-    let mut next = Vec::with_capacity(alloc, shifts.len())?;
-    for shift in shifts {
-        next.push((shift.row, shift.after))?;
+    let mut next = Vec::with_capacity(alloc, deltas.len())?;
+    for row_delta in deltas {
+        next.push((row_delta.row, row_delta.after))?;
     }
     Ok(next)
 }
 
 /// Rows with their counts, where there were none before. Fails only when out of memory.
-pub(crate) fn rows_from(alloc: Global, shifts: Vec<Shift>) -> Result<IndexMap<Row, u64>, Fault>
-    ensures counts { IfOk result (λ rows. (after : List (List Cell)) → IsDelta (counts []) (counts after) shifts.items → counted rows.entries ≡ counts after) }
+pub(crate) fn rows_from(alloc: Global, deltas: Vec<RowDelta>) -> Result<IndexMap<Row, u64>, Fault>
+    ensures counts { IfOk result (λ rows. (after : List (List Cell)) → IsDelta (counts []) (counts after) deltas.items → counted rows.entries ≡ counts after) }
     ensures positive { IfOk result (λ rows. ArePositive rows.entries) }
 {
-    let next = counts_after(alloc, shifts)?;
+    let next = counts_after(alloc, deltas)?;
     let mut rows = IndexMap::with_capacity(alloc, next.len())?;
     write_counts(&mut rows, next);
     Ok(rows)
@@ -125,20 +131,20 @@ pub(crate) fn rows_from(alloc: Global, shifts: Vec<Shift>) -> Result<IndexMap<Ro
 /// The rows that change with their counts after it, for which there is room then, and what they change. Fails only when out of memory.
 pub(crate) fn prepared(
     alloc: Global,
-    shifts: Vec<Shift>,
+    deltas: Vec<RowDelta>,
     rows: &mut IndexMap<Row, u64>,
 ) -> Result<(Vec<(Row, u64)>, Change), Fault>
-    requires { (before : List (List Cell)) × ((after : List (List Cell)) × IsDelta (counts before) (counts after) shifts.items) }
-    ensures leaves { IfOk result (λ made. (before after : List (List Cell)) → IsDelta (counts before) (counts after) shifts.items → written made.0.items (counts before) ≡ counts after) }
-    ensures difference { IfOk result (λ made. (before after : List (List Cell)) → IsDelta (counts before) (counts after) shifts.items → IsDifference before after made.1) }
+    requires { (before : List (List Cell)) × ((after : List (List Cell)) × IsDelta (counts before) (counts after) deltas.items) }
+    ensures leaves { IfOk result (λ made. (before after : List (List Cell)) → IsDelta (counts before) (counts after) deltas.items → written made.0.items (counts before) ≡ counts after) }
+    ensures difference { IfOk result (λ made. (before after : List (List Cell)) → IsDelta (counts before) (counts after) deltas.items → IsDifference before after made.1) }
     ensures room { IfOk result (λ made. length made.0.items ≤ spare rows.new) }
     ensures entries { rows.new.entries ≡ rows.old.entries }
 {
-    if shifts.is_empty() {
+    if deltas.is_empty() {
         return Ok((Vec::new(alloc), nothing(alloc)));
     }
-    let change = pending_change(alloc, &shifts)?;
-    let next = counts_after(alloc, shifts)?;
+    let change = pending_change(alloc, &deltas)?;
+    let next = counts_after(alloc, deltas)?;
     rows.reserve(next.len())?;
     Ok((next, change))
 }

@@ -17,6 +17,6 @@ pub use faults::MemoryFault;
 pub use keyed::KeyedMemory;
 pub use listed::ListMemory;
 pub use lists::ListCursor;
-pub use memory::{Listed, Made, Memory, Record};
+pub use memory::{Listed, Made, Memory, RowDelta};
 pub use rows::rows_equal;
 pub use tables::KeyedCursor;

@@ -8,7 +8,7 @@ use Rattle.cy_values.specs.declared.rows.Cell.{Cell}
 use Rattle.cy_values.specs.Bag.{count_of}
 use Rattle.cy_network_memory.specs.Counts.{Counts, is_row}
 use Rattle.cy_planner_algebra.proofs.Counts.{count_append, count_cons}
-use Rattle.cy_network_operators.specs.declared.shifts.Shift.{Shift}
+use Rattle.cy_network_memory.specs.declared.memory.RowDelta.{RowDelta}
 use Rattle.cy_network_operators.specs.Deltas.{IsDelta, counts}
 use Rattle.cy_network_operators.proofs.Same.{row_itself, same_row}
 
@@ -48,42 +48,42 @@ included p (x ∷ xs) ys fewer =
     left_over : (b : Bool) (more n all m : ℕ) → more ≡ cond b 1 0 + n → more ≤ all → all ≡ cond b 1 0 + m → n ≤ m
     left_over b more n all m first most last = omega arith
 
--- a row as often as each of some shifts says
-abbrev pub repeated : (Shift → ℕ) → List Shift → List (List Cell)
-repeated weight shifts = flat_map (λ s. replicate (weight s) s.row) shifts
+-- a row as often as each of some row deltas says
+abbrev pub repeated : (RowDelta → ℕ) → List RowDelta → List (List Cell)
+repeated weight deltas = flat_map (λ s. replicate (weight s) s.row) deltas
 
--- the weights of the shifts of rows that pass
-abbrev pub weights : (Shift → ℕ) → (List Cell → Bool) → List Shift → ℕ
-weights weight p shifts = sum_by (λ s. cond (p s.row) (weight s) 0) shifts
+-- the weights of the row deltas of rows that pass
+abbrev pub weights : (RowDelta → ℕ) → (List Cell → Bool) → List RowDelta → ℕ
+weights weight p deltas = sum_by (λ s. cond (p s.row) (weight s) 0) deltas
 
 times_if : (b : Bool) (n : ℕ) → n * cond b 1 0 ≡ cond b n 0
 times_if true n = omega arith
 times_if false n = omega arith
 
-counted_repeated : (p : List Cell → Bool) (weight : Shift → ℕ) (shifts : List Shift) → count_by p (repeated weight shifts) ≡ weights weight p shifts
+counted_repeated : (p : List Cell → Bool) (weight : RowDelta → ℕ) (deltas : List RowDelta) → count_by p (repeated weight deltas) ≡ weights weight p deltas
 counted_repeated p weight [] = refl
-counted_repeated p weight (s ∷ shifts) =
-    sum_by-append (λ y. cond (p y) 1 0) (replicate (weight s) s.row) (repeated weight shifts)
-    ∙ ap (λ n. count_by p (replicate (weight s) s.row) + n) (counted_repeated p weight shifts)
-    ∙ ap (λ n. n + weights weight p shifts) (sum_by-replicate (λ y. cond (p y) 1 0) (weight s) s.row ∙ times_if (p s.row) (weight s))
-    ∙ sym (sum_by-cons (λ (t : Shift). cond (p t.row) (weight t) 0) s shifts)
+counted_repeated p weight (s ∷ deltas) =
+    sum_by-append (λ y. cond (p y) 1 0) (replicate (weight s) s.row) (repeated weight deltas)
+    ∙ ap (λ n. count_by p (replicate (weight s) s.row) + n) (counted_repeated p weight deltas)
+    ∙ ap (λ n. n + weights weight p deltas) (sum_by-replicate (λ y. cond (p y) 1 0) (weight s) s.row ∙ times_if (p s.row) (weight s))
+    ∙ sym (sum_by-cons (λ (t : RowDelta). cond (p t.row) (weight t) 0) s deltas)
 
-sum_passing : (p : Shift → Bool) (weight : Shift → ℕ) (shifts : List Shift) → sum_by (λ s. cond (p s) (weight s) 0) shifts ≡ sum_by weight (filter p shifts)
+sum_passing : (p : RowDelta → Bool) (weight : RowDelta → ℕ) (deltas : List RowDelta) → sum_by (λ s. cond (p s) (weight s) 0) deltas ≡ sum_by weight (filter p deltas)
 sum_passing p weight [] = refl
-sum_passing p weight (s ∷ shifts) =
-    sum_by-cons (λ t. cond (p t) (weight t) 0) s shifts ∙ ap (λ n. cond (p s) (weight s) 0 + n) (sum_passing p weight shifts) ∙ step (p s)
+sum_passing p weight (s ∷ deltas) =
+    sum_by-cons (λ t. cond (p t) (weight t) 0) s deltas ∙ ap (λ n. cond (p s) (weight s) 0 + n) (sum_passing p weight deltas) ∙ step (p s)
   where
-    step : (b : Bool) → cond b (weight s) 0 + sum_by weight (filter p shifts) ≡ sum_by weight (cond b (s ∷ filter p shifts) (filter p shifts))
-    step true = sym (sum_by-cons weight s (filter p shifts))
-    step false = none_more (sum_by weight (filter p shifts))
+    step : (b : Bool) → cond b (weight s) 0 + sum_by weight (filter p deltas) ≡ sum_by weight (cond b (s ∷ filter p deltas) (filter p deltas))
+    step true = sym (sum_by-cons weight s (filter p deltas))
+    step false = none_more (sum_by weight (filter p deltas))
 
--- the weight of the one shift of a row in a delta
-pub of_row : (weight : Shift → ℕ) (row : List Cell) (before after : Counts) (shifts : List Shift) → IsDelta before after shifts
-    → weights weight (is_row row) shifts ≡ cond (before row == after row) 0 (weight (record { row = row; before = before row; after = after row }))
-of_row weight row before after shifts delta =
-    sum_passing (λ (s : Shift). is_row row s.row) weight shifts ∙ ap (sum_by weight) (delta.each row) ∙ step (before row == after row)
+-- the weight of the one row delta of a row in a delta
+pub of_row : (weight : RowDelta → ℕ) (row : List Cell) (before after : Counts) (deltas : List RowDelta) → IsDelta before after deltas
+    → weights weight (is_row row) deltas ≡ cond (before row == after row) 0 (weight (record { row = row; before = before row; after = after row }))
+of_row weight row before after deltas delta =
+    sum_passing (λ (s : RowDelta). is_row row s.row) weight deltas ∙ ap (sum_by weight) (delta.each row) ∙ step (before row == after row)
   where
-    own : Shift
+    own : RowDelta
     own = record { row = row; before = before row; after = after row }
 
     step : (b : Bool) → sum_by weight (cond b [] (own ∷ [])) ≡ cond b 0 (weight own)
@@ -93,39 +93,39 @@ of_row weight row before after shifts delta =
 equal : (m n : ℕ) → (m == n) ≡ true → m ≡ n
 equal m n h = grind (arith, nat_tests)
 
-module _ (before after : List (List Cell)) (shifts : List Shift) (delta : IsDelta (counts before) (counts after) shifts) where
-  befores : (row : List Cell) → count_of row (repeated (λ s. s.before) shifts) ≡ cond (count_of row before == count_of row after) 0 (count_of row before)
-  befores row = counted_repeated (is_row row) (λ s. s.before) shifts ∙ of_row (λ s. s.before) row (counts before) (counts after) shifts delta
+module _ (before after : List (List Cell)) (deltas : List RowDelta) (delta : IsDelta (counts before) (counts after) deltas) where
+  befores : (row : List Cell) → count_of row (repeated (λ s. s.before) deltas) ≡ cond (count_of row before == count_of row after) 0 (count_of row before)
+  befores row = counted_repeated (is_row row) (λ s. s.before) deltas ∙ of_row (λ s. s.before) row (counts before) (counts after) deltas delta
 
-  afters : (row : List Cell) → count_of row (repeated (λ s. s.after) shifts) ≡ cond (count_of row before == count_of row after) 0 (count_of row after)
-  afters row = counted_repeated (is_row row) (λ s. s.after) shifts ∙ of_row (λ s. s.after) row (counts before) (counts after) shifts delta
+  afters : (row : List Cell) → count_of row (repeated (λ s. s.after) deltas) ≡ cond (count_of row before == count_of row after) 0 (count_of row after)
+  afters row = counted_repeated (is_row row) (λ s. s.after) deltas ∙ of_row (λ s. s.after) row (counts before) (counts after) deltas delta
 
   -- the rows of a delta are among those before, as often as it says
-  pub within : (p : List Cell → Bool) → weights (λ s. s.before) p shifts ≤ count_by p before
+  pub within : (p : List Cell → Bool) → weights (λ s. s.before) p deltas ≤ count_by p before
   within p =
-      subst (λ n. n ≤ count_by p before) (counted_repeated p (λ s. s.before) shifts)
-      (included p (repeated (λ s. s.before) shifts) before (λ row. at_most (count_of row before == count_of row after) (count_of row (repeated (λ s. s.before) shifts)) (count_of row before) (befores row)))
+      subst (λ n. n ≤ count_by p before) (counted_repeated p (λ s. s.before) deltas)
+      (included p (repeated (λ s. s.before) deltas) before (λ row. at_most (count_of row before == count_of row after) (count_of row (repeated (λ s. s.before) deltas)) (count_of row before) (befores row)))
     where
       at_most : (b : Bool) (k n : ℕ) → k ≡ cond b 0 n → k ≤ n
       at_most true k n is = omega arith
       at_most false k n is = omega arith
 
   -- the rows after, with those that the delta takes, are as many as the rows before with those that it adds
-  pub balanced : (p : List Cell → Bool) → count_by p after + weights (λ s. s.before) p shifts ≡ count_by p before + weights (λ s. s.after) p shifts
+  pub balanced : (p : List Cell → Bool) → count_by p after + weights (λ s. s.before) p deltas ≡ count_by p before + weights (λ s. s.after) p deltas
   balanced p =
-      ap (λ n. count_by p after + n) (sym (counted_repeated p (λ s. s.before) shifts))
-      ∙ sym (sum_by-append (λ y. cond (p y) 1 0) after (repeated (λ s. s.before) shifts))
+      ap (λ n. count_by p after + n) (sym (counted_repeated p (λ s. s.before) deltas))
+      ∙ sym (sum_by-append (λ y. cond (p y) 1 0) after (repeated (λ s. s.before) deltas))
       ∙ between (count_by p later) (count_by p earlier)
       (included p later earlier (λ row. let e : count_of row later ≡ count_of row earlier = alike row in omega (arith, e)))
       (included p earlier later (λ row. let e : count_of row later ≡ count_of row earlier = alike row in omega (arith, e)))
-      ∙ sum_by-append (λ y. cond (p y) 1 0) before (repeated (λ s. s.after) shifts)
-      ∙ ap (λ n. count_by p before + n) (counted_repeated p (λ s. s.after) shifts)
+      ∙ sum_by-append (λ y. cond (p y) 1 0) before (repeated (λ s. s.after) deltas)
+      ∙ ap (λ n. count_by p before + n) (counted_repeated p (λ s. s.after) deltas)
     where
       later : List (List Cell)
-      later = after ++ repeated (λ s. s.before) shifts
+      later = after ++ repeated (λ s. s.before) deltas
 
       earlier : List (List Cell)
-      earlier = before ++ repeated (λ s. s.after) shifts
+      earlier = before ++ repeated (λ s. s.after) deltas
 
       between : (m n : ℕ) → m ≤ n → n ≤ m → m ≡ n
       between m n low high = omega arith
@@ -136,8 +136,8 @@ module _ (before after : List (List Cell)) (shifts : List Shift) (delta : IsDelt
 
       alike : (row : List Cell) → count_of row later ≡ count_of row earlier
       alike row =
-          count_append row after (repeated (λ s. s.before) shifts)
+          count_append row after (repeated (λ s. s.before) deltas)
           ∙ ap (λ n. count_of row after + n) (befores row)
           ∙ crossed (count_of row before) (count_of row after) (count_of row before == count_of row after) refl
           ∙ ap (λ n. count_of row before + n) (sym (afters row))
-          ∙ sym (count_append row before (repeated (λ s. s.after) shifts))
+          ∙ sym (count_append row before (repeated (λ s. s.after) deltas))

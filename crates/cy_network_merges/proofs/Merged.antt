@@ -13,20 +13,20 @@ use Rattle.cy_values.specs.declared.rows.Cell.{Cell}
 use Rattle.cy_values.specs.Bag.{count_of}
 use Rattle.cy_network_memory.specs.Counts.{Counts, is_row}
 use Rattle.cy_planner_algebra.proofs.Counts.{count_cons}
-use Rattle.cy_network_operators.specs.declared.shifts.Shift.{Shift}
-use Rattle.cy_network_operators.specs.Deltas.{IsBounded, IsDelta, shifts_of, shift_between}
+use Rattle.cy_network_memory.specs.declared.memory.RowDelta.{RowDelta}
+use Rattle.cy_network_operators.specs.Deltas.{IsBounded, IsDelta, deltas_of, row_delta_between}
 use Rattle.cy_network_operators.proofs.Same.{row_itself, same_row}
-use Rattle.cy_network_operators.proofs.ShiftLemmas.{shifts_made, shifts_between}
+use Rattle.cy_network_operators.proofs.DeltaLemmas.{deltas_made, deltas_between}
 use Rattle.cy_network_merges.specs.Merges.{AreBounded}
-use Rattle.cy_network_merges.specs.internal.Sums.{AreShiftsOf, lost, gained, is_changed, shifts_at}
+use Rattle.cy_network_merges.specs.internal.Sums.{AreRowDeltasOf, lost, gained, is_changed, deltas_at}
 use Rattle.cy_network_merges.proofs.Totals.{takes, adds, weights_none}
 
 itself : (n : ℕ) → (n == n) ≡ true
 itself n = grind (arith, nat_tests)
 
--- what is the same before and after has no shift
-pub no_shift : (row : List Cell) (m n : ℕ) → m ≡ n → shift_between row m n ≡ []
-no_shift row m n same = ap (λ k. shift_between row k n) same ∙ ap (λ b. cond b [] ((record { row = row; before = n; after = n }) ∷ [])) (itself n)
+-- what is the same before and after has no row delta
+pub no_row_delta : (row : List Cell) (m n : ℕ) → m ≡ n → row_delta_between row m n ≡ []
+no_row_delta row m n same = ap (λ k. row_delta_between row k n) same ∙ ap (λ b. cond b [] ((record { row = row; before = n; after = n }) ∷ [])) (itself n)
 
 -- the rows that are the same as one
 only_itself : (row : List Cell) (xs : List (List Cell)) → filter (is_row row) xs ≡ replicate (count_of row xs) row
@@ -51,39 +51,39 @@ only_itself row (x ∷ xs) = by (only_itself row xs) (is_row row x) refl ∙ ap 
         none : (n : ℕ) → 0 + n ≡ n
         none n = omega arith
 
--- The shifts of some rows, each of which stands once, are a delta where each other row counts as before.
+-- The row deltas of some rows, each of which stands once, are a delta where each other row counts as before.
 pub delta_at : (was staged : Counts) (rows : List (List Cell)) (among : List Cell → Bool) → ((row : List Cell) → count_of row rows ≡ cond (among row) 1 0)
-    → ((row : List Cell) → among row ≡ false → was row ≡ staged row) → IsDelta was staged (shifts_at was staged rows)
+    → ((row : List Cell) → among row ≡ false → was row ≡ staged row) → IsDelta was staged (deltas_at was staged rows)
 delta_at was staged rows among once still = record {
   each = λ row.
-      shifts_made row (is_row row) here (λ x other. of_one row x ∙ ap (λ b. cond b (here x) []) other) rows
-      ∙ ap (flat_map (λ x. shifts_of row (here x))) (only_itself row rows ∙ ap (λ n. replicate n row) (once row))
+      deltas_made row (is_row row) here (λ x other. of_one row x ∙ ap (λ b. cond b (here x) []) other) rows
+      ∙ ap (flat_map (λ x. deltas_of row (here x))) (only_itself row rows ∙ ap (λ n. replicate n row) (once row))
       ∙ by row (among row) refl;
 }
   where
-    here : List Cell → List Shift
-    here x = shift_between x (was x) (staged x)
+    here : List Cell → List RowDelta
+    here x = row_delta_between x (was x) (staged x)
 
-    of_one : (row x : List Cell) → shifts_of row (here x) ≡ cond (is_row row x) (here x) []
-    of_one row x = shifts_between row x (was x) (staged x)
+    of_one : (row x : List Cell) → deltas_of row (here x) ≡ cond (is_row row x) (here x) []
+    of_one row x = deltas_between row x (was x) (staged x)
 
-    by : (row : List Cell) (b : Bool) → among row ≡ b → flat_map (λ x. shifts_of row (here x)) (replicate (cond b 1 0) row) ≡ here row
-    by row true is = append-nil (shifts_of row (here row)) ∙ of_one row row ∙ ap (λ b. cond b (here row) []) (row_itself row)
-    by row false is = sym (no_shift row (was row) (staged row) (still row is))
+    by : (row : List Cell) (b : Bool) → among row ≡ b → flat_map (λ x. deltas_of row (here x)) (replicate (cond b 1 0) row) ≡ here row
+    by row true is = append-nil (deltas_of row (here row)) ∙ of_one row row ∙ ap (λ b. cond b (here row) []) (row_itself row)
+    by row false is = sym (no_row_delta row (was row) (staged row) (still row is))
 
--- ---- the rows of shifts, each once
+-- ---- the rows of row deltas, each once
 
-pub once_more : (ks : List (List Cell)) (xs : List Shift) (s : Shift) → ((row : List Cell) → count_of row ks ≡ cond (is_changed row xs) 1 0)
+pub once_more : (ks : List (List Cell)) (xs : List RowDelta) (s : RowDelta) → ((row : List Cell) → count_of row ks ≡ cond (is_changed row xs) 1 0)
     → (row : List Cell) → count_of row (insert_key is_row ks s.row) ≡ cond (is_changed row (xs ++ s ∷ [])) 1 0
 once_more ks xs s once row =
     by (list_any (is_row s.row) ks) refl (is_row row s.row) refl
-    ∙ ap (λ b. cond b 1 0) (sym (list_any-append (λ (t : Shift). is_row row t.row) xs (s ∷ []) ∙ ap (λ b. is_changed row xs || b) (or_none (is_row row s.row))))
+    ∙ ap (λ b. cond b 1 0) (sym (list_any-append (λ (t : RowDelta). is_row row t.row) xs (s ∷ []) ∙ ap (λ b. is_changed row xs || b) (or_none (is_row row s.row))))
   where
     or_none : (b : Bool) → (b || false) ≡ b
     or_none true = refl
     or_none false = refl
 
-    -- a row that is among the keys is that of a shift, and no other one is
+    -- a row that is among the keys is that of a row delta, and no other one is
     counted : (x : List Cell) (zs : List (List Cell)) → list_any (is_row x) zs ≡ true → 1 ≤ count_of x zs
     counted x [] e = absurd (false≢true e)
     counted x (z ∷ zs) e = subst (λ n. 1 ≤ n) (sym (count_cons x z zs)) (step (is_row x z) (counted x zs) e)
@@ -142,13 +142,13 @@ once_more ks xs s once row =
         no_more n = omega arith
 
 -- the same by a test that tells which rows are the same
-pub once_inserted : (test : List Cell → List Cell → Bool) → ((x y : List Cell) → test x y ≡ is_row x y) → (ks new : List (List Cell)) (xs : List Shift) (s : Shift)
+pub once_inserted : (test : List Cell → List Cell → Bool) → ((x y : List Cell) → test x y ≡ is_row x y) → (ks new : List (List Cell)) (xs : List RowDelta) (s : RowDelta)
     → ((row : List Cell) → count_of row ks ≡ cond (is_changed row xs) 1 0) → new ≡ insert_key test ks s.row
     → (row : List Cell) → count_of row new ≡ cond (is_changed row (xs ++ s ∷ [])) 1 0
 once_inserted test law ks new xs s once is row =
     ap (count_of row) (is ∙ (λ i. insert_key (λ x y. law x y i) ks s.row)) ∙ once_more ks xs s once row
 
-pub few_inserted : (test : List Cell → List Cell → Bool) → ((x y : List Cell) → test x y ≡ is_row x y) → (ks new : List (List Cell)) (xs : List Shift) (s : Shift) → length ks ≤ length xs → new ≡ insert_key test ks s.row
+pub few_inserted : (test : List Cell → List Cell → Bool) → ((x y : List Cell) → test x y ≡ is_row x y) → (ks new : List (List Cell)) (xs : List RowDelta) (s : RowDelta) → length ks ≤ length xs → new ≡ insert_key test ks s.row
     → length new ≤ length (xs ++ s ∷ [])
 few_inserted test law ks new xs s few is =
     let long : length (xs ++ s ∷ []) ≡ length xs + 1 = length_push xs s in
@@ -160,27 +160,27 @@ few_inserted test law ks new xs s few is =
     by false = let e : length (ks ++ s.row ∷ []) ≡ length ks + 1 = length_push ks s.row in omega (arith, e)
 
 -- a single change has one row, which stands once
-pub single : (changes : List Shift) (change : Shift) (row : List Cell) → changes ≡ change ∷ [] → count_of row (change.row ∷ []) ≡ cond (is_changed row changes) 1 0
+pub single : (changes : List RowDelta) (change : RowDelta) (row : List Cell) → changes ≡ change ∷ [] → count_of row (change.row ∷ []) ≡ cond (is_changed row changes) 1 0
 single changes change row is =
-    count_cons row change.row [] ∙ by (is_row row change.row) ∙ ap (λ (xs : List Shift). cond (is_changed row xs) 1 0) (sym is)
+    count_cons row change.row [] ∙ by (is_row row change.row) ∙ ap (λ (xs : List RowDelta). cond (is_changed row xs) 1 0) (sym is)
   where
     by : (b : Bool) → cond b 1 0 + 0 ≡ cond (b || false) 1 0
     by true = refl
     by false = refl
 
--- and one shift at most
-pub single_shift : (was staged : Counts) (changes rest made : List Shift) (change : Shift) → length changes ≡ 1 → changes ≡ rest ++ change ∷ []
-    → made ≡ rest ++ shift_between change.row (was change.row) (staged change.row) → AreShiftsOf was staged changes made
-single_shift was staged changes rest made change one popped is = record {
+-- and one row delta at most
+pub single_row_delta : (was staged : Counts) (changes rest made : List RowDelta) (change : RowDelta) → length changes ≡ 1 → changes ≡ rest ++ change ∷ []
+    → made ≡ rest ++ row_delta_between change.row (was change.row) (staged change.row) → AreRowDeltasOf was staged changes made
+single_row_delta was staged changes rest made change one popped is = record {
   rows = change.row ∷ [];
   once = λ row. single changes change row (popped ∙ ap (λ xs. xs ++ change ∷ []) empty);
   between = is ∙ ap (λ xs. xs ++ here) empty ∙ sym (append-nil here);
 }
   where
-    here : List Shift
-    here = shift_between change.row (was change.row) (staged change.row)
+    here : List RowDelta
+    here = row_delta_between change.row (was change.row) (staged change.row)
 
-    none : (xs : List Shift) → length (xs ++ change ∷ []) ≡ 1 → xs ≡ []
+    none : (xs : List RowDelta) → length (xs ++ change ∷ []) ≡ 1 → xs ≡ []
     none [] e = refl
     none (x ∷ xs) e = let more : length (xs ++ change ∷ []) ≡ length xs + 1 = length_push xs change in absurd (omega (arith, e, more))
 
@@ -189,15 +189,15 @@ single_shift was staged changes rest made change one popped is = record {
 
 -- ---- the whole
 
--- the shifts of the rows of some changes, after all of them are staged
-pub merged_delta : (was was_now old losses gains now : Counts) (changes first second : List Shift)
+-- the row deltas of the rows of some changes, after all of them are staged
+pub merged_delta : (was was_now old losses gains now : Counts) (changes first second : List RowDelta)
     → first ≡ changes → second ≡ changes → old ≡ was → was_now ≡ was → now ≡ gains
     → ((row : List Cell) → losses row + lost row first ≡ old row) → ((row : List Cell) → gains row ≡ losses row + gained row second)
-    → (made : List Shift) → AreShiftsOf was_now gains changes made → IsDelta was now made
+    → (made : List RowDelta) → AreRowDeltasOf was_now gains changes made → IsDelta was now made
 merged_delta was was_now old losses gains now changes first second is_first is_second is_old is_was is_now falls rises made are =
     subst (λ (n : Counts). IsDelta was n made) (sym is_now)
     (subst (IsDelta was gains) (sym are.between)
-    (subst (λ (w : Counts). IsDelta was gains (shifts_at w gains are.rows)) (sym is_was)
+    (subst (λ (w : Counts). IsDelta was gains (deltas_at w gains are.rows)) (sym is_was)
     (delta_at was gains are.rows (λ row. is_changed row changes) are.once still)))
   where
     still : (row : List Cell) → is_changed row changes ≡ false → was row ≡ gains row
@@ -209,15 +209,15 @@ merged_delta was was_now old losses gains now changes first second is_first is_s
         let up = rises row in
         omega (arith, taken, added, start, down, up)
 
--- shifts between bounded counts are bounded
-pub bounded_at : (was staged : Counts) → AreBounded was → AreBounded staged → (rows : List (List Cell)) → All IsBounded (shifts_at was staged rows)
+-- row deltas between bounded counts are bounded
+pub bounded_at : (was staged : Counts) → AreBounded was → AreBounded staged → (rows : List (List Cell)) → All IsBounded (deltas_at was staged rows)
 bounded_at was staged low high [] = All-nil IsBounded
 bounded_at was staged low high (row ∷ rows) =
-    All-append IsBounded (shift_between row (was row) (staged row)) (shifts_at was staged rows) (by (was row == staged row)) (bounded_at was staged low high rows)
+    All-append IsBounded (row_delta_between row (was row) (staged row)) (deltas_at was staged rows) (by (was row == staged row)) (bounded_at was staged low high rows)
   where
     by : (b : Bool) → All IsBounded (cond b [] ((record { row = row; before = was row; after = staged row }) ∷ []))
     by true = All-nil IsBounded
     by false = All-cons IsBounded (record { row = row; before = was row; after = staged row }) [] (low row, high row) (All-nil IsBounded)
 
-pub bounded_of : (was staged : Counts) (changes made : List Shift) → AreBounded was → AreBounded staged → AreShiftsOf was staged changes made → All IsBounded made
+pub bounded_of : (was staged : Counts) (changes made : List RowDelta) → AreBounded was → AreBounded staged → AreRowDeltasOf was staged changes made → All IsBounded made
 bounded_of was staged changes made low high are = subst (All IsBounded) (sym are.between) (bounded_at was staged low high are.rows)

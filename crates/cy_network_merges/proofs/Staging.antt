@@ -1,4 +1,4 @@
--- What staging a shift does to the counts.
+-- What staging a row delta does to the counts.
 use Rattle.std.proofs.Common.{◌≡◌, ℕ, ◌+◌, ◌-◌, ◌<◌, ◌≤◌, Bool, true, false, cond, List, refl, sym, ap, ◌∙◌, length, take, get_or, arith, ℤ, pos, ◌+ℤ◌}
 use Rattle.std.specs.Prelude.{unsigned_abs, Result, Ok, Err, OnOk, IfErr, IsErrAnd}
 use Rattle.std.proofs.lemmas.Int.{ints}
@@ -7,7 +7,7 @@ use Rattle.cy_values.specs.declared.rows.Cell.{Cell}
 use Rattle.cy_network_memory.specs.declared.faults.MemoryFault.{MemoryFault}
 use Rattle.cy_network_memory.specs.declared.faults.MemoryFault.TheVariants.{TooManyRows}
 use Rattle.cy_network_memory.specs.Counts.{Counts, changed, is_row, with_count}
-use Rattle.cy_network_operators.specs.declared.shifts.Shift.{Shift}
+use Rattle.cy_network_memory.specs.declared.memory.RowDelta.{RowDelta}
 use Rattle.cy_network_operators.proofs.Same.{row_itself, same_row, is_row_back}
 use Rattle.cy_network_merges.specs.internal.Sums.{loss, lost, gain, gained}
 use Rattle.cy_network_merges.proofs.Bags.{weights}
@@ -29,9 +29,9 @@ grown n before after rises = omega arith
 less_by : (x n m t : ℕ) → x ≡ n - t → n ≡ m → t ≤ n → x + t ≡ m
 less_by x n m t is same held = omega arith
 
--- ---- one shift
+-- ---- one row delta
 
-module _ (staged new : Counts) (s : Shift) (change : ℤ) (makes : (pos s.before +ℤ change) ≡ pos s.after) where
+module _ (staged new : Counts) (s : RowDelta) (change : ℤ) (makes : (pos s.before +ℤ change) ≡ pos s.after) where
   less_staged : s.after < s.before → takes s ≤ staged s.row → new ≡ with_count s.row (changed change (staged s.row)) staged → (row : List Cell) → new row + loss row s ≡ staged row
   less_staged falls held made row =
       ap (λ (f : Counts). f row + loss row s) made
@@ -66,14 +66,14 @@ module _ (staged new : Counts) (s : Shift) (change : ℤ) (makes : (pos s.before
   more_if_staged rises (Ok x) made = more_staged rises made
   more_if_staged rises (Err fault) made = tt
 
--- ---- one shift of several
+-- ---- one row delta of several
 
-module _ (xs : List Shift) (i : ℕ) (s : Shift) (below : i < length xs) (is : s ≡ get_or xs i s) (staged initial : Counts) where
-  own_more : (weight : Shift → ℕ) → weights weight (is_row s.row) (take (i + 1) xs) ≡ weights weight (is_row s.row) (take i xs) + weight s
+module _ (xs : List RowDelta) (i : ℕ) (s : RowDelta) (below : i < length xs) (is : s ≡ get_or xs i s) (staged initial : Counts) where
+  own_more : (weight : RowDelta → ℕ) → weights weight (is_row s.row) (take (i + 1) xs) ≡ weights weight (is_row s.row) (take i xs) + weight s
   own_more weight = weights_more weight s.row xs i s below is ∙ ap (λ b. weights weight (is_row s.row) (take i xs) + cond b (weight s) 0) (row_itself s.row)
 
-  up_to : (weight : Shift → ℕ) → weights weight (is_row s.row) (take (i + 1) xs) ≤ weights weight (is_row s.row) xs
-  up_to weight = sum_by-take-le (λ (t : Shift). cond (is_row s.row t.row) (weight t) 0) xs (i + 1)
+  up_to : (weight : RowDelta → ℕ) → weights weight (is_row s.row) (take (i + 1) xs) ≤ weights weight (is_row s.row) xs
+  up_to weight = sum_by-take-le (λ (t : RowDelta). cond (is_row s.row t.row) (weight t) 0) xs (i + 1)
 
   -- what is still to be taken from a row is there
   pub enough : ((row : List Cell) → staged row + lost row (take i xs) ≡ initial row) → ((row : List Cell) → lost row xs ≤ initial row) → takes s ≤ staged s.row
@@ -84,7 +84,7 @@ module _ (xs : List Shift) (i : ℕ) (s : Shift) (below : i < length xs) (is : s
       let all = held s.row in
       omega (arith, more, most, own, all)
 
-  -- a row that counts too often now does so after all shifts
+  -- a row that counts too often now does so after all row deltas
   too_often : (most : ℕ) → ((row : List Cell) → staged row ≡ initial row + gained row (take i xs)) → most < staged s.row + adds s → most < initial s.row + gained s.row xs
   too_often most so_far many =
       let own = so_far s.row in

@@ -6,7 +6,7 @@ use Rattle.cy_values.specs.Bag.{count_of}
 use Rattle.cy_network_memory.specs.Counts.{Counts, greatest_count, key_of}
 use Rattle.cy_planner_algebra.specs.Plans.{Output}
 use Rattle.cy_planner_algebra.specs.Expressions.{projected}
-use Rattle.cy_network_operators.specs.declared.shifts.Shift.{Shift}
+use Rattle.cy_network_memory.specs.declared.memory.RowDelta.{RowDelta}
 use Rattle.cy_network_operators.specs.Deltas.{IsDelta, counts}
 
 -- all columns of a row that is this wide, in their order
@@ -21,9 +21,9 @@ IsWhole columns row = key_of columns row ≡ row
 abbrev pub AreBounded : Counts → Type 0
 AreBounded counted = (row : List Cell) → counted row ≤ greatest_count
 
--- The shifts lead from some rows below a projection to others, and the rows that count are the images of the first.
-pub record IsProjectChange (outputs : List Output) (was : Counts) (shifts : List Shift) (before after : List (List Cell)) : Type 0 where
-  pub delta : IsDelta (counts before) (counts after) shifts
+-- The row deltas lead from some rows below a projection to others, and the rows that count are the images of the first.
+pub record IsProjectChange (outputs : List Output) (was : Counts) (deltas : List RowDelta) (before after : List (List Cell)) : Type 0 where
+  pub delta : IsDelta (counts before) (counts after) deltas
   pub held : was ≡ counts (map (projected outputs) before)
 
 -- of two rows that are this wide and differ a projection makes rows that differ
@@ -39,9 +39,9 @@ pub record Sides : Type 0 where
   pub left : List (List Cell)
   pub right : List (List Cell)
 
--- The shifts of each part of a union lead from some rows of it to others, and the rows that count are the first of both. The key of
+-- The row deltas of each part of a union lead from some rows of it to others, and the rows that count are the first of both. The key of
 -- each is the whole row.
-pub record IsUnionChange (columns : List ℕ) (was : Counts) (left right : List Shift) (before after : Sides) : Type 0 where
+pub record IsUnionChange (columns : List ℕ) (was : Counts) (left right : List RowDelta) (before after : Sides) : Type 0 where
   pub delta_left : IsDelta (counts before.left) (counts after.left) left
   pub delta_right : IsDelta (counts before.right) (counts after.right) right
   pub held : was ≡ counts (before.left ++ before.right)

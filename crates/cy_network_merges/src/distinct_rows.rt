@@ -7,33 +7,32 @@ ghost use Rattle.cy_network_memory.specs.Counts.{is_row};
 ghost use Rattle.cy_values.specs.Bag.{count_of};
 ghost use Rattle.cy_network_merges.specs.internal.Sums.{is_changed};
 
-use cy_network_memory::rows_equal;
-use cy_network_operators::Shift;
+use cy_network_memory::{RowDelta, rows_equal};
 use cy_values::{Fault, Row};
 use indexmap::IndexSet;
 use std::alloc::Global;
 
-/// The rows of some shifts, each once. Fails only when out of memory.
-pub(crate) fn distinct_rows(alloc: Global, shifts: Vec<Shift>) -> Result<IndexSet<Row>, Fault>
-    ensures once { IfOk result (λ rows. (row : List Cell) → count_of row rows.keys ≡ (if is_changed row shifts.items then 1 else 0)) }
-    ensures few { IfOk result (λ rows. length rows.keys ≤ length shifts.items) }
+/// The rows of some row deltas, each once. Fails only when out of memory.
+pub(crate) fn distinct_rows(alloc: Global, deltas: Vec<RowDelta>) -> Result<IndexSet<Row>, Fault>
+    ensures once { IfOk result (λ rows. (row : List Cell) → count_of row rows.keys ≡ (if is_changed row deltas.items then 1 else 0)) }
+    ensures few { IfOk result (λ rows. length rows.keys ≤ length deltas.items) }
 {
     rows_equal();
     let mut rows = IndexSet::new(alloc);
-    for shift in shifts {
-        rows.insert(shift.row)?;
+    for row_delta in deltas {
+        rows.insert(row_delta.row)?;
     }
     Ok(rows)
 }
 
-/// The rows of a few shifts, each once: each is compared with the others, and none is hashed. Fails only when out of memory.
-pub(crate) fn few_distinct_rows(alloc: Global, shifts: Vec<Shift>) -> Result<Vec<Row>, Fault>
-    ensures once { IfOk result (λ rows. (row : List Cell) → count_of row rows.items ≡ (if is_changed row shifts.items then 1 else 0)) }
-    ensures few { IfOk result (λ rows. length rows.items ≤ length shifts.items) }
+/// The rows of a few row deltas, each once: each is compared with the others, and none is hashed. Fails only when out of memory.
+pub(crate) fn few_distinct_rows(alloc: Global, deltas: Vec<RowDelta>) -> Result<Vec<Row>, Fault>
+    ensures once { IfOk result (λ rows. (row : List Cell) → count_of row rows.items ≡ (if is_changed row deltas.items then 1 else 0)) }
+    ensures few { IfOk result (λ rows. length rows.items ≤ length deltas.items) }
 {
-    let mut rows = Vec::with_capacity(alloc, shifts.len())?;
-    for shift in shifts {
-        add_new(&mut rows, shift.row)?;
+    let mut rows = Vec::with_capacity(alloc, deltas.len())?;
+    for row_delta in deltas {
+        add_new(&mut rows, row_delta.row)?;
     }
     Ok(rows)
 }

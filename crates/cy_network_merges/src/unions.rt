@@ -9,8 +9,7 @@ ghost use Rattle.cy_network_operators.specs.Deltas.{IsBounded, IsDelta, counts};
 ghost use Rattle.cy_network_merges.specs.Merges.{AreBounded, IsUnionChange, Sides};
 
 use crate::merges::merge;
-use cy_network_memory::{Memory, MemoryFault};
-use cy_network_operators::Shift;
+use cy_network_memory::{Memory, MemoryFault, RowDelta};
 use std::alloc::Global;
 
 /// What changes of the rows of a union, where the rows of its two parts change. The memory holds the union's rows as they were; its
@@ -19,9 +18,9 @@ use std::alloc::Global;
 pub fn union<M: Memory>(
     alloc: Global,
     memory: &mut M,
-    left: Vec<Shift>,
-    right: Vec<Shift>,
-) -> Result<Vec<Shift>, MemoryFault>
+    left: Vec<RowDelta>,
+    right: Vec<RowDelta>,
+) -> Result<Vec<RowDelta>, MemoryFault>
     requires bounded_left { All IsBounded left.items }
     requires bounded_right { All IsBounded right.items }
     requires settled { M.staged memory.old ≡ M.was memory.old }
@@ -31,7 +30,7 @@ pub fn union<M: Memory>(
         → IsDelta (counts (before.left ++ before.right)) (counts (after.left ++ after.right)) made.items) }
     ensures staged { OnOk result ((before after : Sides) → IsUnionChange (M.key_columns memory.old) (M.was memory.old) left.items right.items before after
         → M.staged memory.new ≡ counts (after.left ++ after.right)) }
-    ensures shifts { IfOk result (λ made. All IsBounded made.items) }
+    ensures deltas { IfOk result (λ made. All IsBounded made.items) }
     ensures counts { OnOk result (AreBounded (M.staged memory.new)) }
     ensures was { M.was memory.new ≡ M.was memory.old }
     ensures columns { M.key_columns memory.new ≡ M.key_columns memory.old }
@@ -42,8 +41,8 @@ pub fn union<M: Memory>(
     ensures nothing { IfErr result (λ _. 0 < length left.items + length right.items) }
 {
     let mut changes = left;
-    for shift in right {
-        changes.push(shift)?;
+    for row_delta in right {
+        changes.push(row_delta)?;
     }
     merge(alloc, memory, changes)
 }

@@ -1,5 +1,5 @@
 pub mod Same
-pub mod ShiftLemmas
+pub mod DeltaLemmas
 pub mod Parts
 pub mod StepCounts
 pub mod Readings

@@ -1,4 +1,4 @@
--- The counts after some shifts.
+-- The counts after some row deltas.
 use Rattle.std.proofs.Common.{◌≡◌, ℕ, ◌+◌, ◌<◌, ◌==◌, Bool, true, false, cond, List, [], ◌∷◌, ◌++◌, refl, sym, ap, subst, ◌∙◌, length, take, drop, get_or, arith, ℤ, pos, ◌+ℤ◌, ◌≤ℤ◌}
 use Rattle.std.specs.Prelude.{unsigned_abs, Result, Ok, Err, OnOk, is_err}
 use Rattle.std.proofs.lemmas.Bool.{false≢true}
@@ -8,27 +8,27 @@ use Rattle.std.proofs.lemmas.List.Elements.{filter-append}
 use Rattle.std.proofs.lemmas.Bool.Decides.{nat_tests}
 use Rattle.cy_values.specs.declared.rows.Cell.{Cell}
 use Rattle.cy_network_memory.specs.Counts.{Counts, changed, is_row, with_count}
-use Rattle.cy_network_operators.specs.declared.shifts.Shift.{Shift}
-use Rattle.cy_network_operators.specs.Deltas.{IsDelta, counts_after, shifts_of, shift_between}
+use Rattle.cy_network_memory.specs.declared.memory.RowDelta.{RowDelta}
+use Rattle.cy_network_operators.specs.Deltas.{IsDelta, counts_after, deltas_of, row_delta_between}
 use Rattle.cy_network_operators.proofs.Same.{row_itself, is_row_back}
 
-pub after_more : (xs : List Shift) (s : Shift) (before : Counts) → counts_after (xs ++ s ∷ []) before ≡ with_count s.row s.after (counts_after xs before)
+pub after_more : (xs : List RowDelta) (s : RowDelta) (before : Counts) → counts_after (xs ++ s ∷ []) before ≡ with_count s.row s.after (counts_after xs before)
 after_more [] s before = refl
 after_more (x ∷ xs) s before = after_more xs s (with_count x.row x.after before)
 
--- the count after some shifts of one row
-abbrev pub after_these : List Shift → ℕ → ℕ
+-- the count after some row deltas of one row
+abbrev pub after_these : List RowDelta → ℕ → ℕ
 after_these [] n = n
-after_these (s ∷ shifts) n = after_these shifts s.after
+after_these (s ∷ deltas) n = after_these deltas s.after
 
-pub after_own : (row : List Cell) (xs : List Shift) (before : Counts) → counts_after xs before row ≡ after_these (shifts_of row xs) (before row)
+pub after_own : (row : List Cell) (xs : List RowDelta) (before : Counts) → counts_after xs before row ≡ after_these (deltas_of row xs) (before row)
 after_own row [] before = refl
 after_own row (x ∷ xs) before =
     after_own row xs (with_count x.row x.after before)
-    ∙ ap (λ b. after_these (shifts_of row xs) (cond b x.after (before row))) (is_row_back row x.row)
+    ∙ ap (λ b. after_these (deltas_of row xs) (cond b x.after (before row))) (is_row_back row x.row)
     ∙ step (is_row row x.row)
   where
-    step : (b : Bool) → after_these (shifts_of row xs) (cond b x.after (before row)) ≡ after_these (cond b (x ∷ shifts_of row xs) (shifts_of row xs)) (before row)
+    step : (b : Bool) → after_these (deltas_of row xs) (cond b x.after (before row)) ≡ after_these (cond b (x ∷ deltas_of row xs) (deltas_of row xs)) (before row)
     step true = refl
     step false = refl
 
@@ -36,35 +36,35 @@ equal : (m n : ℕ) → (m == n) ≡ true → m ≡ n
 equal m n h = grind (arith, nat_tests)
 
 -- a delta leads from the one counts to the others
-pub after_delta : (before after : Counts) (shifts : List Shift) → IsDelta before after shifts → (row : List Cell) → counts_after shifts before row ≡ after row
-after_delta before after shifts delta row =
-    after_own row shifts before ∙ ap (λ own. after_these own (before row)) (delta.each row) ∙ step (before row == after row) refl
+pub after_delta : (before after : Counts) (deltas : List RowDelta) → IsDelta before after deltas → (row : List Cell) → counts_after deltas before row ≡ after row
+after_delta before after deltas delta row =
+    after_own row deltas before ∙ ap (λ own. after_these own (before row)) (delta.each row) ∙ step (before row == after row) refl
   where
     step : (b : Bool) → (before row == after row) ≡ b → after_these (cond b [] ((record { row = row; before = before row; after = after row }) ∷ [])) (before row) ≡ after row
     step true is = equal (before row) (after row) is
     step false is = refl
 
-alone : (xs ys : List Shift) (s : Shift) (row : List Cell) (m n : ℕ) (b : Bool) → xs ++ (s ∷ ys) ≡ cond b [] ((record { row = row; before = m; after = n }) ∷ []) → (xs ≡ []) × (m ≡ s.before)
+alone : (xs ys : List RowDelta) (s : RowDelta) (row : List Cell) (m n : ℕ) (b : Bool) → xs ++ (s ∷ ys) ≡ cond b [] ((record { row = row; before = m; after = n }) ∷ []) → (xs ≡ []) × (m ≡ s.before)
 alone [] ys s row m n true is = cc
 alone (x ∷ xs) ys s row m n true is = cc
 alone [] ys s row m n false is = (refl, cc)
 alone (x ∷ []) ys s row m n false is = cc
 alone (x ∷ y ∷ xs) ys s row m n false is = cc
 
--- Of the shifts of a delta each begins where those before it end.
-pub held_at : (before after : Counts) (shifts : List Shift) → IsDelta before after shifts → (i : ℕ) (d : Shift) → i < length shifts
-    → counts_after (take i shifts) before (get_or shifts i d).row ≡ (get_or shifts i d).before
-held_at before after shifts delta i d below =
-    let s : Shift = get_or shifts i d in
+-- Of the row deltas of a delta each begins where those before it end.
+pub held_at : (before after : Counts) (deltas : List RowDelta) → IsDelta before after deltas → (i : ℕ) (d : RowDelta) → i < length deltas
+    → counts_after (take i deltas) before (get_or deltas i d).row ≡ (get_or deltas i d).before
+held_at before after deltas delta i d below =
+    let s : RowDelta = get_or deltas i d in
     let row : List Cell = s.row in
-    let parts : shifts_of row (take i shifts) ++ (s ∷ shifts_of row (drop (i + 1) shifts)) ≡ shift_between row (before row) (after row) =
-    ap (λ b. shifts_of row (take i shifts) ++ cond b (s ∷ shifts_of row (drop (i + 1) shifts)) (shifts_of row (drop (i + 1) shifts))) (sym (row_itself row))
-    ∙ sym (filter-append (λ t. is_row row t.row) (take i shifts) (s ∷ drop (i + 1) shifts))
-    ∙ ap (λ rest. shifts_of row (take i shifts ++ rest)) (sym (drop_more shifts i d below))
-    ∙ ap (shifts_of row) (take-append-drop i shifts)
+    let parts : deltas_of row (take i deltas) ++ (s ∷ deltas_of row (drop (i + 1) deltas)) ≡ row_delta_between row (before row) (after row) =
+    ap (λ b. deltas_of row (take i deltas) ++ cond b (s ∷ deltas_of row (drop (i + 1) deltas)) (deltas_of row (drop (i + 1) deltas))) (sym (row_itself row))
+    ∙ sym (filter-append (λ t. is_row row t.row) (take i deltas) (s ∷ drop (i + 1) deltas))
+    ∙ ap (λ rest. deltas_of row (take i deltas ++ rest)) (sym (drop_more deltas i d below))
+    ∙ ap (deltas_of row) (take-append-drop i deltas)
     ∙ delta.each row in
-    let found = alone (shifts_of row (take i shifts)) (shifts_of row (drop (i + 1) shifts)) s row (before row) (after row) (before row == after row) parts in
-    after_own row (take i shifts) before ∙ ap (λ own. after_these own (before row)) found.0 ∙ found.1
+    let found = alone (deltas_of row (take i deltas)) (deltas_of row (drop (i + 1) deltas)) s row (before row) (after row) (before row == after row) parts in
+    after_own row (take i deltas) before ∙ ap (λ own. after_these own (before row)) found.0 ∙ found.1
 
 -- what a change makes of a count
 pub change_fits : (count before after : ℕ) (change : ℤ) → count ≡ before → (pos before +ℤ change) ≡ pos after → pos 0 ≤ℤ (pos count +ℤ change)
@@ -76,29 +76,29 @@ change_fits count before after change is makes = subst (λ z. pos 0 ≤ℤ z) (s
 pub change_makes : (count before after : ℕ) (change : ℤ) → count ≡ before → (pos before +ℤ change) ≡ pos after → changed change count ≡ after
 change_makes count before after change is makes = ap unsigned_abs (ap (λ n. pos n +ℤ change) is ∙ makes)
 
-pub held_now : (was after staged : Counts) (shifts : List Shift) (i : ℕ) (s : Shift) → IsDelta was after shifts → i < length shifts → s ≡ get_or shifts i s
-    → staged ≡ counts_after (take i shifts) was → staged s.row ≡ s.before
-held_now was after staged shifts i s delta below is so_far =
+pub held_now : (was after staged : Counts) (deltas : List RowDelta) (i : ℕ) (s : RowDelta) → IsDelta was after deltas → i < length deltas → s ≡ get_or deltas i s
+    → staged ≡ counts_after (take i deltas) was → staged s.row ≡ s.before
+held_now was after staged deltas i s delta below is so_far =
     ap (λ f. f s.row) so_far
-    ∙ ap (λ (t : Shift). counts_after (take i shifts) was t.row) is
-    ∙ held_at was after shifts delta i s below
-    ∙ ap (λ (t : Shift). t.before) (sym is)
+    ∙ ap (λ (t : RowDelta). counts_after (take i deltas) was t.row) is
+    ∙ held_at was after deltas delta i s below
+    ∙ ap (λ (t : RowDelta). t.before) (sym is)
 
--- one more shift is staged
-pub staged_next : (was staged new : Counts) (shifts : List Shift) (i : ℕ) (s : Shift) → i < length shifts → s ≡ get_or shifts i s
-    → staged ≡ counts_after (take i shifts) was → new ≡ with_count s.row s.after staged → new ≡ counts_after (take (i + 1) shifts) was
-staged_next was staged new shifts i s below is so_far made =
+-- one more row delta is staged
+pub staged_next : (was staged new : Counts) (deltas : List RowDelta) (i : ℕ) (s : RowDelta) → i < length deltas → s ≡ get_or deltas i s
+    → staged ≡ counts_after (take i deltas) was → new ≡ with_count s.row s.after staged → new ≡ counts_after (take (i + 1) deltas) was
+staged_next was staged new deltas i s below is so_far made =
     made
     ∙ ap (with_count s.row s.after) so_far
-    ∙ sym (after_more (take i shifts) s was)
-    ∙ ap (λ xs. counts_after xs was) (ap (λ t. take i shifts ++ t ∷ []) is ∙ sym (take_more shifts i s below))
+    ∙ sym (after_more (take i deltas) s was)
+    ∙ ap (λ xs. counts_after xs was) (ap (λ t. take i deltas ++ t ∷ []) is ∙ sym (take_more deltas i s below))
 
-pub staged_more : (was after staged new : Counts) (shifts : List Shift) (i : ℕ) (s : Shift) (change : ℤ) → IsDelta was after shifts → i < length shifts → s ≡ get_or shifts i s
-    → staged ≡ counts_after (take i shifts) was → (pos s.before +ℤ change) ≡ pos s.after
-    → new ≡ with_count s.row (changed change (staged s.row)) staged → new ≡ counts_after (take (i + 1) shifts) was
-staged_more was after staged new shifts i s change delta below is so_far makes made =
-    staged_next was staged new shifts i s below is so_far
-    (made ∙ ap (λ n. with_count s.row n staged) (change_makes (staged s.row) s.before s.after change (held_now was after staged shifts i s delta below is so_far) makes))
+pub staged_more : (was after staged new : Counts) (deltas : List RowDelta) (i : ℕ) (s : RowDelta) (change : ℤ) → IsDelta was after deltas → i < length deltas → s ≡ get_or deltas i s
+    → staged ≡ counts_after (take i deltas) was → (pos s.before +ℤ change) ≡ pos s.after
+    → new ≡ with_count s.row (changed change (staged s.row)) staged → new ≡ counts_after (take (i + 1) deltas) was
+staged_more was after staged new deltas i s change delta below is so_far makes made =
+    staged_next was staged new deltas i s below is so_far
+    (made ∙ ap (λ n. with_count s.row n staged) (change_makes (staged s.row) s.before s.after change (held_now was after staged deltas i s delta below is so_far) makes))
 
 pub on_ok : {T E P : Type 0} (r : Result T E) → is_err r ≡ false → OnOk r P → P
 on_ok (Ok x) is holds = holds

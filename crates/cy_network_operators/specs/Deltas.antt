@@ -10,7 +10,7 @@ use Rattle.cy_planner_algebra.specs.declared.operators.KeyColumns.{KeyColumns}
 use Rattle.cy_planner_algebra.specs.Keys.{meet}
 use Rattle.cy_planner_algebra.specs.Meaning.{rows_of}
 use Rattle.cy_planner_algebra.specs.Plans.{Plan}
-use Rattle.cy_network_operators.specs.declared.shifts.Shift.{Shift}
+use Rattle.cy_network_memory.specs.declared.memory.RowDelta.{RowDelta}
 
 -- the rows of a plan on a graph, and none where there is no graph yet
 abbrev pub rows_at : Option Content → Plan → List (List Cell)
@@ -26,26 +26,26 @@ content_at (Some graph) = graph
 abbrev pub counts : List (List Cell) → Counts
 counts rows row = count_of row rows
 
--- the shifts of a row
-abbrev pub shifts_of : List Cell → List Shift → List Shift
-shifts_of row shifts = std.filter (λ s. is_row row s.row) shifts
+-- the row deltas of a row
+abbrev pub deltas_of : List Cell → List RowDelta → List RowDelta
+deltas_of row deltas = std.filter (λ s. is_row row s.row) deltas
 
--- the shift of a row with these counts before and after: none where they are the same
-abbrev pub shift_between : List Cell → ℕ → ℕ → List Shift
-shift_between row before after = if before == after then [] else record { row = row; before = before; after = after } ∷ []
+-- the row delta of a row with these counts before and after: none where they are the same
+abbrev pub row_delta_between : List Cell → ℕ → ℕ → List RowDelta
+row_delta_between row before after = if before == after then [] else record { row = row; before = before; after = after } ∷ []
 
--- A delta from some counts to others: each row has one shift, with its two counts, where these differ, and none where they are
+-- A delta from some counts to others: each row has one row delta, with its two counts, where these differ, and none where they are
 -- the same.
-pub record IsDelta (before after : Counts) (shifts : List Shift) : Type 0 where
-  pub each : (row : List Cell) → shifts_of row shifts ≡ shift_between row (before row) (after row)
+pub record IsDelta (before after : Counts) (deltas : List RowDelta) : Type 0 where
+  pub each : (row : List Cell) → deltas_of row deltas ≡ row_delta_between row (before row) (after row)
 
--- the counts after some shifts
-abbrev pub counts_after : List Shift → Counts → Counts
+-- the counts after some row deltas
+abbrev pub counts_after : List RowDelta → Counts → Counts
 counts_after [] before = before
-counts_after (s ∷ shifts) before = counts_after shifts (with_count s.row s.after before)
+counts_after (s ∷ deltas) before = counts_after deltas (with_count s.row s.after before)
 
--- no count of the shift is above the greatest one
-abbrev pub IsBounded : Shift → Type 0
+-- no count of the row delta is above the greatest one
+abbrev pub IsBounded : RowDelta → Type 0
 IsBounded s = (s.before ≤ greatest_count) × (s.after ≤ greatest_count)
 
 -- each row that counts before or after has these columns

@@ -1,17 +1,17 @@
 //! How a change of rows goes through each part of a plan: what changes above it when rows change below it.
 #![tactic(auto)]
 
+mod deltas;
 mod distinct_rows;
 mod filters;
 mod joins;
 pub mod laws;
 mod memories;
 mod pairs;
-mod shifts;
 
+pub use deltas::add_row_delta;
 pub use distinct_rows::distinct;
 pub use filters::{all_different, filter};
 pub use joins::join;
-pub use memories::{records_with, stage_shifts};
+pub use memories::{records_with, stage_deltas};
 pub use pairs::appended;
-pub use shifts::{Shift, add_shift};

@@ -8,7 +8,7 @@ use Rattle.std.proofs.lemmas.List.Sums.{sum_by-cons}
 use Rattle.cy_graph.specs.Graph.{State}
 use Rattle.cy_network_memory.specs.Counts.{Counts}
 use Rattle.cy_planner_algebra.specs.Plans.{Plan}
-use Rattle.cy_network_operators.specs.declared.shifts.Shift.{Shift}
+use Rattle.cy_network_memory.specs.declared.memory.RowDelta.{RowDelta}
 use Rattle.cy_network_parts.specs.Upkeep.{IsOwnBegun, IsOwnDone}
 
 -- memories that were lent are given back
@@ -33,7 +33,7 @@ module _ {M : Type 0} (key_columns : M → List ℕ) (was staged : M → Counts)
       subst (λ r. IsOwnBegun old r (map key_columns these) (map was these) (map staged these)) same
       (subst (λ xs. IsOwnBegun old q (map key_columns xs) (map was xs) (map staged xs)) is begun)
 
-  pub done_as : (now : State) (q p : Plan) (own these : List M) (made : List Shift) → q ≡ p → own ≡ these → IsOwnDone old now p (map staged these) made → IsOwnDone old now q (map staged own) made
+  pub done_as : (now : State) (q p : Plan) (own these : List M) (made : List RowDelta) → q ≡ p → own ≡ these → IsOwnDone old now p (map staged these) made → IsOwnDone old now q (map staged own) made
   done_as now q p own these made same is done =
       subst (λ r. IsOwnDone old now r (map staged own) made) (sym same) (subst (λ xs. IsOwnDone old now p (map staged xs) made) (sym is) done)
 

@@ -11,7 +11,7 @@ use Rattle.cy_network_merges.specs.Merges.{IsOneToOne, IsOneToOneOn, all_columns
 use Rattle.cy_planner_algebra.specs.Expressions.{cell_at, null, projected}
 use Rattle.cy_planner_algebra.specs.Plans as plan
 use Rattle.cy_planner_algebra.specs.Plans.{Output, Plan, width}
-use Rattle.cy_network_operators.specs.declared.shifts.Shift.{Shift}
+use Rattle.cy_network_memory.specs.declared.memory.RowDelta.{RowDelta}
 use Rattle.cy_network_operators.specs.Deltas.{AreWide, IsBounded, IsDelta, counts, rows_at}
 use Rattle.std.specs.List.{All}
 use Rattle.cy_graph.specs.Graph.{IsGraph, State}
@@ -51,11 +51,11 @@ one_to_one number outputs all row other row_wide other_wide same =
     ext_get_or null row other (row_wide ∙ sym other_wide) (λ k less. same_cell outputs row other k (each_kept number outputs all k (subst (λ n. k < n) row_wide less)) same)
 
 -- how a change goes through it
-pub rearranged : (old : Option State) (now : State) (touches : Touches) (p : Plan) (outputs : List Output) (shifts made : List Shift) → keeps_all (width p) outputs ≡ true
-    → ((number : ℕ) (before after : List (List Cell)) → IsOneToOne number outputs → AreWide number (counts before) (counts after) → IsDelta (counts before) (counts after) shifts
+pub rearranged : (old : Option State) (now : State) (touches : Touches) (p : Plan) (outputs : List Output) (deltas made : List RowDelta) → keeps_all (width p) outputs ≡ true
+    → ((number : ℕ) (before after : List (List Cell)) → IsOneToOne number outputs → AreWide number (counts before) (counts after) → IsDelta (counts before) (counts after) deltas
     → IsDelta (counts (map (projected outputs) before)) (counts (map (projected outputs) after)) made)
-    → (All IsBounded shifts → All IsBounded made) → IsStep old now touches (plan.project p outputs) → IsDeltaOf old now p shifts → IsDeltaOf old now (plan.project p outputs) made
-rearranged old now touches p outputs shifts made all leads bounds step part = record {
+    → (All IsBounded deltas → All IsBounded made) → IsStep old now touches (plan.project p outputs) → IsDeltaOf old now p deltas → IsDeltaOf old now (plan.project p outputs) made
+rearranged old now touches p outputs deltas made all leads bounds step part = record {
   delta =
       subst (λ rows. IsDelta (counts rows) (counts (rows_at (Some now.content) (plan.project p outputs))) made) (sym (project_at (content_of old) p outputs))
       (leads (width p) (rows_at (content_of old) p) (rows_at (Some now.content) p) (one_to_one (width p) outputs all) (parts_wide (content_of old) (Some now.content) p step.well_formed.0) part.delta);
@@ -69,11 +69,11 @@ told_at : (old : Option State) → IfSome old IsGraph → (p : Plan) (outputs : 
 told_at None is p outputs one = λ row other here there same. absurd (omega (arith, here))
 told_at (Some s) is p outputs one = one s is
 
-pub gathered : (old : Option State) (now : State) (touches : Touches) (p : Plan) (outputs : List Output) (shifts made : List Shift) → trails.TellsRowsApart p outputs
-    → ((before after : List (List Cell)) → IsOneToOneOn before outputs → IsOneToOneOn after outputs → IsDelta (counts before) (counts after) shifts
+pub gathered : (old : Option State) (now : State) (touches : Touches) (p : Plan) (outputs : List Output) (deltas made : List RowDelta) → trails.TellsRowsApart p outputs
+    → ((before after : List (List Cell)) → IsOneToOneOn before outputs → IsOneToOneOn after outputs → IsDelta (counts before) (counts after) deltas
     → IsDelta (counts (map (projected outputs) before)) (counts (map (projected outputs) after)) made)
-    → (All IsBounded shifts → All IsBounded made) → IsStep old now touches (plan.project p outputs) → IsDeltaOf old now p shifts → IsDeltaOf old now (plan.project p outputs) made
-gathered old now touches p outputs shifts made one leads bounds step part = record {
+    → (All IsBounded deltas → All IsBounded made) → IsStep old now touches (plan.project p outputs) → IsDeltaOf old now p deltas → IsDeltaOf old now (plan.project p outputs) made
+gathered old now touches p outputs deltas made one leads bounds step part = record {
   delta =
       subst (λ rows. IsDelta (counts rows) (counts (rows_at (Some now.content) (plan.project p outputs))) made) (sym (project_at (content_of old) p outputs))
       (leads (rows_at (content_of old) p) (rows_at (Some now.content) p) (told_at old (old_graph old now touches step.change) p outputs one) (one now step.change.graph_now) part.delta);

@@ -13,7 +13,7 @@ use Rattle.cy_planner_algebra.specs.Plans.{Output, Plan, width}
 use Rattle.cy_planner_algebra.specs.Parts.{parts}
 use Rattle.cy_planner_algebra.specs.Expressions.{holds, projected, relationships_at}
 use Rattle.cy_planner_algebra.specs.Meaning.{rows_of, with_attribute}
-use Rattle.cy_network_operators.specs.declared.shifts.Shift.{Shift}
+use Rattle.cy_network_memory.specs.declared.memory.RowDelta.{RowDelta}
 use Rattle.cy_network_operators.specs.Deltas.{IsBounded, IsDelta, content_at, counts, rows_at}
 use Rattle.cy_network_operators.proofs.PlanLemmas.{different_at, filter_at, lookup_at, nodes_at, project_at, rels_at}
 use Rattle.cy_network_touches.specs.Changes.{Touches}
@@ -280,17 +280,17 @@ reads_within rows rows_now touches (plan.union left right) is = none_scan is
 pub is_scan_of : (old : Option State) (now : State) (touches : Touches) (ps : List Plan) (p : Plan) → ps ≡ chain p → is_scan p ≡ true → IsStep old now touches p → IsScan (state_of old) now touches ps p
 is_scan_of old now touches ps p are is step = record { parts = are ∙ chain_scan p is; column = some_scan (scan_column p) is; sure = step.sure; change = step.change }
 
-pub scan_delta : (old : Option State) (now : State) (p : Plan) (shifts : List Shift) → is_scan p ≡ true
-    → IsDelta (counts (rows_of (state_of old).content p)) (counts (rows_of now.content p)) shifts → All IsBounded shifts → IsDeltaOf old now p shifts
-scan_delta old now p shifts is delta bounded = record {
+pub scan_delta : (old : Option State) (now : State) (p : Plan) (deltas : List RowDelta) → is_scan p ≡ true
+    → IsDelta (counts (rows_of (state_of old).content p)) (counts (rows_of now.content p)) deltas → All IsBounded deltas → IsDeltaOf old now p deltas
+scan_delta old now p deltas is delta bounded = record {
   delta =
-      subst (λ rows. IsDelta (counts rows) (counts (rows_of now.content p)) shifts)
+      subst (λ rows. IsDelta (counts rows) (counts (rows_of now.content p)) deltas)
       (sym (scan_at (content_of old) p is ∙ ap (λ (content : Content). rows_of content p) (old_content old))) delta;
   bounded = bounded;
 }
 
 -- a part without memories is done once its rows are
-pub scan_done : (from_nothing : Bool) (old : Option State) (now : State) (touches : Touches) (p : Plan) (columns : List (List ℕ)) (was staged : List Counts) (made : List Shift) → is_scan p ≡ true
+pub scan_done : (from_nothing : Bool) (old : Option State) (now : State) (touches : Touches) (p : Plan) (columns : List (List ℕ)) (was staged : List Counts) (made : List RowDelta) → is_scan p ≡ true
     → IsBegun from_nothing old now touches p columns was staged → IsDeltaOf old now p made → IsDone old now p staged made
 scan_done from_nothing old now touches p columns was staged made is begun change = record {
   change = change;
@@ -299,7 +299,7 @@ scan_done from_nothing old now touches p columns was staged made is begun change
 }
 
 -- and so is one of the empty row
-pub lowest_done : (from_nothing : Bool) (old : Option State) (now : State) (touches : Touches) (p : Plan) (columns : List (List ℕ)) (was staged : List Counts) (made : List Shift)
+pub lowest_done : (from_nothing : Bool) (old : Option State) (now : State) (touches : Touches) (p : Plan) (columns : List (List ℕ)) (was staged : List Counts) (made : List RowDelta)
     → (is_scan p ≡ true) ⊎ (p ≡ plan.unit) → IsBegun from_nothing old now touches p columns was staged → IsDeltaOf old now p made → IsDone old now p staged made
 lowest_done from_nothing old now touches p columns was staged made (inl is) begun change = scan_done from_nothing old now touches p columns was staged made is begun change
 lowest_done from_nothing old now touches p columns was staged made (inr is) begun change = done_leaf from_nothing old now touches p columns was staged made (ap below_count is) begun change

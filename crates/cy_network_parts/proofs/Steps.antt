@@ -14,9 +14,9 @@ use Rattle.cy_planner_algebra.specs.Plans as plan
 use Rattle.cy_planner_algebra.specs.Plans.{Plan}
 use Rattle.cy_planner_algebra.specs.Parts.{parts}
 use Rattle.cy_planner_algebra.specs.Meaning.{rows_of}
-use Rattle.cy_network_operators.specs.declared.shifts.Shift.{Shift}
+use Rattle.cy_network_memory.specs.declared.memory.RowDelta.{RowDelta}
 use Rattle.cy_network_operators.specs.Deltas.{content_at, counts, rows_at}
-use Rattle.cy_network_operators.proofs.ShiftLemmas.{after_bounded}
+use Rattle.cy_network_operators.proofs.DeltaLemmas.{after_bounded}
 use Rattle.cy_network_touches.specs.Changes.{IsChange, Touches}
 use Rattle.cy_network_parts.specs.Memories.{AreWithin, contents, keys, own_contents, own_keys}
 use Rattle.cy_network_parts.specs.Limits.{HasTooManyRows}
@@ -88,14 +88,14 @@ too_many_second graph p pair found =
     subst (Any (Overfull graph)) (sym facts.of_parts)
     (any_later (Overfull graph) p (parts (first_below p) ++ parts (second_below p)) (any_right (Overfull graph) (parts (first_below p)) (parts (second_below p)) found))
 
--- the rows of a part count no more after the change, where no shift does
-pub now_within : (old : Option State) (now : State) (p : Plan) (made : List Shift) → AreWithin (content_of old) p → IsDeltaOf old now p made → AreBounded (counts (rows_at (Some now.content) p))
+-- the rows of a part count no more after the change, where no row delta does
+pub now_within : (old : Option State) (now : State) (p : Plan) (made : List RowDelta) → AreWithin (content_of old) p → IsDeltaOf old now p made → AreBounded (counts (rows_at (Some now.content) p))
 now_within old now p made within change =
     after_bounded (counts (rows_at (content_of old) p)) (counts (rows_at (Some now.content) p)) made change.delta change.bounded (own_within (content_of old) p within)
 
 -- ---- a part without parts below it
 
-pub done_leaf : (from_nothing : Bool) (old : Option State) (now : State) (touches : Touches) (p : Plan) (columns : List (List ℕ)) (was staged : List Counts) (made : List Shift)
+pub done_leaf : (from_nothing : Bool) (old : Option State) (now : State) (touches : Touches) (p : Plan) (columns : List (List ℕ)) (was staged : List Counts) (made : List RowDelta)
     → below_count p ≡ 0 → IsBegun from_nothing old now touches p columns was staged → IsDeltaOf old now p made → IsDone old now p staged made
 done_leaf from_nothing old now touches p columns was staged made leaf begun change = by p leaf begun.held.settled begun.held.within change
   where
@@ -150,10 +150,10 @@ module _ {M : Type 0} (key_columns : M → List ℕ) (was staged : M → Counts)
         record { keyed = ks.1; held = ws.1; settled = ss.1; within = begun.held.within },
       )
 
-  pub done_two : (memories lefts rights own : List M) (left_shifts right_shifts made : List Shift) → memories ≡ (lefts ++ rights) ++ own → below_count p ≡ 2 → AreWithin (content_of old) p
-      → IsDone old now (first_below p) (map staged lefts) left_shifts → IsDone old now (second_below p) (map staged rights) right_shifts → IsOwnDone old now p (map staged own) made
+  pub done_two : (memories lefts rights own : List M) (left_deltas right_deltas made : List RowDelta) → memories ≡ (lefts ++ rights) ++ own → below_count p ≡ 2 → AreWithin (content_of old) p
+      → IsDone old now (first_below p) (map staged lefts) left_deltas → IsDone old now (second_below p) (map staged rights) right_deltas → IsOwnDone old now p (map staged own) made
       → IsDone old now p (map staged memories) made
-  done_two memories lefts rights own left_shifts right_shifts made is pair within left_done right_done own_done =
+  done_two memories lefts rights own left_deltas right_deltas made is pair within left_done right_done own_done =
       let facts = over_two p pair in
       let rows = rows_at (Some now.content) in
       record {

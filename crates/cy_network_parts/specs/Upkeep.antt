@@ -10,7 +10,7 @@ use Rattle.cy_planner_algebra.specs.Plans.{Plan}
 use Rattle.cy_planner_algebra.specs.Meaning.{rows_of}
 use Rattle.cy_planner_algebra.specs.Sure.{IsSure}
 use Rattle.cy_planner_algebra.specs.WellFormed.{IsWellFormed}
-use Rattle.cy_network_operators.specs.declared.shifts.Shift.{Shift}
+use Rattle.cy_network_memory.specs.declared.memory.RowDelta.{RowDelta}
 use Rattle.cy_network_operators.specs.Deltas.{IsBounded, IsDelta, counts, rows_at}
 use Rattle.cy_network_touches.specs.Changes.{IsChange, Touches}
 use Rattle.cy_network_parts.specs.Memories.{AreWithin, own_contents, own_keys}
@@ -32,9 +32,9 @@ pub record IsStep (old : Option State) (now : State) (touches : Touches) (p : Pl
   pub sure : IsSure p
 
 -- what changes of the rows of a part
-pub record IsDeltaOf (old : Option State) (now : State) (p : Plan) (shifts : List Shift) : Type 0 where
-  pub delta : IsDelta (counts (rows_at (content_of old) p)) (counts (rows_at (Some now.content) p)) shifts
-  pub bounded : All IsBounded shifts
+pub record IsDeltaOf (old : Option State) (now : State) (p : Plan) (deltas : List RowDelta) : Type 0 where
+  pub delta : IsDelta (counts (rows_at (content_of old) p)) (counts (rows_at (Some now.content) p)) deltas
+  pub bounded : All IsBounded deltas
 
 -- the memories of a part alone, before the change: they hold what they mean on the first graph, and nothing is staged
 pub record IsOwnBegun (old : Option State) (p : Plan) (columns : List (List ℕ)) (was staged : List Counts) : Type 0 where
@@ -44,21 +44,21 @@ pub record IsOwnBegun (old : Option State) (p : Plan) (columns : List (List ℕ)
   pub within : AreWithin (content_of old) p
 
 -- a part over the change, its own memories before it, and what changes of the one part below it
-pub record IsFed (old : Option State) (now : State) (touches : Touches) (p : Plan) (columns : List (List ℕ)) (was staged : List Counts) (shifts : List Shift) : Type 0 where
+pub record IsFed (old : Option State) (now : State) (touches : Touches) (p : Plan) (columns : List (List ℕ)) (was staged : List Counts) (deltas : List RowDelta) : Type 0 where
   pub step : IsStep old now touches p
   pub own : IsOwnBegun old p columns was staged
-  pub below : IsDeltaOf old now (first_below p) shifts
+  pub below : IsDeltaOf old now (first_below p) deltas
 
 -- a part over two others over the change, its own memories before it, and what changes of these two
-pub record IsFedByTwo (old : Option State) (now : State) (touches : Touches) (p : Plan) (columns : List (List ℕ)) (was staged : List Counts) (left_shifts right_shifts : List Shift) : Type 0 where
+pub record IsFedByTwo (old : Option State) (now : State) (touches : Touches) (p : Plan) (columns : List (List ℕ)) (was staged : List Counts) (left_deltas right_deltas : List RowDelta) : Type 0 where
   pub step : IsStep old now touches p
   pub own : IsOwnBegun old p columns was staged
-  pub left : IsDeltaOf old now (first_below p) left_shifts
-  pub right : IsDeltaOf old now (second_below p) right_shifts
+  pub left : IsDeltaOf old now (first_below p) left_deltas
+  pub right : IsDeltaOf old now (second_below p) right_deltas
 
 -- what it gives: what changes of the rows of the part, and its own memories staged for the second graph
-pub record IsOwnDone (old : Option State) (now : State) (p : Plan) (staged : List Counts) (shifts : List Shift) : Type 0 where
-  pub change : IsDeltaOf old now p shifts
+pub record IsOwnDone (old : Option State) (now : State) (p : Plan) (staged : List Counts) (deltas : List RowDelta) : Type 0 where
+  pub change : IsDeltaOf old now p deltas
   pub holds : staged ≡ own_contents (rows_at (Some now.content)) p
 
 -- a row of the part counts more than 2^62 - 1

@@ -1,4 +1,4 @@
--- How a row's shifts come out of what stands among old rows and among new ones.
+-- How a row's row deltas come out of what stands among old rows and among new ones.
 use Rattle.std.proofs.Common.{◌≡◌, ℕ, ◌+◌, ◌<◌, ◌≤◌, Bool, true, false, not, cond, List, [], ◌∷◌, ◌++◌, refl, sym, ap, ◌∙◌, filter, length, length-append, append_assoc, arith}
 use Rattle.std.specs.List.{All}
 use Rattle.std.proofs.lemmas.List.{append-nil}
@@ -9,10 +9,10 @@ use Rattle.cy_values.specs.declared.rows.Cell.{Cell}
 use Rattle.cy_values.specs.Bag.{count_of}
 use Rattle.cy_network_memory.specs.Counts.{greatest_count, is_row}
 use Rattle.cy_planner_algebra.proofs.Counts.{count_append, count_passing}
-use Rattle.cy_network_operators.specs.declared.shifts.Shift.{Shift}
-use Rattle.cy_network_operators.specs.Deltas.{IsBounded, shift_between, shifts_of}
+use Rattle.cy_network_memory.specs.declared.memory.RowDelta.{RowDelta}
+use Rattle.cy_network_operators.specs.Deltas.{IsBounded, row_delta_between, deltas_of}
 use Rattle.cy_network_operators.proofs.Same.{is_row_back, row_itself, same_row}
-use Rattle.cy_network_operators.proofs.ShiftLemmas.{shifts_between}
+use Rattle.cy_network_operators.proofs.DeltaLemmas.{deltas_between}
 use Rattle.cy_network_sources.specs.internal.Through.{recounted}
 use Rattle.cy_network_touches.proofs.Owners.{bounded_between}
 
@@ -47,88 +47,88 @@ one_more row x rows b is =
 
 -- what a row has with this one, where it is taken with how often it counts
 module _ (row x : List Cell) (old new : List (List Cell)) where
-  gone_step : shift_between row (count_of row (old ++ x ∷ [])) (count_of row new)
-      ≡ shifts_of row (shift_between x (1 + count_of x old) (count_of x new)) ++ shift_between row (count_of row (others x old)) (count_of row (others x new))
+  gone_step : row_delta_between row (count_of row (old ++ x ∷ [])) (count_of row new)
+      ≡ deltas_of row (row_delta_between x (1 + count_of x old) (count_of x new)) ++ row_delta_between row (count_of row (others x old)) (count_of row (others x new))
   gone_step = by (is_row row x) refl
     where
-      by : (b : Bool) → is_row row x ≡ b → shift_between row (count_of row (old ++ x ∷ [])) (count_of row new)
-          ≡ shifts_of row (shift_between x (1 + count_of x old) (count_of x new)) ++ shift_between row (count_of row (others x old)) (count_of row (others x new))
+      by : (b : Bool) → is_row row x ≡ b → row_delta_between row (count_of row (old ++ x ∷ [])) (count_of row new)
+          ≡ deltas_of row (row_delta_between x (1 + count_of x old) (count_of x new)) ++ row_delta_between row (count_of row (others x old)) (count_of row (others x new))
       by false is =
-          ap (λ n. shift_between row n (count_of row new)) (one_more row x old false is ∙ nothing (count_of row old))
-          ∙ sym (ap (λ n. shift_between row n (count_of row (others x new))) (still_left row x old is) ∙ ap (shift_between row (count_of row old)) (still_left row x new is))
-          ∙ sym (ap (λ made. made ++ shift_between row (count_of row (others x old)) (count_of row (others x new)))
-          (shifts_between row x (1 + count_of x old) (count_of x new) ∙ ap (λ b. cond b (shift_between x (1 + count_of x old) (count_of x new)) []) is))
+          ap (λ n. row_delta_between row n (count_of row new)) (one_more row x old false is ∙ nothing (count_of row old))
+          ∙ sym (ap (λ n. row_delta_between row n (count_of row (others x new))) (still_left row x old is) ∙ ap (row_delta_between row (count_of row old)) (still_left row x new is))
+          ∙ sym (ap (λ made. made ++ row_delta_between row (count_of row (others x old)) (count_of row (others x new)))
+          (deltas_between row x (1 + count_of x old) (count_of x new) ∙ ap (λ b. cond b (row_delta_between x (1 + count_of x old) (count_of x new)) []) is))
         where
           nothing : (n : ℕ) → 0 + n ≡ n
           nothing n = omega arith
       by true is =
           let same : row ≡ x = same_row row x is in
-          ap (λ n. shift_between row n (count_of row new)) (one_more row x old true is)
-          ∙ ap (λ r. shift_between r (1 + count_of r old) (count_of r new)) same
-          ∙ sym (append-nil (shift_between x (1 + count_of x old) (count_of x new)))
-          ∙ ap (λ rest. shift_between x (1 + count_of x old) (count_of x new) ++ rest) (sym rest)
-          ∙ ap (λ made. made ++ shift_between row (count_of row (others x old)) (count_of row (others x new)))
-          (sym (shifts_between row x (1 + count_of x old) (count_of x new) ∙ ap (λ b. cond b (shift_between x (1 + count_of x old) (count_of x new)) []) is))
+          ap (λ n. row_delta_between row n (count_of row new)) (one_more row x old true is)
+          ∙ ap (λ r. row_delta_between r (1 + count_of r old) (count_of r new)) same
+          ∙ sym (append-nil (row_delta_between x (1 + count_of x old) (count_of x new)))
+          ∙ ap (λ rest. row_delta_between x (1 + count_of x old) (count_of x new) ++ rest) (sym rest)
+          ∙ ap (λ made. made ++ row_delta_between row (count_of row (others x old)) (count_of row (others x new)))
+          (sym (deltas_between row x (1 + count_of x old) (count_of x new) ∙ ap (λ b. cond b (row_delta_between x (1 + count_of x old) (count_of x new)) []) is))
         where
-          rest : shift_between row (count_of row (others x old)) (count_of row (others x new)) ≡ []
+          rest : row_delta_between row (count_of row (others x old)) (count_of row (others x new)) ≡ []
           rest =
-              ap (λ n. shift_between row n (count_of row (others x new))) (ap (λ r. count_of r (others x old)) (same_row row x is) ∙ none_left x old)
-              ∙ ap (shift_between row 0) (ap (λ r. count_of r (others x new)) (same_row row x is) ∙ none_left x new)
+              ap (λ n. row_delta_between row n (count_of row (others x new))) (ap (λ r. count_of r (others x old)) (same_row row x is) ∙ none_left x old)
+              ∙ ap (row_delta_between row 0) (ap (λ r. count_of r (others x new)) (same_row row x is) ∙ none_left x new)
 
-  come_step : shift_between row 0 (count_of row (new ++ x ∷ []))
-      ≡ shifts_of row (shift_between x 0 (1 + count_of x new)) ++ shift_between row 0 (count_of row (others x new))
+  come_step : row_delta_between row 0 (count_of row (new ++ x ∷ []))
+      ≡ deltas_of row (row_delta_between x 0 (1 + count_of x new)) ++ row_delta_between row 0 (count_of row (others x new))
   come_step = by (is_row row x) refl
     where
-      by : (b : Bool) → is_row row x ≡ b → shift_between row 0 (count_of row (new ++ x ∷ []))
-          ≡ shifts_of row (shift_between x 0 (1 + count_of x new)) ++ shift_between row 0 (count_of row (others x new))
+      by : (b : Bool) → is_row row x ≡ b → row_delta_between row 0 (count_of row (new ++ x ∷ []))
+          ≡ deltas_of row (row_delta_between x 0 (1 + count_of x new)) ++ row_delta_between row 0 (count_of row (others x new))
       by false is =
-          ap (shift_between row 0) (one_more row x new false is ∙ nothing (count_of row new) ∙ sym (still_left row x new is))
-          ∙ sym (ap (λ made. made ++ shift_between row 0 (count_of row (others x new)))
-          (shifts_between row x 0 (1 + count_of x new) ∙ ap (λ b. cond b (shift_between x 0 (1 + count_of x new)) []) is))
+          ap (row_delta_between row 0) (one_more row x new false is ∙ nothing (count_of row new) ∙ sym (still_left row x new is))
+          ∙ sym (ap (λ made. made ++ row_delta_between row 0 (count_of row (others x new)))
+          (deltas_between row x 0 (1 + count_of x new) ∙ ap (λ b. cond b (row_delta_between x 0 (1 + count_of x new)) []) is))
         where
           nothing : (n : ℕ) → 0 + n ≡ n
           nothing n = omega arith
       by true is =
           let same : row ≡ x = same_row row x is in
-          ap (shift_between row 0) (one_more row x new true is)
-          ∙ ap (λ r. shift_between r 0 (1 + count_of r new)) same
-          ∙ sym (append-nil (shift_between x 0 (1 + count_of x new)))
-          ∙ ap (λ rest. shift_between x 0 (1 + count_of x new) ++ rest) (sym (ap (shift_between row 0) (ap (λ r. count_of r (others x new)) same ∙ none_left x new)))
-          ∙ ap (λ made. made ++ shift_between row 0 (count_of row (others x new)))
-          (sym (shifts_between row x 0 (1 + count_of x new) ∙ ap (λ b. cond b (shift_between x 0 (1 + count_of x new)) []) is))
+          ap (row_delta_between row 0) (one_more row x new true is)
+          ∙ ap (λ r. row_delta_between r 0 (1 + count_of r new)) same
+          ∙ sym (append-nil (row_delta_between x 0 (1 + count_of x new)))
+          ∙ ap (λ rest. row_delta_between x 0 (1 + count_of x new) ++ rest) (sym (ap (row_delta_between row 0) (ap (λ r. count_of r (others x new)) same ∙ none_left x new)))
+          ∙ ap (λ made. made ++ row_delta_between row 0 (count_of row (others x new)))
+          (sym (deltas_between row x 0 (1 + count_of x new) ∙ ap (λ b. cond b (row_delta_between x 0 (1 + count_of x new)) []) is))
 
-module _ (row x : List Cell) (shifts all : List Shift) where
+module _ (row x : List Cell) (deltas all : List RowDelta) where
   -- one more row is taken
   pub gone_next : (popped old new left_old left_new : List (List Cell)) (before after : ℕ) → old ≡ popped ++ x ∷ [] → before ≡ 1 + count_of x popped → after ≡ count_of x new
       → left_old ≡ others x popped → left_new ≡ others x new
-      → shifts_of row shifts ++ recounted old new row ≡ all → shifts_of row (shifts ++ shift_between x before after) ++ recounted left_old left_new row ≡ all
+      → deltas_of row deltas ++ recounted old new row ≡ all → deltas_of row (deltas ++ row_delta_between x before after) ++ recounted left_old left_new row ≡ all
   gone_next popped old new left_old left_new before after is first second is_old is_new so_far =
-      ap (λ made. made ++ recounted left_old left_new row) (filter-append (λ s. is_row row s.row) shifts (shift_between x before after))
-      ∙ append_assoc (shifts_of row shifts) (shifts_of row (shift_between x before after)) (recounted left_old left_new row)
-      ∙ ap (λ made. shifts_of row shifts ++ made)
-      (ap (λ n. shifts_of row (shift_between x n after) ++ recounted left_old left_new row) first
-      ∙ ap (λ n. shifts_of row (shift_between x (1 + count_of x popped) n) ++ recounted left_old left_new row) second
-      ∙ ap (λ rows. shifts_of row (shift_between x (1 + count_of x popped) (count_of x new)) ++ recounted rows left_new row) is_old
-      ∙ ap (λ rows. shifts_of row (shift_between x (1 + count_of x popped) (count_of x new)) ++ recounted (others x popped) rows row) is_new
+      ap (λ made. made ++ recounted left_old left_new row) (filter-append (λ s. is_row row s.row) deltas (row_delta_between x before after))
+      ∙ append_assoc (deltas_of row deltas) (deltas_of row (row_delta_between x before after)) (recounted left_old left_new row)
+      ∙ ap (λ made. deltas_of row deltas ++ made)
+      (ap (λ n. deltas_of row (row_delta_between x n after) ++ recounted left_old left_new row) first
+      ∙ ap (λ n. deltas_of row (row_delta_between x (1 + count_of x popped) n) ++ recounted left_old left_new row) second
+      ∙ ap (λ rows. deltas_of row (row_delta_between x (1 + count_of x popped) (count_of x new)) ++ recounted rows left_new row) is_old
+      ∙ ap (λ rows. deltas_of row (row_delta_between x (1 + count_of x popped) (count_of x new)) ++ recounted (others x popped) rows row) is_new
       ∙ sym (gone_step row x popped new)
       ∙ ap (λ rows. recounted rows new row) (sym is))
       ∙ so_far
 
   pub come_next : (popped new left_new : List (List Cell)) (after : ℕ) → new ≡ popped ++ x ∷ [] → after ≡ 1 + count_of x popped → left_new ≡ others x popped
-      → shifts_of row shifts ++ shift_between row 0 (count_of row new) ≡ all → shifts_of row (shifts ++ shift_between x 0 after) ++ shift_between row 0 (count_of row left_new) ≡ all
+      → deltas_of row deltas ++ row_delta_between row 0 (count_of row new) ≡ all → deltas_of row (deltas ++ row_delta_between x 0 after) ++ row_delta_between row 0 (count_of row left_new) ≡ all
   come_next popped new left_new after is second is_new so_far =
-      ap (λ made. made ++ shift_between row 0 (count_of row left_new)) (filter-append (λ s. is_row row s.row) shifts (shift_between x 0 after))
-      ∙ append_assoc (shifts_of row shifts) (shifts_of row (shift_between x 0 after)) (shift_between row 0 (count_of row left_new))
-      ∙ ap (λ made. shifts_of row shifts ++ made)
-      (ap (λ n. shifts_of row (shift_between x 0 n) ++ shift_between row 0 (count_of row left_new)) second
-      ∙ ap (λ rows. shifts_of row (shift_between x 0 (1 + count_of x popped)) ++ shift_between row 0 (count_of row rows)) is_new
+      ap (λ made. made ++ row_delta_between row 0 (count_of row left_new)) (filter-append (λ s. is_row row s.row) deltas (row_delta_between x 0 after))
+      ∙ append_assoc (deltas_of row deltas) (deltas_of row (row_delta_between x 0 after)) (row_delta_between row 0 (count_of row left_new))
+      ∙ ap (λ made. deltas_of row deltas ++ made)
+      (ap (λ n. deltas_of row (row_delta_between x 0 n) ++ row_delta_between row 0 (count_of row left_new)) second
+      ∙ ap (λ rows. deltas_of row (row_delta_between x 0 (1 + count_of x popped)) ++ row_delta_between row 0 (count_of row rows)) is_new
       ∙ sym (come_step row x [] popped)
-      ∙ ap (λ rows. shift_between row 0 (count_of row rows)) (sym is))
+      ∙ ap (λ rows. row_delta_between row 0 (count_of row rows)) (sym is))
       ∙ so_far
 
--- one more shift within bounds
-pub bounded_next : (x : List Cell) (shifts : List Shift) (before after : ℕ) → before ≤ greatest_count → after ≤ greatest_count → All IsBounded shifts → All IsBounded (shifts ++ shift_between x before after)
-bounded_next x shifts before after one other so_far = All-append IsBounded shifts (shift_between x before after) so_far (bounded_between x before after one other)
+-- one more row delta within bounds
+pub bounded_next : (x : List Cell) (deltas : List RowDelta) (before after : ℕ) → before ≤ greatest_count → after ≤ greatest_count → All IsBounded deltas → All IsBounded (deltas ++ row_delta_between x before after)
+bounded_next x deltas before after one other so_far = All-append IsBounded deltas (row_delta_between x before after) so_far (bounded_between x before after one other)
 
 -- fewer rows are left than there were, and as many were taken at most
 module _ (x : List Cell) (all popped left : List (List Cell)) (is : all ≡ popped ++ x ∷ []) where

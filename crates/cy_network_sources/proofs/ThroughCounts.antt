@@ -30,8 +30,8 @@ use Rattle.cy_planner_algebra.specs.Plans as plan
 use Rattle.cy_planner_algebra.specs.Plans.{Plan}
 use Rattle.cy_planner_algebra.specs.Sure.{IsSure}
 use Rattle.cy_planner_algebra.proofs.Numbers.{numbered_rows}
-use Rattle.cy_network_operators.specs.declared.shifts.Shift.{Shift}
-use Rattle.cy_network_operators.specs.Deltas.{IsDelta, counts, shift_between, shifts_of}
+use Rattle.cy_network_memory.specs.declared.memory.RowDelta.{RowDelta}
+use Rattle.cy_network_operators.specs.Deltas.{IsDelta, counts, row_delta_between, deltas_of}
 use Rattle.cy_network_touches.specs.Changes.{IsChange, IsImage, Touches}
 use Rattle.cy_network_sources.specs.Scans.{scan_column, scan_parts}
 use Rattle.cy_network_touches.specs.Attributes.{node_attribute, rel_attribute}
@@ -46,7 +46,7 @@ use Rattle.cy_network_sources.proofs.Through.{each_found, each_weaker, fit_entit
 
 -- ---- how a row's count changes, where the entities change by which are touched
 
-kept_made : {X : Type 0} (h : X → List Shift) (p : X → Bool) → ((x : X) → p x ≡ false → h x ≡ []) → (xs : List X) → flat_map h xs ≡ flat_map h (filter p xs)
+kept_made : {X : Type 0} (h : X → List RowDelta) (p : X → Bool) → ((x : X) → p x ≡ false → h x ≡ []) → (xs : List X) → flat_map h xs ≡ flat_map h (filter p xs)
 kept_made h p none [] = refl
 kept_made h p none (x ∷ xs) = ap (λ rest. h x ++ rest) (kept_made h p none xs) ∙ step (p x) refl
   where
@@ -58,18 +58,18 @@ module _ {V : Type 0} (scan : Scan V) where
   pub recounted_all : (before now : ℕ → Option V) (touched : List (ℕ × Option V)) → IsDistinct nat_eq (keys_of touched)
       → ((n : ℕ) → IsImage (before n) (now n) (lookup (nat_eq n) touched)) → (row : List Cell)
       → flat_map (λ e. recounted (scan.rows e.0 e.1) (scan.rows e.0 (now e.0)) row) touched
-      ≡ shift_between row (count_at scan.rows before row (scan.owner row)) (count_at scan.rows now row (scan.owner row))
+      ≡ row_delta_between row (count_at scan.rows before row (scan.owner row)) (count_at scan.rows now row (scan.owner row))
   recounted_all before now touched once images row =
       kept_made changed (λ e. owns (scan.owner row) e.0) none touched ∙ by (scan.owner row) refl
     where
-      changed : ℕ × Option V → List Shift
+      changed : ℕ × Option V → List RowDelta
       changed e = recounted (scan.rows e.0 e.1) (scan.rows e.0 (now e.0)) row
 
       none : (e : ℕ × Option V) → owns (scan.owner row) e.0 ≡ false → changed e ≡ []
       none e h = none_between row _ _ (scan.apart row e.0 e.1 h ∙ sym (scan.apart row e.0 (now e.0) h))
 
       by : (o : Option ℕ) → scan.owner row ≡ o → flat_map changed (filter (λ e. owns o e.0) touched)
-          ≡ shift_between row (count_at scan.rows before row o) (count_at scan.rows now row o)
+          ≡ row_delta_between row (count_at scan.rows before row o) (count_at scan.rows now row o)
       by None is = ap (flat_map changed) (none_kept touched)
         where
           none_kept : (xs : List (ℕ × Option V)) → filter (λ e. false) xs ≡ []
@@ -78,7 +78,7 @@ module _ {V : Type 0} (scan : Scan V) where
       by (Some q) is = ap (flat_map changed) (own_entries nat_eq same_number q touched once) ∙ one (lookup (nat_eq q) touched) (images q)
         where
           one : (o : Option (Option V)) → IsImage (before q) (now q) o → flat_map changed (option_map_or (λ v. (q, v) ∷ []) o [])
-              ≡ shift_between row (count_of row (scan.rows q (before q))) (count_of row (scan.rows q (now q)))
+              ≡ row_delta_between row (count_of row (scan.rows q (before q))) (count_of row (scan.rows q (now q)))
           one None same = sym (none_between row _ _ (ap (λ (v : Option V). count_of row (scan.rows q v)) same))
           one (Some was) image = append-nil (changed (q, was)) ∙ ap (λ (v : Option V). recounted (scan.rows q v) (scan.rows q (now q)) row) image.0
 
@@ -195,15 +195,15 @@ module _ (p : Plan) (c : ℕ) (over : leaf_of p ≡ plan.nodes) (column : scan_c
           (λ q. numbered_rows state is q) p c over column (sure state is)) found
 
   module _ (before now : State) (touches : Touches) (change : IsChange before now touches) where
-    pub node_scan_delta : (shifts : List Shift)
-        → ((row : List Cell) → shifts_of row shifts ≡ flat_map (λ e. recounted (node_made (scan_parts p) e.0 e.1) (node_made (scan_parts p) e.0 (node_under now e.0)) row) touches.nodes)
-        → IsDelta (counts (rows_of before.content p)) (counts (rows_of now.content p)) shifts
-    node_scan_delta shifts is = record {
+    pub node_scan_delta : (deltas : List RowDelta)
+        → ((row : List Cell) → deltas_of row deltas ≡ flat_map (λ e. recounted (node_made (scan_parts p) e.0 e.1) (node_made (scan_parts p) e.0 (node_under now e.0)) row) touches.nodes)
+        → IsDelta (counts (rows_of before.content p)) (counts (rows_of now.content p)) deltas
+    node_scan_delta deltas is = record {
       each = λ row.
           is row
           ∙ recounted_all node_rows_in (node_under before) (node_under now) touches.nodes change.nodes_once (λ n. change.nodes (record { 0 = n })) row
-          ∙ sym (ap (λ k. shift_between row k (count_of row (rows_of now.content p))) (node_scan_count before change.graph_before row)
-          ∙ ap (λ k. shift_between row (count_at (node_made (scan_parts p)) (node_under before) row (node_number (cell_at row c))) k) (node_scan_count now change.graph_now row));
+          ∙ sym (ap (λ k. row_delta_between row k (count_of row (rows_of now.content p))) (node_scan_count before change.graph_before row)
+          ∙ ap (λ k. row_delta_between row (count_at (node_made (scan_parts p)) (node_under before) row (node_number (cell_at row c))) k) (node_scan_count now change.graph_now row));
     }
 
     pub node_fits : IsSure p → All (λ e. IsNodeFit (scan_parts p) e.0 e.1 × IsNodeFit (scan_parts p) e.0 (node_under now e.0)) touches.nodes
@@ -285,16 +285,16 @@ module _ (types : List Name) (orientation : Orientation) where
             (λ q. numbered_rows state is q) p c over column (sure state is)) found
 
     module _ (before now : State) (touches : Touches) (change : IsChange before now touches) where
-      pub rel_scan_delta : (shifts : List Shift)
-          → ((row : List Cell) → shifts_of row shifts
+      pub rel_scan_delta : (deltas : List RowDelta)
+          → ((row : List Cell) → deltas_of row deltas
           ≡ flat_map (λ e. recounted (rel_made types orientation (scan_parts p) e.0 e.1) (rel_made types orientation (scan_parts p) e.0 (rel_under now e.0)) row) touches.rels)
-          → IsDelta (counts (rows_of before.content p)) (counts (rows_of now.content p)) shifts
-      rel_scan_delta shifts is = record {
+          → IsDelta (counts (rows_of before.content p)) (counts (rows_of now.content p)) deltas
+      rel_scan_delta deltas is = record {
         each = λ row.
             is row
             ∙ recounted_all rel_rows_in (rel_under before) (rel_under now) touches.rels change.rels_once (λ n. change.rels (record { 0 = n })) row
-            ∙ sym (ap (λ k. shift_between row k (count_of row (rows_of now.content p))) (rel_scan_count before change.graph_before row)
-            ∙ ap (λ k. shift_between row (count_at (rel_made types orientation (scan_parts p)) (rel_under before) row (rel_number (cell_at row c))) k) (rel_scan_count now change.graph_now row));
+            ∙ sym (ap (λ k. row_delta_between row k (count_of row (rows_of now.content p))) (rel_scan_count before change.graph_before row)
+            ∙ ap (λ k. row_delta_between row (count_at (rel_made types orientation (scan_parts p)) (rel_under before) row (rel_number (cell_at row c))) k) (rel_scan_count now change.graph_now row));
       }
 
       pub rel_fits : IsSure p → All (λ e. IsRelFit types orientation (scan_parts p) e.0 e.1 × IsRelFit types orientation (scan_parts p) e.0 (rel_under now e.0)) touches.rels

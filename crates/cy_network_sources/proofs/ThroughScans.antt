@@ -16,8 +16,8 @@ use Rattle.cy_planner_algebra.specs.Meaning.{rows_of}
 use Rattle.cy_planner_algebra.specs.Plans as plan
 use Rattle.cy_planner_algebra.specs.Plans.{Plan}
 use Rattle.cy_planner_algebra.specs.Views.{plan_of}
-use Rattle.cy_network_operators.specs.declared.shifts.Shift.{Shift}
-use Rattle.cy_network_operators.specs.Deltas.{IsDelta, counts, shifts_of}
+use Rattle.cy_network_memory.specs.declared.memory.RowDelta.{RowDelta}
+use Rattle.cy_network_operators.specs.Deltas.{IsDelta, counts, deltas_of}
 use Rattle.cy_network_touches.specs.Changes.{Touches}
 use Rattle.cy_network_sources.specs.Scans.{scan_column, scan_parts, scan_reads}
 use Rattle.cy_network_sources.specs.internal.Through.{IsNodeFit, IsRelFit, IsScanOver, leaf_of, node_made, recounted, rel_made, made_by, through}
@@ -47,12 +47,12 @@ module _ (before now : State) (touches : Touches) (ps : List Plan) (leaf p : Pla
       subst (λ (qs : List Plan). All (λ (e : ℕ × Option Node). IsNodeFit qs e.0 e.1 × IsNodeFit qs e.0 (node_under now e.0)) touches.nodes) (sym over.scan.parts)
       (node_fits p column.0 (over.leaf ∙ is) column.1 before now touches over.scan.change over.scan.sure)
 
-  pub nodes_delta : leaf ≡ plan.nodes → (shifts : List Shift)
-      → ((row : List Cell) → shifts_of row shifts ≡ flat_map (λ (e : ℕ × Option Node). recounted (node_made ps e.0 e.1) (node_made ps e.0 (node_under now e.0)) row) touches.nodes)
-      → IsDelta (counts (rows_of before.content p)) (counts (rows_of now.content p)) shifts
-  nodes_delta is shifts made =
-      node_scan_delta p column.0 (over.leaf ∙ is) column.1 before now touches over.scan.change shifts
-      (subst (λ (qs : List Plan). (row : List Cell) → shifts_of row shifts ≡ flat_map (λ (e : ℕ × Option Node). recounted (node_made qs e.0 e.1) (node_made qs e.0 (node_under now e.0)) row) touches.nodes)
+  pub nodes_delta : leaf ≡ plan.nodes → (deltas : List RowDelta)
+      → ((row : List Cell) → deltas_of row deltas ≡ flat_map (λ (e : ℕ × Option Node). recounted (node_made ps e.0 e.1) (node_made ps e.0 (node_under now e.0)) row) touches.nodes)
+      → IsDelta (counts (rows_of before.content p)) (counts (rows_of now.content p)) deltas
+  nodes_delta is deltas made =
+      node_scan_delta p column.0 (over.leaf ∙ is) column.1 before now touches over.scan.change deltas
+      (subst (λ (qs : List Plan). (row : List Cell) → deltas_of row deltas ≡ flat_map (λ (e : ℕ × Option Node). recounted (node_made qs e.0 e.1) (node_made qs e.0 (node_under now e.0)) row) touches.nodes)
       over.scan.parts made)
 
   pub rels_fit : (types : List Name) (orientation : Orientation) → leaf ≡ plan.rels types orientation
@@ -61,13 +61,13 @@ module _ (before now : State) (touches : Touches) (ps : List Plan) (leaf p : Pla
       subst (λ (qs : List Plan). All (λ (e : ℕ × Option Rel). IsRelFit types orientation qs e.0 e.1 × IsRelFit types orientation qs e.0 (rel_under now e.0)) touches.rels) (sym over.scan.parts)
       (rel_fits types orientation p column.0 (over.leaf ∙ is) column.1 before now touches over.scan.change over.scan.sure)
 
-  pub rels_delta : (types : List Name) (orientation : Orientation) → leaf ≡ plan.rels types orientation → (shifts : List Shift)
-      → ((row : List Cell) → shifts_of row shifts
+  pub rels_delta : (types : List Name) (orientation : Orientation) → leaf ≡ plan.rels types orientation → (deltas : List RowDelta)
+      → ((row : List Cell) → deltas_of row deltas
       ≡ flat_map (λ (e : ℕ × Option Rel). recounted (rel_made types orientation ps e.0 e.1) (rel_made types orientation ps e.0 (rel_under now e.0)) row) touches.rels)
-      → IsDelta (counts (rows_of before.content p)) (counts (rows_of now.content p)) shifts
-  rels_delta types orientation is shifts made =
-      rel_scan_delta types orientation p column.0 (over.leaf ∙ is) column.1 before now touches over.scan.change shifts
-      (subst (λ (qs : List Plan). (row : List Cell) → shifts_of row shifts
+      → IsDelta (counts (rows_of before.content p)) (counts (rows_of now.content p)) deltas
+  rels_delta types orientation is deltas made =
+      rel_scan_delta types orientation p column.0 (over.leaf ∙ is) column.1 before now touches over.scan.change deltas
+      (subst (λ (qs : List Plan). (row : List Cell) → deltas_of row deltas
       ≡ flat_map (λ (e : ℕ × Option Rel). recounted (rel_made types orientation qs e.0 e.1) (rel_made types orientation qs e.0 (rel_under now e.0)) row) touches.rels)
       over.scan.parts made)
 

@@ -7,56 +7,57 @@ ghost use Rattle.std.specs.Option.{option_to_list};
 ghost use Rattle.cy_values.specs.declared.rows.Cell.{Cell};
 ghost use Rattle.cy_values.specs.Bag.{count_of};
 ghost use Rattle.cy_network_memory.specs.Counts.{greatest_count, is_row};
-ghost use Rattle.cy_network_operators.specs.Deltas.{IsBounded, shift_between, shifts_of};
+ghost use Rattle.cy_network_operators.specs.Deltas.{IsBounded, row_delta_between, deltas_of};
 ghost use Rattle.cy_network_sources.specs.internal.Through.{recounted};
 
-use cy_network_operators::{Shift, add_shift};
+use cy_network_memory::RowDelta;
+use cy_network_operators::add_row_delta;
 use cy_values::{Fault, Row, row_order};
 use std::cmp::Ordering;
 
-/// Adds a shift of each row that counts otherwise among the new rows than among the old ones. Fails only when out of memory.
+/// Adds a row delta of each row that counts otherwise among the new rows than among the old ones. Fails only when out of memory.
 pub(crate) fn add_recounted(
-    shifts: &mut Vec<Shift>,
+    deltas: &mut Vec<RowDelta>,
     old: Vec<Row>,
     new: Vec<Row>,
 ) -> Result<(), Fault>
     requires old { length old.items ≤ greatest_count }
     requires new { length new.items ≤ greatest_count }
-    ensures recounted { OnOk result ((row : List Cell) → shifts_of row shifts.new.items ≡ shifts_of row shifts.old.items ++ recounted old.items new.items row) }
-    ensures bounded { OnOk result (All IsBounded shifts.old.items → All IsBounded shifts.new.items) }
+    ensures recounted { OnOk result ((row : List Cell) → deltas_of row deltas.new.items ≡ deltas_of row deltas.old.items ++ recounted old.items new.items row) }
+    ensures bounded { OnOk result (All IsBounded deltas.old.items → All IsBounded deltas.new.items) }
 {
     let mut new = new;
-    add_gone(shifts, old, &mut new)?;
-    add_come(shifts, new)
+    add_gone(deltas, old, &mut new)?;
+    add_come(deltas, new)
 }
 
-/// Adds the shifts of a row that goes and of one that comes in its place, if there are such. Fails only when out of memory.
+/// Adds the row deltas of a row that goes and of one that comes in its place, if there are such. Fails only when out of memory.
 pub(crate) fn add_replaced(
-    shifts: &mut Vec<Shift>,
+    deltas: &mut Vec<RowDelta>,
     old: Option<Row>,
     new: Option<Row>,
 ) -> Result<(), Fault>
-    ensures recounted { OnOk result ((row : List Cell) → shifts_of row shifts.new.items ≡ shifts_of row shifts.old.items ++ recounted (option_to_list old) (option_to_list new) row) }
-    ensures bounded { OnOk result (All IsBounded shifts.old.items → All IsBounded shifts.new.items) }
+    ensures recounted { OnOk result ((row : List Cell) → deltas_of row deltas.new.items ≡ deltas_of row deltas.old.items ++ recounted (option_to_list old) (option_to_list new) row) }
+    ensures bounded { OnOk result (All IsBounded deltas.old.items → All IsBounded deltas.new.items) }
 {
     match (old, new) {
         (None, None) => Ok(()),
-        (Some(old), None) => add_shift(shifts, old, 1, 0),
-        (None, Some(new)) => add_shift(shifts, new, 0, 1),
-        (Some(old), Some(new)) => add_exchanged(shifts, old, new),
+        (Some(old), None) => add_row_delta(deltas, old, 1, 0),
+        (None, Some(new)) => add_row_delta(deltas, new, 0, 1),
+        (Some(old), Some(new)) => add_exchanged(deltas, old, new),
     }
 }
 
-// Adds the shifts of a row that goes and of one that comes. Where they are the same there are none.
-fn add_exchanged(shifts: &mut Vec<Shift>, old: Row, new: Row) -> Result<(), Fault>
-    ensures recounted { OnOk result ((row : List Cell) → shifts_of row shifts.new.items ≡ shifts_of row shifts.old.items ++ recounted (old ∷ []) (new ∷ []) row) }
-    ensures bounded { OnOk result (All IsBounded shifts.old.items → All IsBounded shifts.new.items) }
+// Adds the row deltas of a row that goes and of one that comes. Where they are the same there are none.
+fn add_exchanged(deltas: &mut Vec<RowDelta>, old: Row, new: Row) -> Result<(), Fault>
+    ensures recounted { OnOk result ((row : List Cell) → deltas_of row deltas.new.items ≡ deltas_of row deltas.old.items ++ recounted (old ∷ []) (new ∷ []) row) }
+    ensures bounded { OnOk result (All IsBounded deltas.old.items → All IsBounded deltas.new.items) }
 {
     if is_same(&old, &new) {
         return Ok(());
     }
-    add_shift(shifts, old, 1, 0)?;
-    add_shift(shifts, new, 0, 1)
+    add_row_delta(deltas, old, 1, 0)?;
+    add_row_delta(deltas, new, 0, 1)
 }
 
 // Whether two rows are the same.
@@ -66,34 +67,34 @@ fn is_same(row: &Row, other: &Row) -> bool
     row_order(row, other) == Ordering::Equal
 }
 
-// Adds a shift of each of the old rows that counts otherwise among the new ones, and takes it from these.
-fn add_gone(shifts: &mut Vec<Shift>, old: Vec<Row>, new: &mut Vec<Row>) -> Result<(), Fault>
+// Adds a row delta of each of the old rows that counts otherwise among the new ones, and takes it from these.
+fn add_gone(deltas: &mut Vec<RowDelta>, old: Vec<Row>, new: &mut Vec<Row>) -> Result<(), Fault>
     requires old { length old.items ≤ greatest_count }
     requires new { length new.old.items ≤ greatest_count }
-    ensures recounted { OnOk result ((row : List Cell) → shifts_of row shifts.new.items ++ shift_between row 0 (count_of row new.new.items)
-        ≡ shifts_of row shifts.old.items ++ recounted old.items new.old.items row) }
-    ensures bounded { OnOk result (All IsBounded shifts.old.items → All IsBounded shifts.new.items) }
+    ensures recounted { OnOk result ((row : List Cell) → deltas_of row deltas.new.items ++ row_delta_between row 0 (count_of row new.new.items)
+        ≡ deltas_of row deltas.old.items ++ recounted old.items new.old.items row) }
+    ensures bounded { OnOk result (All IsBounded deltas.old.items → All IsBounded deltas.new.items) }
     ensures fewer { OnOk result (length new.new.items ≤ length new.old.items) }
 {
     let mut old = old;
     while let Some(row) = old.pop() {
         let before = 1 + take_same(&mut old, &row);
         let after = take_same(new, &row);
-        add_shift(shifts, row, before, after)?;
+        add_row_delta(deltas, row, before, after)?;
     }
     Ok(())
 }
 
-// Adds a shift of each of the rows, which come.
-fn add_come(shifts: &mut Vec<Shift>, new: Vec<Row>) -> Result<(), Fault>
+// Adds a row delta of each of the rows, which come.
+fn add_come(deltas: &mut Vec<RowDelta>, new: Vec<Row>) -> Result<(), Fault>
     requires { length new.items ≤ greatest_count }
-    ensures recounted { OnOk result ((row : List Cell) → shifts_of row shifts.new.items ≡ shifts_of row shifts.old.items ++ shift_between row 0 (count_of row new.items)) }
-    ensures bounded { OnOk result (All IsBounded shifts.old.items → All IsBounded shifts.new.items) }
+    ensures recounted { OnOk result ((row : List Cell) → deltas_of row deltas.new.items ≡ deltas_of row deltas.old.items ++ row_delta_between row 0 (count_of row new.items)) }
+    ensures bounded { OnOk result (All IsBounded deltas.old.items → All IsBounded deltas.new.items) }
 {
     let mut new = new;
     while let Some(row) = new.pop() {
         let after = 1 + take_same(&mut new, &row);
-        add_shift(shifts, row, 0, after)?;
+        add_row_delta(deltas, row, 0, after)?;
     }
     Ok(())
 }

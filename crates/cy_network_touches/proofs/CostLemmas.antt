@@ -11,14 +11,13 @@ use Rattle.std.proofs.lemmas.List.Sums.{sum_by-cons}
 use Rattle.cy_values.specs.Bag.{count_of}
 use Rattle.cy_values.specs.declared.rows.Cell.{Cell}
 use Rattle.cy_values.specs.declared.rows.Cell.TheVariants as cell
-use Rattle.cy_network_memory.specs.declared.memory.Record.{Record}
+use Rattle.cy_network_memory.specs.declared.memory.RowDelta.{RowDelta}
 use Rattle.cy_network_memory.specs.Counts.{Counts, is_row, key_of}
 use Rattle.cy_network_memory.specs.Records.{IsAnswer, is_counted, is_found}
 use Rattle.cy_planner_algebra.specs.Expressions.{cell_at, null}
 use Rattle.cy_planner_algebra.specs.Meaning.{each_once, is_among}
 use Rattle.cy_planner_algebra.proofs.Counts.{count_append, count_cons, count_once}
-use Rattle.cy_network_operators.specs.declared.shifts.Shift.{Shift}
-use Rattle.cy_network_operators.specs.Deltas.{IsDelta, counts, counts_after, shift_between}
+use Rattle.cy_network_operators.specs.Deltas.{IsDelta, counts, counts_after, row_delta_between}
 use Rattle.cy_network_operators.proofs.Staging.{after_delta}
 use Rattle.cy_network_operators.proofs.Same.{is_row_back, row_itself, same_row}
 use Rattle.cy_network_touches.specs.Changes.{Touches}
@@ -31,14 +30,14 @@ use Rattle.cy_network_touches.proofs.Owners.{owns, node_owner, rel_owner}
 -- ---- each row of some records stands once, is one of several rows and passes a test: they are no more than those that pass
 
 -- how many of the records are of a row
-abbrev of_row : List Cell → List Record → ℕ
+abbrev of_row : List Cell → List RowDelta → ℕ
 of_row row records = count_by (λ r. is_row row r.row) records
 
 -- the records that are of other rows
-abbrev others : List Cell → List Record → List Record
+abbrev others : List Cell → List RowDelta → List RowDelta
 others x records = filter (λ r. not (is_row x r.row)) records
 
-split : (x : List Cell) (records : List Record) → length records ≡ of_row x records + length (others x records)
+split : (x : List Cell) (records : List RowDelta) → length records ≡ of_row x records + length (others x records)
 split x [] = refl
 split x (r ∷ records) = step (is_row x r.row) (split x records) ∙ ap (λ n. n + length (others x (r ∷ records))) (sym (sum_by-cons (λ r. cond (is_row x r.row) 1 0) r records))
   where
@@ -47,7 +46,7 @@ split x (r ∷ records) = step (is_row x r.row) (split x records) ∙ ap (λ n. 
     step true rest = omega (arith, rest)
     step false rest = omega (arith, rest)
 
-fewer : (row x : List Cell) (records : List Record) → of_row row (others x records) ≤ of_row row records
+fewer : (row x : List Cell) (records : List RowDelta) → of_row row (others x records) ≤ of_row row records
 fewer row x [] = omega arith
 fewer row x (r ∷ records) =
     subst (λ n. of_row row (others x (r ∷ records)) ≤ n) (sym (sum_by-cons (λ r. cond (is_row row r.row) 1 0) r records)) (step (is_row x r.row) (fewer row x records))
@@ -55,13 +54,13 @@ fewer row x (r ∷ records) =
     step : (b : Bool) → of_row row (others x records) ≤ of_row row records → of_row row (cond (not b) (r ∷ others x records) (others x records)) ≤ cond (is_row row r.row) 1 0 + of_row row records
     step true rest = omega (arith, rest)
     step false rest =
-        let whole = sum_by-cons (λ (r : Record). cond (is_row row r.row) 1 0) r (others x records) in
+        let whole = sum_by-cons (λ (r : RowDelta). cond (is_row row r.row) 1 0) r (others x records) in
         omega (arith, rest, whole)
 
-abbrev IsIn : (List Cell → Bool) → List (List Cell) → Record → Type 0
+abbrev IsIn : (List Cell → Bool) → List (List Cell) → RowDelta → Type 0
 IsIn p rows r = (p r.row ≡ true) × (is_among r.row rows ≡ true)
 
-others_in : (p : List Cell → Bool) (x : List Cell) (rows : List (List Cell)) (records : List Record) → All (IsIn p (x ∷ rows)) records → All (IsIn p rows) (others x records)
+others_in : (p : List Cell → Bool) (x : List Cell) (rows : List (List Cell)) (records : List RowDelta) → All (IsIn p (x ∷ rows)) records → All (IsIn p rows) (others x records)
 others_in p x rows [] each = All-nil (IsIn p rows)
 others_in p x rows (r ∷ records) each = step (is_row x r.row) refl (others_in p x rows records (All-tail (IsIn p (x ∷ rows)) r records each))
   where
@@ -72,7 +71,7 @@ others_in p x rows (r ∷ records) each = step (is_row x r.row) refl (others_in 
     step true is rest = rest
     step false is rest = All-cons (IsIn p rows) r (others x records) (head.0, sym (ap (λ b. b || is_among r.row rows) (sym (is_row_back r.row x) ∙ is)) ∙ head.1) rest
 
-none_of : (p : List Cell → Bool) (x : List Cell) (rows : List (List Cell)) (records : List Record) → All (IsIn p rows) records → p x ≡ false → of_row x records ≡ 0
+none_of : (p : List Cell → Bool) (x : List Cell) (rows : List (List Cell)) (records : List RowDelta) → All (IsIn p rows) records → p x ≡ false → of_row x records ≡ 0
 none_of p x rows [] each fails = refl
 none_of p x rows (r ∷ records) each fails =
     sum_by-cons (λ r. cond (is_row x r.row) 1 0) r records ∙ step (is_row x r.row) refl (none_of p x rows records (All-tail (IsIn p rows) r records each) fails)
@@ -81,7 +80,7 @@ none_of p x rows (r ∷ records) each fails =
     step true is rest = absurd (true≢false (sym (All-head (IsIn p rows) r records each).0 ∙ ap p (sym (same_row x r.row is)) ∙ fails))
     step false is rest = omega (arith, rest)
 
-few : (p : List Cell → Bool) (rows : List (List Cell)) (records : List Record) → ((row : List Cell) → of_row row records ≤ 1) → All (IsIn p rows) records → length records ≤ count_by p rows
+few : (p : List Cell → Bool) (rows : List (List Cell)) (records : List RowDelta) → ((row : List Cell) → of_row row records ≤ 1) → All (IsIn p rows) records → length records ≤ count_by p rows
 few p [] [] once each = omega arith
 few p [] (r ∷ records) once each = absurd (false≢true (All-head (IsIn p []) r records each).1)
 few p (x ∷ rows) records once each =
@@ -97,7 +96,7 @@ few p (x ∷ rows) records once each =
     by false is = let none = none_of p x (x ∷ rows) records each is in omega (arith, none)
 
 -- the records of a key are no more than the rows that have it
-pub records_few : (columns : List ℕ) (was staged : Counts) (key : List Cell) (records : List Record) → IsAnswer columns was staged key records
+pub records_few : (columns : List ℕ) (was staged : Counts) (key : List Cell) (records : List RowDelta) → IsAnswer columns was staged key records
     → (rows : List (List Cell)) → ((row : List Cell) → is_counted was staged row ≡ true → is_among row rows ≡ true)
     → length records ≤ count_by (λ row. is_row key (key_of columns row)) rows
 records_few columns was staged key records answer rows there =
@@ -109,7 +108,7 @@ records_few columns was staged key records answer rows there =
     at_most true is = omega (arith, is)
     at_most false is = omega (arith, is)
 
-    found_in : (r : Record) → 1 ≤ of_row r.row records → IsIn (λ row. is_row key (key_of columns row)) rows r
+    found_in : (r : RowDelta) → 1 ≤ of_row r.row records → IsIn (λ row. is_row key (key_of columns row)) rows r
     found_in r some = by (is_row key (key_of columns r.row)) (is_counted was staged r.row) refl refl (answer.once r.row)
       where
         by : (k c : Bool) → is_row key (key_of columns r.row) ≡ k → is_counted was staged r.row ≡ c → of_row r.row records ≡ cond (k && c) 1 0 → IsIn (λ row. is_row key (key_of columns row)) rows r
@@ -117,12 +116,12 @@ records_few columns was staged key records answer rows there =
         by true false is counts once = absurd (omega (arith, some, once))
         by false c is counts once = absurd (omega (arith, some, once))
 
-    all_in : (some : List Record) → ((r : Record) → 1 ≤ of_row r.row some → IsIn (λ row. is_row key (key_of columns row)) rows r) → All (IsIn (λ row. is_row key (key_of columns row)) rows) some
+    all_in : (some : List RowDelta) → ((r : RowDelta) → 1 ≤ of_row r.row some → IsIn (λ row. is_row key (key_of columns row)) rows r) → All (IsIn (λ row. is_row key (key_of columns row)) rows) some
     all_in [] each = All-nil (IsIn (λ row. is_row key (key_of columns row)) rows)
     all_in (r ∷ some) each =
         All-cons (IsIn (λ row. is_row key (key_of columns row)) rows) r some
-        (each r (let whole = sum_by-cons (λ (s : Record). cond (is_row r.row s.row) 1 0) r some in let own : cond {A = ℕ} (is_row r.row r.row) 1 0 ≡ 1 = ap (λ b. cond {A = ℕ} b 1 0) (row_itself r.row) in omega (arith, whole, own)))
-        (all_in some (λ s h. each s (let whole = sum_by-cons (λ (t : Record). cond (is_row s.row t.row) 1 0) r some in omega (arith, whole, h))))
+        (each r (let whole = sum_by-cons (λ (s : RowDelta). cond (is_row r.row s.row) 1 0) r some in let own : cond {A = ℕ} (is_row r.row r.row) 1 0 ≡ 1 = ap (λ b. cond {A = ℕ} b 1 0) (row_itself r.row) in omega (arith, whole, own)))
+        (all_in some (λ s h. each s (let whole = sum_by-cons (λ (t : RowDelta). cond (is_row s.row t.row) 1 0) r some in omega (arith, whole, h))))
 
 -- ---- the rows that name touched entities, one after another
 
@@ -235,13 +234,13 @@ among_counted row xs some = by (is_among row xs) refl
     by true is = refl
     by false is = let none = none_among row xs is in absurd (omega (arith, some, none))
 
-pub counted_there : (was : Counts) (shifts : List Shift) (old new : List (List Cell)) → ((row : List Cell) → was row ≡ count_of row old) → IsDelta (counts old) (counts new) shifts
-    → (row : List Cell) → is_counted was (counts_after shifts was) row ≡ true → is_among row (each_once (old ++ new)) ≡ true
-counted_there was shifts old new is delta row counted =
+pub counted_there : (was : Counts) (deltas : List RowDelta) (old new : List (List Cell)) → ((row : List Cell) → was row ≡ count_of row old) → IsDelta (counts old) (counts new) deltas
+    → (row : List Cell) → is_counted was (counts_after deltas was) row ≡ true → is_among row (each_once (old ++ new)) ≡ true
+counted_there was deltas old new is delta row counted =
     among_counted row (each_once (old ++ new))
-    (let some : 0 < was row + counts_after shifts was row = grind (arith, nat_tests) in
+    (let some : 0 < was row + counts_after deltas was row = grind (arith, nat_tests) in
     let before = is row in
-    let after = after_delta was (counts new) shifts (record { each = λ r. delta.each r ∙ ap (λ n. shift_between r n (count_of r new)) (sym (is r)) }) row in
+    let after = after_delta was (counts new) deltas (record { each = λ r. delta.each r ∙ ap (λ n. row_delta_between r n (count_of r new)) (sym (is r)) }) row in
     let once = count_once row (old ++ new) in
     let both = count_append row old new in
     omega (arith, some, before, after, once, both))

@@ -21,17 +21,17 @@ use Rattle.cy_network_memory.specs.Counts.{Counts, greatest_count, is_row, key_o
 use Rattle.cy_planner_algebra.specs.declared.operators.Attribute.{Attribute}
 use Rattle.cy_planner_algebra.specs.Expressions.{cell_at, null}
 use Rattle.cy_planner_algebra.specs.Meaning.{attribute_of, with_attribute}
-use Rattle.cy_network_operators.specs.declared.shifts.Shift.{Shift}
-use Rattle.cy_network_operators.specs.Deltas.{IsBounded, IsDelta, counts, counts_after, shifts_of, shift_between}
+use Rattle.cy_network_memory.specs.declared.memory.RowDelta.{RowDelta}
+use Rattle.cy_network_operators.specs.Deltas.{IsBounded, IsDelta, counts, counts_after, deltas_of, row_delta_between}
 use Rattle.cy_network_operators.proofs.Same.{row_itself, same_row}
-use Rattle.cy_network_operators.proofs.ShiftLemmas.{shifts_made}
+use Rattle.cy_network_operators.proofs.DeltaLemmas.{deltas_made}
 use Rattle.cy_network_operators.proofs.Staging.{after_delta}
 use Rattle.cy_network_touches.specs.declared.attributes.Attributes.{Attributes}
 use Rattle.cy_network_touches.specs.Changes.{IsChange, IsImage, Touches}
-use Rattle.cy_network_touches.specs.internal.Attributes.{AreAttributes, front, reattributed, shift_at, still, still_shifts, valued}
+use Rattle.cy_network_touches.specs.internal.Attributes.{AreAttributes, front, reattributed, row_delta_at, still, still_deltas, valued}
 use Rattle.cy_network_touches.specs.Attributes.{node_attribute, rel_attribute}
 use Rattle.cy_network_touches.proofs.Keys.{number_itself, own_entries, same_by_order, same_number}
-use Rattle.cy_network_touches.proofs.LookupLemmas.{at_node, at_rel, at_rels, at_value, count_with, reattributed_other, reattributed_shift, rows_same, valued_is}
+use Rattle.cy_network_touches.proofs.LookupLemmas.{at_node, at_rel, at_rels, at_value, count_with, reattributed_other, reattributed_row_delta, rows_same, valued_is}
 use Rattle.cy_network_touches.proofs.Owners.{none_between, owns, bounded_between, node_owner, rel_owner}
 
 equal : (m n : ℕ) → (m == n) ≡ true → m ≡ n
@@ -98,7 +98,7 @@ key_names column row entity (Some c) is same =
 
 pub still_by_graphs : (old new : Content) (column : ℕ) (attribute : Attribute) (was staged : Counts) (entity : Cell) (values : Attributes)
     → AreAttributes (attribute_of old attribute entity) (attribute_of new attribute entity) values → (row : List Cell)
-    → still_shifts (column ∷ []) was staged (entity ∷ []) values row ≡ still old new column attribute was staged entity row
+    → still_deltas (column ∷ []) was staged (entity ∷ []) values row ≡ still old new column attribute was staged entity row
 still_by_graphs old new column attribute was staged entity values are row =
     cases (is_row (entity ∷ []) (key_in column (front row))) (was (front row) == staged (front row)) refl
   where
@@ -106,16 +106,16 @@ still_by_graphs old new column attribute was staged entity values are row =
     names is = key_names column (front row) entity (slice_get (front row) column) refl (ap (is_row (entity ∷ [])) (sym (key_is column (front row) (slice_get (front row) column) refl)) ∙ is)
 
     cases : (k e : Bool) → is_row (entity ∷ []) (key_in column (front row)) ≡ k
-        → cond (k && e) (shifts_of row (valued values (shift_at was staged (front row)))) [] ≡ cond (k && e) (shifts_of row (reattributed old new column attribute (shift_at was staged (front row)))) []
+        → cond (k && e) (deltas_of row (valued values (row_delta_at was staged (front row)))) [] ≡ cond (k && e) (deltas_of row (reattributed old new column attribute (row_delta_at was staged (front row)))) []
     cases false e is = refl
     cases true false is = refl
     cases true true is =
-        ap (shifts_of row) (valued_is old new column attribute (shift_at was staged (front row)) values
+        ap (deltas_of row) (valued_is old new column attribute (row_delta_at was staged (front row)) values
         (subst (λ (c : Cell). AreAttributes (attribute_of old attribute c) (attribute_of new attribute c) values) (sym (names is)) are))
 
 -- ---- the entity of a row among those that are touched
 
-made_by : {X : Type 0} (p : X → Bool) (h : X → List Shift) → ((x : X) → p x ≡ false → h x ≡ []) → (xs : List X) → flat_map h xs ≡ flat_map h (filter p xs)
+made_by : {X : Type 0} (p : X → Bool) (h : X → List RowDelta) → ((x : X) → p x ≡ false → h x ≡ []) → (xs : List X) → flat_map h xs ≡ flat_map h (filter p xs)
 made_by p h none [] = refl
 made_by p h none (x ∷ xs) = ap (λ rest. h x ++ rest) (made_by p h none xs) ∙ step (p x) refl
   where
@@ -124,12 +124,12 @@ made_by p h none (x ∷ xs) = ap (λ rest. h x ++ rest) (made_by p h none xs) �
     step false is = ap (λ found. found ++ flat_map h (filter p xs)) (none x is)
 
 -- what is made where the number is touched
-abbrev where_touched : {V : Type 0} → List Shift → Option V → List Shift
+abbrev where_touched : {V : Type 0} → List RowDelta → Option V → List RowDelta
 where_touched made None = []
 where_touched made (Some was) = made
 
-module _ {V : Type 0} (same : Bool) (made : List Shift) where
-  abbrev term : Option ℕ → ℕ × V → List Shift
+module _ {V : Type 0} (same : Bool) (made : List RowDelta) where
+  abbrev term : Option ℕ → ℕ × V → List RowDelta
   term o e = cond (owns o e.0 && same) made []
 
   none_term : (o : Option ℕ) (e : ℕ × V) → owns o e.0 ≡ false → term o e ≡ []
@@ -161,8 +161,8 @@ module _ (before now : State) (touches : Touches) (change : IsChange before now 
   abbrev new : Content
   new = now.content
 
-  abbrev whole : List Shift
-  whole = shifts_of row (reattributed old new column attribute (shift_at was staged first))
+  abbrev whole : List RowDelta
+  whole = deltas_of row (reattributed old new column attribute (row_delta_at was staged first))
 
   abbrev unchanged : Bool
   unchanged = was first == staged first
@@ -170,18 +170,18 @@ module _ (before now : State) (touches : Touches) (change : IsChange before now 
   -- a row makes nothing where neither its count nor its attribute differs
   none_made : unchanged ≡ true → attribute_of old attribute (cell_at first column) ≡ attribute_of new attribute (cell_at first column) → whole ≡ []
   none_made is same =
-      ap (λ b. shifts_of row (cond b (shift_between (with_attribute new column attribute first) (was first) (staged first))
-      (shift_between (with_attribute old column attribute first) (was first) 0 ++ shift_between (with_attribute new column attribute first) 0 (staged first))))
+      ap (λ b. deltas_of row (cond b (row_delta_between (with_attribute new column attribute first) (was first) (staged first))
+      (row_delta_between (with_attribute old column attribute first) (was first) 0 ++ row_delta_between (with_attribute new column attribute first) 0 (staged first))))
       (rows_same first (attribute_of old attribute (cell_at first column)) (attribute_of new attribute (cell_at first column)) same)
-      ∙ ap (shifts_of row) (none_between (with_attribute new column attribute first) (was first) (staged first) (equal _ _ is))
+      ∙ ap (deltas_of row) (none_between (with_attribute new column attribute first) (was first) (staged first) (equal _ _ is))
 
-  abbrev changed_part : List Shift
+  abbrev changed_part : List RowDelta
   changed_part = cond unchanged [] (whole ++ [])
 
-  abbrev node_part : List Shift
+  abbrev node_part : List RowDelta
   node_part = flat_map (λ e. still old new column attribute was staged (cell.Node (record { 0 = e.0 })) row) touches.nodes
 
-  abbrev rel_part : List Shift
+  abbrev rel_part : List RowDelta
   rel_part = flat_map (λ e. still old new column attribute was staged (cell.Rel (record { 0 = e.0 })) row) touches.rels
 
   nodes_named : (o : Option Cell) → slice_get first column ≡ o → node_part ≡ flat_map (term unchanged whole (node_owner (cells_of o))) touches.nodes
@@ -252,89 +252,89 @@ module _ (before now : State) (touches : Touches) (change : IsChange before now 
           ∙ sym (ap (attribute_of new attribute) (cell_is column first (Some (cell.Rel id)) is) ∙ at_rel now attribute id)) unchanged refl
       by (Some value) image = touched_second unchanged
 
-  changed_made : (shifts : List Shift) → IsDelta was staged shifts → shifts_of row (flat_map (reattributed old new column attribute) shifts) ≡ changed_part
-  changed_made shifts delta =
-      shifts_made row (λ s. is_row first s.row) (reattributed old new column attribute) (λ s apart. reattributed_other old new column attribute row s apart) shifts
-      ∙ ap (flat_map (λ s. shifts_of row (reattributed old new column attribute s))) (delta.each first)
+  changed_made : (deltas : List RowDelta) → IsDelta was staged deltas → deltas_of row (flat_map (reattributed old new column attribute) deltas) ≡ changed_part
+  changed_made deltas delta =
+      deltas_made row (λ s. is_row first s.row) (reattributed old new column attribute) (λ s apart. reattributed_other old new column attribute row s apart) deltas
+      ∙ ap (flat_map (λ s. deltas_of row (reattributed old new column attribute s))) (delta.each first)
       ∙ one unchanged
     where
-      one : (b : Bool) → flat_map (λ s. shifts_of row (reattributed old new column attribute s)) (cond b [] (shift_at was staged first ∷ [])) ≡ cond b [] (whole ++ [])
+      one : (b : Bool) → flat_map (λ s. deltas_of row (reattributed old new column attribute s)) (cond b [] (row_delta_at was staged first ∷ [])) ≡ cond b [] (whole ++ [])
       one true = refl
       one false = refl
 
   -- what a row makes of all, by the row that it begins with
-  pub made_whole : (shifts : List Shift) → IsDelta was staged shifts
-      → shifts_of row (flat_map (reattributed old new column attribute) shifts) ++ (node_part ++ rel_part) ≡ whole
-  made_whole shifts delta =
-      ap (λ made. made ++ (node_part ++ rel_part)) (changed_made shifts delta)
+  pub made_whole : (deltas : List RowDelta) → IsDelta was staged deltas
+      → deltas_of row (flat_map (reattributed old new column attribute) deltas) ++ (node_part ++ rel_part) ≡ whole
+  made_whole deltas delta =
+      ap (λ made. made ++ (node_part ++ rel_part)) (changed_made deltas delta)
       ∙ ap (λ made. changed_part ++ (made ++ rel_part)) (nodes_named (slice_get first column) refl)
       ∙ ap (λ made. changed_part ++ (flat_map (term unchanged whole (node_owner (cells_of (slice_get first column)))) touches.nodes ++ made)) (rels_named (slice_get first column) refl)
       ∙ by_cell (slice_get first column) refl
 
 -- the delta of the rows with the attribute
-pub lookup_delta : (before now : State) (touches : Touches) → IsChange before now touches → (column : ℕ) (attribute : Attribute) (was : Counts) (shifts made : List Shift)
-    → IsDelta was (counts_after shifts was) shifts
-    → ((row : List Cell) → shifts_of row made ≡ shifts_of row (flat_map (reattributed before.content now.content column attribute) shifts)
-    ++ (flat_map (λ e. still before.content now.content column attribute was (counts_after shifts was) (cell.Node (record { 0 = e.0 })) row) touches.nodes
-    ++ flat_map (λ e. still before.content now.content column attribute was (counts_after shifts was) (cell.Rel (record { 0 = e.0 })) row) touches.rels))
-    → (old new : List (List Cell)) → ((row : List Cell) → was row ≡ count_of row old) → IsDelta (counts old) (counts new) shifts
+pub lookup_delta : (before now : State) (touches : Touches) → IsChange before now touches → (column : ℕ) (attribute : Attribute) (was : Counts) (deltas made : List RowDelta)
+    → IsDelta was (counts_after deltas was) deltas
+    → ((row : List Cell) → deltas_of row made ≡ deltas_of row (flat_map (reattributed before.content now.content column attribute) deltas)
+    ++ (flat_map (λ e. still before.content now.content column attribute was (counts_after deltas was) (cell.Node (record { 0 = e.0 })) row) touches.nodes
+    ++ flat_map (λ e. still before.content now.content column attribute was (counts_after deltas was) (cell.Rel (record { 0 = e.0 })) row) touches.rels))
+    → (old new : List (List Cell)) → ((row : List Cell) → was row ≡ count_of row old) → IsDelta (counts old) (counts new) deltas
     → IsDelta (counts (map (with_attribute before.content column attribute) old)) (counts (map (with_attribute now.content column attribute) new)) made
-lookup_delta before now touches change column attribute was shifts made held makes old new is delta = record {
+lookup_delta before now touches change column attribute was deltas made held makes old new is delta = record {
   each = λ row.
       makes row
-      ∙ made_whole before now touches change column attribute was staged row shifts held
-      ∙ reattributed_shift before.content now.content column attribute was staged row
-      ∙ ap (λ n. shift_between row n (cond (is_row row (with_attribute now.content column attribute (front row))) (staged (front row)) 0))
+      ∙ made_whole before now touches change column attribute was staged row deltas held
+      ∙ reattributed_row_delta before.content now.content column attribute was staged row
+      ∙ ap (λ n. row_delta_between row n (cond (is_row row (with_attribute now.content column attribute (front row))) (staged (front row)) 0))
       (ap (λ n. cond (is_row row (with_attribute before.content column attribute (front row))) n 0) (is (front row)) ∙ sym (count_with before.content now.content column attribute before.content row old))
-      ∙ ap (λ n. shift_between row (count_of row (map (with_attribute before.content column attribute) old)) n)
-      (ap (λ n. cond (is_row row (with_attribute now.content column attribute (front row))) n 0) (after_delta was (counts new) shifts from_was (front row)) ∙ sym (count_with before.content now.content column attribute now.content row new));
+      ∙ ap (λ n. row_delta_between row (count_of row (map (with_attribute before.content column attribute) old)) n)
+      (ap (λ n. cond (is_row row (with_attribute now.content column attribute (front row))) n 0) (after_delta was (counts new) deltas from_was (front row)) ∙ sym (count_with before.content now.content column attribute now.content row new));
 }
   where
     staged : Counts
-    staged = counts_after shifts was
+    staged = counts_after deltas was
 
-    from_was : IsDelta was (counts new) shifts
-    from_was = record { each = λ row. delta.each row ∙ ap (λ n. shift_between row n (count_of row new)) (sym (is row)) }
+    from_was : IsDelta was (counts new) deltas
+    from_was = record { each = λ row. delta.each row ∙ ap (λ n. row_delta_between row n (count_of row new)) (sym (is row)) }
 
 -- ---- and within bounds
 
-all_by_rows : (P : Shift → Type 0) (shifts : List Shift) → ((row : List Cell) → All P (shifts_of row shifts)) → All P shifts
+all_by_rows : (P : RowDelta → Type 0) (deltas : List RowDelta) → ((row : List Cell) → All P (deltas_of row deltas)) → All P deltas
 all_by_rows P [] each = All-nil P
-all_by_rows P (s ∷ shifts) each =
-    All-cons P s shifts
-    (All-head P s (shifts_of s.row shifts) (subst (λ b. All P (cond b (s ∷ shifts_of s.row shifts) (shifts_of s.row shifts))) (row_itself s.row) (each s.row)))
-    (all_by_rows P shifts (λ row. rest row (is_row row s.row) (each row)))
+all_by_rows P (s ∷ deltas) each =
+    All-cons P s deltas
+    (All-head P s (deltas_of s.row deltas) (subst (λ b. All P (cond b (s ∷ deltas_of s.row deltas) (deltas_of s.row deltas))) (row_itself s.row) (each s.row)))
+    (all_by_rows P deltas (λ row. rest row (is_row row s.row) (each row)))
   where
-    rest : (row : List Cell) (b : Bool) → All P (cond b (s ∷ shifts_of row shifts) (shifts_of row shifts)) → All P (shifts_of row shifts)
-    rest row true all = All-tail P s (shifts_of row shifts) all
+    rest : (row : List Cell) (b : Bool) → All P (cond b (s ∷ deltas_of row deltas) (deltas_of row deltas)) → All P (deltas_of row deltas)
+    rest row true all = All-tail P s (deltas_of row deltas) all
     rest row false all = all
 
 bounded_if : (b : Bool) (n : ℕ) → n ≤ greatest_count → cond b n 0 ≤ greatest_count
 bounded_if true n is = is
 bounded_if false n is = omega arith
 
--- the counts to which bounded shifts lead are bounded
-staged_bounded : (was staged : Counts) (shifts : List Shift) → IsDelta was staged shifts → ((row : List Cell) → was row ≤ greatest_count) → All IsBounded shifts → (row : List Cell) → staged row ≤ greatest_count
-staged_bounded was staged shifts delta within bounded row =
-    by (was row == staged row) refl (subst (All IsBounded) (delta.each row) (All-filter (λ s. is_row row s.row) IsBounded shifts bounded))
+-- the counts to which bounded row deltas lead are bounded
+staged_bounded : (was staged : Counts) (deltas : List RowDelta) → IsDelta was staged deltas → ((row : List Cell) → was row ≤ greatest_count) → All IsBounded deltas → (row : List Cell) → staged row ≤ greatest_count
+staged_bounded was staged deltas delta within bounded row =
+    by (was row == staged row) refl (subst (All IsBounded) (delta.each row) (All-filter (λ s. is_row row s.row) IsBounded deltas bounded))
   where
-    by : (b : Bool) → (was row == staged row) ≡ b → All IsBounded (cond b [] (shift_at was staged row ∷ [])) → staged row ≤ greatest_count
+    by : (b : Bool) → (was row == staged row) ≡ b → All IsBounded (cond b [] (row_delta_at was staged row ∷ [])) → staged row ≤ greatest_count
     by true is all = subst (λ n. n ≤ greatest_count) (equal _ _ is) (within row)
-    by false is all = (All-head IsBounded (shift_at was staged row) [] all).1
+    by false is all = (All-head IsBounded (row_delta_at was staged row) [] all).1
 
-pub lookup_bounded : (before now : State) (touches : Touches) → IsChange before now touches → (column : ℕ) (attribute : Attribute) (was : Counts) (shifts made : List Shift)
-    → IsDelta was (counts_after shifts was) shifts
-    → ((row : List Cell) → shifts_of row made ≡ shifts_of row (flat_map (reattributed before.content now.content column attribute) shifts)
-    ++ (flat_map (λ e. still before.content now.content column attribute was (counts_after shifts was) (cell.Node (record { 0 = e.0 })) row) touches.nodes
-    ++ flat_map (λ e. still before.content now.content column attribute was (counts_after shifts was) (cell.Rel (record { 0 = e.0 })) row) touches.rels))
-    → ((row : List Cell) → was row ≤ greatest_count) → All IsBounded shifts → All IsBounded made
-lookup_bounded before now touches change column attribute was shifts made held makes within bounded =
+pub lookup_bounded : (before now : State) (touches : Touches) → IsChange before now touches → (column : ℕ) (attribute : Attribute) (was : Counts) (deltas made : List RowDelta)
+    → IsDelta was (counts_after deltas was) deltas
+    → ((row : List Cell) → deltas_of row made ≡ deltas_of row (flat_map (reattributed before.content now.content column attribute) deltas)
+    ++ (flat_map (λ e. still before.content now.content column attribute was (counts_after deltas was) (cell.Node (record { 0 = e.0 })) row) touches.nodes
+    ++ flat_map (λ e. still before.content now.content column attribute was (counts_after deltas was) (cell.Rel (record { 0 = e.0 })) row) touches.rels))
+    → ((row : List Cell) → was row ≤ greatest_count) → All IsBounded deltas → All IsBounded made
+lookup_bounded before now touches change column attribute was deltas made held makes within bounded =
     all_by_rows IsBounded made (λ row.
     subst (All IsBounded)
-    (sym (makes row ∙ made_whole before now touches change column attribute was staged row shifts held ∙ reattributed_shift before.content now.content column attribute was staged row))
+    (sym (makes row ∙ made_whole before now touches change column attribute was staged row deltas held ∙ reattributed_row_delta before.content now.content column attribute was staged row))
     (bounded_between row _ _
     (bounded_if (is_row row (with_attribute before.content column attribute (front row))) (was (front row)) (within (front row)))
-    (bounded_if (is_row row (with_attribute now.content column attribute (front row))) (staged (front row)) (staged_bounded was staged shifts held within bounded (front row)))))
+    (bounded_if (is_row row (with_attribute now.content column attribute (front row))) (staged (front row)) (staged_bounded was staged deltas held within bounded (front row)))))
   where
     staged : Counts
-    staged = counts_after shifts was
+    staged = counts_after deltas was

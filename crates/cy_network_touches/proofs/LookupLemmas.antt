@@ -13,7 +13,7 @@ use Rattle.cy_values.specs.declared.rows.Cell.{Cell}
 use Rattle.cy_values.specs.declared.rows.Cell.TheVariants as cell
 use Rattle.cy_values.specs.Bag.{count_of}
 use Rattle.cy_graph.specs.Graph.{Content, State, node_at, rel_at}
-use Rattle.cy_network_memory.specs.declared.memory.Record.{Record}
+use Rattle.cy_network_memory.specs.declared.memory.RowDelta.{RowDelta}
 use Rattle.cy_network_memory.specs.Counts.{Counts, is_row, key_of}
 use Rattle.cy_network_memory.specs.Records.{IsAnswer, is_counted}
 use Rattle.cy_planner_algebra.specs.declared.operators.Attribute.{Attribute}
@@ -21,13 +21,12 @@ use Rattle.cy_planner_algebra.specs.declared.operators.Attribute.TheVariants.{Pr
 use Rattle.cy_planner_algebra.specs.Expressions.{cell_at, null}
 use Rattle.cy_planner_algebra.specs.Meaning.{attribute_of, with_attribute}
 use Rattle.cy_planner_algebra.proofs.Counts.{count_cons}
-use Rattle.cy_network_operators.specs.declared.shifts.Shift.{Shift}
-use Rattle.cy_network_operators.specs.Deltas.{shifts_of, shift_between}
+use Rattle.cy_network_operators.specs.Deltas.{deltas_of, row_delta_between}
 use Rattle.cy_network_operators.proofs.PairLemmas.{answered}
 use Rattle.cy_network_operators.proofs.Same.{is_row_if, same_row}
-use Rattle.cy_network_operators.proofs.ShiftLemmas.{shifts_between, shifts_made}
+use Rattle.cy_network_operators.proofs.DeltaLemmas.{deltas_between, deltas_made}
 use Rattle.cy_network_touches.specs.declared.attributes.Attributes.{Attributes}
-use Rattle.cy_network_touches.specs.internal.Attributes.{AreAttributes, front, reattributed, shift_at, still_shifts, valued, valued_record}
+use Rattle.cy_network_touches.specs.internal.Attributes.{AreAttributes, front, reattributed, row_delta_at, still_deltas, valued, valued_record}
 use Rattle.cy_network_touches.specs.Attributes.{node_attribute, rel_attribute}
 use Rattle.cy_network_touches.proofs.Owners.{none_between}
 
@@ -56,32 +55,32 @@ longer_other : (row other : List Cell) (c : Cell) (b : Bool) → is_row row (oth
 longer_other row other c false is apart = refl
 longer_other row other c true is apart = absurd (true≢false (sym (is_row_if (front row) other (longer_front row other c is)) ∙ apart))
 
-between_other : (row other : List Cell) (c : Cell) (m n : ℕ) → is_row (front row) other ≡ false → shifts_of row (shift_between (other ++ c ∷ []) m n) ≡ []
+between_other : (row other : List Cell) (c : Cell) (m n : ℕ) → is_row (front row) other ≡ false → deltas_of row (row_delta_between (other ++ c ∷ []) m n) ≡ []
 between_other row other c m n apart =
-    shifts_between row (other ++ c ∷ []) m n
-    ∙ ap (λ b. cond b (shift_between (other ++ c ∷ []) m n) []) (longer_other row other c (is_row row (other ++ c ∷ [])) refl apart)
+    deltas_between row (other ++ c ∷ []) m n
+    ∙ ap (λ b. cond b (row_delta_between (other ++ c ∷ []) m n) []) (longer_other row other c (is_row row (other ++ c ∷ [])) refl apart)
 
 two_others : (row other : List Cell) (c d : Cell) (m n k l : ℕ) → is_row (front row) other ≡ false
-    → shifts_of row (shift_between (other ++ c ∷ []) m n ++ shift_between (other ++ d ∷ []) k l) ≡ []
+    → deltas_of row (row_delta_between (other ++ c ∷ []) m n ++ row_delta_between (other ++ d ∷ []) k l) ≡ []
 two_others row other c d m n k l apart =
-    filter-append (λ s. is_row row s.row) (shift_between (other ++ c ∷ []) m n) (shift_between (other ++ d ∷ []) k l)
-    ∙ ap (λ made. made ++ shifts_of row (shift_between (other ++ d ∷ []) k l)) (between_other row other c m n apart)
+    filter-append (λ s. is_row row s.row) (row_delta_between (other ++ c ∷ []) m n) (row_delta_between (other ++ d ∷ []) k l)
+    ∙ ap (λ made. made ++ deltas_of row (row_delta_between (other ++ d ∷ []) k l)) (between_other row other c m n apart)
     ∙ between_other row other d k l apart
 
--- ---- the shifts of rows that didn't change
+-- ---- the row deltas of rows that didn't change
 
-passed : (b : Bool) (row : List Cell) (shifts : List Shift) → shifts_of row (cond b shifts []) ≡ cond b (shifts_of row shifts) []
-passed true row shifts = refl
-passed false row shifts = refl
+passed : (b : Bool) (row : List Cell) (deltas : List RowDelta) → deltas_of row (cond b deltas []) ≡ cond b (deltas_of row deltas) []
+passed true row deltas = refl
+passed false row deltas = refl
 
-nothing_if : (b : Bool) → cond {A = List Shift} b [] [] ≡ []
+nothing_if : (b : Bool) → cond {A = List RowDelta} b [] [] ≡ []
 nothing_if true = refl
 nothing_if false = refl
 
-abbrev valued_by : Option Value → Value → Shift → List Shift
+abbrev valued_by : Option Value → Value → RowDelta → List RowDelta
 valued_by was now s = valued (record { value = now; was = was }) s
 
-valued_other : (row : List Cell) (was : Option Value) (now : Value) (s : Shift) → is_row (front row) s.row ≡ false → shifts_of row (valued_by was now s) ≡ []
+valued_other : (row : List Cell) (was : Option Value) (now : Value) (s : RowDelta) → is_row (front row) s.row ≡ false → deltas_of row (valued_by was now s) ≡ []
 valued_other row None now s apart = between_other row s.row (cell.Value now) s.before s.after apart
 valued_other row (Some was) now s apart = two_others row s.row (cell.Value was) (cell.Value now) s.before 0 0 s.after apart
 
@@ -94,15 +93,15 @@ uncounted was staged row is =
     let none : was row + staged row ≡ 0 = grind (arith, nat_tests) in
     (omega (arith, none), omega (arith, none))
 
-abbrev record_of : Counts → Counts → List Cell → Record
+abbrev record_of : Counts → Counts → List Cell → RowDelta
 record_of was staged row = record { row = row; before = was row; after = staged row }
 
 -- those of the records of a key
-pub still_made : (columns : List ℕ) (was staged : Counts) (key : List Cell) (values : Attributes) (records : List Record) → IsAnswer columns was staged key records → (row : List Cell)
-    → shifts_of row (flat_map (valued_record values) records) ≡ still_shifts columns was staged key values row
+pub still_made : (columns : List ℕ) (was staged : Counts) (key : List Cell) (values : Attributes) (records : List RowDelta) → IsAnswer columns was staged key records → (row : List Cell)
+    → deltas_of row (flat_map (valued_record values) records) ≡ still_deltas columns was staged key values row
 still_made columns was staged key values records answer row =
-    shifts_made row (λ r. is_row first r.row) (valued_record values) none records
-    ∙ ap (flat_map (λ r. shifts_of row (valued_record values r))) (answered columns was staged key records answer first)
+    deltas_made row (λ r. is_row first r.row) (valued_record values) none records
+    ∙ ap (flat_map (λ r. deltas_of row (valued_record values r))) (answered columns was staged key records answer first)
     ∙ cases (is_row key (key_of columns first)) (is_counted was staged first) refl
   where
     first : List Cell
@@ -111,39 +110,39 @@ still_made columns was staged key values records answer row =
     same : Bool
     same = was first == staged first
 
-    made : List Shift
-    made = valued values (shift_at was staged first)
+    made : List RowDelta
+    made = valued values (row_delta_at was staged first)
 
-    none : (r : Record) → is_row first r.row ≡ false → shifts_of row (valued_record values r) ≡ []
+    none : (r : RowDelta) → is_row first r.row ≡ false → deltas_of row (valued_record values r) ≡ []
     none r apart =
         passed (r.before == r.after) row (valued values (record { row = r.row; before = r.before; after = r.after }))
         ∙ ap (λ found. cond (r.before == r.after) found []) (valued_other row values.was values.value (record { row = r.row; before = r.before; after = r.after }) apart)
         ∙ nothing_if (r.before == r.after)
 
-    cases : (k c : Bool) → is_counted was staged first ≡ c → flat_map (λ r. shifts_of row (valued_record values r)) (cond (k && c) (record_of was staged first ∷ []) []) ≡ cond (k && same) (shifts_of row made) []
+    cases : (k c : Bool) → is_counted was staged first ≡ c → flat_map (λ r. deltas_of row (valued_record values r)) (cond (k && c) (record_of was staged first ∷ []) []) ≡ cond (k && same) (deltas_of row made) []
     cases false c is = refl
-    cases true true is = append-nil (shifts_of row (valued_record values (record_of was staged first))) ∙ passed same row made
+    cases true true is = append-nil (deltas_of row (valued_record values (record_of was staged first))) ∙ passed same row made
     cases true false is =
         let gone = uncounted was staged first is in
         let nothing : made ≡ [] =
         ap (λ n. valued values (record { row = first; before = n; after = staged first })) gone.0
         ∙ ap (λ n. valued values (record { row = first; before = 0; after = n })) gone.1
         ∙ valued_none values.was values.value first in
-        sym (ap (λ found. cond same (shifts_of row found) []) nothing ∙ nothing_if same)
+        sym (ap (λ found. cond same (deltas_of row found) []) nothing ∙ nothing_if same)
 
 -- where nothing differs they are none
-pub still_none : (columns : List ℕ) (was staged : Counts) (key : List Cell) (values : Attributes) (row : List Cell) → values.was ≡ None → still_shifts columns was staged key values row ≡ []
+pub still_none : (columns : List ℕ) (was staged : Counts) (key : List Cell) (values : Attributes) (row : List Cell) → values.was ≡ None → still_deltas columns was staged key values row ≡ []
 still_none columns was staged key values row is = cases (is_row key (key_of columns (front row))) (was (front row) == staged (front row)) refl
   where
     equal : (m n : ℕ) → (m == n) ≡ true → m ≡ n
     equal m n h = grind (arith, nat_tests)
 
-    cases : (k e : Bool) → (was (front row) == staged (front row)) ≡ e → cond (k && e) (shifts_of row (valued values (shift_at was staged (front row)))) [] ≡ []
+    cases : (k e : Bool) → (was (front row) == staged (front row)) ≡ e → cond (k && e) (deltas_of row (valued values (row_delta_at was staged (front row)))) [] ≡ []
     cases false e same = refl
     cases true false same = refl
     cases true true same =
-        ap (λ (o : Option Value). shifts_of row (valued_by o values.value (shift_at was staged (front row)))) is
-        ∙ ap (shifts_of row) (none_between (front row ++ cell.Value values.value ∷ []) (was (front row)) (staged (front row)) (equal _ _ same))
+        ap (λ (o : Option Value). deltas_of row (valued_by o values.value (row_delta_at was staged (front row)))) is
+        ∙ ap (deltas_of row) (none_between (front row ++ cell.Value values.value ∷ []) (was (front row)) (staged (front row)) (equal _ _ same))
 
 -- ---- attributes in a graph
 
@@ -199,29 +198,29 @@ module _ (old new : Content) (column : ℕ) (attribute : Attribute) where
   abbrev now_value : List Cell → Value
   now_value row = attribute_of new attribute (cell_at row column)
 
-  by_values : (s : Shift) (was : Option Value) (now : Value) → now ≡ now_value s.row → MatchOption was (was_value s.row ≡ now_value s.row) (λ w. (w ≡ was_value s.row) × (was_value s.row ≢ now_value s.row))
+  by_values : (s : RowDelta) (was : Option Value) (now : Value) → now ≡ now_value s.row → MatchOption was (was_value s.row ≡ now_value s.row) (λ w. (w ≡ was_value s.row) × (was_value s.row ≢ now_value s.row))
       → valued_by was now s ≡ reattributed old new column attribute s
   by_values s None now is same =
-      ap (λ v. shift_between (s.row ++ cell.Value v ∷ []) s.before s.after) is
-      ∙ sym (ap (λ b. cond b (shift_between (s.row ++ cell.Value (now_value s.row) ∷ []) s.before s.after)
-      (shift_between (s.row ++ cell.Value (was_value s.row) ∷ []) s.before 0 ++ shift_between (s.row ++ cell.Value (now_value s.row) ∷ []) 0 s.after))
+      ap (λ v. row_delta_between (s.row ++ cell.Value v ∷ []) s.before s.after) is
+      ∙ sym (ap (λ b. cond b (row_delta_between (s.row ++ cell.Value (now_value s.row) ∷ []) s.before s.after)
+      (row_delta_between (s.row ++ cell.Value (was_value s.row) ∷ []) s.before 0 ++ row_delta_between (s.row ++ cell.Value (now_value s.row) ∷ []) 0 s.after))
       (rows_same s.row (was_value s.row) (now_value s.row) same))
   by_values s (Some was) now is differs =
-      ap (λ v. shift_between (s.row ++ cell.Value was ∷ []) s.before 0 ++ shift_between (s.row ++ cell.Value v ∷ []) 0 s.after) is
-      ∙ ap (λ v. shift_between (s.row ++ cell.Value v ∷ []) s.before 0 ++ shift_between (s.row ++ cell.Value (now_value s.row) ∷ []) 0 s.after) differs.0
-      ∙ sym (ap (λ b. cond b (shift_between (s.row ++ cell.Value (now_value s.row) ∷ []) s.before s.after)
-      (shift_between (s.row ++ cell.Value (was_value s.row) ∷ []) s.before 0 ++ shift_between (s.row ++ cell.Value (now_value s.row) ∷ []) 0 s.after))
+      ap (λ v. row_delta_between (s.row ++ cell.Value was ∷ []) s.before 0 ++ row_delta_between (s.row ++ cell.Value v ∷ []) 0 s.after) is
+      ∙ ap (λ v. row_delta_between (s.row ++ cell.Value v ∷ []) s.before 0 ++ row_delta_between (s.row ++ cell.Value (now_value s.row) ∷ []) 0 s.after) differs.0
+      ∙ sym (ap (λ b. cond b (row_delta_between (s.row ++ cell.Value (now_value s.row) ∷ []) s.before s.after)
+      (row_delta_between (s.row ++ cell.Value (was_value s.row) ∷ []) s.before 0 ++ row_delta_between (s.row ++ cell.Value (now_value s.row) ∷ []) 0 s.after))
       (rows_apart s.row (was_value s.row) (now_value s.row) (is_row (s.row ++ cell.Value (was_value s.row) ∷ []) (s.row ++ cell.Value (now_value s.row) ∷ [])) refl differs.1))
 
   -- what a row makes with the values of its entity is what it makes by the graphs
-  pub valued_is : (s : Shift) (values : Attributes) → AreAttributes (was_value s.row) (now_value s.row) values → valued values s ≡ reattributed old new column attribute s
+  pub valued_is : (s : RowDelta) (values : Attributes) → AreAttributes (was_value s.row) (now_value s.row) values → valued values s ≡ reattributed old new column attribute s
   valued_is s values are = by_values s values.was values.value are.0 are.1
 
-  pub reattributed_other : (row : List Cell) (s : Shift) → is_row (front row) s.row ≡ false → shifts_of row (reattributed old new column attribute s) ≡ []
+  pub reattributed_other : (row : List Cell) (s : RowDelta) → is_row (front row) s.row ≡ false → deltas_of row (reattributed old new column attribute s) ≡ []
   reattributed_other row s apart = by (is_row (with_attribute old column attribute s.row) (with_attribute new column attribute s.row))
     where
-      by : (b : Bool) → shifts_of row (cond b (shift_between (with_attribute new column attribute s.row) s.before s.after)
-          (shift_between (with_attribute old column attribute s.row) s.before 0 ++ shift_between (with_attribute new column attribute s.row) 0 s.after)) ≡ []
+      by : (b : Bool) → deltas_of row (cond b (row_delta_between (with_attribute new column attribute s.row) s.before s.after)
+          (row_delta_between (with_attribute old column attribute s.row) s.before 0 ++ row_delta_between (with_attribute new column attribute s.row) 0 s.after)) ≡ []
       by true = between_other row s.row (cell.Value (now_value s.row)) s.before s.after apart
       by false = two_others row s.row (cell.Value (was_value s.row)) (cell.Value (now_value s.row)) s.before 0 0 s.after apart
 
@@ -265,10 +264,10 @@ module _ (old new : Content) (column : ℕ) (attribute : Attribute) where
           (longer_other row x (cell.Value (attribute_of graph attribute (cell_at x column))) (is_row row (with_attribute graph column attribute x)) refl is)
           ∙ more whole
 
-  -- the shifts that a row has, by the row that it begins with
-  pub reattributed_shift : (was staged : Counts) (row : List Cell) → shifts_of row (reattributed old new column attribute (shift_at was staged (front row)))
-      ≡ shift_between row (cond (is_row row (with_attribute old column attribute (front row))) (was (front row)) 0) (cond (is_row row (with_attribute new column attribute (front row))) (staged (front row)) 0)
-  reattributed_shift was staged row = by (is_row before after) refl
+  -- the row deltas that a row has, by the row that it begins with
+  pub reattributed_row_delta : (was staged : Counts) (row : List Cell) → deltas_of row (reattributed old new column attribute (row_delta_at was staged (front row)))
+      ≡ row_delta_between row (cond (is_row row (with_attribute old column attribute (front row))) (was (front row)) 0) (cond (is_row row (with_attribute new column attribute (front row))) (staged (front row)) 0)
+  reattributed_row_delta was staged row = by (is_row before after) refl
     where
       before : List Cell
       before = with_attribute old column attribute (front row)
@@ -282,26 +281,26 @@ module _ (old new : Content) (column : ℕ) (attribute : Attribute) where
       n : ℕ
       n = staged (front row)
 
-      one : (a : Bool) → is_row row after ≡ a → cond a (shift_between after m n) [] ≡ shift_between row (cond a m 0) (cond a n 0)
-      one true is = ap (λ r. shift_between r m n) (sym (same_row row after is))
+      one : (a : Bool) → is_row row after ≡ a → cond a (row_delta_between after m n) [] ≡ row_delta_between row (cond a m 0) (cond a n 0)
+      one true is = ap (λ r. row_delta_between r m n) (sym (same_row row after is))
       one false is = refl
 
       two : (a b : Bool) → is_row row before ≡ a → is_row row after ≡ b → is_row before after ≡ false
-          → cond a (shift_between before m 0) [] ++ cond b (shift_between after 0 n) [] ≡ shift_between row (cond a m 0) (cond b n 0)
+          → cond a (row_delta_between before m 0) [] ++ cond b (row_delta_between after 0 n) [] ≡ row_delta_between row (cond a m 0) (cond b n 0)
       two true true is other apart =
           absurd (true≢false (sym (is_row_if before after (sym (same_row row before is) ∙ same_row row after other)) ∙ apart))
-      two true false is other apart = append-nil (shift_between before m 0) ∙ ap (λ r. shift_between r m 0) (sym (same_row row before is))
-      two false true is other apart = ap (λ r. shift_between r 0 n) (sym (same_row row after other))
+      two true false is other apart = append-nil (row_delta_between before m 0) ∙ ap (λ r. row_delta_between r m 0) (sym (same_row row before is))
+      two false true is other apart = ap (λ r. row_delta_between r 0 n) (sym (same_row row after other))
       two false false is other apart = refl
 
-      by : (b : Bool) → is_row before after ≡ b → shifts_of row (cond b (shift_between after m n) (shift_between before m 0 ++ shift_between after 0 n))
-          ≡ shift_between row (cond (is_row row before) m 0) (cond (is_row row after) n 0)
+      by : (b : Bool) → is_row before after ≡ b → deltas_of row (cond b (row_delta_between after m n) (row_delta_between before m 0 ++ row_delta_between after 0 n))
+          ≡ row_delta_between row (cond (is_row row before) m 0) (cond (is_row row after) n 0)
       by true is =
-          shifts_between row after m n
+          deltas_between row after m n
           ∙ one (is_row row after) refl
-          ∙ ap (λ r. shift_between row (cond (is_row row r) m 0) (cond (is_row row after) n 0)) (sym (same_row before after is))
+          ∙ ap (λ r. row_delta_between row (cond (is_row row r) m 0) (cond (is_row row after) n 0)) (sym (same_row before after is))
       by false is =
-          filter-append (λ s. is_row row s.row) (shift_between before m 0) (shift_between after 0 n)
-          ∙ ap (λ made. made ++ shifts_of row (shift_between after 0 n)) (shifts_between row before m 0)
-          ∙ ap (λ made. cond (is_row row before) (shift_between before m 0) [] ++ made) (shifts_between row after 0 n)
+          filter-append (λ s. is_row row s.row) (row_delta_between before m 0) (row_delta_between after 0 n)
+          ∙ ap (λ made. made ++ deltas_of row (row_delta_between after 0 n)) (deltas_between row before m 0)
+          ∙ ap (λ made. cond (is_row row before) (row_delta_between before m 0) [] ++ made) (deltas_between row after 0 n)
           ∙ two (is_row row before) (is_row row after) refl refl is

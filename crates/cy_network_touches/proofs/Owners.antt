@@ -1,4 +1,4 @@
--- Which entity a row is of, and bounds of shifts.
+-- Which entity a row is of, and bounds of row deltas.
 use Rattle.std.proofs.Common.{◌≡◌, ℕ, ◌+◌, ◌≤◌, ◌==◌, Bool, true, false, cond, List, [], ◌∷◌, Option, None, Some, refl, sym, ap, ◌∙◌, nat_eq, arith}
 use Rattle.std.specs.List.{All}
 use Rattle.std.proofs.lemmas.Bool.{true≢false}
@@ -9,18 +9,18 @@ use Rattle.cy_values.specs.declared.rows.Cell.TheVariants as cell
 use Rattle.cy_values.specs.Bag.{count_of}
 use Rattle.cy_network_memory.specs.Counts.{greatest_count, is_row}
 use Rattle.cy_planner_algebra.proofs.Counts.{count_cons}
-use Rattle.cy_network_operators.specs.Deltas.{shift_between, IsBounded}
+use Rattle.cy_network_operators.specs.Deltas.{row_delta_between, IsBounded}
 use Rattle.cy_network_operators.proofs.Same.{same_row}
 use Rattle.cy_network_touches.proofs.Keys.{number_itself}
 
-equal_between : (row : List Cell) (n : ℕ) → shift_between row n n ≡ []
+equal_between : (row : List Cell) (n : ℕ) → row_delta_between row n n ≡ []
 equal_between row n = ap (λ b. cond b [] ((record { row = row; before = n; after = n }) ∷ [])) (itself n)
   where
     itself : (m : ℕ) → (m == m) ≡ true
     itself m = grind (arith, nat_tests)
 
-pub none_between : (row : List Cell) (m n : ℕ) → m ≡ n → shift_between row m n ≡ []
-none_between row m n same = ap (λ k. shift_between row k n) same ∙ equal_between row n
+pub none_between : (row : List Cell) (m n : ℕ) → m ≡ n → row_delta_between row m n ≡ []
+none_between row m n same = ap (λ k. row_delta_between row k n) same ∙ equal_between row n
 
 -- ---- which entity a row is of
 
@@ -58,7 +58,7 @@ none_counted owner row n (r ∷ rows) each apart =
     ∙ ap (λ b. cond b 1 0 + count_of row rows) (other_row owner row r n (is_row row r) refl (All-head (λ r. owner r ≡ Some n) r rows each) apart)
     ∙ omega (arith, rest)
 
-pub bounded_between : (row : List Cell) (a b : ℕ) → a ≤ greatest_count → b ≤ greatest_count → All IsBounded (shift_between row a b)
+pub bounded_between : (row : List Cell) (a b : ℕ) → a ≤ greatest_count → b ≤ greatest_count → All IsBounded (row_delta_between row a b)
 bounded_between row a b one other =
     elim (a == b) as (λ e. All IsBounded (cond e [] ((record { row = row; before = a; after = b }) ∷ []))) [
       | true ↦ All-nil IsBounded

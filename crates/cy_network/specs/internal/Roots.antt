@@ -1,11 +1,11 @@
--- Rows with counts, and what a shift makes of them.
+-- Rows with counts, and what a row delta makes of them.
 use Rattle.std.specs.Prelude.{◌≡◌, ℕ, ◌-◌, List, [], ◌∷◌, Some, nat_lt, if◌then◌else◌}
 use Rattle.cy_bags.specs.declared.changes.Change.{Change}
 use Rattle.cy_bags.specs.Difference.{IsDifference}
 use Rattle.cy_graph.specs.Graph.{Content}
 use Rattle.cy_values.specs.declared.rows.Cell.{Cell}
 use Rattle.cy_network_memory.specs.Counts.{Counts}
-use Rattle.cy_network_operators.specs.declared.shifts.Shift.{Shift}
+use Rattle.cy_network_memory.specs.declared.memory.RowDelta.{RowDelta}
 use Rattle.cy_network_operators.specs.Deltas.{counts}
 use Rattle.cy_network_parts.specs.Counted.{written}
 use Rattle.cy_network_parts.specs.Memories.{AreHeld}
@@ -13,8 +13,8 @@ use Rattle.cy_planner_algebra.specs.Meaning.{rows_of}
 use Rattle.cy_planner_algebra.specs.Plans.{Plan}
 use Rattle.cy_network.specs.Places.{Place, in_table, rows_by}
 
--- the row of a shift with by how much its one count is greater than its other one, if it is
-abbrev pub excess : (Shift → ℕ) → (Shift → ℕ) → Shift → List (List Cell × ℕ)
+-- the row of a row delta with by how much its one count is greater than its other one, if it is
+abbrev pub excess : (RowDelta → ℕ) → (RowDelta → ℕ) → RowDelta → List (List Cell × ℕ)
 excess f g s = if nat_lt (g s) (f s) then (s.row, f s - g s) ∷ [] else []
 
 -- what is staged for a plan, where the graph changes: its memories, the counts of those of its rows that change in its table, and what changes

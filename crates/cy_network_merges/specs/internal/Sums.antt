@@ -1,58 +1,58 @@
--- By how much the count of a row changes in all, where it may stand in several shifts.
+-- By how much the count of a row changes in all, where it may stand in several row deltas.
 use Rattle.std.specs.Prelude.{◌≡◌, ℕ, ◌-◌, Bool, List, [], ◌∷◌, if◌then◌else◌, flat_map, max, unwrap_or}
 use Rattle.std.specs.List.{sum_by, list_any}
 use Rattle.std.specs.Map.{lookup}
 use Rattle.cy_values.specs.declared.rows.Cell.{Cell}
 use Rattle.cy_values.specs.Bag.{count_of}
 use Rattle.cy_network_memory.specs.Counts.{Counts, is_row}
-use Rattle.cy_network_operators.specs.declared.shifts.Shift.{Shift}
-use Rattle.cy_network_operators.specs.Deltas.{shift_between, shifts_of}
+use Rattle.cy_network_memory.specs.declared.memory.RowDelta.{RowDelta}
+use Rattle.cy_network_operators.specs.Deltas.{row_delta_between, deltas_of}
 
--- what a shift by which the row counts less takes from it
-abbrev pub loss : List Cell → Shift → ℕ
+-- what a row delta by which the row counts less takes from it
+abbrev pub loss : List Cell → RowDelta → ℕ
 loss row s = if is_row row s.row then s.before - s.after else 0
 
 -- what all of them take
-abbrev pub lost : List Cell → List Shift → ℕ
-lost row shifts = sum_by (λ s. loss row s) shifts
+abbrev pub lost : List Cell → List RowDelta → ℕ
+lost row deltas = sum_by (λ s. loss row s) deltas
 
--- what a shift by which the row counts more adds to it
-abbrev pub gain : List Cell → Shift → ℕ
+-- what a row delta by which the row counts more adds to it
+abbrev pub gain : List Cell → RowDelta → ℕ
 gain row s = if is_row row s.row then s.after - s.before else 0
 
 -- what all of them add
-abbrev pub gained : List Cell → List Shift → ℕ
-gained row shifts = sum_by (λ s. gain row s) shifts
+abbrev pub gained : List Cell → List RowDelta → ℕ
+gained row deltas = sum_by (λ s. gain row s) deltas
 
--- a shift with another row
-abbrev pub image : (List Cell → List Cell) → Shift → Shift
+-- a row delta with another row
+abbrev pub image : (List Cell → List Cell) → RowDelta → RowDelta
 image f s = record { row = f s.row; before = s.before; after = s.after }
 
--- whether one of the shifts is of the row
-abbrev pub is_changed : List Cell → List Shift → Bool
-is_changed row shifts = list_any (λ s. is_row row s.row) shifts
+-- whether one of the row deltas is of the row
+abbrev pub is_changed : List Cell → List RowDelta → Bool
+is_changed row deltas = list_any (λ s. is_row row s.row) deltas
 
--- the shifts of some rows between two counts
-abbrev pub shifts_at : Counts → Counts → List (List Cell) → List Shift
-shifts_at before after rows = flat_map (λ row. shift_between row (before row) (after row)) rows
+-- the row deltas of some rows between two counts
+abbrev pub deltas_at : Counts → Counts → List (List Cell) → List RowDelta
+deltas_at before after rows = flat_map (λ row. row_delta_between row (before row) (after row)) rows
 
--- The shifts between two counts of the rows of some changes, each of these rows once.
-pub record AreShiftsOf (before after : Counts) (changes shifts : List Shift) : Type 0 where
+-- The row deltas between two counts of the rows of some changes, each of these rows once.
+pub record AreRowDeltasOf (before after : Counts) (changes deltas : List RowDelta) : Type 0 where
   pub rows : List (List Cell)
   pub once : (row : List Cell) → count_of row rows ≡ (if is_changed row changes then 1 else 0)
-  pub between : shifts ≡ shifts_at before after rows
+  pub between : deltas ≡ deltas_at before after rows
 
--- the greatest of what some shifts weigh
-abbrev pub greatest : (Shift → ℕ) → List Shift → ℕ
+-- the greatest of what some row deltas weigh
+abbrev pub greatest : (RowDelta → ℕ) → List RowDelta → ℕ
 greatest weight [] = 0
-greatest weight (s ∷ shifts) = max (weight s) (greatest weight shifts)
+greatest weight (s ∷ deltas) = max (weight s) (greatest weight deltas)
 
--- the greatest count of a row before some shifts, and the greatest one after them
-abbrev pub most_before : List Shift → Counts
-most_before shifts row = greatest (λ s. s.before) (shifts_of row shifts)
+-- the greatest count of a row before some row deltas, and the greatest one after them
+abbrev pub most_before : List RowDelta → Counts
+most_before deltas row = greatest (λ s. s.before) (deltas_of row deltas)
 
-abbrev pub most_after : List Shift → Counts
-most_after shifts row = greatest (λ s. s.after) (shifts_of row shifts)
+abbrev pub most_after : List RowDelta → Counts
+most_after deltas row = greatest (λ s. s.after) (deltas_of row deltas)
 
 -- the two counts that stand under a row, 0 where none do
 abbrev pub counts_at : List Cell → List (List Cell × (ℕ × ℕ)) → ℕ × ℕ

@@ -8,7 +8,7 @@ use Rattle.cy_graph.specs.Graph.{Content, State}
 use Rattle.cy_network_memory.specs.Counts.{Counts}
 use Rattle.cy_planner_algebra.specs.Plans.{Plan}
 use Rattle.cy_planner_algebra.specs.Meaning.{rows_of}
-use Rattle.cy_network_operators.specs.declared.shifts.Shift.{Shift}
+use Rattle.cy_network_memory.specs.declared.memory.RowDelta.{RowDelta}
 use Rattle.cy_network_operators.specs.Deltas.{counts, rows_at}
 use Rattle.cy_network_touches.specs.Changes.{IsChange, Touches}
 use Rattle.cy_network_touches.specs.Work.{all_reads, all_steps, asked_reads}
@@ -25,14 +25,14 @@ pub record IsBegun (from_nothing : Bool) (old : Option State) (now : State) (tou
   pub held : AreHeld (content_of old) p columns was staged
 
 -- what it gives: what changes of the rows of the part, and all these memories staged for the second graph
-pub record IsDone (old : Option State) (now : State) (p : Plan) (staged : List Counts) (shifts : List Shift) : Type 0 where
-  pub change : IsDeltaOf old now p shifts
+pub record IsDone (old : Option State) (now : State) (p : Plan) (staged : List Counts) (deltas : List RowDelta) : Type 0 where
+  pub change : IsDeltaOf old now p deltas
   pub holds : staged ≡ contents (rows_at (Some now.content)) p
   pub within : AreWithin (Some now.content) p
 
 -- A change that went through a part in the chain of a plan and not yet through the parts above that one: their memories hold what they mean on the
 -- first graph, and those of the part and of the parts below it, this many, are staged for the second.
-pub record IsPartway (old : Option State) (now : State) (touches : Touches) (p : Plan) (above : List Plan) (q : Plan) (place : ℕ) (columns : List (List ℕ)) (was staged : List Counts) (shifts : List Shift) : Type 0 where
+pub record IsPartway (old : Option State) (now : State) (touches : Touches) (p : Plan) (above : List Plan) (q : Plan) (place : ℕ) (columns : List (List ℕ)) (was staged : List Counts) (deltas : List RowDelta) : Type 0 where
   pub step : IsStep old now touches p
   pub linked : chain p ≡ above ++ chain q
   pub unscanned : All (λ r. is_scan r ≡ false) above
@@ -40,7 +40,7 @@ pub record IsPartway (old : Option State) (now : State) (touches : Touches) (p :
   pub keyed : columns ≡ keys p
   pub held : was ≡ contents (rows_at (content_of old)) p
   pub within : AreWithin (content_of old) p
-  pub change : IsDeltaOf old now q shifts
+  pub change : IsDeltaOf old now q deltas
   pub halfway : staged ≡ contents (rows_at (Some now.content)) q ++ own_of_all (own_contents (rows_at (content_of old))) above
   pub within_now : AreWithin (Some now.content) q
 

@@ -20,8 +20,8 @@ use Rattle.cy_planner_algebra.specs.Expressions.{holds, projected, relationships
 use Rattle.cy_planner_algebra.specs.Plans as plan
 use Rattle.cy_planner_algebra.specs.Plans.{Plan}
 use Rattle.cy_planner_algebra.specs.Sure.{HasCells, HasTruth}
-use Rattle.cy_network_operators.specs.declared.shifts.Shift.{Shift}
-use Rattle.cy_network_operators.specs.Deltas.{shift_between}
+use Rattle.cy_network_memory.specs.declared.memory.RowDelta.{RowDelta}
+use Rattle.cy_network_operators.specs.Deltas.{row_delta_between}
 use Rattle.cy_network_touches.specs.Changes.{Touches}
 use Rattle.cy_network_sources.specs.Scans.{IsScan}
 use Rattle.cy_network_sources.specs.declared.entities.EntityValue.{EntityValue}
@@ -109,9 +109,9 @@ LeaveNode node ps = (number : ℕ) → node_made ps number (Some node) ≡ node_
 abbrev pub IsNeeded : Name → List Plan → Type 0
 IsNeeded label ps = (number : ℕ) (node : Node) → list_any (bytes_eq label) (map (λ l. l.0) node.labels) ≡ false → node_made ps number (Some node) ≡ []
 
--- the shift of a row that counts by the one rows before and by the others after
-abbrev pub recounted : List (List Cell) → List (List Cell) → List Cell → List Shift
-recounted old new row = shift_between row (count_of row old) (count_of row new)
+-- the row delta of a row that counts by the one rows before and by the others after
+abbrev pub recounted : List (List Cell) → List (List Cell) → List Cell → List RowDelta
+recounted old new row = row_delta_between row (count_of row old) (count_of row new)
 
 -- the part that reads the graph
 abbrev pub leaf_of : Plan → Plan

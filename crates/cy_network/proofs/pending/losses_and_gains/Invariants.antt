@@ -4,8 +4,8 @@ use Rattle.cy_network.specs.internal.Roots.{excess}
 use Rattle.cy_network.proofs.pending.losses_and_gains.Given as goal
 
 -- the losses and the gains so far
-abbrev pub invariant-loop-shift : goal.invariant-loop-shift
-invariant-loop-shift l = record {
+abbrev pub invariant-loop-row_delta : goal.invariant-loop-row_delta
+invariant-loop-row_delta l = record {
   losses : l.removed.items ≡ flat_map (excess (λ s. s.before) (λ s. s.after)) l.yielded;
   gains : l.added.items ≡ flat_map (excess (λ s. s.after) (λ s. s.before)) l.yielded;
 }

@@ -9,28 +9,28 @@ use Rattle.cy_network.proofs.pending.pending_change.Goals as goal
 
 pub sorted-requires-clause-once : goal.sorted-requires-clause-once
 sorted-requires-clause-once c =
-    subst AreOnce (sym c.in_ok-losses.ensures) (excess_once (λ s. s.before) (λ s. s.after) (counts c.requires.0) (counts c.requires.1.0) c.args.shifts.now c.requires.1.1)
+    subst AreOnce (sym c.in_ok-losses.ensures) (excess_once (λ s. s.before) (λ s. s.after) (counts c.requires.0) (counts c.requires.1.0) c.args.deltas.now c.requires.1.1)
 
 pub sorted-requires-clause-positive : goal.sorted-requires-clause-positive
 sorted-requires-clause-positive c =
-    subst (All (λ (p : List Cell × ℕ). 0 < p.1)) (sym c.in_ok-losses.ensures) (excess_positive (λ s. s.before) (λ s. s.after) c.args.shifts.now)
+    subst (All (λ (p : List Cell × ℕ). 0 < p.1)) (sym c.in_ok-losses.ensures) (excess_positive (λ s. s.before) (λ s. s.after) c.args.deltas.now)
 
 pub sorted-requires-2-clause-once : goal.sorted-requires-2-clause-once
 sorted-requires-2-clause-once c =
-    subst AreOnce (sym c.in_ok-gains.ensures) (excess_once (λ s. s.after) (λ s. s.before) (counts c.requires.0) (counts c.requires.1.0) c.args.shifts.now c.requires.1.1)
+    subst AreOnce (sym c.in_ok-gains.ensures) (excess_once (λ s. s.after) (λ s. s.before) (counts c.requires.0) (counts c.requires.1.0) c.args.deltas.now c.requires.1.1)
 
 pub sorted-requires-2-clause-positive : goal.sorted-requires-2-clause-positive
 sorted-requires-2-clause-positive c =
-    subst (All (λ (p : List Cell × ℕ). 0 < p.1)) (sym c.in_ok-gains.ensures) (excess_positive (λ s. s.after) (λ s. s.before) c.args.shifts.now)
+    subst (All (λ (p : List Cell × ℕ). 0 < p.1)) (sym c.in_ok-gains.ensures) (excess_positive (λ s. s.after) (λ s. s.before) c.args.deltas.now)
 
 pub returns : goal.returns
 returns c = λ before after delta. record {
   removed = record {
-    counts = λ row. ap (weight_of row) c.new.ensures ∙ c.in_ok-removed.ensures.counts row ∙ ap (weight_of row) c.in_ok-losses.ensures ∙ losses_weight (counts before) (counts after) c.args.shifts.now delta row;
+    counts = λ row. ap (weight_of row) c.new.ensures ∙ c.in_ok-removed.ensures.counts row ∙ ap (weight_of row) c.in_ok-losses.ensures ∙ losses_weight (counts before) (counts after) c.args.deltas.now delta row;
     canonical = subst IsCanonical (sym c.new.ensures) c.in_ok-removed.ensures.canonical;
   };
   added = record {
-    counts = λ row. ap (weight_of row) c.new-2.ensures ∙ c.in_ok-added.ensures.counts row ∙ ap (weight_of row) c.in_ok-gains.ensures ∙ gains_weight (counts before) (counts after) c.args.shifts.now delta row;
+    counts = λ row. ap (weight_of row) c.new-2.ensures ∙ c.in_ok-added.ensures.counts row ∙ ap (weight_of row) c.in_ok-gains.ensures ∙ gains_weight (counts before) (counts after) c.args.deltas.now delta row;
     canonical = subst IsCanonical (sym c.new-2.ensures) c.in_ok-added.ensures.canonical;
   };
 }

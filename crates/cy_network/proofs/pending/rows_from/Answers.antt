@@ -11,5 +11,5 @@ pub returns-clause-counts : goal.returns-clause-counts
 returns-clause-counts c = λ after delta.
     c.write_counts.ensures.counts
     ∙ ap (λ xs. written xs (counted c.in_ok-rows.rows.entries)) c.in_ok-next.ensures
-    ∙ ap (λ xs. written (map (λ s. (s.row, s.after)) c.args.shifts.items) (counted xs)) c.in_ok-rows.ensures.empty
-    ∙ written_delta c.args.shifts.items (counts []) (counts after) delta
+    ∙ ap (λ xs. written (map (λ s. (s.row, s.after)) c.args.deltas.items) (counted xs)) c.in_ok-rows.ensures.empty
+    ∙ written_delta c.args.deltas.items (counts []) (counts after) delta

@@ -5,8 +5,8 @@ use Rattle.cy_network_merges.specs.internal.Sums.{is_changed}
 use Rattle.cy_network_merges.proofs.distinct_rows.distinct_rows.Given as goal
 
 -- the rows so far, each once
-abbrev pub invariant-loop-shift : goal.invariant-loop-shift
-invariant-loop-shift l =
+abbrev pub invariant-loop-row_delta : goal.invariant-loop-row_delta
+invariant-loop-row_delta l =
     record {
       once : (row : List Cell) → count_of row l.rows.keys ≡ cond (is_changed row l.yielded) 1 0;
       few : length l.rows.keys ≤ length l.yielded;

@@ -4,5 +4,5 @@ use Rattle.cy_network_merges.specs.internal.Sums.{counts_at, most_after, most_be
 use Rattle.cy_network_merges.proofs.greatest.greatest_counts.Given as goal
 
 -- the greatest counts so far
-abbrev pub invariant-loop-shift : goal.invariant-loop-shift
-invariant-loop-shift l = (row : List Cell) → counts_at row l.counts.entries ≡ (most_before l.yielded row, most_after l.yielded row)
+abbrev pub invariant-loop-row_delta : goal.invariant-loop-row_delta
+invariant-loop-row_delta l = (row : List Cell) → counts_at row l.counts.entries ≡ (most_before l.yielded row, most_after l.yielded row)

@@ -4,5 +4,5 @@ use Rattle.cy_network_merges.proofs.greatest.together.Goals as goal
 
 pub returns : goal.returns
 returns c =
-    if_ok_more _ _ c.shifts_of_counts.result c.shifts_of_counts.ensures
-    (λ made each. delta_of_counts c.args.shifts.items made.items c.in_ok-counts.counts.entries c.in_ok-counts.ensures each)
+    if_ok_more _ _ c.deltas_of_counts.result c.deltas_of_counts.ensures
+    (λ made each. delta_of_counts c.args.deltas.items made.items c.in_ok-counts.counts.entries c.in_ok-counts.ensures each)

@@ -5,5 +5,5 @@ use Rattle.cy_network_merges.specs.internal.Sums.{image}
 use Rattle.cy_network_merges.proofs.projections.images_of.Given as goal
 
 -- the images so far
-abbrev pub invariant-loop-shift : goal.invariant-loop-shift
-invariant-loop-shift l = l.images.items ≡ map (image (projected (map output_of l.outputs))) l.yielded
+abbrev pub invariant-loop-row_delta : goal.invariant-loop-row_delta
+invariant-loop-row_delta l = l.images.items ≡ map (image (projected (map output_of l.outputs))) l.yielded

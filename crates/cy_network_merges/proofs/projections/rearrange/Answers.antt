@@ -10,9 +10,9 @@ use Rattle.cy_network_merges.proofs.projections.rearrange.Goals as goal
 pub returns-clause-delta : goal.returns-clause-delta
 returns-clause-delta c =
     if_ok_more _ _ c.images_of.result c.images_of.ensures.images
-    (λ made are width before after one wide delta. images_delta (map output_of c.args.outputs.now) width before after c.args.shifts.items one wide delta made.items are)
+    (λ made are width before after one wide delta. images_delta (map output_of c.args.outputs.now) width before after c.args.deltas.items one wide delta made.items are)
 
 pub returns-clause-bounded : goal.returns-clause-bounded
 returns-clause-bounded c =
     if_ok_more _ _ c.images_of.result c.images_of.ensures.images
-    (λ made are each. subst (All IsBounded) (sym are) (images_bounded (projected (map output_of c.args.outputs.now)) c.args.shifts.items each))
+    (λ made are each. subst (All IsBounded) (sym are) (images_bounded (projected (map output_of c.args.outputs.now)) c.args.deltas.items each))

@@ -4,7 +4,7 @@ use Rattle.cy_network_merges.specs.Merges.{AreBounded}
 use Rattle.cy_network_merges.specs.internal.Sums.{gained}
 use Rattle.cy_network_merges.proofs.stages.stage_gains.Given as goal
 
--- what the shifts so far add is staged
+-- what the row deltas so far add is staged
 abbrev pub invariant-loop-change : goal.invariant-loop-change
 invariant-loop-change g l =
     record {

@@ -3,7 +3,7 @@ use Rattle.cy_values.specs.declared.rows.Cell.{Cell}
 use Rattle.cy_network_merges.specs.internal.Sums.{lost}
 use Rattle.cy_network_merges.proofs.stages.stage_losses.Given as goal
 
--- what the shifts so far take is staged
+-- what the row deltas so far take is staged
 abbrev pub invariant-loop-change : goal.invariant-loop-change
 invariant-loop-change g l =
     record {

@@ -1,7 +1,7 @@
 use Rattle.std.proofs.Common.{◌++◌, append_assoc, refl, sym, ap, subst, ◌∙◌, arith}
 use Rattle.std.specs.List.{All}
 use Rattle.std.proofs.lemmas.List.{append-nil}
-use Rattle.cy_network_operators.specs.Deltas.{IsBounded, shift_between, shifts_of}
+use Rattle.cy_network_operators.specs.Deltas.{IsBounded, row_delta_between, deltas_of}
 use Rattle.cy_network_sources.proofs.Recounting.{bounded_next}
 use Rattle.cy_network_sources.proofs.Replaced.{after_others, both_changed, none_changed}
 use Rattle.cy_network_sources.proofs.ThroughScans.{on_ok_then}
@@ -9,24 +9,24 @@ use Rattle.cy_network_sources.proofs.recounts.add_exchanged.Goals as goal
 
 pub returns-then-is_same-clause-recounted : goal.returns-then-is_same-clause-recounted
 returns-then-is_same-clause-recounted c = λ row.
-    sym (ap (λ made. shifts_of row c.args.shifts.now.items ++ made) (none_changed row c.args.old c.args.new (sym c.is_same.ensures ∙ c.if-is_same.true)) ∙ append-nil (shifts_of row c.args.shifts.now.items))
+    sym (ap (λ made. deltas_of row c.args.deltas.now.items ++ made) (none_changed row c.args.old c.args.new (sym c.is_same.ensures ∙ c.if-is_same.true)) ∙ append-nil (deltas_of row c.args.deltas.now.items))
 
 pub returns-clause-recounted : goal.returns-clause-recounted
 returns-clause-recounted c =
-    on_ok_then _ _ c.add_shift-2.result
+    on_ok_then _ _ c.add_row_delta-2.result
     (λ made row.
-    ap (shifts_of row) made
-    ∙ after_others row c.add_shift.new.shifts.items (shift_between c.args.new 0 1) (shifts_of row (shift_between c.args.new 0 1)) refl
-    ∙ ap (λ first. first ++ shifts_of row (shift_between c.args.new 0 1))
-    (ap (shifts_of row) c.in_ok-add_shift.ensures ∙ after_others row c.args.shifts.now.items (shift_between c.args.old 1 0) (shifts_of row (shift_between c.args.old 1 0)) refl)
-    ∙ append_assoc (shifts_of row c.args.shifts.now.items) (shifts_of row (shift_between c.args.old 1 0)) (shifts_of row (shift_between c.args.new 0 1))
-    ∙ ap (λ rest. shifts_of row c.args.shifts.now.items ++ rest) (both_changed row c.args.old c.args.new (sym c.is_same.ensures ∙ c.if-is_same.false)))
-    c.add_shift-2.ensures
+    ap (deltas_of row) made
+    ∙ after_others row c.add_row_delta.new.deltas.items (row_delta_between c.args.new 0 1) (deltas_of row (row_delta_between c.args.new 0 1)) refl
+    ∙ ap (λ first. first ++ deltas_of row (row_delta_between c.args.new 0 1))
+    (ap (deltas_of row) c.in_ok-add_row_delta.ensures ∙ after_others row c.args.deltas.now.items (row_delta_between c.args.old 1 0) (deltas_of row (row_delta_between c.args.old 1 0)) refl)
+    ∙ append_assoc (deltas_of row c.args.deltas.now.items) (deltas_of row (row_delta_between c.args.old 1 0)) (deltas_of row (row_delta_between c.args.new 0 1))
+    ∙ ap (λ rest. deltas_of row c.args.deltas.now.items ++ rest) (both_changed row c.args.old c.args.new (sym c.is_same.ensures ∙ c.if-is_same.false)))
+    c.add_row_delta-2.ensures
 
 pub returns-clause-bounded : goal.returns-clause-bounded
 returns-clause-bounded c =
-    on_ok_then _ _ c.add_shift-2.result
+    on_ok_then _ _ c.add_row_delta-2.result
     (λ made all.
-    subst (All IsBounded) (sym made) (bounded_next c.args.new c.add_shift.new.shifts.items 0 1 (omega arith) (omega arith)
-    (subst (All IsBounded) (sym c.in_ok-add_shift.ensures) (bounded_next c.args.old c.args.shifts.now.items 1 0 (omega arith) (omega arith) all))))
-    c.add_shift-2.ensures
+    subst (All IsBounded) (sym made) (bounded_next c.args.new c.add_row_delta.new.deltas.items 0 1 (omega arith) (omega arith)
+    (subst (All IsBounded) (sym c.in_ok-add_row_delta.ensures) (bounded_next c.args.old c.args.deltas.now.items 1 0 (omega arith) (omega arith) all))))
+    c.add_row_delta-2.ensures

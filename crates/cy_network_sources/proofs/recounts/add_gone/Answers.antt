@@ -3,8 +3,8 @@ use Rattle.std.specs.List.{All}
 use Rattle.cy_values.specs.declared.rows.Cell.{Cell}
 use Rattle.cy_values.specs.Bag.{count_of}
 use Rattle.cy_network_memory.specs.Counts.{greatest_count}
-use Rattle.cy_network_operators.specs.declared.shifts.Shift.{Shift}
-use Rattle.cy_network_operators.specs.Deltas.{IsBounded, shifts_of}
+use Rattle.cy_network_memory.specs.declared.memory.RowDelta.{RowDelta}
+use Rattle.cy_network_operators.specs.Deltas.{IsBounded, deltas_of}
 use Rattle.cy_network_sources.specs.internal.Through.{recounted}
 use Rattle.cy_network_sources.proofs.Recounting.{bounded_next, counted_within, fewer, gone_next, left_fewer, others, taken_within}
 use Rattle.cy_network_sources.proofs.recounts.add_gone.Goals as goal
@@ -34,13 +34,13 @@ loop-row-preserved c =
     let new_within : length c.loop-row.new.items ≤ greatest_count = omega (arith, few, all_few) in
     record {
       recounted = λ row.
-          ap (λ (made : List Shift). shifts_of row made ++ recounted c.take_same-before.new.rows.items c.take_same-after.new.rows.items row) c.in_ok-add_shift.ensures
-          ∙ gone_next row x c.loop-row.shifts.items _ popped c.loop-row.old.items c.loop-row.new.items c.take_same-before.new.rows.items c.take_same-after.new.rows.items before c.take_same-after.result
+          ap (λ (made : List RowDelta). deltas_of row made ++ recounted c.take_same-before.new.rows.items c.take_same-after.new.rows.items row) c.in_ok-add_row_delta.ensures
+          ∙ gone_next row x c.loop-row.deltas.items _ popped c.loop-row.old.items c.loop-row.new.items c.take_same-before.new.rows.items c.take_same-after.new.rows.items before c.take_same-after.result
           c.in-Some.ensures.items (ap (λ n. 1 + n) c.take_same-before.ensures.taken) c.take_same-after.ensures.taken c.take_same-before.ensures.left c.take_same-after.ensures.left
           (c.loop-row.invariant.recounted row);
       bounded = λ all.
-          subst (All IsBounded) (sym c.in_ok-add_shift.ensures)
-          (bounded_next x c.loop-row.shifts.items before c.take_same-after.result
+          subst (All IsBounded) (sym c.in_ok-add_row_delta.ensures)
+          (bounded_next x c.loop-row.deltas.items before c.take_same-after.result
           (taken_within x c.loop-row.old.items popped c.take_same-before.new.rows.items c.in-Some.ensures.items c.take_same-before.result greatest_count c.take_same-before.ensures.taken within)
           (counted_few x c.loop-row.new.items c.take_same-after.result greatest_count c.take_same-after.ensures.taken new_within)
           (c.loop-row.invariant.bounded all));

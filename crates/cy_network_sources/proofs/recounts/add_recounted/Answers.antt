@@ -9,5 +9,5 @@ both P Q R (Err e) first second = tt
 
 pub returns-clause-bounded : goal.returns-clause-bounded
 returns-clause-bounded c =
-    both (All IsBounded c.args.shifts.now.items) (All IsBounded c.add_gone.new.shifts.items) (All IsBounded c.add_come.new.shifts.items) c.add_come.result
+    both (All IsBounded c.args.deltas.now.items) (All IsBounded c.add_gone.new.deltas.items) (All IsBounded c.add_come.new.deltas.items) c.add_come.result
     c.in_ok-add_gone.ensures.bounded c.add_come.ensures.bounded

@@ -1,7 +1,7 @@
 use Rattle.std.proofs.Common.{◌≡◌, List, [], ◌∷◌, ◌++◌, Option, sym, ap, ◌∙◌}
 use Rattle.std.specs.Option.{option_to_list}
 use Rattle.cy_values.specs.declared.rows.Cell.{Cell}
-use Rattle.cy_network_operators.specs.Deltas.{shift_between, shifts_of}
+use Rattle.cy_network_operators.specs.Deltas.{row_delta_between, deltas_of}
 use Rattle.cy_network_sources.specs.internal.Through.{recounted}
 use Rattle.cy_network_sources.proofs.Replaced.{after_others, come_alone, gone_alone}
 use Rattle.cy_network_sources.proofs.ThroughScans.{on_ok_then}
@@ -15,16 +15,16 @@ told row old new other_old other_new first second =
 
 pub returns-in-None-Some-clause-recounted : goal.returns-in-None-Some-clause-recounted
 returns-in-None-Some-clause-recounted c =
-    on_ok_then _ _ c.add_shift.result
-    (λ made row. ap (shifts_of row) made
-    ∙ after_others row c.args.shifts.now.items (shift_between c.in-None-Some.new 0 1) (recounted [] (c.in-None-Some.new ∷ []) row) (come_alone row c.in-None-Some.new)
-    ∙ ap (λ made. shifts_of row c.args.shifts.now.items ++ made) (told row c.args.old c.args.new _ _ c.in-None-Some.is-0 c.in-None-Some.is-1))
-    c.add_shift.ensures
+    on_ok_then _ _ c.add_row_delta.result
+    (λ made row. ap (deltas_of row) made
+    ∙ after_others row c.args.deltas.now.items (row_delta_between c.in-None-Some.new 0 1) (recounted [] (c.in-None-Some.new ∷ []) row) (come_alone row c.in-None-Some.new)
+    ∙ ap (λ made. deltas_of row c.args.deltas.now.items ++ made) (told row c.args.old c.args.new _ _ c.in-None-Some.is-0 c.in-None-Some.is-1))
+    c.add_row_delta.ensures
 
 pub returns-in-Some-None-clause-recounted : goal.returns-in-Some-None-clause-recounted
 returns-in-Some-None-clause-recounted c =
-    on_ok_then _ _ c.add_shift-in-Some-None.result
-    (λ made row. ap (shifts_of row) made
-    ∙ after_others row c.args.shifts.now.items (shift_between c.in-Some-None.old 1 0) (recounted (c.in-Some-None.old ∷ []) [] row) (gone_alone row c.in-Some-None.old)
-    ∙ ap (λ made. shifts_of row c.args.shifts.now.items ++ made) (told row c.args.old c.args.new _ _ c.in-Some-None.is-0 c.in-Some-None.is-1))
-    c.add_shift-in-Some-None.ensures
+    on_ok_then _ _ c.add_row_delta-in-Some-None.result
+    (λ made row. ap (deltas_of row) made
+    ∙ after_others row c.args.deltas.now.items (row_delta_between c.in-Some-None.old 1 0) (recounted (c.in-Some-None.old ∷ []) [] row) (gone_alone row c.in-Some-None.old)
+    ∙ ap (λ made. deltas_of row c.args.deltas.now.items ++ made) (told row c.args.old c.args.new _ _ c.in-Some-None.is-0 c.in-Some-None.is-1))
+    c.add_row_delta-in-Some-None.ensures

@@ -1,11 +1,11 @@
 use Rattle.std.proofs.Common.{◌++◌, sym, ap, ◌∙◌}
 use Rattle.std.proofs.lemmas.List.{append-nil}
 use Rattle.cy_values.specs.Bag.{count_of}
-use Rattle.cy_network_operators.specs.Deltas.{shifts_of}
+use Rattle.cy_network_operators.specs.Deltas.{deltas_of}
 use Rattle.cy_network_touches.proofs.Owners.{none_between}
 use Rattle.cy_network_sources.proofs.scanning.add_rel.Goals as goal
 
 pub returns-then-are_alike_rels-clause-made : goal.returns-then-are_alike_rels-clause-made
 returns-then-are_alike_rels-clause-made c = λ row.
-    sym (ap (λ made. shifts_of row c.args.shifts.now.items ++ made) (none_between row _ _ (ap (count_of row) (c.are_alike_rels.ensures c.if-are_alike_rels.true c.args.types.now c.args.orientation c.args.id.0)))
-    ∙ append-nil (shifts_of row c.args.shifts.now.items))
+    sym (ap (λ made. deltas_of row c.args.deltas.now.items ++ made) (none_between row _ _ (ap (count_of row) (c.are_alike_rels.ensures c.if-are_alike_rels.true c.args.types.now c.args.orientation c.args.id.0)))
+    ∙ append-nil (deltas_of row c.args.deltas.now.items))

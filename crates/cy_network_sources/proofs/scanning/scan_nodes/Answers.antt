@@ -9,7 +9,7 @@ use Rattle.cy_graph.specs.Graph.{Versions, node_at}
 use Rattle.cy_index.specs.Index.{SightState}
 use Rattle.cy_planner_algebra.specs.Plans.{Plan}
 use Rattle.cy_planner_algebra.specs.Views.{plan_of}
-use Rattle.cy_network_operators.specs.Deltas.{shifts_of}
+use Rattle.cy_network_operators.specs.Deltas.{deltas_of}
 use Rattle.cy_network_sources.specs.internal.Through.{IsNodeFit, node_made, recounted}
 use Rattle.cy_network_touches.proofs.AttributeLemmas.{one_less, walked}
 use Rattle.cy_network_sources.proofs.ScanDeltas.{node_under}
@@ -52,13 +52,13 @@ loop-number-preserved c =
       made = λ row.
           walked (λ (e : ℕ × Option Node). recounted (node_made ps e.0 e.1) (node_made ps e.0 (node_at (record { 0 = e.0 }) c.args.sight.now.graph.now)) row)
           (c.in-Some.number.now, option_copied c.in-Some.was.now) (map (λ e. (e.0, option_copied e.1)) c.next.new.self)
-          (shifts_of row c.loop-number.shifts.items) (shifts_of row c.add_node.new.shifts.items) _
+          (deltas_of row c.loop-number.deltas.items) (deltas_of row c.add_node.new.deltas.items) _
           (c.in_ok-add_node.ensures.made row
-          ∙ ap (λ (rows : List (List Cell)). shifts_of row c.loop-number.shifts.items ++ recounted rows (node_made ps c.in-Some.number.now (option_copied c.with_label-new.result)) row)
+          ∙ ap (λ (rows : List (List Cell)). deltas_of row c.loop-number.deltas.items ++ recounted rows (node_made ps c.in-Some.number.now (option_copied c.with_label-new.result)) row)
           (c.with_label-old.ensures.made ps c.in-Some.number.now c.needed_label-label.ensures)
-          ∙ ap (λ (rows : List (List Cell)). shifts_of row c.loop-number.shifts.items ++ recounted (node_made ps c.in-Some.number.now (option_copied c.in-Some.was.now)) rows row)
+          ∙ ap (λ (rows : List (List Cell)). deltas_of row c.loop-number.deltas.items ++ recounted (node_made ps c.in-Some.number.now (option_copied c.in-Some.was.now)) rows row)
           (c.with_label-new.ensures.made ps c.in-Some.number.now c.needed_label-label.ensures ∙ ap (node_made ps c.in-Some.number.now) now))
-          (ap (λ left. shifts_of row c.loop-number.shifts.items
+          (ap (λ left. deltas_of row c.loop-number.deltas.items
           ++ flat_map (λ (e : ℕ × Option Node). recounted (node_made ps e.0 e.1) (node_made ps e.0 (node_at (record { 0 = e.0 }) c.args.sight.now.graph.now)) row) (map (λ e. (e.0, option_copied e.1)) left)) (sym steps)
           ∙ so_far.made row);
       fit = (next_fit (IsFitAt c.args.sight.now.graph ps) c.loop-number.number-iterator c.next.new.self (c.in-Some.number.now, c.in-Some.was.now) steps so_far.fit).1;

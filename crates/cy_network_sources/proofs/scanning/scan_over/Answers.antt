@@ -19,7 +19,7 @@ returns-in-Nodes-clause-delta c =
     let is : plan_of c.args.leaf.now ≡ plan.nodes = ap plan_of (c.in-Nodes.is ∙ sym rolls-Nodes) ∙ fold-roll-Operator Plan plan_step Operator-F.Nodes in
     let ps = map (λ part. plan_of part.now) c.args.parts.now in
     if_ok_then _ _ c.scan_nodes.result
-    (λ shifts made before p over. nodes_delta before c.args.sight.now.graph.now c.args.change.now ps (plan_of c.args.leaf.now) p over is shifts.items made)
+    (λ deltas made before p over. nodes_delta before c.args.sight.now.graph.now c.args.change.now ps (plan_of c.args.leaf.now) p over is deltas.items made)
     c.scan_nodes.ensures.made
 
 pub scan_rels-requires : goal.scan_rels-requires
@@ -37,5 +37,5 @@ returns-in-Rels-clause-delta c =
     ∙ ap (λ types. plan.rels types c.in-Rels.orientation) (sym c.deref.ensures.value) in
     let ps = map (λ part. plan_of part.now) c.args.parts.now in
     if_ok_then _ _ c.scan_rels.result
-    (λ shifts made before p over. rels_delta before c.args.sight.now.graph.now c.args.change.now ps (plan_of c.args.leaf.now) p over c.deref.result.now c.in-Rels.orientation is shifts.items made)
+    (λ deltas made before p over. rels_delta before c.args.sight.now.graph.now c.args.change.now ps (plan_of c.args.leaf.now) p over c.deref.result.now c.in-Rels.orientation is deltas.items made)
     c.scan_rels.ensures.made

@@ -8,7 +8,7 @@ use Rattle.cy_graph.specs.Graph.{Versions, rel_at}
 use Rattle.cy_index.specs.Index.{SightState}
 use Rattle.cy_planner_algebra.specs.Plans.{Plan}
 use Rattle.cy_planner_algebra.specs.Views.{plan_of}
-use Rattle.cy_network_operators.specs.Deltas.{shifts_of}
+use Rattle.cy_network_operators.specs.Deltas.{deltas_of}
 use Rattle.cy_trees.specs.Trees.{Name}
 use Rattle.cy_planner_algebra.specs.declared.operators.Orientation.{Orientation}
 use Rattle.cy_network_sources.specs.internal.Through.{IsRelFit, recounted, rel_made}
@@ -51,10 +51,10 @@ loop-number-preserved c =
       made = λ row.
           walked (λ (e : ℕ × Option Rel). recounted (rel_made c.args.types.now c.args.orientation ps e.0 e.1) (rel_made c.args.types.now c.args.orientation ps e.0 (rel_at (record { 0 = e.0 }) c.args.sight.now.graph.now)) row)
           (c.in-Some.number.now, option_copied c.in-Some.was.now) (map (λ e. (e.0, option_copied e.1)) c.next.new.self)
-          (shifts_of row c.loop-number.shifts.items) (shifts_of row c.add_rel.new.shifts.items) _
+          (deltas_of row c.loop-number.deltas.items) (deltas_of row c.add_rel.new.deltas.items) _
           (c.in_ok-add_rel.ensures.made row
-          ∙ ap (λ (o : Option Rel). shifts_of row c.loop-number.shifts.items ++ recounted (rel_made c.args.types.now c.args.orientation ps c.in-Some.number.now (option_copied c.in-Some.was.now)) (rel_made c.args.types.now c.args.orientation ps c.in-Some.number.now o) row) now)
-          (ap (λ left. shifts_of row c.loop-number.shifts.items
+          ∙ ap (λ (o : Option Rel). deltas_of row c.loop-number.deltas.items ++ recounted (rel_made c.args.types.now c.args.orientation ps c.in-Some.number.now (option_copied c.in-Some.was.now)) (rel_made c.args.types.now c.args.orientation ps c.in-Some.number.now o) row) now)
+          (ap (λ left. deltas_of row c.loop-number.deltas.items
           ++ flat_map (λ (e : ℕ × Option Rel). recounted (rel_made c.args.types.now c.args.orientation ps e.0 e.1) (rel_made c.args.types.now c.args.orientation ps e.0 (rel_at (record { 0 = e.0 }) c.args.sight.now.graph.now)) row) (map (λ e. (e.0, option_copied e.1)) left)) (sym steps)
           ∙ so_far.made row);
       fit = (next_fit (IsFitAt c.args.types.now c.args.orientation c.args.sight.now.graph ps) c.loop-number.number-iterator c.next.new.self (c.in-Some.number.now, c.in-Some.was.now) steps so_far.fit).1;

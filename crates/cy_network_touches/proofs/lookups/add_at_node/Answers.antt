@@ -1,8 +1,8 @@
 use Rattle.std.proofs.Common.{ℕ, ◌+◌, ◌≤◌, List, [], ◌∷◌, ◌++◌, ap, subst, ◌∙◌}
 use Rattle.std.proofs.lemmas.Result.{on_ok_weaker}
 use Rattle.cy_values.specs.declared.rows.Cell.TheVariants as cell
-use Rattle.cy_network_operators.specs.Deltas.{shifts_of}
-use Rattle.cy_network_touches.specs.internal.Attributes.{still_shifts}
+use Rattle.cy_network_operators.specs.Deltas.{deltas_of}
+use Rattle.cy_network_touches.specs.internal.Attributes.{still_deltas}
 use Rattle.cy_network_touches.specs.internal.Named.{with_key}
 use Rattle.cy_network_touches.proofs.AttributeLemmas.{still_node}
 use Rattle.cy_network_touches.proofs.lookups.add_at_node.Goals as goal
@@ -14,8 +14,8 @@ returns-clause-made g c =
     on_ok_weaker c.add_still.result
     (λ makes before column change keys row.
     makes row
-    ∙ ap (λ made. shifts_of row c.args.made.now.items ++ made)
-    (ap (λ (columns : List ℕ). still_shifts columns was staged (cell.Node c.args.id ∷ []) c.in_ok-values.values row) keys
+    ∙ ap (λ made. deltas_of row c.args.made.now.items ++ made)
+    (ap (λ (columns : List ℕ). still_deltas columns was staged (cell.Node c.args.id ∷ []) c.in_ok-values.values row) keys
     ∙ still_node before c.args.sight.now.graph.now column c.args.attribute.now was staged c.args.id c.in_ok-values.values (c.in_ok-values.ensures.values before change) row))
     c.add_still.ensures.made
 

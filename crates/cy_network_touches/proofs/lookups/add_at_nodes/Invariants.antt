@@ -6,7 +6,7 @@ use Rattle.cy_values.specs.declared.rows.Cell.{Cell}
 use Rattle.cy_values.specs.declared.rows.Cell.TheVariants as cell
 use Rattle.cy_graph.specs.declared.nodes.Node.{Node}
 use Rattle.cy_graph.specs.Graph.{State}
-use Rattle.cy_network_operators.specs.Deltas.{shifts_of}
+use Rattle.cy_network_operators.specs.Deltas.{deltas_of}
 use Rattle.cy_network_operators.specs.Reading.{IsRead}
 use Rattle.cy_network_touches.specs.Changes.{IsChange}
 use Rattle.cy_network_touches.specs.internal.Attributes.{still}
@@ -16,9 +16,9 @@ use Rattle.cy_network_touches.proofs.lookups.add_at_nodes.Given as goal
 abbrev pub invariant-loop-touched : goal.invariant-loop-touched
 invariant-loop-touched g l = record {
   made : (before : State) (column : ℕ) → IsChange before l.initial.sight.graph.now l.change → g.M.Memory.key_columns l.initial.memory ≡ column ∷ [] → (row : List Cell)
-      → shifts_of row l.made.items
+      → deltas_of row l.made.items
       ++ flat_map (λ (e : ℕ × Option Node). still before.content l.initial.sight.graph.now.content column l.attribute (g.M.Memory.was l.initial.memory) (g.M.Memory.staged l.initial.memory) (cell.Node (record { 0 = e.0 })) row) (map (λ e. (e.0, option_copied e.1)) l.touched-iterator)
-      ≡ shifts_of row l.initial.made.items
+      ≡ deltas_of row l.initial.made.items
       ++ flat_map (λ (e : ℕ × Option Node). still before.content l.initial.sight.graph.now.content column l.attribute (g.M.Memory.was l.initial.memory) (g.M.Memory.staged l.initial.memory) (cell.Node (record { 0 = e.0 })) row) l.change.nodes;
   read : IsRead g.M.Memory.key_columns g.M.Memory.was g.M.Memory.staged g.M.Memory.step_count l.initial.memory l.memory;
   graph : l.sight.graph ≡ l.initial.sight.graph;

@@ -4,7 +4,7 @@ use Rattle.std.specs.Prelude.{flat_map}
 use Rattle.std.proofs.lemmas.List.{append-nil}
 use Rattle.cy_values.specs.declared.rows.Cell.TheVariants as cell
 use Rattle.cy_graph.specs.declared.nodes.Rel.{Rel}
-use Rattle.cy_network_operators.specs.Deltas.{shifts_of}
+use Rattle.cy_network_operators.specs.Deltas.{deltas_of}
 use Rattle.cy_network_operators.proofs.Readings.{read_then}
 use Rattle.cy_network_touches.specs.internal.Attributes.{still}
 use Rattle.cy_network_touches.specs.internal.Named.{with_key}
@@ -22,11 +22,11 @@ loop-touched-preserved g c =
       made = λ before column change keys row.
           walked (λ (e : ℕ × Option Rel). still before.content c.args.sight.now.graph.now.content column c.args.attribute.now was staged (cell.Rel (record { 0 = e.0 })) row)
           (c.in-Some.touched.0.now, option_copied c.in-Some.touched.1.now) (map (λ e. (e.0, option_copied e.1)) c.next.new.self)
-          (shifts_of row c.loop-touched.made.items) (shifts_of row c.add_at_rel.new.made.items) _
+          (deltas_of row c.loop-touched.made.items) (deltas_of row c.add_at_rel.new.made.items) _
           (one_entity c.args.change.now c.args.attribute.now (cell.Rel (record { 0 = c.in-Some.touched.0.now })) c.args.sight.now.graph c.loop-touched.sight.graph
           columns (g.M.Memory.key_columns c.loop-touched.memory) was (g.M.Memory.was c.loop-touched.memory) staged (g.M.Memory.staged c.loop-touched.memory)
           so_far.graph so_far.read.columns so_far.read.was so_far.read.staged c.loop-touched.made.items c.add_at_rel.new.made.items c.in_ok-add_at_rel.ensures.made before column change keys row)
-          (ap (λ left. shifts_of row c.loop-touched.made.items ++ flat_map (λ (e : ℕ × Option Rel). still before.content c.args.sight.now.graph.now.content column c.args.attribute.now was staged (cell.Rel (record { 0 = e.0 })) row) (map (λ e. (e.0, option_copied e.1)) left)) (sym c.in-Some.ensures.steps)
+          (ap (λ left. deltas_of row c.loop-touched.made.items ++ flat_map (λ (e : ℕ × Option Rel). still before.content c.args.sight.now.graph.now.content column c.args.attribute.now was staged (cell.Rel (record { 0 = e.0 })) row) (map (λ e. (e.0, option_copied e.1)) left)) (sym c.in-Some.ensures.steps)
           ∙ so_far.made before column change keys row);
       read = read_then so_far.read c.add_at_rel.ensures.read;
       graph = c.add_at_rel.ensures.graph ∙ so_far.graph;
@@ -43,8 +43,8 @@ returns-clause-made g c =
     let was = g.M.Memory.was c.args.memory.now in
     let staged = g.M.Memory.staged c.args.memory.now in
     λ before column change keys row.
-    sym (append-nil (shifts_of row c.loop-touched.made.items))
-    ∙ ap (λ left. shifts_of row c.loop-touched.made.items ++ flat_map (λ (e : ℕ × Option Rel). still before.content c.args.sight.now.graph.now.content column c.args.attribute.now was staged (cell.Rel (record { 0 = e.0 })) row) (map (λ e. (e.0, option_copied e.1)) left)) (sym c.in-None.ensures.steps.0)
+    sym (append-nil (deltas_of row c.loop-touched.made.items))
+    ∙ ap (λ left. deltas_of row c.loop-touched.made.items ++ flat_map (λ (e : ℕ × Option Rel). still before.content c.args.sight.now.graph.now.content column c.args.attribute.now was staged (cell.Rel (record { 0 = e.0 })) row) (map (λ e. (e.0, option_copied e.1)) left)) (sym c.in-None.ensures.steps.0)
     ∙ c.loop-touched.invariant.made before column change keys row
 
 pub returns-clause-steps : goal.returns-clause-steps

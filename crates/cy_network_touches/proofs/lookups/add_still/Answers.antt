@@ -5,7 +5,7 @@ use Rattle.std.specs.Prelude.{flat_map}
 use Rattle.cy_values.specs.declared.rows.Cell.{Cell}
 use Rattle.cy_network_memory.specs.Counts.{is_row}
 use Rattle.cy_network_memory.specs.Records.{IsAnswer}
-use Rattle.cy_network_operators.specs.Deltas.{shifts_of}
+use Rattle.cy_network_operators.specs.Deltas.{deltas_of}
 use Rattle.cy_network_touches.specs.internal.Attributes.{valued_record}
 use Rattle.cy_network_touches.proofs.CostLemmas.{few_steps, records_few}
 use Rattle.cy_network_touches.proofs.LookupLemmas.{still_made}
@@ -20,9 +20,9 @@ returns-clause-made g c =
     let answer = subst (λ (k : List Cell). IsAnswer columns was staged k c.in-Ok.records.items) key c.in-Ok.ensures.answer in
     on_ok_weaker c.add_records.result
     (λ is row.
-    ap (shifts_of row) is
+    ap (deltas_of row) is
     ∙ filter-append (λ s. is_row row s.row) c.args.made.now.items (flat_map (valued_record c.args.values.now) c.in-Ok.records.items)
-    ∙ ap (λ made. shifts_of row c.args.made.now.items ++ made) (still_made columns was staged (c.args.entity ∷ []) c.args.values.now c.in-Ok.records.items answer row))
+    ∙ ap (λ made. deltas_of row c.args.made.now.items ++ made) (still_made columns was staged (c.args.entity ∷ []) c.args.values.now c.in-Ok.records.items answer row))
     c.add_records.ensures
 
 pub returns-clause-steps : goal.returns-clause-steps

@@ -1,0 +1,31 @@
+use Rattle.std.proofs.Common.{◌≡◌, List, [], Some, length, map, sym, ◌∙◌}
+use Rattle.cy_values.specs.declared.rows.Cell.{Cell}
+use Rattle.cy_planner_algebra.specs.Plans.{Plan}
+use Rattle.cy_planner_algebra.specs.Views.{output_of, plan_of}
+use Rattle.cy_network_operators.specs.Deltas.{rows_at}
+use Rattle.cy_network_parts.specs.Memories.{own_contents}
+use Rattle.cy_network_parts.specs.Upkeep.{content_of}
+use Rattle.cy_network_parts.proofs.Lent.{no_length, some_length}
+use Rattle.cy_network_parts.proofs.RowByRow.{with_memory, without_contents, without_memory}
+use Rattle.cy_network_part_deltas.proofs.singles.projection_deltas.Goals as goal
+
+pub row_by_row_deltas-requires-clause-told : goal.row_by_row_deltas-requires-clause-told
+row_by_row_deltas-requires-clause-told g c =
+    without_memory g.M.Memory.key_columns c.args.own.now (plan_of c.args.part.now) (map output_of c.args.outputs.now) c.requires.is c.requires.begun.1.own.keyed c.requires.unscanned
+    (no_length (length c.args.own.now) (sym c.is_empty.ensures ∙ c.if-is_empty.true))
+
+pub project_deltas-requires-clause-kept : goal.project_deltas-requires-clause-kept
+project_deltas-requires-clause-kept g c =
+    with_memory g.M.Memory.key_columns c.args.own.now (plan_of c.args.part.now) (map output_of c.args.outputs.now) c.requires.is c.requires.begun.1.own.keyed
+    (some_length (length c.args.own.now) (sym c.is_empty.ensures ∙ c.if-is_empty.false))
+
+pub returns-then-is_empty-clause-done : goal.returns-then-is_empty-clause-done
+returns-then-is_empty-clause-done g c old fed =
+    let p = plan_of c.args.part.now in
+    let none : (rows : Plan → List (List Cell)) → own_contents rows p ≡ [] =
+    without_contents g.M.Memory.key_columns c.args.own.now p (map output_of c.args.outputs.now) c.requires.is c.requires.begun.1.own.keyed c.requires.unscanned
+    (no_length (length c.args.own.now) (sym c.is_empty.ensures ∙ c.if-is_empty.true)) in
+    record {
+      change = c.in_ok-row_by_row_deltas.ensures old c.args.sight.now.graph.now c.args.change.now fed.step fed.below;
+      holds = fed.own.settled ∙ none (rows_at (content_of old)) ∙ sym (none (rows_at (Some c.args.sight.now.graph.now.content)));
+    }

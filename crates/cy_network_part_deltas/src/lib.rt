@@ -1,0 +1,10 @@
+//! What changes of the rows of one part of a plan, by what changes of those of the parts right below it.
+#![tactic(auto)]
+
+mod leaves;
+mod pairs;
+mod singles;
+
+pub use leaves::lowest_deltas;
+pub use pairs::pair_deltas;
+pub use singles::single_deltas;

@@ -11,6 +11,7 @@ use crate::adjacency::Adjacency;
 use crate::edits::{AddLabel, DropLabel, SetProp};
 use crate::faults::GraphFault;
 use crate::iterators::{Nodes, Rels, RelsAt};
+use crate::names::Names;
 use crate::nodes::{Labels, Node, Props, Rel};
 use crate::series::Series;
 use crate::touched::{Touched, push_nodes, push_rels};
@@ -26,6 +27,8 @@ pub struct Graph {
     /// The relationships of which each node is the source, and those of which it is the target.
     outgoing: Adjacency,
     incoming: Adjacency,
+    /// The texts of labels, types and keys that came last.
+    names: Names,
 }
 
 impl Model for Graph {
@@ -61,6 +64,7 @@ impl Graph {
             rels: Series::starting_at(alloc, rel),
             outgoing: Adjacency::new(alloc),
             incoming: Adjacency::new(alloc),
+            names: Names::new(alloc),
         }
     }
 
@@ -149,7 +153,7 @@ impl Graph {
 
     /// Adds a node under the next number, which it gives. `Full` where number 2^40 was given out; else it fails
     /// only when out of memory.
-    pub fn add_node(&mut self, labels: Labels, props: Props) -> Result<NodeId, GraphFault>
+    pub fn add_node(&mut self, mut labels: Labels, mut props: Props) -> Result<NodeId, GraphFault>
         requires open { IsSome self.old.was }
         requires storable { IsStorable props }
         ensures number { IfOk result (λ id. id.0 ≡ self.old.now.next_node) }
@@ -158,6 +162,8 @@ impl Graph {
         ensures fault { IfErr result (λ fault. (fault ≡ GraphFault.Full) ⊎ (fault ≡ GraphFault.NoMemory)) }
         ensures err { OnErr result (self.new ≡ self.old) }
     {
+        labels.share_keys(&mut self.names);
+        props.share_keys(&mut self.names);
         Ok(NodeId(self.nodes.add(Node::new(labels, props))?))
     }
 
@@ -167,8 +173,8 @@ impl Graph {
         &mut self,
         source: NodeId,
         target: NodeId,
-        kind: Text,
-        props: Props,
+        mut kind: Text,
+        mut props: Props,
     ) -> Result<RelId, GraphFault>
         requires open { IsSome self.old.was }
         requires from { IsSome (node_at source self.old.now) }
@@ -184,6 +190,8 @@ impl Graph {
         let id = RelId(self.rels.next_number()?);
         self.outgoing.reserve(source.0)?;
         self.incoming.reserve(target.0)?;
+        self.names.share(&mut kind);
+        props.share_keys(&mut self.names);
         self.rels.add(Rel::new(source, target, kind, props))?;
         self.outgoing.add(source.0, id);
         self.incoming.add(target.0, id);
@@ -194,7 +202,7 @@ impl Graph {
     pub fn set_prop(
         &mut self,
         entity: Entity,
-        key: Text,
+        mut key: Text,
         value: Option<Value>,
     ) -> Result<(), GraphFault>
         requires open { IsSome self.old.was }
@@ -205,6 +213,7 @@ impl Graph {
         ensures err { OnErr result (self.new ≡ self.old) }
     {
         self.rels.laws();
+        self.names.share(&mut key);
         match entity {
             Entity::Node(id) => self.nodes.edit(id.0, SetProp { key, value }),
             Entity::Rel(id) => self.rels.edit(id.0, SetProp { key, value }),
@@ -212,13 +221,14 @@ impl Graph {
     }
 
     /// Adds a label to a node. Fails only when out of memory.
-    pub fn add_label(&mut self, id: NodeId, label: Text) -> Result<(), GraphFault>
+    pub fn add_label(&mut self, id: NodeId, mut label: Text) -> Result<(), GraphFault>
         requires open { IsSome self.old.was }
         requires there { IsSome (node_at id self.old.now) }
         ensures ok { OnOk result (self.new ≡ record self.old { now = with_node_changed id (with_label label) self.old.now }) }
         ensures fault { IfErr result (λ fault. fault ≡ GraphFault.NoMemory) }
         ensures err { OnErr result (self.new ≡ self.old) }
     {
+        self.names.share(&mut label);
         self.nodes.edit(id.0, AddLabel(label))
     }
 

@@ -8,6 +8,7 @@ mod faults;
 mod graph;
 mod iterators;
 mod maps;
+mod names;
 mod nodes;
 mod series;
 mod touched;

@@ -5,6 +5,7 @@ ghost use Rattle.std.specs.Option.{option_copied};
 ghost use Rattle.cy_graph.specs.Maps.{rises, value_at, with_value, without};
 ghost use Rattle.cy_graph.specs.internal.Place.{IsAt, IsGapFor};
 
+use crate::names::Names;
 use cy_values::{Duplicate, Fault, Text};
 use std::alloc::Global;
 use std::collections::BTreeMap;
@@ -52,6 +53,13 @@ impl<V> TextMap<V> {
         }
     }
 
+    /// Lets each key share the text of an equal one that came before.
+    pub(crate) fn share_keys(&mut self, names: &mut Names)
+        ensures { self.new ≡ self.old }
+    {
+        share_each(&mut self.entries, names);
+    }
+
     // Where the key is, or where it would go.
     fn search(&self, key: &str) -> Result<usize, usize>
         ensures found { IfOk result (IsAt key.now self.now) }
@@ -62,7 +70,24 @@ impl<V> TextMap<V> {
     }
 }
 
+fn share_each<V>(entries: &mut [(Text, V)], names: &mut Names)
+    ensures { entries.new ≡ entries.old }
+{
+    for entry in entries.iter_mut() {
+        names.share(&mut entry.0);
+    }
+}
+
 impl<V: Drop> TextMap<V> {
+    /// The map with no entry, and room for so many. Fails only when out of memory.
+    pub fn with_capacity(alloc: Global, count: usize) -> Result<Self, Fault>
+        ensures { IfOk result (λ map. map ≡ []) }
+    {
+        Ok(TextMap {
+            entries: Vec::with_capacity(alloc, count)?,
+        })
+    }
+
     /// The map with the entries of an ordered map, in just the room that they need. Fails only when out of memory.
     #[tactic(auto, using(crate::proofs::Ordered::rises_in_order))]
     pub fn collected(alloc: Global, map: BTreeMap<Text, V>) -> Result<Self, Fault>

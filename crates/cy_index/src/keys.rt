@@ -41,14 +41,14 @@ pub(crate) fn push_label_keys(
     alloc: Global,
     keys: &mut Vec<Key>,
     chosen: &[Pair],
-    label: &str,
+    label: &Text,
     props: &Props,
 ) -> Result<(), Fault>
     ensures { OnOk result ((k : Key) → among k keys.new.items ≡ (among k keys.old.items || is_key_of_label chosen.now label.now props.now k)) }
 {
-    keys.push(Key::Label(Text::from_str(alloc, label)?))?;
+    keys.push(Key::Label(label.copy(alloc)?))?;
     for (place, pair) in chosen.iter().enumerate() {
-        push_key_by_label(alloc, keys, place, pair, label, props)?;
+        push_key_by_label(alloc, keys, place, pair, label.as_str(), props)?;
     }
     Ok(())
 }
@@ -110,7 +110,7 @@ fn push_key_by_value(
 pub(crate) fn label_keys(
     alloc: Global,
     chosen: &[Pair],
-    label: &str,
+    label: &Text,
     props: &Props,
 ) -> Result<Vec<Key>, Fault>
     ensures { IfOk result (λ keys. (k : Key) → among k keys.items ≡ is_key_of_label chosen.now label.now props.now k) }
@@ -131,7 +131,7 @@ pub(crate) fn node_keys(
 {
     let mut keys = Vec::new(alloc);
     for (label, _) in labels.entries() {
-        push_label_keys(alloc, &mut keys, chosen, label.as_str(), props)?;
+        push_label_keys(alloc, &mut keys, chosen, label, props)?;
     }
     Ok(keys)
 }

@@ -111,7 +111,7 @@ impl Store {
         ensures fault { IfErr result (λ fault. fault ≡ GraphFault.NoMemory) }
         ensures err { OnErr result (self.new ≡ self.old) }
     {
-        let coming = self.keys_of_label(id, label.as_str())?;
+        let coming = self.keys_of_label(id, &label)?;
         let mark = self.postings.mark();
         self.postings.replace(&[], coming, id.0)?;
         let done = self.graph.add_label(id, label);
@@ -127,9 +127,11 @@ impl Store {
         ensures fault { IfErr result (λ fault. fault ≡ GraphFault.NoMemory) }
         ensures err { OnErr result (self.new ≡ self.old) }
     {
-        let leaving = self.keys_of_label(id, label)?;
+        let alloc = self.postings.allocator();
+        let name = Text::from_str(alloc, label)?;
+        let leaving = self.keys_of_label(id, &name)?;
         let mark = self.postings.mark();
-        let none = Vec::new(self.postings.allocator());
+        let none = Vec::new(alloc);
         self.postings.replace(&leaving, none, id.0)?;
         let done = self.graph.drop_label(id, label);
         undo_if_refused(&mut self.postings, mark, &done);
@@ -192,7 +194,7 @@ impl Store {
     }
 
     // The keys under which a node stands by a label, once it has it.
-    fn keys_of_label(&self, id: NodeId, label: &str) -> Result<Vec<Key>, Fault>
+    fn keys_of_label(&self, id: NodeId, label: &Text) -> Result<Vec<Key>, Fault>
         ensures come { IfOk result (λ keys. Turns self.now.chosen (node_at id self.now.graph.now) (option_map (with_label label.now) (node_at id self.now.graph.now)) [] keys.items) }
         ensures go { IfOk result (λ keys. Turns self.now.chosen (node_at id self.now.graph.now) (option_map (without_label label.now) (node_at id self.now.graph.now)) keys.items []) }
     {

@@ -14,7 +14,7 @@ invariant_of-self-2 c =
     let id = c.args.id in
     let change = with_label c.args.label in
     let coming = c.in_ok-coming.coming.items in
-    let turned = subst (λ l. Turns c.args.self.now.chosen (node_at id c.args.self.now.graph.now) (option_map (with_label l) (node_at id c.args.self.now.graph.now)) [] coming) c.as_str.ensures c.in_ok-coming.ensures.come in
+    let turned = c.in_ok-coming.ensures.come in
     let turns = subst (λ (s : StoreState). Turns s.chosen (node_at id s.graph.now) (option_map change (node_at id s.graph.now)) [] coming) (sym c.self.view_is) turned in
     let there = subst (λ (s : StoreState). IsSome (node_at id s.graph.now)) (sym c.self.view_is) c.requires.there in
     node_settled c.add_label-done.result c.self.inside.chosen.items graph c.add_label-done.new.self (with_node_changed id change graph.now) c.self.inside.postings c.replace.new.self c.undo_if_refused.new.postings c.mark-mark.result id

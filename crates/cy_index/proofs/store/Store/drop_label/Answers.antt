@@ -15,7 +15,8 @@ invariant_of-self-2 c =
     let change = without_label c.args.label.now in
     let leaving = c.deref.result.now in
     let none = c.new-none.result.items in
-    let turned = subst (λ keys. Turns c.args.self.now.chosen (node_at id c.args.self.now.graph.now) (option_map change (node_at id c.args.self.now.graph.now)) keys []) (sym c.deref.ensures.value) c.in_ok-leaving.ensures.go in
+    let named = subst (λ l. Turns c.args.self.now.chosen (node_at id c.args.self.now.graph.now) (option_map (without_label l) (node_at id c.args.self.now.graph.now)) c.in_ok-leaving.leaving.items []) c.in_ok-name.ensures c.in_ok-leaving.ensures.go in
+    let turned = subst (λ keys. Turns c.args.self.now.chosen (node_at id c.args.self.now.graph.now) (option_map change (node_at id c.args.self.now.graph.now)) keys []) (sym c.deref.ensures.value) named in
     let turns = subst (λ (s : StoreState). Turns s.chosen (node_at id s.graph.now) (option_map change (node_at id s.graph.now)) leaving none) (sym c.self.view_is)
     (subst (λ keys. Turns c.args.self.now.chosen (node_at id c.args.self.now.graph.now) (option_map change (node_at id c.args.self.now.graph.now)) leaving keys) (sym c.new-none.ensures.items) turned) in
     let there = subst (λ (s : StoreState). IsSome (node_at id s.graph.now)) (sym c.self.view_is) c.requires.there in

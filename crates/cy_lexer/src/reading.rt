@@ -13,6 +13,9 @@ use crate::pieces::piece;
 use crate::tokens::Token;
 use std::alloc::Global;
 
+// How many tokens there is room for from the first one on.
+const SHORT_LINE: usize = 30;
+
 /// The tokens of a line, or the first fault that reading it from the left meets. Fails with `LineTooLong` above 65,536
 /// bytes, and may fail with `NoMemory` at any token, but not where there is none. Nothing but white space and comments
 /// stands between the tokens.
@@ -35,22 +38,20 @@ pub fn lex(alloc: Global, line: &str) -> Result<Vec<Token>, LexFault>
         let (kind, left) = piece(line.len(), rest, first, after)?;
         if let Some(kind) = kind {
             let end = line.len() - left.len();
-            push_token(&mut tokens, Token { kind, start, end }, left)?;
+            push_token(&mut tokens, Token { kind, start, end })?;
         }
         rest = left;
     }
     Ok(tokens)
 }
 
-// Adds the token that stands before the rest of the line. With the first one comes room for those that the rest mostly has, so that a
-// line without tokens takes no memory.
-fn push_token(tokens: &mut Vec<Token>, token: Token, rest: &str) -> Result<(), LexFault>
+// Adds a token. With the first one comes room for those of a short line, so that a line without tokens takes no memory.
+fn push_token(tokens: &mut Vec<Token>, token: Token) -> Result<(), LexFault>
     ensures ok { OnOk result (tokens.new.items ≡ tokens.old.items ++ token ∷ []) }
     ensures fault { IfErr result (λ fault. fault ≡ LexFault.NoMemory) }
 {
     if tokens.is_empty() {
-        // A token and the gap after it mostly take two bytes or more.
-        tokens.reserve(1 + rest.len() / 2)?;
+        tokens.reserve(SHORT_LINE)?;
     }
     tokens.push(token)?;
     Ok(())

@@ -1,11 +1,13 @@
 pub mod RowMaps
+pub mod HashMaps
+pub mod KeyHashes
 pub mod FewNumbers
-pub mod OwnKeys
 pub mod Soundness
 pub mod OwnRows
 pub mod Places
 pub mod Replacing
 pub mod LookUps
+pub mod Groups
 pub mod RowLists
 pub mod CountsUnder
 pub mod ListedRows

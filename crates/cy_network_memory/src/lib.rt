@@ -2,6 +2,7 @@
 #![tactic(auto)]
 
 mod buckets;
+mod equality;
 mod faults;
 mod few;
 mod keyed;
@@ -13,10 +14,10 @@ mod memory;
 mod rows;
 mod tables;
 
+pub use equality::rows_equal;
 pub use faults::MemoryFault;
 pub use keyed::KeyedMemory;
 pub use listed::ListMemory;
 pub use lists::ListCursor;
 pub use memory::{Listed, Made, Memory, RowDelta};
-pub use rows::rows_equal;
 pub use tables::KeyedCursor;

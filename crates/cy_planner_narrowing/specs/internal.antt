@@ -1,0 +1,6 @@
+-- What private functions and proofs need.
+pub mod Ranks
+pub mod Narrows
+pub mod Pairs
+pub mod Parts
+pub mod Above

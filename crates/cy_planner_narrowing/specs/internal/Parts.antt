@@ -1,0 +1,25 @@
+-- What the parts of plans are. (own)
+use Rattle.std.specs.Prelude.{◌≡◌, ◌<◌}
+use Rattle.cy_trees.specs.Views.{expression_of}
+use Rattle.cy_planner_algebra.specs.declared.operators.Operator.{Operator, size-Operator}
+use Rattle.cy_planner_algebra.specs.Plans as plan
+use Rattle.cy_planner_algebra.specs.Plans.{Plan}
+use Rattle.cy_planner_algebra.specs.Views.{plan_of}
+use Rattle.cy_planner_rewriting.specs.internal.Layers.{over_layer}
+use Rattle.cy_planner_narrowing.specs.declared.parts.Joint.{Joint}
+use Rattle.cy_planner_narrowing.specs.declared.parts.Joint.TheVariants as joint
+use Rattle.cy_planner_narrowing.specs.declared.parts.Part.{Part}
+use Rattle.cy_planner_narrowing.specs.declared.parts.Part.TheVariants as opened
+
+-- two plans together
+abbrev pub together : Joint → Plan → Plan → Plan
+together (joint.Join keys) p q = plan.join p q keys.items
+together (joint.Outer keys test) p q = plan.outer p q keys.items (expression_of test)
+together (joint.Semi keys keeping) p q = plan.semi p q keys.items keeping
+together joint.Union p q = plan.union p q
+
+-- what a part is: a plan with no part below it, a layer over another part, or two parts together
+abbrev pub IsOpened : Operator → Part → Type 0
+IsOpened part (opened.Leaf p) = plan_of part ≡ plan_of p
+IsOpened part (opened.Over l below) = (plan_of part ≡ over_layer l (plan_of below)) × (size-Operator below < size-Operator part)
+IsOpened part (opened.Both j left right) = (plan_of part ≡ together j (plan_of left) (plan_of right)) × (size-Operator left < size-Operator part) × (size-Operator right < size-Operator part)

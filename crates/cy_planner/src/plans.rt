@@ -14,6 +14,7 @@ use crate::faults::PlanFault;
 use crate::weight::is_too_large;
 use cy_oneshot_meaning::laws::{clauses_on_bags, view_queries};
 use cy_planner_algebra::Plan;
+use cy_planner_narrowing::narrowed;
 use cy_planner_outer_filters::with_low_predicates;
 use cy_planner_rewriting::rewritten;
 use cy_scope::{ViewQuery, checked_statements};
@@ -90,5 +91,6 @@ pub fn plan(alloc: Global, query: &ViewQuery) -> Result<Plan, PlanFault>
         return Err(PlanFault::PlanTooLarge);
     }
     let rows = united_rows(alloc, query.checked().statement())?;
-    Ok(with_low_predicates(alloc, rewritten(alloc, rows)?)?)
+    let plan = with_low_predicates(alloc, rewritten(alloc, rows)?)?;
+    Ok(narrowed(alloc, plan)?)
 }

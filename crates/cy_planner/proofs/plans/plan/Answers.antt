@@ -4,6 +4,7 @@ use Rattle.cy_trees.specs.Trees.{Statement}
 use Rattle.cy_trees.specs.Views.{statement_of}
 use Rattle.cy_planner_algebra.specs.Plans.{Plan}
 use Rattle.cy_planner_algebra.specs.Views.{plan_of}
+use Rattle.cy_planner_outer_filters.specs.Standing.{StandsFor}
 use Rattle.cy_planner_outer_filters.proofs.Congruent.{on_graphs, stands_again}
 use Rattle.cy_planner.specs.Serves.{Serves}
 use Rattle.cy_planner.proofs.Rewriting.{serves_standing}
@@ -15,5 +16,7 @@ returns-clause-serves c =
     let p : Plan = plan_of c.in_ok-rows.rows in
     let serves : Serves p query = first_of (search rules, grind (arith, common_steps)) in
     let other : Plan = plan_of c.in_ok-rewritten.field-0 in
-    let low : Plan = plan_of c.in_ok-with_low_predicates.field-0 in
-    serves_standing p low query serves (stands_again p other low (on_graphs p other c.in_ok-rewritten.ensures) c.in_ok-with_low_predicates.ensures)
+    let low : Plan = plan_of c.in_ok-plan.plan in
+    let narrow : Plan = plan_of c.in_ok-narrowed.field-0 in
+    let standing : StandsFor p low = stands_again p other low (on_graphs p other c.in_ok-rewritten.ensures) c.in_ok-plan.ensures in
+    serves_standing p narrow query serves (stands_again p low narrow standing (on_graphs low narrow c.in_ok-narrowed.ensures))

@@ -1,0 +1,8 @@
+pub mod Bits
+pub mod NameBits
+pub mod Asking
+pub mod Labelled
+pub mod Rules
+pub mod Walk
+pub mod Covering
+pub mod TouchedBits

@@ -1,0 +1,39 @@
+-- Masks: sets of bits of names. That of a plan has the labels and the types that its parts ask for, that of a change those of the entities that it
+-- touched; where the two have none in common, the plan reads nothing that the change touched. (own)
+use Rattle.std.specs.Prelude.{◌≡◌, ℕ, List, [], ◌∷◌, Option}
+use Rattle.std.specs.Int.Bits.{bit_and}
+use Rattle.std.specs.Int.RustNames.{bit_or}
+use Rattle.cy_graph.specs.declared.nodes.Node.{Node}
+use Rattle.cy_graph.specs.declared.nodes.Rel.{Rel}
+use Rattle.cy_graph.specs.Graph.{State, node_at, rel_at}
+use Rattle.cy_planner_algebra.specs.Plans.{Plan}
+use Rattle.cy_network_touches.specs.Changes.{IsChange, Touches}
+use Rattle.cy_network_relevance.specs.Relevance.{IsUntouched}
+use Rattle.cy_network_masks.specs.Names.{node_bits, rel_bits}
+use Rattle.cy_network_masks.specs.declared.masks.Mask.{Mask}
+
+-- some bits, and those of touched entities, with the values that they had and with those in a graph
+abbrev pub with_nodes : State → ℕ → List (ℕ × Option Node) → ℕ
+with_nodes now bits [] = bits
+with_nodes now bits (e ∷ es) = with_nodes now (bit_or (bit_or bits (node_bits e.1)) (node_bits (node_at (record { 0 = e.0 }) now))) es
+
+abbrev pub with_rels : State → ℕ → List (ℕ × Option Rel) → ℕ
+with_rels now bits [] = bits
+with_rels now bits (e ∷ es) = with_rels now (bit_or (bit_or bits (rel_bits e.1)) (rel_bits (rel_at (record { 0 = e.0 }) now))) es
+
+-- the mask of a change that led to a graph
+abbrev pub mask_of : State → Touches → Mask
+mask_of now touches = record { nodes = with_nodes now 0 touches.nodes; rels = with_rels now 0 touches.rels }
+
+-- the bits of both
+abbrev pub joined : Mask → Mask → Mask
+joined a b = record { nodes = bit_or a.nodes b.nodes; rels = bit_or a.rels b.rels }
+
+-- they have no bit in common
+pub record AreApart (a b : Mask) : Type 0 where
+  pub nodes : bit_and a.nodes b.nodes ≡ 0
+  pub rels : bit_and a.rels b.rels ≡ 0
+
+-- a mask has all that a plan reads: a change whose mask is apart from it leaves the rows of the plan's parts as they are
+abbrev pub Covers : Mask → Plan → Type 0
+Covers mask p = (before now : State) (touches : Touches) → IsChange before now touches → AreApart mask (mask_of now touches) → IsUntouched before.content now.content p

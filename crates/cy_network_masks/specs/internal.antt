@@ -1,0 +1,3 @@
+-- What proofs alone need.
+pub mod Labelled
+pub mod Left

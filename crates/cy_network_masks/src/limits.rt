@@ -1,0 +1,73 @@
+//! What the entities of a scan have in common.
+
+ghost use Rattle.std.specs.Prelude.{◌≡◌, IfSome};
+ghost use Rattle.cy_planner_algebra.specs.Views.{plan_of};
+ghost use Rattle.cy_network_masks.specs.internal.Left as left;
+ghost use Rattle.cy_network_masks.specs.internal.Left.{IsLimited};
+
+use crate::conditions::{keeps_first, label_asked};
+use crate::masks::Mask;
+use crate::names::{name_bit, with_names};
+use cy_planner_algebra::Operator;
+use cy_values::Text;
+
+/// The bits of which each entity has one that has a row in a part, where this is a scan that names its entities in the first column.
+pub(crate) fn limit_of(part: &Operator) -> Option<Mask>
+    ensures { IfSome result (λ limit. IsLimited limit (plan_of part.now)) }
+{
+    let mut part = part;
+    loop {
+        match part {
+            Operator::Nodes => return Some(Mask { nodes: 1, rels: 0 }),
+            Operator::Rels(types, _) => return Some(rels_mask(types)),
+            Operator::Lookup(below, column, _) => {
+                if *column > 0 {
+                    return None;
+                }
+                part = below;
+            }
+            Operator::Filter(below, test) => {
+                if let Some(label) = label_asked(below, test) {
+                    return Some(label_mask(label));
+                }
+                part = below;
+            }
+            Operator::Project(below, outputs) => {
+                if !keeps_first(outputs) {
+                    return None;
+                }
+                part = below;
+            }
+            Operator::Unit
+            | Operator::Join(_, _, _)
+            | Operator::Outer(_, _, _, _)
+            | Operator::Semi(_, _, _, _)
+            | Operator::AllDifferent(_, _)
+            | Operator::Distinct(_)
+            | Operator::Union(_, _) => return None,
+        }
+    }
+}
+
+/// The bits of which each relationship of some types has one; where none is named, each is of them.
+pub(crate) fn rels_mask(types: &[Text]) -> Mask
+    ensures { result ≡ left.rels_mask types.now }
+{
+    if types.is_empty() {
+        return Mask { nodes: 0, rels: 1 };
+    }
+    Mask {
+        nodes: 0,
+        rels: with_names(0, types),
+    }
+}
+
+// The bit that each node with a label has.
+fn label_mask(label: &Text) -> Mask
+    ensures { result ≡ left.label_mask label.now }
+{
+    Mask {
+        nodes: name_bit(label),
+        rels: 0,
+    }
+}

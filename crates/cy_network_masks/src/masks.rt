@@ -1,0 +1,58 @@
+//! Masks, and when two have nothing in common.
+
+ghost use Rattle.std.specs.Prelude.{◌≡◌, false};
+ghost use Rattle.cy_planner_algebra.specs.Views.{plan_of};
+ghost use Rattle.cy_network_masks.specs.Masks as spec;
+ghost use Rattle.cy_network_masks.specs.Masks.{AreApart, Covers, mask_of};
+
+use crate::plans::plan_mask;
+use crate::touched::{touched_nodes, touched_rels};
+use cy_index::Sight;
+use cy_network_touches::GraphChange;
+use cy_planner_algebra::Operator;
+
+/// A set of bits: of what a plan reads, or of what a change touched. A name has one bit, which it may share with others.
+#[derive(Clone, Copy, Debug, PartialEq, Eq)]
+pub struct Mask {
+    /// The lowest for nodes, the others for their labels.
+    pub(crate) nodes: u64,
+    /// The lowest for relationships, the others for their types.
+    pub(crate) rels: u64,
+}
+
+impl Mask {
+    /// What a plan reads. A change that has nothing in common with it leaves the rows of the plan's parts as they are. Each part is gone
+    /// through a few times at most.
+    pub fn of_plan(part: &Operator) -> Mask
+        ensures { Covers result (plan_of part.now) }
+    {
+        plan_mask(part)
+    }
+
+    /// What the open change touched. Reads each touched entity once.
+    pub fn of_change<'a>(change: &GraphChange<'a>, sight: &mut Sight<'a>) -> Mask
+        ensures mask { result ≡ mask_of sight.old.graph.now change.now }
+        ensures graph { sight.new.graph ≡ sight.old.graph }
+    {
+        let nodes = touched_nodes(change, sight);
+        let rels = touched_rels(change, sight);
+        Mask { nodes, rels }
+    }
+
+    /// Whether two have a bit in common.
+    pub fn meets(self, other: Mask) -> bool
+        ensures { result ≡ false → AreApart self other }
+    {
+        self.nodes & other.nodes != 0 || self.rels & other.rels != 0
+    }
+
+    /// The bits of both.
+    pub(crate) fn with(self, other: Mask) -> Mask
+        ensures { result ≡ spec.joined self other }
+    {
+        Mask {
+            nodes: self.nodes | other.nodes,
+            rels: self.rels | other.rels,
+        }
+    }
+}

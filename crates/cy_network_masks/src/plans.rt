@@ -1,0 +1,98 @@
+//! What the parts of a plan read.
+
+ghost use Rattle.std.specs.Prelude.{IfSome};
+ghost use Rattle.cy_planner_algebra.specs.Views.{plan_of};
+ghost use Rattle.cy_network_masks.specs.Masks.{Covers};
+ghost use Rattle.cy_network_masks.specs.internal.Left.{IsLimited, LeavesUnread};
+
+use crate::attributes::attribute_mask;
+use crate::conditions::keeps_first;
+use crate::limits::{limit_of, rels_mask};
+use crate::masks::Mask;
+use cy_planner_algebra::Operator;
+
+/// What the parts of a plan read.
+pub(crate) fn plan_mask(part: &Operator) -> Mask
+    ensures { Covers result (plan_of part.now) }
+{
+    parts_mask(part)
+}
+
+// What the parts of a plan read. A limit is asked for at the uppermost of the parts that stand over one another in a scan, and not once more at those below
+// it: so each part is gone through twice at most.
+fn parts_mask(part: &Operator) -> Mask
+    ensures { LeavesUnread result (plan_of part.now) }
+{
+    let mut part = part;
+    let mut mask = Mask { nodes: 0, rels: 0 };
+    let mut known = false;
+    loop {
+        match part {
+            Operator::Unit => return mask,
+            Operator::Nodes => return mask.with(Mask { nodes: 1, rels: 0 }),
+            Operator::Rels(types, _) => return mask.with(rels_mask(types)),
+            Operator::Lookup(below, column, attribute) => {
+                if let Some(limit) = limit_unless(known, part) {
+                    return mask.with(limit);
+                }
+                let read = attribute_mask(attribute);
+                mask = mask.with(read);
+                known = *column == 0;
+                part = below;
+            }
+            Operator::Filter(below, _) => {
+                if let Some(limit) = limit_unless(known, part) {
+                    return mask.with(limit);
+                }
+                known = true;
+                part = below;
+            }
+            Operator::Project(below, outputs) => {
+                known = known && keeps_first(outputs);
+                part = below;
+            }
+            Operator::AllDifferent(below, _) => {
+                known = false;
+                part = below;
+            }
+            Operator::Distinct(below) => {
+                known = false;
+                part = below;
+            }
+            Operator::Join(left, right, _) => {
+                let read = parts_mask(right);
+                mask = mask.with(read);
+                known = false;
+                part = left;
+            }
+            Operator::Outer(left, right, _, _) => {
+                let read = parts_mask(right);
+                mask = mask.with(read);
+                known = false;
+                part = left;
+            }
+            Operator::Semi(left, right, _, _) => {
+                let read = parts_mask(right);
+                mask = mask.with(read);
+                known = false;
+                part = left;
+            }
+            Operator::Union(left, right) => {
+                let read = parts_mask(right);
+                mask = mask.with(read);
+                known = false;
+                part = left;
+            }
+        }
+    }
+}
+
+// The bits of which each entity has one that has a row in a part, unless it is known that this is no such scan.
+fn limit_unless(known: bool, part: &Operator) -> Option<Mask>
+    ensures { IfSome result (λ limit. IsLimited limit (plan_of part.now)) }
+{
+    if known {
+        return None;
+    }
+    limit_of(part)
+}

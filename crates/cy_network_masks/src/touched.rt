@@ -1,0 +1,39 @@
+//! What a change touched.
+
+ghost use Rattle.std.specs.Prelude.{◌≡◌};
+ghost use Rattle.cy_network_masks.specs.Masks.{with_nodes, with_rels};
+
+use crate::names::{node_bits, rel_bits};
+use cy_index::Sight;
+use cy_network_touches::GraphChange;
+use cy_values::{NodeId, RelId};
+
+/// The bits of the touched nodes, as they were and as they are. Reads each once.
+pub(crate) fn touched_nodes<'a>(change: &GraphChange<'a>, sight: &mut Sight<'a>) -> u64
+    ensures bits { result ≡ with_nodes sight.old.graph.now 0 change.now.nodes }
+    ensures graph { sight.new.graph ≡ sight.old.graph }
+{
+    let mut bits = 0;
+    for (number, was) in change.nodes() {
+        let now = sight.node(NodeId(*number));
+        let old = node_bits(*was);
+        let new = node_bits(now);
+        bits = bits | old | new;
+    }
+    bits
+}
+
+/// The bits of the touched relationships, as they were and as they are. Reads each once.
+pub(crate) fn touched_rels<'a>(change: &GraphChange<'a>, sight: &mut Sight<'a>) -> u64
+    ensures bits { result ≡ with_rels sight.old.graph.now 0 change.now.rels }
+    ensures graph { sight.new.graph ≡ sight.old.graph }
+{
+    let mut bits = 0;
+    for (number, was) in change.rels() {
+        let now = sight.rel(RelId(*number));
+        let old = rel_bits(*was);
+        let new = rel_bits(now);
+        bits = bits | old | new;
+    }
+    bits
+}

@@ -1,5 +1,5 @@
 -- Once a change is committed, what is to go into the feeds of the views goes there.
-use Rattle.std.proofs.Common.{◌≡◌, ℕ, zero, suc, ◌-◌, ◌≤◌, ◌<◌, cond, List, [], ◌∷◌, ◌++◌, map, find, length, take, drop, Option, None, Some, IfSome, string_bytes, refl, sym, ap, subst, ◌∙◌, arith}
+use Rattle.std.proofs.Common.{◌≡◌, ◌⊎◌, inl, inr, ℕ, zero, suc, true, false, ◌-◌, ◌≤◌, ◌<◌, cond, List, [], ◌∷◌, ◌++◌, map, find, length, take, drop, Option, None, Some, IfSome, string_bytes, refl, sym, ap, subst, ◌∙◌, arith}
 use Rattle.std.specs.Option.{option_map, option_map_or}
 use Rattle.std.specs.Str.{bytes_eq}
 use Rattle.cy_trees.specs.Views.{statement_of}
@@ -9,7 +9,8 @@ use Rattle.cy_bags.specs.declared.changes.Entry.{Entry}
 use Rattle.cy_feeds.specs.Feeds.{History, IsReserved, latest, pushed}
 use Rattle.cy_planner_algebra.specs.Views.{plan_of}
 use Rattle.cy_engine_views.specs.declared.registered.Registered.{Registered}
-use Rattle.cy_engine_views.specs.Upkeep.{AreKeptUp, AreNamed, IsNew, IsReady, Registry, Rests, entries_in, entry_if, held, network_of, upkeep_of, view_of}
+use Rattle.cy_engine_views.specs.declared.rows.QueryRows.{QueryRows}
+use Rattle.cy_engine_views.specs.Upkeep.{AreKeptUp, AreNamed, IsNew, IsPrepared, IsReady, IsUnconcerned, IsWithinCost, Registry, Rests, StandsFor, entries_in, entry_if, held, network_of, upkeep_of, view_of}
 use Rattle.cy_engine_views.specs.RegisteredViews.{Entries, View, entry_at, fed}
 use Rattle.cy_engine_views.specs.internal.Loops.{AllAreSettled, IsSettledFrom, Takes, with_change}
 use Rattle.cy_engine_views.proofs.Going.{All}
@@ -37,16 +38,29 @@ until_fed tick (Some change) feed lt = omega (arith, latest_pushed (record { tic
 -- a view that is settled rests
 pub settled_rests : (before after : State) (tick : ℕ) (view next : Registered) → IsReady view before after tick → IsSettledFrom tick view next → Rests next after.content tick
 settled_rests before after tick view next ready settled = record {
-  rows = settled.rows before after ready.rows;
+  rows = by ready.rows;
   unprepared = settled.unprepared;
   idle = settled.idle;
   in_time = subst (λ (h : History). latest h.base h.entries ≤ tick) (sym settled.feed) (until_fed tick view.change view.feed.history ready.later);
 }
+  where
+    by : ((view.prepared ≡ true) × IsPrepared view.rows before after) ⊎ IsUnconcerned view before after → StandsFor next.rows after.content
+    by (inl (marked, prepared)) = settled.rows marked before after prepared
+    by (inr idle) = subst (λ (r : QueryRows). StandsFor r after.content) (sym (settled.same idle.unprepared)) idle.still
 
 -- a view that is ready can take its entry
 pub ready_takes : (before after : State) (tick : ℕ) (view : Registered) → IsReady view before after tick → Takes tick view
-ready_takes before after tick view ready = record { before = before; after = after; rows = ready.rows; room = from view.change ready.reserved }
+ready_takes before after tick view ready = record { rows = prepared_at ready.rows; idle = idle_at ready.rows; room = from view.change ready.reserved }
   where
+    prepared_at : ((view.prepared ≡ true) × IsPrepared view.rows before after) ⊎ IsUnconcerned view before after
+        → view.prepared ≡ true → (first : State) × ((last : State) × IsPrepared view.rows first last)
+    prepared_at (inl (marked, prepared)) is_marked = (before, (after, prepared))
+    prepared_at (inr idle) is_marked = let wrong : true ≡ false = sym is_marked ∙ idle.unprepared in absurd (cc)
+
+    idle_at : ((view.prepared ≡ true) × IsPrepared view.rows before after) ⊎ IsUnconcerned view before after → view.prepared ≡ false → view.change ≡ None
+    idle_at (inl (marked, prepared)) unmarked = let wrong : true ≡ false = sym marked ∙ unmarked in absurd (cc)
+    idle_at (inr idle) unmarked = idle.idle
+
     from : (o : Option Change) → IfSome o (λ _. IsReserved view.feed) → IfSome o (λ _. IsReserved view.feed × (latest view.feed.history.base view.feed.history.entries < tick))
     from None reserved = tt
     from (Some change) reserved = (reserved, ready.later)
@@ -112,15 +126,23 @@ views_fed tick (e ∷ entries) now (next, others, is, one, settled) named =
 pub kept_up : (before after : State) (tick : ℕ) (entries now : Registry) → AllAreSettled tick entries now → All (λ view. IsReady view before after tick) entries
     → AreKeptUp before after (map upkeep_of (map held entries)) (map upkeep_of (map held now))
 kept_up before after tick [] now settled ready = ap (λ (es : Registry). map upkeep_of (map held es)) settled
-kept_up before after tick (e ∷ entries) now (next, others, is, one, settled) ready =
-    let steps : ℕ = (network_of e.1.rows).steps in
-    let next_is : upkeep_of (held (e.0, next)) ≡ record (upkeep_of (held e)) { steps = steps } = λ i. record { name = string_bytes e.0; plan = plan_of (one.plan i); steps = one.steps i } in (
-      steps,
-      map upkeep_of (map held others),
-      ap (λ (es : Registry). map upkeep_of (map held es)) is ∙ ap (λ u. u ∷ map upkeep_of (map held others)) next_is,
-      ready.0.rows.steps,
-      kept_up before after tick entries others settled ready.1,
-    )
+kept_up before after tick (e ∷ entries) now (next, others, is, one, settled) ready = by (kept_up before after tick entries others settled ready.1) ready.0.rows
+  where
+    with_steps : AreKeptUp before after (map upkeep_of (map held entries)) (map upkeep_of (map held others)) → (steps : ℕ) → next.steps ≡ steps → IsWithinCost before after (upkeep_of (held e)).plan steps
+        → AreKeptUp before after (map upkeep_of (map held (e ∷ entries))) (map upkeep_of (map held now))
+    with_steps rest steps same within =
+        let next_is : upkeep_of (held (e.0, next)) ≡ record (upkeep_of (held e)) { steps = steps } = λ i. record { name = string_bytes e.0; plan = plan_of (one.plan i); steps = same i } in (
+          steps,
+          map upkeep_of (map held others),
+          ap (λ (es : Registry). map upkeep_of (map held es)) is ∙ ap (λ u. u ∷ map upkeep_of (map held others)) next_is,
+          within,
+          rest,
+        )
+
+    by : AreKeptUp before after (map upkeep_of (map held entries)) (map upkeep_of (map held others)) → ((e.1.prepared ≡ true) × IsPrepared e.1.rows before after) ⊎ IsUnconcerned e.1 before after
+        → AreKeptUp before after (map upkeep_of (map held (e ∷ entries))) (map upkeep_of (map held now))
+    by rest (inl (marked, prepared)) = with_steps rest (network_of e.1.rows).steps (one.steps marked) prepared.steps
+    by rest (inr idle) = with_steps rest 0 (one.none idle.unprepared) idle.steps
 
 -- all can take their entries
 pub all_take : (before after : State) (tick : ℕ) (entries : Registry) → All (λ view. IsReady view before after tick) entries → All (Takes tick) entries

@@ -8,3 +8,4 @@ pub mod Pending
 pub mod Readying
 pub mod Served
 pub mod Steps
+pub mod Still

@@ -8,11 +8,13 @@ use Rattle.cy_graph.specs.Graph.{Content, State}
 use Rattle.cy_bags.specs.declared.changes.Change.{Change}
 use Rattle.cy_bags.specs.Difference.{IsDifference, is_nothing}
 use Rattle.cy_feeds.specs.Feeds.{History, IsReserved, Kept, latest}
+use Rattle.cy_network_touches.specs.Changes.{IsChange, Touches}
 use Rattle.cy_engine_views.specs.declared.registered.Registered.{Registered}
 use Rattle.cy_engine_views.specs.Upkeep.{IsItsChange, IsPrepared, IsReady, IsUntil, Rests, StandsFor}
 use Rattle.cy_engine_views.specs.RegisteredViews.{rows_of}
 use Rattle.cy_engine_views.specs.internal.Loops.{CanRest, IsPreparedAt}
 use Rattle.cy_engine_views.proofs.Served.{nothing_changes, something_changes}
+use Rattle.cy_engine_views.proofs.Still.{same_bags}
 
 -- a view whose rows are prepared, where this is what is pending
 module _ (view next : Registered) (before after : State) (change : Change) (prepared : IsPrepared next.rows before after) (marked : next.prepared ≡ true)
@@ -22,8 +24,7 @@ module _ (view next : Registered) (before after : State) (change : Change) (prep
   ready_unchanged nothing same feed last tick rests below =
       let idle : next.change ≡ None = same ∙ rests.idle in
       record {
-        rows = prepared;
-        prepared = marked;
+        rows = inl (marked, prepared);
         change = subst (λ (o : Option Change). IsItsChange o (rows_of (statement_of next.rows.query) before.content) (rows_of (statement_of next.rows.query) after.content)) (sym idle)
             (nothing_changes (rows_of (statement_of next.rows.query) before.content) (rows_of (statement_of next.rows.query) after.content) change (pending before after prepared) nothing);
         reserved = subst (λ (o : Option Change). IfSome o (λ _. IsReserved next.feed)) (sym idle) tt;
@@ -34,14 +35,32 @@ module _ (view next : Registered) (before after : State) (change : Change) (prep
   pub ready_changed : IsTotalOrder row_cmp → is_nothing change ≡ false → next.change ≡ Some change → IsReserved next.feed → next.feed.history ≡ view.feed.history
       → (last tick : ℕ) → Rests view before.content last → last < tick → IsReady next before after tick
   ready_changed total some is reserved feed last tick rests below = record {
-    rows = prepared;
-    prepared = marked;
+    rows = inl (marked, prepared);
     change = subst (λ (o : Option Change). IsItsChange o (rows_of (statement_of next.rows.query) before.content) (rows_of (statement_of next.rows.query) after.content)) (sym is)
         (something_changes (rows_of (statement_of next.rows.query) before.content) (rows_of (statement_of next.rows.query) after.content) change (pending before after prepared) total
         (λ nothing. let wrong : true ≡ false = sym nothing ∙ some in absurd (cc)));
     reserved = subst (λ (o : Option Change). IfSome o (λ _. IsReserved next.feed)) (sym is) reserved;
     later = subst (λ (h : History). latest h.base h.entries < tick) (sym feed) (omega (arith, below, rests.in_time));
   }
+
+-- a view that a change doesn't concern is ready as it is
+pub ready_unconcerned : (view : Registered) (before after : State) (touches : Touches) → IsChange before after touches → (StandsFor view.rows before.content → StandsFor view.rows after.content)
+    → (last tick : ℕ) → Rests view before.content last → last < tick → IsReady view before after tick
+ready_unconcerned view before after touches change still last tick rests below =
+    let stands = still rests.rows in
+    record {
+      rows = inr (record {
+        unprepared = rests.unprepared;
+        idle = rests.idle;
+        stands = rests.rows;
+        still = stands;
+        steps = record { touches = touches; change = change; within = omega arith };
+      });
+      change = subst (λ (o : Option Change). IsItsChange o (rows_of (statement_of view.rows.query) before.content) (rows_of (statement_of view.rows.query) after.content)) (sym rests.idle)
+          (same_bags view.rows before after rests.rows stands);
+      reserved = subst (λ (o : Option Change). IfSome o (λ _. IsReserved view.feed)) (sym rests.idle) tt;
+      later = omega (arith, below, rests.in_time);
+    }
 
 -- a view that was prepared rests once it is abandoned
 pub abandoned_rests : (view next : Registered) → view.prepared ≡ true → ((before after : State) → IsPrepared view.rows before after → StandsFor next.rows before.content) → next.prepared ≡ false → next.change ≡ None

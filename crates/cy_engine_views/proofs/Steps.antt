@@ -1,12 +1,12 @@
 -- Steps of a change for all views, and what they leave.
-use Rattle.std.proofs.Common.{◌≡◌, ◌<◌, ℕ, zero, suc, [], ◌∷◌, map, Some, refl, subst, inl, inr, arith}
+use Rattle.std.proofs.Common.{◌≡◌, ◌<◌, ◌⊎◌, ℕ, true, false, zero, suc, [], ◌∷◌, map, Some, None, refl, subst, inl, inr, arith}
 use Rattle.std.specs.Prelude.{slice_get}
 use Rattle.std.specs.Map.{values_of}
 use Rattle.cy_graph.specs.Graph.{Content, State}
 use Rattle.cy_network.specs.Networks.{HasTooManyRows}
 use Rattle.cy_engine_views.specs.declared.registered.Registered.{Registered}
-use Rattle.cy_engine_views.specs.Upkeep.{IsReady, Registry, Rests, SomeHasTooManyRows, held, network_of, upkeep_of}
-use Rattle.cy_engine_views.specs.internal.Loops.{CanRest, IsOne}
+use Rattle.cy_engine_views.specs.Upkeep.{IsPrepared, IsReady, IsUnconcerned, Registry, Rests, SomeHasTooManyRows, StandsFor, held, network_of, upkeep_of}
+use Rattle.cy_engine_views.specs.internal.Loops.{CanRest, IsOne, IsPreparedAt}
 
 -- what preparing makes of a view, where it isn't refused
 pub record IsPreparedFrom (before after : State) (view next : Registered) : Type 0 where
@@ -25,7 +25,12 @@ prepared_back before after view next prepared = record {
 }
   where
     from : (last : ℕ) → Rests view before.content last → IsReady next before after (suc last) → CanRest next before.content last
-    from last rests ready = record { rows = inr (ready.prepared, record { before = before; after = after; from_graph = refl; prepared = ready.rows }); in_time = omega (arith, ready.later) }
+    from last rests ready = record { rows = by ready.rows; in_time = omega (arith, ready.later) }
+      where
+        by : ((next.prepared ≡ true) × IsPrepared next.rows before after) ⊎ IsUnconcerned next before after
+            → ((next.prepared ≡ false) × (next.change ≡ None) × StandsFor next.rows before.content) ⊎ ((next.prepared ≡ true) × IsPreparedAt before.content next.rows)
+        by (inl (marked, prepared)) = inr (marked, record { before = before; after = after; from_graph = refl; prepared = prepared })
+        by (inr idle) = inl (idle.unprepared, idle.idle, idle.stands)
 
 pub rests_back : (before : Content) (last : ℕ) (view : Registered) → Rests view before last → CanRest view before last
 rests_back before last view rests = record { rows = inl (rests.unprepared, rests.idle, rests.rows); in_time = rests.in_time }

@@ -19,6 +19,7 @@ use Rattle.cy_planner_algebra.specs.Plans.{Plan}
 use Rattle.cy_planner_algebra.specs.Views.{plan_of}
 use Rattle.cy_network_touches.specs.Changes.{Touches, IsChange}
 use Rattle.cy_network_touches.specs.Costs.{cost}
+use Rattle.cy_network_masks.specs.Masks.{Covers}
 use Rattle.cy_network.specs.Networks as networks
 use Rattle.cy_network.specs.Networks.{HasTooManyRows, NetworkState, operator_of, state_of}
 use Rattle.cy_planner.specs.Serves.{Serves}
@@ -128,10 +129,11 @@ network_of rows = state_of ghosts.key_columns ghosts.was ghosts.staged ghosts.st
 abbrev pub IsHeldByGraph : Content → Type 0
 IsHeldByGraph content = (graph : State) × IsGraph graph × (graph.content ≡ content)
 
--- the rows of a query stand for a graph: so does their network, whose plan serves the query
+-- the rows of a query stand for a graph: so does their network, whose plan serves the query, and reads no more than it is held to read
 pub record StandsFor (rows : QueryRows) (graph : Content) : Type 0 where
   pub is_graph : IsHeldByGraph graph
   pub serves : Serves (network_of rows).plan (statement_of rows.query)
+  pub reads : Covers rows.reads (network_of rows).plan
   pub network : networks.StandsFor graph (network_of rows)
 
 -- they are prepared from one graph to another, with a number of steps within the bound
@@ -139,6 +141,7 @@ pub record IsPrepared (rows : QueryRows) (before after : State) : Type 0 where
   pub from_graph : IsHeldByGraph before.content
   pub to_graph : IsHeldByGraph after.content
   pub serves : Serves (network_of rows).plan (statement_of rows.query)
+  pub reads : Covers rows.reads (network_of rows).plan
   pub network : networks.IsPrepared before.content after.content (network_of rows)
   pub steps : IsWithinCost before after (network_of rows).plan (network_of rows).steps
 
@@ -160,10 +163,17 @@ abbrev pub IsItsChange : Option Change → List (List Cell) → List (List Cell)
 IsItsChange None before after = IsSameBag before after
 IsItsChange (Some change) before after = (¬ (IsSameBag before after)) × IsDifference before after change
 
--- ready for the end of a change from one graph to another, at this tick
+-- a change from one graph to another doesn't concern a view: its rows stand for both, and take no step
+pub record IsUnconcerned (view : Registered) (before after : State) : Type 0 where
+  pub unprepared : view.prepared ≡ false
+  pub idle : view.change ≡ None
+  pub stands : StandsFor view.rows before.content
+  pub still : StandsFor view.rows after.content
+  pub steps : IsWithinCost before after (network_of view.rows).plan 0
+
+-- ready for the end of a change from one graph to another, at this tick: its rows are prepared for it, or it doesn't concern them
 pub record IsReady (view : Registered) (before after : State) (tick : ℕ) : Type 0 where
-  pub rows : IsPrepared view.rows before after
-  pub prepared : view.prepared ≡ true
+  pub rows : ((view.prepared ≡ true) × IsPrepared view.rows before after) ⊎ IsUnconcerned view before after
   pub change : IsItsChange view.change (rows_of (statement_of view.rows.query) before.content) (rows_of (statement_of view.rows.query) after.content)
   pub reserved : IfSome view.change (λ _. IsReserved view.feed)
   pub later : latest view.feed.history.base view.feed.history.entries < tick

@@ -4,24 +4,28 @@ ghost use Rattle.std.specs.Prelude.{◌≡◌, ℕ, ◌<◌, IfErr, OnErr, OnOk,
 ghost use Rattle.std.specs.List.{AllByRecursion};
 ghost use Rattle.cy_graph.specs.Graph.{Content};
 ghost use Rattle.cy_network_touches.specs.Changes.{IsChange, before_change};
+ghost use Rattle.cy_network_masks.specs.Masks.{mask_of};
 ghost use Rattle.cy_engine_views.specs.Upkeep.{CannotFollow, held, upkeep_of};
 ghost use Rattle.cy_engine_views.specs.internal.Loops.{AllAreSettled, AllCanRest, AllReady, AllRest, AllTake};
 
 use crate::faults::UpkeepFault;
 use crate::registered::Registered;
 use cy_index::Sight;
+use cy_network_masks::Mask;
 use cy_network_touches::GraphChange;
 use indexmap::IndexMap;
 use std::alloc::Global;
 
-/// Makes all views ready for the end of the open change, which touched this. After a refusal they are to be abandoned.
+/// Makes all views ready for the end of the open change, which touched this and has this mask. After a refusal they are to be abandoned.
 pub(crate) fn prepare_all<'a>(
     alloc: Global,
     registry: &mut IndexMap<String, Registered>,
     touched: &GraphChange<'a>,
+    mask: Mask,
     sight: &mut Sight<'a>,
 ) -> Result<(), UpkeepFault>
     requires touched { IsChange (before_change sight.old.graph) sight.old.graph.now touched.now }
+    requires mask { mask ≡ mask_of sight.old.graph.now touched.now }
     requires rest { (last : ℕ) × AllRest (before_change sight.old.graph).content last registry.old.entries }
     ensures ready { OnOk result ((last tick : ℕ) → AllRest (before_change sight.old.graph).content last registry.old.entries → last < tick → AllReady (before_change sight.old.graph) sight.old.graph.now tick registry.new.entries) }
     ensures back { (last : ℕ) → AllRest (before_change sight.old.graph).content last registry.old.entries → AllCanRest (before_change sight.old.graph).content last registry.new.entries }
@@ -30,7 +34,7 @@ pub(crate) fn prepare_all<'a>(
 {
     for at in 0..registry.len() {
         if let Some(view) = registry.get_index_mut(at) {
-            view.prepare(alloc, touched, sight)?;
+            view.prepare(alloc, touched, mask, sight)?;
         }
     }
     Ok(())

@@ -1,10 +1,11 @@
 //! The rows of a view's query, which follow the graph.
 
-ghost use Rattle.std.specs.Prelude.{◌≡◌, ◌≤◌, IfErr, IfOk, OnErr, OnOk, Some};
+ghost use Rattle.std.specs.Prelude.{◌≡◌, ◌≤◌, IfErr, IfOk, OnErr, OnOk, Some, false};
 ghost use Rattle.cy_trees.specs.Views.{statement_of};
 ghost use Rattle.cy_graph.specs.Graph.{Content, State};
 ghost use Rattle.cy_planner.specs.Weight.{greatest_weight, weight};
-ghost use Rattle.cy_network_touches.specs.Changes.{IsChange, before_change};
+ghost use Rattle.cy_network_touches.specs.Changes.{IsChange, Touches, before_change};
+ghost use Rattle.cy_network_masks.specs.Masks.{mask_of};
 ghost use Rattle.cy_bags.specs.Difference.{IsDifference};
 ghost use Rattle.cy_network.specs.Networks.{operator_of};
 ghost use Rattle.cy_engine_views.specs.Upkeep.{CannotFollowBy, IsPrepared, IsUnkept, StandsFor, network_of};
@@ -14,6 +15,7 @@ use crate::faults::UpkeepFault;
 use cy_bags::Change;
 use cy_index::{Sight, Store};
 use cy_network::Network;
+use cy_network_masks::Mask;
 use cy_network_memory::KeyedMemory;
 use cy_network_touches::GraphChange;
 use cy_planner::plan;
@@ -26,6 +28,8 @@ use std::alloc::Global;
 pub(crate) struct QueryRows {
     pub(crate) query: ViewQuery,
     network: Network<KeyedMemory>,
+    /// What the plan reads.
+    reads: Mask,
 }
 
 impl QueryRows {
@@ -43,8 +47,20 @@ impl QueryRows {
     {
         store.laws();
         let plan = plan(alloc, &query)?;
+        let reads = Mask::of_plan(plan.root());
         let network = Network::build(alloc, plan, store)?;
-        Ok(QueryRows { query, network })
+        Ok(QueryRows {
+            query,
+            network,
+            reads,
+        })
+    }
+
+    /// Whether a change of this mask may concern the rows. Where it says no, they stand for the graph after it as well.
+    pub(crate) fn may_change(&self, touched: Mask) -> bool
+        ensures { result ≡ false → (before now : State) (touches : Touches) → IsChange before now touches → touched ≡ mask_of now touches → StandsFor self.now before.content → StandsFor self.now now.content }
+    {
+        self.reads.meets(touched)
     }
 
     /// Makes the rows ready for the end of the open change, which touched this. After a refusal they are as before. `TooManyRows` only where a

@@ -23,6 +23,7 @@ use crate::rows::QueryRows;
 use cy_bags::Entry;
 use cy_feeds::{Answer, Feed};
 use cy_index::Store;
+use cy_network_masks::Mask;
 use cy_network_touches::GraphChange;
 use cy_scope::ViewQuery;
 use cy_values::{Fault, Row, Sequence, Text};
@@ -162,7 +163,8 @@ impl Views {
 
     /// Makes the views ready for the end of the open change, in the order in which they were made, and gives the entries that it
     /// makes at this tick. `TooManyRows` only where a part of a plan has a row that counts more than 2^62 - 1 on the graph of the
-    /// change. After a refusal the views are as before. Where there are no views, it isn't asked what the change touched.
+    /// change. After a refusal the views are as before. A view that reads nothing of what the change touched is left as it is. Where there are no
+    /// views, it isn't asked what the change touched.
     pub fn prepare(
         &mut self,
         store: &Store,
@@ -205,7 +207,8 @@ impl Views {
         store.laws();
         let mut sight = store.sight();
         let touched = GraphChange::new(self.alloc, &sight)?;
-        prepare_all(self.alloc, &mut self.registered, &touched, &mut sight)?;
+        let mask = Mask::of_change(&touched, &mut sight);
+        prepare_all(self.alloc, &mut self.registered, &touched, mask, &mut sight)?;
         let entries = entries_of(self.alloc, &self.registered, tick)?;
         Ok(Sequence::new(entries))
     }

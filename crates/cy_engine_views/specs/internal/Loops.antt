@@ -33,11 +33,10 @@ pub record CanRest (view : Registered) (graph : Content) (tick : ℕ) : Type 0 w
   pub rows : ((view.prepared ≡ false) × (view.change ≡ None) × StandsFor view.rows graph) ⊎ ((view.prepared ≡ true) × IsPreparedAt graph view.rows)
   pub in_time : IsUntil tick view.feed
 
--- it is prepared; and where something is to go into its feed, there is room for it, and all entries there are below the tick
+-- it is prepared, or nothing is to go into its feed; and where something is, there is room for it, and all entries there are below the tick
 pub record Takes (tick : ℕ) (view : Registered) : Type 0 where
-  pub before : State
-  pub after : State
-  pub rows : IsPrepared view.rows before after
+  pub rows : view.prepared ≡ true → (before : State) × ((after : State) × IsPrepared view.rows before after)
+  pub idle : view.prepared ≡ false → view.change ≡ None
   pub room : IfSome view.change (λ _. IsReserved view.feed × (latest view.feed.history.base view.feed.history.entries < tick))
 
 -- with an entry of this tick, where something is to go into the feed
@@ -45,16 +44,18 @@ abbrev pub with_change : ℕ → Option Change → History → History
 with_change tick None feed = feed
 with_change tick (Some change) feed = pushed (record { tick = tick; change = change }) feed
 
--- what settling makes of a view
+-- what settling makes of a view: of one that isn't prepared the rows are the same, and took no step
 pub record IsSettledFrom (tick : ℕ) (view next : Registered) : Type 0 where
-  pub rows : (before after : State) → IsPrepared view.rows before after → StandsFor next.rows after.content
+  pub rows : view.prepared ≡ true → (before after : State) → IsPrepared view.rows before after → StandsFor next.rows after.content
+  pub same : view.prepared ≡ false → next.rows ≡ view.rows
   pub unprepared : next.prepared ≡ false
   pub idle : next.change ≡ None
   pub query : next.rows.query ≡ view.rows.query
   pub plan : operator_of next.rows.network ≡ operator_of view.rows.network
   pub made : next.made ≡ view.made
   pub feed : next.feed.history ≡ with_change tick view.change view.feed.history
-  pub steps : next.steps ≡ (network_of view.rows).steps
+  pub steps : view.prepared ≡ true → next.steps ≡ (network_of view.rows).steps
+  pub none : view.prepared ≡ false → next.steps ≡ 0
 
 -- ---- all of them
 

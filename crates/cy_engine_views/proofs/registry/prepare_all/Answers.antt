@@ -2,6 +2,7 @@ use Rattle.std.proofs.Common.{◌≡◌, ◌+◌, ◌<◌, ℕ, List, map, refl,
 use Rattle.std.proofs.lemmas.Result.{err_from_is_err_and}
 use Rattle.cy_graph.specs.Graph.{Versions}
 use Rattle.cy_network_touches.specs.Changes.{IsChange, before_change}
+use Rattle.cy_network_masks.specs.Masks.{mask_of}
 use Rattle.cy_engine_views.specs.declared.registered.Registered.{Registered}
 use Rattle.cy_engine_views.specs.Upkeep.{CannotFollow, Held, IsReady, Registry, Rests, held, upkeep_of}
 use Rattle.cy_engine_views.specs.internal.Loops.{CanRest, IsOne}
@@ -36,6 +37,7 @@ prepare-requires c =
     let rest = c.requires.rest in
     record {
       touched = subst (λ (g : Versions). IsChange (before_change g) g.now c.args.touched.now) same c.requires.touched;
+      mask = subst (λ (g : Versions). c.args.mask ≡ mask_of g.now c.args.touched.now) same c.requires.mask;
       rests = (
         rest.0,
         subst (λ (g : Versions). Rests c.in-Some.view.now (before_change g).content rest.0) same

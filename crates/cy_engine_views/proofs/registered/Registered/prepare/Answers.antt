@@ -2,7 +2,7 @@ use Rattle.std.proofs.Common.{true, Some, refl, sym, ap, ◌∙◌}
 use Rattle.cy_network_touches.specs.Changes.{before_change}
 use Rattle.cy_feeds.specs.Feeds.{Kept}
 use Rattle.cy_engine_views.specs.declared.registered.Registered.{Registered}
-use Rattle.cy_engine_views.proofs.Readying.{ready_changed, ready_unchanged}
+use Rattle.cy_engine_views.proofs.Readying.{ready_changed, ready_unchanged, ready_unconcerned}
 use Rattle.cy_engine_views.proofs.registered.Registered.prepare.Goals as goal
 
 pub prepare-requires : goal.prepare-requires
@@ -10,6 +10,12 @@ prepare-requires c = record { change = c.requires.touched; stands = c.requires.r
 
 pub pending-change-requires : goal.pending-change-requires
 pending-change-requires c = (before_change c.args.sight.now.graph, (c.args.sight.now.graph.now, c.in_ok-prepare.ensures.prepared))
+
+pub returns-then-not-may_change-clause-ready : goal.returns-then-not-may_change-clause-ready
+returns-then-not-may_change-clause-ready c =
+    let graph = c.args.sight.now.graph in
+    ready_unconcerned c.args.self.now (before_change graph) graph.now c.args.touched.now c.requires.touched
+    (c.may_change.ensures c.if-not-may_change.true (before_change graph) graph.now c.args.touched.now c.requires.touched c.requires.mask)
 
 pub returns-then-is_empty-clause-ready : goal.returns-then-is_empty-clause-ready
 returns-then-is_empty-clause-ready c =

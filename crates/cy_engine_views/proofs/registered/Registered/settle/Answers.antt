@@ -1,4 +1,4 @@
 use Rattle.cy_engine_views.proofs.registered.Registered.settle.Goals as goal
 
 pub settle-requires : goal.settle-requires
-settle-requires c = (c.requires.before, (c.requires.after, c.requires.rows))
+settle-requires c = c.requires.rows c.if-not-self.false

@@ -1,8 +1,9 @@
 use Rattle.std.proofs.lemmas.Result.{err_from_is_err_and}
-use Rattle.std.proofs.Common.{Ok, Err, refl, sym, subst}
+use Rattle.std.proofs.Common.{◌∙◌, Ok, Err, refl, sym, subst}
 use Rattle.cy_trees.specs.Views.{statement_of}
 use Rattle.cy_planner_algebra.specs.Views.{plan_of}
 use Rattle.cy_planner_algebra.specs.declared.operators.Operator.{Operator}
+use Rattle.cy_network_masks.specs.Masks.{Covers}
 use Rattle.cy_planner.specs.Serves.{Serves}
 use Rattle.cy_engine_views.proofs.Served.{light, unbuilt, unplanned}
 use Rattle.cy_engine_views.proofs.rows.QueryRows.build.Goals as goal
@@ -28,5 +29,6 @@ pub returns-clause-stands : goal.returns-clause-stands
 returns-clause-stands c = record {
   is_graph = (c.args.store.now.graph.now, c.laws.ensures, refl);
   serves = subst (λ (p : Operator). Serves (plan_of p) (statement_of c.args.query)) (sym c.in_ok-network.ensures.plan) c.in_ok-plan.ensures.serves;
+  reads = subst (λ (p : Operator). Covers c.of_plan-reads.result (plan_of p)) (c.root.ensures.same ∙ sym c.in_ok-network.ensures.plan) c.of_plan-reads.ensures;
   network = c.in_ok-network.ensures.stands;
 }

@@ -4,6 +4,7 @@ use Rattle.std.proofs.lemmas.Result.{err_from_is_err_and}
 use Rattle.cy_trees.specs.Views.{statement_of}
 use Rattle.cy_planner_algebra.specs.Views.{plan_of}
 use Rattle.cy_planner_algebra.specs.declared.operators.Operator.{Operator}
+use Rattle.cy_network_masks.specs.Masks.{Covers}
 use Rattle.cy_planner.specs.Serves.{Serves}
 use Rattle.cy_network_touches.specs.Changes.{before_change}
 use Rattle.cy_engine_views.specs.Upkeep.{StandsFor, network_of}
@@ -22,6 +23,7 @@ returns-clause-prepared c =
       from_graph = c.requires.stands.is_graph;
       to_graph = (graph.now, c.requires.change.graph_now, refl);
       serves = subst (λ (p : Operator). Serves (plan_of p) (statement_of c.args.self.now.query)) (sym same) c.requires.stands.serves;
+      reads = subst (λ (p : Operator). Covers c.args.self.now.reads (plan_of p)) (sym same) c.requires.stands.reads;
       network = c.in_ok-prepare_change.ensures.prepared;
       steps = record { touches = upkeep.0; change = upkeep.1.0; within = subst (λ (p : Operator). (network_of (record c.args.self.now { network = c.prepare_change.new.self })).steps ≤ 16 * cost upkeep.0 (before_change graph).content graph.now.content (plan_of p)) (sym same) upkeep.1.1 };
     }
@@ -32,6 +34,7 @@ returns-in_err-prepare_change-clause-err c =
     let stands : StandsFor (record c.args.self.now { network = c.prepare_change.new.self }) (before_change c.args.sight.now.graph).content = record {
       is_graph = c.requires.stands.is_graph;
       serves = subst (λ (p : Operator). Serves (plan_of p) (statement_of c.args.self.now.query)) (sym c.prepare_change.ensures.plan) c.requires.stands.serves;
+      reads = subst (λ (p : Operator). Covers c.args.self.now.reads (plan_of p)) (sym c.prepare_change.ensures.plan) c.requires.stands.reads;
       network = c.in_err-prepare_change.ensures.err;
     } in
     rw p.1 stands

@@ -1,7 +1,8 @@
 use Rattle.std.proofs.Common.{List, map, sym, ap, subst, ◌∙◌}
 use Rattle.std.specs.Prelude.{IsSome}
 use Rattle.cy_graph.specs.Graph.{Versions}
-use Rattle.cy_network_touches.specs.Changes.{before_change}
+use Rattle.cy_network_touches.specs.Changes.{IsChange, before_change}
+use Rattle.cy_network_masks.specs.Masks.{mask_of}
 use Rattle.cy_engine_views.specs.Upkeep.{Held, Rests, entries_in, view_of, views_in}
 use Rattle.cy_engine_views.specs.RegisteredViews.{AreEntries, Entries}
 use Rattle.cy_engine_views.specs.internal.Loops.{AllCanRest, AllReady, AllRest, CanRest}
@@ -14,9 +15,10 @@ use Rattle.cy_engine_views.proofs.views.Views.make_ready.Goals as goal
 
 pub prepare_all-requires : goal.prepare_all-requires
 prepare_all-requires c =
-    let same = sym (ap (λ s. s.graph) c.sight-sight.ensures) in
+    let same = sym (c.of_change-mask.ensures.graph ∙ ap (λ s. s.graph) c.sight-sight.ensures) in
     record {
-      touched = c.in_ok-touched.ensures.change;
+      touched = subst (λ (g : Versions). IsChange (before_change g) g.now c.in_ok-touched.touched) (sym c.of_change-mask.ensures.graph) c.in_ok-touched.ensures.change;
+      mask = c.of_change-mask.ensures.mask ∙ ap (λ (g : Versions). mask_of g.now c.in_ok-touched.touched) (sym c.of_change-mask.ensures.graph);
       rest = (c.requires.stand.0, subst (λ (g : Versions). AllRest (before_change g).content c.requires.stand.0 c.args.self.now.registered.entries) same c.requires.stand.2.rest);
     }
 
@@ -27,7 +29,7 @@ returns-clause-entries c =
     let now = c.prepare_all.new.registry.entries in
     let stand = c.requires.stand in
     let ready : AllReady (before_change graph) graph.now c.args.tick now =
-    subst (λ (g : Versions). AllRest (before_change g).content stand.0 c.args.self.now.registered.entries → AllReady (before_change g) g.now c.args.tick now) (ap (λ s. s.graph) c.sight-sight.ensures)
+    subst (λ (g : Versions). AllRest (before_change g).content stand.0 c.args.self.now.registered.entries → AllReady (before_change g) g.now c.args.tick now) (c.of_change-mask.ensures.graph ∙ ap (λ s. s.graph) c.sight-sight.ensures)
     (λ rest. c.in_ok-prepare_all.ensures.ready stand.0 c.args.tick rest stand.1) stand.2.rest
     in
     subst (λ (es : Entries). AreEntries (views_in c.args.self.now) (before_change graph).content graph.now.content c.args.tick es) (sym (c.new-2.ensures ∙ c.in_ok-entries.ensures))
@@ -37,17 +39,17 @@ returns-clause-entries c =
 -- after a refusal each view can rest
 pub returns-in_err-prepare_all-clause-back : goal.returns-in_err-prepare_all-clause-back
 returns-in_err-prepare_all-clause-back c = λ last stand.
-    subst (λ (g : Versions). AllRest (before_change g).content last c.args.self.now.registered.entries → AllCanRest (before_change g).content last c.prepare_all.new.registry.entries) (ap (λ s. s.graph) c.sight-sight.ensures)
+    subst (λ (g : Versions). AllRest (before_change g).content last c.args.self.now.registered.entries → AllCanRest (before_change g).content last c.prepare_all.new.registry.entries) (c.of_change-mask.ensures.graph ∙ ap (λ s. s.graph) c.sight-sight.ensures)
     (c.prepare_all.ensures.back last) stand.rest
 
 pub returns-in_err-entries-clause-back : goal.returns-in_err-entries-clause-back
 returns-in_err-entries-clause-back c = λ last stand.
-    subst (λ (g : Versions). AllRest (before_change g).content last c.args.self.now.registered.entries → AllCanRest (before_change g).content last c.prepare_all.new.registry.entries) (ap (λ s. s.graph) c.sight-sight.ensures)
+    subst (λ (g : Versions). AllRest (before_change g).content last c.args.self.now.registered.entries → AllCanRest (before_change g).content last c.prepare_all.new.registry.entries) (c.of_change-mask.ensures.graph ∙ ap (λ s. s.graph) c.sight-sight.ensures)
     (c.prepare_all.ensures.back last) stand.rest
 
 pub returns-clause-back : goal.returns-clause-back
 returns-clause-back c = λ last stand.
-    subst (λ (g : Versions). AllRest (before_change g).content last c.args.self.now.registered.entries → AllCanRest (before_change g).content last c.prepare_all.new.registry.entries) (ap (λ s. s.graph) c.sight-sight.ensures)
+    subst (λ (g : Versions). AllRest (before_change g).content last c.args.self.now.registered.entries → AllCanRest (before_change g).content last c.prepare_all.new.registry.entries) (c.of_change-mask.ensures.graph ∙ ap (λ s. s.graph) c.sight-sight.ensures)
     (c.prepare_all.ensures.back last) stand.rest
 
 pub returns-clause-ready : goal.returns-clause-ready
@@ -56,7 +58,7 @@ returns-clause-ready c =
     let now = c.prepare_all.new.registry.entries in
     let stand = c.requires.stand in
     let ready : AllReady (before_change graph) graph.now c.args.tick now =
-    subst (λ (g : Versions). AllRest (before_change g).content stand.0 c.args.self.now.registered.entries → AllReady (before_change g) g.now c.args.tick now) (ap (λ s. s.graph) c.sight-sight.ensures)
+    subst (λ (g : Versions). AllRest (before_change g).content stand.0 c.args.self.now.registered.entries → AllReady (before_change g) g.now c.args.tick now) (c.of_change-mask.ensures.graph ∙ ap (λ s. s.graph) c.sight-sight.ensures)
     (λ rest. c.in_ok-prepare_all.ensures.ready stand.0 c.args.tick rest stand.1) stand.2.rest
     in
     let left : Views = record c.args.self.now { registered = c.prepare_all.new.registry } in

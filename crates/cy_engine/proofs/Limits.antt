@@ -3,7 +3,7 @@ use Rattle.std.proofs.Common.{◌≤◌, ℕ, List, [], ◌∷◌, map, Some, su
 use Rattle.std.specs.List.{AllByRecursion}
 use Rattle.std.specs.declared.alloc.Global.{Global}
 use Rattle.std.specs.declared.string.String.{String}
-use Rattle.cy_trees.specs.Views.{statement_of}
+use Rattle.cy_trees.specs.TreeModels.{statement_of}
 use Rattle.cy_values.specs.declared.rows.Cell.{Cell}
 use Rattle.cy_values.specs.Bag.{count_of}
 use Rattle.cy_graph.specs.Graph.{Content}

@@ -4,7 +4,7 @@ use Rattle.std.proofs.lemmas.Bool.Decides.{nat_tests}
 use Rattle.cy_lexer.specs.declared.tokens.Token.{Token}
 use Rattle.cy_trees.specs.Trees.{Statement}
 use Rattle.cy_trees.specs.declared.clauses.Statement as coded
-use Rattle.cy_trees.specs.Views.{statement_of}
+use Rattle.cy_trees.specs.TreeModels.{statement_of}
 use Rattle.cy_graph.specs.Graph.{State}
 use Rattle.cy_index.specs.Index.{StoreState, has_pair}
 use Rattle.cy_index.specs.declared.faults.IndexFault.{IndexFault}
@@ -12,7 +12,7 @@ use Rattle.cy_index.specs.declared.faults.IndexFault.TheVariants as index
 use Rattle.cy_oneshot_meaning.specs.Queries.{statement_columns}
 use Rattle.cy_feeds.specs.Feeds.{new_history}
 use Rattle.cy_planner_algebra.specs.declared.operators.Operator.{Operator}
-use Rattle.cy_planner_algebra.specs.Views.{plan_of}
+use Rattle.cy_planner_algebra.specs.PlanModels.{plan_of}
 use Rattle.cy_planner.specs.Serves.{Serves}
 use Rattle.cy_planner.specs.Weight.{greatest_weight, weight}
 use Rattle.cy_updates_meaning.specs.Faults.{◌>>=◌}

@@ -2,7 +2,7 @@
 
 ghost use Rattle.std.specs.Prelude.{◌≡◌, ◌≤◌, ◌⊎◌, [], IfErr, IfOk, IsOk, IsSome, OnErr, Ok, Err};
 ghost use Rattle.std.specs.Option.{option_copied};
-ghost use Rattle.cy_trees.specs.Views.{statement_of};
+ghost use Rattle.cy_trees.specs.TreeModels.{statement_of};
 ghost use Rattle.cy_oneshot_meaning.specs.Queries.{statement_columns};
 ghost use Rattle.cy_updates.specs.Answers.{outcome_seen};
 ghost use Rattle.cy_graph.specs.Graph.{State};

@@ -1,6 +1,6 @@
 //! From the tokens of a statement to a checked statement.
 
-ghost use Rattle.cy_trees.specs.Views.{statement_of};
+ghost use Rattle.cy_trees.specs.TreeModels.{statement_of};
 ghost use Rattle.cy_engine.specs.Verdicts.{query_verdict, scope_verdict};
 ghost use Rattle.cy_engine.specs.internal.Stages.{Gives};
 

@@ -12,7 +12,7 @@ use Rattle.cy_trees.specs.declared.clauses.Projection as coded_projection
 use Rattle.cy_trees.specs.declared.clauses.Query as coded_query
 use Rattle.cy_trees.specs.declared.clauses.Statement as coded_statement
 use Rattle.cy_trees.specs.Trees.{Clause, Name, Item, Projection, «return»}
-use Rattle.cy_trees.specs.Views.{clause_of, query_of, statement_of}
+use Rattle.cy_trees.specs.TreeModels.{clause_of, query_of, statement_of}
 use Rattle.cy_scope.specs.Checked.{IsViewQuery}
 use Rattle.cy_scope_kinds.specs.declared.faults.ViewFault.{ViewFault}
 use Rattle.cy_scope_kinds.specs.declared.faults.ViewFault.TheVariants.{NotAReading}

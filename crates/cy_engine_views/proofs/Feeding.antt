@@ -2,12 +2,12 @@
 use Rattle.std.proofs.Common.{◌≡◌, ◌⊎◌, inl, inr, ℕ, zero, suc, true, false, ◌-◌, ◌≤◌, ◌<◌, cond, List, [], ◌∷◌, ◌++◌, map, find, length, take, drop, Option, None, Some, IfSome, string_bytes, refl, sym, ap, subst, ◌∙◌, arith}
 use Rattle.std.specs.Option.{option_map, option_map_or}
 use Rattle.std.specs.Str.{bytes_eq}
-use Rattle.cy_trees.specs.Views.{statement_of}
+use Rattle.cy_trees.specs.TreeModels.{statement_of}
 use Rattle.cy_graph.specs.Graph.{State}
 use Rattle.cy_bags.specs.declared.changes.Change.{Change}
 use Rattle.cy_bags.specs.declared.changes.Entry.{Entry}
 use Rattle.cy_feeds.specs.Feeds.{History, IsReserved, latest, pushed}
-use Rattle.cy_planner_algebra.specs.Views.{plan_of}
+use Rattle.cy_planner_algebra.specs.PlanModels.{plan_of}
 use Rattle.cy_engine_views.specs.declared.registered.Registered.{Registered}
 use Rattle.cy_engine_views.specs.declared.rows.QueryRows.{QueryRows}
 use Rattle.cy_engine_views.specs.Upkeep.{AreKeptUp, AreNamed, IsNew, IsPrepared, IsReady, IsUnconcerned, IsWithinCost, Registry, Rests, StandsFor, entries_in, entry_if, held, network_of, upkeep_of, view_of}

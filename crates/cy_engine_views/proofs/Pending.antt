@@ -1,6 +1,6 @@
 -- The entries of views that are ready for the end of a change.
 use Rattle.std.proofs.Common.{◌≡◌, ◌≤◌, ℕ, [], ◌∷◌, ◌++◌, length, map, Some, None, Option, string_bytes, refl, sym, ap, subst, ◌∙◌, arith, inl, inr}
-use Rattle.cy_trees.specs.Views.{statement_of}
+use Rattle.cy_trees.specs.TreeModels.{statement_of}
 use Rattle.cy_graph.specs.Graph.{State}
 use Rattle.cy_bags.specs.declared.changes.Change.{Change}
 use Rattle.cy_engine_views.specs.Upkeep.{AreNamed, AreReady, IsItsChange, IsReady, Registry, entries_in, entry_if, held, views_in}

@@ -7,7 +7,7 @@ use Rattle.std.specs.Cmp.{IsTotalOrder, tied_itself}
 use Rattle.std.specs.Ordering.{eq_by_cmp, is_eq}
 use Rattle.std.proofs.lemmas.List.Sums.{sum_by-cons}
 use Rattle.cy_trees.specs.Trees.{Statement}
-use Rattle.cy_trees.specs.Views.{statement_of}
+use Rattle.cy_trees.specs.TreeModels.{statement_of}
 use Rattle.cy_values.specs.declared.rows.Cell.{Cell}
 use Rattle.cy_values.specs.Bag.{IsBagOf, IsCanonical, IsSameBag, IsSurplus, weight_of}
 use Rattle.cy_values.specs.Order.{row_cmp}
@@ -21,7 +21,7 @@ use Rattle.cy_network_memory.specs.declared.faults.MemoryFault.{MemoryFault}
 use Rattle.cy_network_memory.specs.declared.faults.MemoryFault.TheVariants as memory
 use Rattle.cy_network.specs.Networks.{HasTooManyRows}
 use Rattle.cy_planner_algebra.specs.declared.operators.Operator.{Operator}
-use Rattle.cy_planner_algebra.specs.Views.{plan_of}
+use Rattle.cy_planner_algebra.specs.PlanModels.{plan_of}
 use Rattle.cy_planner_algebra.specs.Plans.{Plan}
 use Rattle.cy_planner_algebra.specs.Meaning as plans
 use Rattle.cy_planner.specs.declared.faults.PlanFault.{PlanFault}

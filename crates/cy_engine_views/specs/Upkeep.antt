@@ -6,7 +6,7 @@ use Rattle.std.specs.declared.alloc.Global.{Global}
 use Rattle.std.specs.declared.string.String.{String}
 use Rattle.cy_trees.specs.Trees.{Statement}
 use Rattle.cy_trees.specs.declared.clauses.Statement as coded
-use Rattle.cy_trees.specs.Views.{statement_of}
+use Rattle.cy_trees.specs.TreeModels.{statement_of}
 use Rattle.cy_values.specs.declared.rows.Cell.{Cell}
 use Rattle.cy_values.specs.Bag.{IsSameBag}
 use Rattle.cy_graph.specs.Graph.{Content, State, IsGraph}
@@ -16,7 +16,7 @@ use Rattle.cy_feeds.specs.Feeds.{History, Kept, IsReserved, latest, new_history}
 use Rattle.cy_network_memory.specs.contracts.keyed.KeyedMemoryMemory.TheImpl.{ghosts}
 use Rattle.cy_planner_algebra.specs.declared.operators.Operator.{Operator}
 use Rattle.cy_planner_algebra.specs.Plans.{Plan}
-use Rattle.cy_planner_algebra.specs.Views.{plan_of}
+use Rattle.cy_planner_algebra.specs.PlanModels.{plan_of}
 use Rattle.cy_network_touches.specs.Changes.{Touches, IsChange}
 use Rattle.cy_network_touches.specs.Costs.{cost}
 use Rattle.cy_network_masks.specs.Masks.{Covers}

@@ -1,7 +1,7 @@
 //! The rows of a view's query, which follow the graph.
 
 ghost use Rattle.std.specs.Prelude.{◌≡◌, ◌≤◌, IfErr, IfOk, OnErr, OnOk, Some, false};
-ghost use Rattle.cy_trees.specs.Views.{statement_of};
+ghost use Rattle.cy_trees.specs.TreeModels.{statement_of};
 ghost use Rattle.cy_graph.specs.Graph.{Content, State};
 ghost use Rattle.cy_planner.specs.Weight.{greatest_weight, weight};
 ghost use Rattle.cy_network_touches.specs.Changes.{IsChange, Touches, before_change};

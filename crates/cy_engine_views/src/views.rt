@@ -2,10 +2,10 @@
 
 ghost use Rattle.std.specs.Prelude.{◌≡◌, ℕ, ◌<◌, ◌≤◌, [], ◌∷◌, ◌++◌, IfErr, IfOk, IsFalse, IsSome, None, OnErr, OnOk, Some, is_some, length, map};
 ghost use Rattle.std.specs.Option.{option_map};
-ghost use Rattle.cy_trees.specs.Views.{statement_of};
+ghost use Rattle.cy_trees.specs.TreeModels.{statement_of};
 ghost use Rattle.cy_graph.specs.Graph.{Content, State};
 ghost use Rattle.cy_feeds.specs.Feeds.{answer_since};
-ghost use Rattle.cy_planner_algebra.specs.Views.{plan_of};
+ghost use Rattle.cy_planner_algebra.specs.PlanModels.{plan_of};
 ghost use Rattle.cy_planner_algebra.specs.declared.operators.Operator.{Operator};
 ghost use Rattle.cy_planner.specs.Serves.{Serves};
 ghost use Rattle.cy_planner.specs.Weight.{greatest_weight, weight};

@@ -34,7 +34,7 @@ use Rattle.cy_expr.specs.internal.Lent.{GivesOrWants}
 use Rattle.cy_expr.specs.Evaluation.{as_cell, call_value, called, cell_of, cells_of, chain, outcomes_of_arms, property_exists, values_of}
 use Rattle.std.specs.declared.boxed.Box.{Box}
 use Rattle.cy_trees.specs.Trees.{Name, Expression, null, boolean, integer, text, variable, property, has_labels, unary, binary, comparison, list, case, call, call_star, Expressions, no_more, more, nothing, otherwise}
-use Rattle.cy_trees.specs.Views.{arms_of, expression_of, expressions_from, link_of, links_from}
+use Rattle.cy_trees.specs.TreeModels.{arms_of, expression_of, expressions_from, link_of, links_from}
 use Rattle.cy_trees.specs.declared.expressions.Arm.{Arm}
 use Rattle.cy_trees.specs.declared.expressions.Link.{Link}
 use Rattle.cy_trees.specs.declared.expressions.Expr as coded

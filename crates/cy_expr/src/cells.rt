@@ -1,7 +1,7 @@
 //! The cell of an expression.
 
 ghost use Rattle.std.specs.Prelude.{◌≡◌, ◌⊎◌, IfOk, IsOk, IsTrue, Result, Ok, Err, All};
-ghost use Rattle.cy_trees.specs.Views.{expression_of};
+ghost use Rattle.cy_trees.specs.TreeModels.{expression_of};
 ghost use Rattle.cy_expr.specs.declared.faults.EvalFault.TheVariants.{NoMemory};
 ghost use Rattle.cy_expr.specs.Lookups as graphs;
 ghost use Rattle.cy_expr.specs.Lookups.{IsNumbered};

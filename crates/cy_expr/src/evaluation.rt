@@ -4,7 +4,7 @@
 ghost use Rattle.std.specs.Prelude.{◌≡◌, ◌⊎◌, MatchResult, Ok, Err, All, map, option_map};
 ghost use Rattle.cy_values.specs.Compare.{lent};
 ghost use Rattle.cy_trees.specs.Trees.{more, no_more};
-ghost use Rattle.cy_trees.specs.Views.{expression_of, expressions_from, links_from, link_of, arms_from, arm_of};
+ghost use Rattle.cy_trees.specs.TreeModels.{expression_of, expressions_from, links_from, link_of, arms_from, arm_of};
 ghost use Rattle.cy_expr.specs.declared.faults.EvalFault.TheVariants.{NoMemory};
 ghost use Rattle.cy_expr.specs.Choice.{coalesce};
 ghost use Rattle.cy_expr.specs.Faults.{on_one, on_two};

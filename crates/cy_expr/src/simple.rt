@@ -2,7 +2,7 @@
 //! of one.
 
 ghost use Rattle.std.specs.Prelude.{◌≡◌, IfSome, Ok, map};
-ghost use Rattle.cy_trees.specs.Views.{expression_of, link_of, links_from};
+ghost use Rattle.cy_trees.specs.TreeModels.{expression_of, link_of, links_from};
 ghost use Rattle.cy_expr.specs.Evaluation as spec;
 ghost use Rattle.cy_expr.specs.Faults.{on_one};
 ghost use Rattle.cy_expr.specs.Lookups.{labels_test, property_value};

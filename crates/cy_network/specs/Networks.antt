@@ -11,7 +11,7 @@ use Rattle.cy_planner_algebra.specs.declared.operators.Operator.{Operator}
 use Rattle.cy_planner_algebra.specs.Plans.{Plan}
 use Rattle.cy_planner_algebra.specs.Meaning.{rows_of}
 use Rattle.cy_planner_algebra.specs.Sure.{IsSure}
-use Rattle.cy_planner_algebra.specs.Views.{plan_of}
+use Rattle.cy_planner_algebra.specs.PlanModels.{plan_of}
 use Rattle.cy_network_operators.specs.Deltas.{counts}
 use Rattle.cy_network.specs.declared.networks.Network.{Network}
 use Rattle.cy_network.specs.Places.{Place, entries_in, place_in, place_of, room_in, rows_by}

@@ -6,7 +6,7 @@ ghost use Rattle.cy_bags.specs.Difference.{IsDifference};
 ghost use Rattle.cy_network_memory.specs.Listings.{IsListing};
 ghost use Rattle.cy_network_operators.specs.Deltas.{IsDelta, counts};
 ghost use Rattle.cy_network_parts.specs.Counted.{ArePositive, counted, written};
-ghost use Rattle.cy_planner_algebra.specs.Views.{plan_of};
+ghost use Rattle.cy_planner_algebra.specs.PlanModels.{plan_of};
 ghost use Rattle.cy_planner_algebra.specs.WellFormed.{IsWellFormed};
 ghost use Rattle.cy_network.specs.Places as places;
 

@@ -1,10 +1,10 @@
 //! The label that a filter asks of each node.
 
 ghost use Rattle.std.specs.Prelude.{◌≡◌, IfSome, Some, length, map, true};
-ghost use Rattle.cy_trees.specs.Views.{expression_of};
+ghost use Rattle.cy_trees.specs.TreeModels.{expression_of};
 ghost use Rattle.cy_planner_algebra.specs.declared.operators.Attribute.TheVariants.{Labels};
 ghost use Rattle.cy_planner_algebra.specs.Plans as plan;
-ghost use Rattle.cy_planner_algebra.specs.Views.{output_of, plan_of};
+ghost use Rattle.cy_planner_algebra.specs.PlanModels.{output_of, plan_of};
 ghost use Rattle.cy_network_sources.specs.Scans as scans;
 ghost use Rattle.cy_network_masks.specs.internal.Labelled.{Asks, HasLabels, IsSingle, LacksWithout, NamesNodes};
 

@@ -1,7 +1,7 @@
 //! Masks, and when two have nothing in common.
 
 ghost use Rattle.std.specs.Prelude.{◌≡◌, false};
-ghost use Rattle.cy_planner_algebra.specs.Views.{plan_of};
+ghost use Rattle.cy_planner_algebra.specs.PlanModels.{plan_of};
 ghost use Rattle.cy_network_masks.specs.Masks as spec;
 ghost use Rattle.cy_network_masks.specs.Masks.{AreApart, Covers, mask_of};
 

@@ -1,7 +1,7 @@
 //! What the parts of a plan read.
 
 ghost use Rattle.std.specs.Prelude.{IfSome};
-ghost use Rattle.cy_planner_algebra.specs.Views.{plan_of};
+ghost use Rattle.cy_planner_algebra.specs.PlanModels.{plan_of};
 ghost use Rattle.cy_network_masks.specs.Masks.{Covers};
 ghost use Rattle.cy_network_masks.specs.internal.Left.{IsLimited, LeavesUnread};
 

@@ -29,5 +29,5 @@ abbrev pub changed : ℤ → ℕ → ℕ
 changed change count = unsigned_abs (pos count +ℤ change)
 
 -- the key of a row: its cells in these columns, in their order
-abbrev pub key_of : List ℕ → List Cell → List Cell
-key_of columns row = filter_map (slice_get row) columns
+abbrev pub key_cells : List ℕ → List Cell → List Cell
+key_cells columns row = filter_map (slice_get row) columns

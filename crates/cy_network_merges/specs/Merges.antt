@@ -3,7 +3,7 @@ use Rattle.std.specs.Prelude.{◌≡◌, ℕ, ◌<◌, ◌≤◌, List, ◌++◌
 use Rattle.std.specs.List.{All, range_with_len}
 use Rattle.cy_values.specs.declared.rows.Cell.{Cell}
 use Rattle.cy_values.specs.Bag.{count_of}
-use Rattle.cy_network_memory.specs.Counts.{Counts, greatest_count, key_of}
+use Rattle.cy_network_memory.specs.Counts.{Counts, greatest_count, key_cells}
 use Rattle.cy_planner_algebra.specs.Plans.{Output}
 use Rattle.cy_planner_algebra.specs.Expressions.{projected}
 use Rattle.cy_network_memory.specs.declared.memory.RowDelta.{RowDelta}
@@ -15,7 +15,7 @@ all_columns width = range_with_len 0 width
 
 -- the key of the row is the whole row
 abbrev pub IsWhole : List ℕ → List Cell → Type 0
-IsWhole columns row = key_of columns row ≡ row
+IsWhole columns row = key_cells columns row ≡ row
 
 -- no row counts more than the greatest count
 abbrev pub AreBounded : Counts → Type 0

@@ -8,7 +8,7 @@ ghost use Rattle.cy_network_memory.specs.declared.faults.MemoryFault.TheVariants
 ghost use Rattle.cy_network_memory.specs.Counts.{greatest_count};
 ghost use Rattle.cy_planner_algebra.specs.Expressions as expressions;
 ghost use Rattle.cy_planner_algebra.specs.Sure.{HasCells};
-ghost use Rattle.cy_planner_algebra.specs.Views.{output_of};
+ghost use Rattle.cy_planner_algebra.specs.PlanModels.{output_of};
 ghost use Rattle.cy_network_memory.specs.declared.memory.RowDelta.{RowDelta};
 ghost use Rattle.cy_network_operators.specs.Deltas.{AreWide, IsBounded, IsDelta, counts};
 ghost use Rattle.cy_network_merges.specs.Merges.{AreBounded, IsOneToOne, IsOneToOneOn, IsProjectChange, all_columns};

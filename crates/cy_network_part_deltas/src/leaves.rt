@@ -5,7 +5,7 @@ ghost use Rattle.cy_values.specs.declared.rows.Cell.{Cell};
 ghost use Rattle.cy_graph.specs.Graph.{State};
 ghost use Rattle.cy_planner_algebra.specs.Plans as plan;
 ghost use Rattle.cy_planner_algebra.specs.Plans.{Plan};
-ghost use Rattle.cy_planner_algebra.specs.Views.{plan_of};
+ghost use Rattle.cy_planner_algebra.specs.PlanModels.{plan_of};
 ghost use Rattle.cy_network_operators.specs.Deltas.{row_delta_between};
 ghost use Rattle.cy_network_parts.specs.Memories.{is_scan};
 ghost use Rattle.cy_network_parts.specs.Parts as parts;

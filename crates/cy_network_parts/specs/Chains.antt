@@ -1,7 +1,7 @@
 -- The parts that a chain holds.
 use Rattle.std.specs.Prelude.{List, if◌then◌else◌, map, nat_le, take}
 use Rattle.cy_planner_algebra.specs.Plans.{Plan}
-use Rattle.cy_planner_algebra.specs.Views.{plan_of}
+use Rattle.cy_planner_algebra.specs.PlanModels.{plan_of}
 use Rattle.cy_network_parts.specs.declared.parts.Chain.{Chain}
 
 -- the parts of a chain: those side by side, or those in the list, where they are more than can stand so

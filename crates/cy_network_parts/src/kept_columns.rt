@@ -2,7 +2,7 @@
 
 ghost use Rattle.std.specs.Prelude.{◌≡◌, ◌<◌, ◌==◌, ◌||◌, ℕ, false, IfOk, length, map, slice_index_or};
 ghost use Rattle.std.specs.List.{list_all};
-ghost use Rattle.cy_planner_algebra.specs.Views.{output_of};
+ghost use Rattle.cy_planner_algebra.specs.PlanModels.{output_of};
 ghost use Rattle.cy_network_sources.specs.Scans.{is_this};
 ghost use Rattle.cy_network_parts.specs.Memories as spec;
 ghost use Rattle.cy_network_parts.specs.internal.Kept.{kept_flags};

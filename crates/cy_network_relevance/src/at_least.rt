@@ -3,7 +3,7 @@
 ghost use Rattle.std.specs.Prelude.{◌≡◌, map, min, slice_get, sum_by};
 ghost use Rattle.std.specs.Option.{option_map_or};
 ghost use Rattle.cy_planner_algebra.specs.Plans.{width};
-ghost use Rattle.cy_planner_algebra.specs.Views.{output_of, plan_of};
+ghost use Rattle.cy_planner_algebra.specs.PlanModels.{output_of, plan_of};
 ghost use Rattle.cy_planner_algebra.specs.WellFormed.{IsWellFormed};
 ghost use Rattle.cy_network_relevance.specs.Lists as lists;
 

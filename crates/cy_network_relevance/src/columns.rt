@@ -1,9 +1,9 @@
 //! Columns that stand alone in what a projection makes.
 
 ghost use Rattle.std.specs.Prelude.{◌≡◌};
-ghost use Rattle.cy_trees.specs.Views.{expression_of};
+ghost use Rattle.cy_trees.specs.TreeModels.{expression_of};
 ghost use Rattle.cy_planner_algebra.specs.Plans.{computed};
-ghost use Rattle.cy_planner_algebra.specs.Views.{output_of};
+ghost use Rattle.cy_planner_algebra.specs.PlanModels.{output_of};
 ghost use Rattle.cy_network_relevance.specs.Lists as lists;
 
 use cy_planner_algebra::Output;

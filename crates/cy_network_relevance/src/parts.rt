@@ -1,11 +1,11 @@
 //! What becomes of the rows of a plan's parts where one entity has another value.
 
 ghost use Rattle.std.specs.Prelude.{◌≡◌, Some, map, true};
-ghost use Rattle.cy_trees.specs.Views.{expression_of};
+ghost use Rattle.cy_trees.specs.TreeModels.{expression_of};
 ghost use Rattle.cy_planner_algebra.specs.declared.operators.Attribute.TheVariants.{Labels};
 ghost use Rattle.cy_planner_algebra.specs.declared.operators.Orientation.{Orientation};
 ghost use Rattle.cy_planner_algebra.specs.Plans as plan;
-ghost use Rattle.cy_planner_algebra.specs.Views.{output_of, plan_of};
+ghost use Rattle.cy_planner_algebra.specs.PlanModels.{output_of, plan_of};
 ghost use Rattle.cy_network_sources.specs.Scans as scans;
 ghost use Rattle.cy_network_relevance.specs.internal.Kept.{IsAbsent, IsUnchanged, KeepsRows};
 

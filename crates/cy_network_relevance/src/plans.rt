@@ -3,7 +3,7 @@
 ghost use Rattle.std.specs.Prelude.{◌≡◌, ◌≤◌, ◌+◌, false, length};
 ghost use Rattle.std.specs.List.{All};
 ghost use Rattle.cy_graph.specs.Graph.{State, node_at, rel_at};
-ghost use Rattle.cy_planner_algebra.specs.Views.{plan_of};
+ghost use Rattle.cy_planner_algebra.specs.PlanModels.{plan_of};
 ghost use Rattle.cy_network_touches.specs.Changes.{IsChange};
 ghost use Rattle.cy_network_touches.specs.Work as work;
 ghost use Rattle.cy_network_touches.specs.Work.{asked_reads};

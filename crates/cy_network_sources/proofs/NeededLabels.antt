@@ -24,7 +24,7 @@ use Rattle.cy_graph.specs.declared.nodes.Node.{Node}
 use Rattle.cy_planner_algebra.specs.Expressions.{cell_at, cell_of, holds, is_true, projected}
 use Rattle.cy_planner_algebra.specs.Plans as plan
 use Rattle.cy_planner_algebra.specs.Plans.{Output, Plan, computed}
-use Rattle.cy_planner_algebra.specs.Views.{plan_of}
+use Rattle.cy_planner_algebra.specs.PlanModels.{plan_of}
 use Rattle.cy_network_sources.specs.Scans.{is_column}
 use Rattle.cy_network_touches.specs.Attributes.{node_attribute}
 use Rattle.cy_network_sources.specs.internal.Rows.{node_rows}

@@ -5,7 +5,7 @@ ghost use Rattle.std.specs.Option.{option_copied};
 ghost use Rattle.cy_values.specs.declared.rows.Cell.{Cell};
 ghost use Rattle.cy_trees.specs.Trees.{Name};
 ghost use Rattle.cy_graph.specs.Maps.{value_at};
-ghost use Rattle.cy_planner_algebra.specs.Views.{plan_of};
+ghost use Rattle.cy_planner_algebra.specs.PlanModels.{plan_of};
 ghost use Rattle.cy_planner_algebra.specs.declared.operators.Orientation.{Orientation};
 ghost use Rattle.cy_network_touches.specs.Attributes.{node_attribute, rel_attribute};
 ghost use Rattle.cy_network_sources.specs.internal.Through as spec;

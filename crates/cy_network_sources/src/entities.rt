@@ -3,7 +3,7 @@
 ghost use Rattle.std.specs.Prelude.{◌≡◌, ◌++◌, ◌∷◌, [], IfOk, OnOk, if◌then◌else◌, map};
 ghost use Rattle.std.specs.Option.{option_copied, option_to_list};
 ghost use Rattle.cy_values.specs.declared.rows.Cell.TheVariants as cell;
-ghost use Rattle.cy_planner_algebra.specs.Views.{plan_of};
+ghost use Rattle.cy_planner_algebra.specs.PlanModels.{plan_of};
 ghost use Rattle.cy_network_sources.specs.internal.Through as spec;
 ghost use Rattle.cy_network_sources.specs.internal.Through.{AreFit, IsFit, IsNodeFit, IsRelFit, attribute_in};
 

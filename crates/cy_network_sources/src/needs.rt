@@ -5,12 +5,12 @@ ghost use Rattle.std.specs.List.{list_any};
 ghost use Rattle.std.specs.Option.{option_copied};
 ghost use Rattle.std.specs.Str.{bytes_eq};
 ghost use Rattle.cy_trees.specs.Trees.{Expression, binary, text};
-ghost use Rattle.cy_trees.specs.Views.{expression_of};
+ghost use Rattle.cy_trees.specs.TreeModels.{expression_of};
 ghost use Rattle.cy_trees.specs.declared.expressions.BinaryOperator.TheVariants.{In};
 ghost use Rattle.cy_planner_algebra.specs.declared.operators.Attribute.TheVariants.{Labels};
 ghost use Rattle.cy_planner_algebra.specs.Plans as plan;
 ghost use Rattle.cy_planner_algebra.specs.Plans.{Plan, computed};
-ghost use Rattle.cy_planner_algebra.specs.Views.{output_of, plan_of};
+ghost use Rattle.cy_planner_algebra.specs.PlanModels.{output_of, plan_of};
 ghost use Rattle.cy_network_sources.specs.Scans as scans;
 ghost use Rattle.cy_network_sources.specs.internal.Through.{IsLabelTest, IsNeeded, IsNodeFit, LeaveNode, node_made};
 

@@ -12,7 +12,7 @@ use Rattle.cy_values.specs.Bag.{count_of}
 use Rattle.cy_values.specs.declared.rows.Cell.{Cell}
 use Rattle.cy_values.specs.declared.rows.Cell.TheVariants as cell
 use Rattle.cy_network_memory.specs.declared.memory.RowDelta.{RowDelta}
-use Rattle.cy_network_memory.specs.Counts.{Counts, is_row, key_of}
+use Rattle.cy_network_memory.specs.Counts.{Counts, is_row, key_cells}
 use Rattle.cy_network_memory.specs.Records.{IsAnswer, is_counted, is_found}
 use Rattle.cy_planner_algebra.specs.Expressions.{cell_at, null}
 use Rattle.cy_planner_algebra.specs.Meaning.{each_once, is_among}
@@ -98,9 +98,9 @@ few p (x ∷ rows) records once each =
 -- the records of a key are no more than the rows that have it
 pub records_few : (columns : List ℕ) (was staged : Counts) (key : List Cell) (records : List RowDelta) → IsAnswer columns was staged key records
     → (rows : List (List Cell)) → ((row : List Cell) → is_counted was staged row ≡ true → is_among row rows ≡ true)
-    → length records ≤ count_by (λ row. is_row key (key_of columns row)) rows
+    → length records ≤ count_by (λ row. is_row key (key_cells columns row)) rows
 records_few columns was staged key records answer rows there =
-    few (λ row. is_row key (key_of columns row)) rows records
+    few (λ row. is_row key (key_cells columns row)) rows records
     (λ row. at_most (is_found columns was staged key row) (answer.once row))
     (all_in records (λ r. found_in r))
   where
@@ -108,18 +108,18 @@ records_few columns was staged key records answer rows there =
     at_most true is = omega (arith, is)
     at_most false is = omega (arith, is)
 
-    found_in : (r : RowDelta) → 1 ≤ of_row r.row records → IsIn (λ row. is_row key (key_of columns row)) rows r
-    found_in r some = by (is_row key (key_of columns r.row)) (is_counted was staged r.row) refl refl (answer.once r.row)
+    found_in : (r : RowDelta) → 1 ≤ of_row r.row records → IsIn (λ row. is_row key (key_cells columns row)) rows r
+    found_in r some = by (is_row key (key_cells columns r.row)) (is_counted was staged r.row) refl refl (answer.once r.row)
       where
-        by : (k c : Bool) → is_row key (key_of columns r.row) ≡ k → is_counted was staged r.row ≡ c → of_row r.row records ≡ cond (k && c) 1 0 → IsIn (λ row. is_row key (key_of columns row)) rows r
+        by : (k c : Bool) → is_row key (key_cells columns r.row) ≡ k → is_counted was staged r.row ≡ c → of_row r.row records ≡ cond (k && c) 1 0 → IsIn (λ row. is_row key (key_cells columns row)) rows r
         by true true is counts once = (is, there r.row counts)
         by true false is counts once = absurd (omega (arith, some, once))
         by false c is counts once = absurd (omega (arith, some, once))
 
-    all_in : (some : List RowDelta) → ((r : RowDelta) → 1 ≤ of_row r.row some → IsIn (λ row. is_row key (key_of columns row)) rows r) → All (IsIn (λ row. is_row key (key_of columns row)) rows) some
-    all_in [] each = All-nil (IsIn (λ row. is_row key (key_of columns row)) rows)
+    all_in : (some : List RowDelta) → ((r : RowDelta) → 1 ≤ of_row r.row some → IsIn (λ row. is_row key (key_cells columns row)) rows r) → All (IsIn (λ row. is_row key (key_cells columns row)) rows) some
+    all_in [] each = All-nil (IsIn (λ row. is_row key (key_cells columns row)) rows)
     all_in (r ∷ some) each =
-        All-cons (IsIn (λ row. is_row key (key_of columns row)) rows) r some
+        All-cons (IsIn (λ row. is_row key (key_cells columns row)) rows) r some
         (each r (let whole = sum_by-cons (λ (s : RowDelta). cond (is_row r.row s.row) 1 0) r some in let own : cond {A = ℕ} (is_row r.row r.row) 1 0 ≡ 1 = ap (λ b. cond {A = ℕ} b 1 0) (row_itself r.row) in omega (arith, whole, own)))
         (all_in some (λ s h. each s (let whole = sum_by-cons (λ (t : RowDelta). cond (is_row s.row t.row) 1 0) r some in omega (arith, whole, h))))
 
@@ -127,10 +127,10 @@ records_few columns was staged key records answer rows there =
 
 -- the rows that have an entity's key
 abbrev pub with_node : ℕ → List (List Cell) → ℕ → ℕ
-with_node column rows n = count_by (λ row. is_row (cell.Node (record { 0 = n }) ∷ []) (key_of (column ∷ []) row)) rows
+with_node column rows n = count_by (λ row. is_row (cell.Node (record { 0 = n }) ∷ []) (key_cells (column ∷ []) row)) rows
 
 abbrev pub with_rel : ℕ → List (List Cell) → ℕ → ℕ
-with_rel column rows n = count_by (λ row. is_row (cell.Rel (record { 0 = n }) ∷ []) (key_of (column ∷ []) row)) rows
+with_rel column rows n = count_by (λ row. is_row (cell.Rel (record { 0 = n }) ∷ []) (key_cells (column ∷ []) row)) rows
 
 sum_of_none : {A : Type 0} (xs : List A) → sum_by (λ x. 0) xs ≡ 0
 sum_of_none [] = refl
@@ -199,13 +199,13 @@ module _ (touches : Touches) (column : ℕ) (nodes_once : IsDistinct nat_eq (key
       let rest = named_sum rows in
       let nodes : sum_by (λ e. with_node column (row ∷ rows) e.0) touches.nodes ≡ named_once touches.nodes (node_owner (cells_of o)) + sum_by (λ e. with_node column rows e.0) touches.nodes =
       sum_equal (λ e. with_node column (row ∷ rows) e.0) (λ e. cond (owns (node_owner (cells_of o)) e.0) 1 0 + with_node column rows e.0)
-      (λ e. sum_by-cons (λ row. cond (is_row (cell.Node (record { 0 = e.0 }) ∷ []) (key_of (column ∷ []) row)) 1 0) row rows
+      (λ e. sum_by-cons (λ row. cond (is_row (cell.Node (record { 0 = e.0 }) ∷ []) (key_cells (column ∷ []) row)) 1 0) row rows
       ∙ ap (λ b. cond b 1 0 + with_node column rows e.0) (ap (is_row (cell.Node (record { 0 = e.0 }) ∷ [])) (key_is column row o refl) ∙ node_key e.0 o)) touches.nodes
       ∙ sum_of_two (λ e. cond (owns (node_owner (cells_of o)) e.0) 1 0) (λ e. with_node column rows e.0) touches.nodes
       ∙ ap (λ n. n + sum_by (λ e. with_node column rows e.0) touches.nodes) (own_sum (node_owner (cells_of o)) touches.nodes nodes_once) in
       let rels : sum_by (λ e. with_rel column (row ∷ rows) e.0) touches.rels ≡ named_once touches.rels (rel_owner (cells_of o)) + sum_by (λ e. with_rel column rows e.0) touches.rels =
       sum_equal (λ e. with_rel column (row ∷ rows) e.0) (λ e. cond (owns (rel_owner (cells_of o)) e.0) 1 0 + with_rel column rows e.0)
-      (λ e. sum_by-cons (λ row. cond (is_row (cell.Rel (record { 0 = e.0 }) ∷ []) (key_of (column ∷ []) row)) 1 0) row rows
+      (λ e. sum_by-cons (λ row. cond (is_row (cell.Rel (record { 0 = e.0 }) ∷ []) (key_cells (column ∷ []) row)) 1 0) row rows
       ∙ ap (λ b. cond b 1 0 + with_rel column rows e.0) (ap (is_row (cell.Rel (record { 0 = e.0 }) ∷ [])) (key_is column row o refl) ∙ rel_key e.0 o)) touches.rels
       ∙ sum_of_two (λ e. cond (owns (rel_owner (cells_of o)) e.0) 1 0) (λ e. with_rel column rows e.0) touches.rels
       ∙ ap (λ n. n + sum_by (λ e. with_rel column rows e.0) touches.rels) (own_sum (rel_owner (cells_of o)) touches.rels rels_once) in

@@ -17,7 +17,7 @@ use Rattle.cy_values.specs.Bag.{count_of}
 use Rattle.cy_graph.specs.declared.nodes.Node.{Node}
 use Rattle.cy_graph.specs.declared.nodes.Rel.{Rel}
 use Rattle.cy_graph.specs.Graph.{Content, State, node_at, rel_at}
-use Rattle.cy_network_memory.specs.Counts.{Counts, greatest_count, is_row, key_of}
+use Rattle.cy_network_memory.specs.Counts.{Counts, greatest_count, is_row, key_cells}
 use Rattle.cy_planner_algebra.specs.declared.operators.Attribute.{Attribute}
 use Rattle.cy_planner_algebra.specs.Expressions.{cell_at, null}
 use Rattle.cy_planner_algebra.specs.Meaning.{attribute_of, with_attribute}
@@ -41,7 +41,7 @@ equal m n h = grind (arith, nat_tests)
 
 -- the key that a row has
 abbrev pub key_in : ℕ → List Cell → List Cell
-key_in column row = key_of (column ∷ []) row
+key_in column row = key_cells (column ∷ []) row
 
 -- the key, where the cell in the column is known
 abbrev pub cells_of : Option Cell → List Cell

@@ -14,7 +14,7 @@ use Rattle.cy_values.specs.declared.rows.Cell.TheVariants as cell
 use Rattle.cy_values.specs.Bag.{count_of}
 use Rattle.cy_graph.specs.Graph.{Content, State, node_at, rel_at}
 use Rattle.cy_network_memory.specs.declared.memory.RowDelta.{RowDelta}
-use Rattle.cy_network_memory.specs.Counts.{Counts, is_row, key_of}
+use Rattle.cy_network_memory.specs.Counts.{Counts, is_row, key_cells}
 use Rattle.cy_network_memory.specs.Records.{IsAnswer, is_counted}
 use Rattle.cy_planner_algebra.specs.declared.operators.Attribute.{Attribute}
 use Rattle.cy_planner_algebra.specs.declared.operators.Attribute.TheVariants.{Property, RelType, Labels}
@@ -102,7 +102,7 @@ pub still_made : (columns : List ℕ) (was staged : Counts) (key : List Cell) (v
 still_made columns was staged key values records answer row =
     deltas_made row (λ r. is_row first r.row) (valued_record values) none records
     ∙ ap (flat_map (λ r. deltas_of row (valued_record values r))) (answered columns was staged key records answer first)
-    ∙ cases (is_row key (key_of columns first)) (is_counted was staged first) refl
+    ∙ cases (is_row key (key_cells columns first)) (is_counted was staged first) refl
   where
     first : List Cell
     first = front row
@@ -132,7 +132,7 @@ still_made columns was staged key values records answer row =
 
 -- where nothing differs they are none
 pub still_none : (columns : List ℕ) (was staged : Counts) (key : List Cell) (values : Attributes) (row : List Cell) → values.was ≡ None → still_deltas columns was staged key values row ≡ []
-still_none columns was staged key values row is = cases (is_row key (key_of columns (front row))) (was (front row) == staged (front row)) refl
+still_none columns was staged key values row is = cases (is_row key (key_cells columns (front row))) (was (front row) == staged (front row)) refl
   where
     equal : (m n : ℕ) → (m == n) ≡ true → m ≡ n
     equal m n h = grind (arith, nat_tests)

@@ -1,7 +1,7 @@
 //! The names of columns.
 
 ghost use Rattle.std.specs.Prelude.{◌≡◌, IfOk, OnOk, map};
-ghost use Rattle.cy_trees.specs.Views.{item_of, path_of, step_of};
+ghost use Rattle.cy_trees.specs.TreeModels.{item_of, path_of, step_of};
 ghost use Rattle.cy_oneshot_patterns.specs.Places.{places};
 ghost use Rattle.cy_oneshot_meaning.specs.Queries.{with_new_names};
 ghost use Rattle.cy_oneshot.specs.internal.Names.{with_name, with_steps_names};

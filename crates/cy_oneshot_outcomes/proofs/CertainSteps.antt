@@ -6,7 +6,7 @@ use Rattle.cy_trees.specs.declared.expressions.Comparator.TheVariants.{Equal}
 use Rattle.cy_trees.specs.declared.expressions.Expr.{Expr, the_lemmas}
 use Rattle.cy_trees.specs.declared.expressions.Link.{Link}
 use Rattle.cy_trees.specs.Trees.{Expression, link, no_links}
-use Rattle.cy_trees.specs.Views.{expression_of, expressions_from, link_of, links_from}
+use Rattle.cy_trees.specs.TreeModels.{expression_of, expressions_from, link_of, links_from}
 use Rattle.cy_scope_kinds.specs.Sure.{is_literal}
 use Rattle.cy_oneshot_outcomes.specs.declared.certain.Shape.{Shape}
 use Rattle.cy_oneshot_outcomes.specs.declared.certain.Shape.TheVariants as shape

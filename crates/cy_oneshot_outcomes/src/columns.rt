@@ -1,7 +1,7 @@
 //! The columns that an expression reads: those of its variables.
 
 ghost use Rattle.std.specs.Prelude.{◌≡◌, map, IfOk, OnOk};
-ghost use Rattle.cy_trees.specs.Views.{expression_of, expressions_from, links_from, link_of, arms_from, arm_of};
+ghost use Rattle.cy_trees.specs.TreeModels.{expression_of, expressions_from, links_from, link_of, arms_from, arm_of};
 ghost use Rattle.cy_scope_kinds.specs.internal.ExpressionTrees.{otherwise_of};
 ghost use Rattle.cy_oneshot_outcomes.specs.Columns as meant;
 ghost use Rattle.cy_oneshot_outcomes.specs.internal.Collected as spec;

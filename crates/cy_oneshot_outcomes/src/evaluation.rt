@@ -1,7 +1,7 @@
 //! Expressions on the rows of a table, whose cells name nodes and relationships of the graph.
 
 ghost use Rattle.std.specs.Prelude.{◌≡◌, ◌⊎◌, Result, Err};
-ghost use Rattle.cy_trees.specs.Views.{expression_of};
+ghost use Rattle.cy_trees.specs.TreeModels.{expression_of};
 ghost use Rattle.cy_expr.specs.declared.faults.EvalFault.TheVariants.{NoMemory};
 ghost use Rattle.cy_expr.specs.Evaluation.{cell_of};
 ghost use Rattle.cy_expr.specs.Faults.{on_one};

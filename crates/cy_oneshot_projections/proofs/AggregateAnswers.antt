@@ -7,7 +7,7 @@ use Rattle.cy_values.specs.Order.{cell_order}
 use Rattle.cy_values.specs.declared.rows.Cell.{Cell}
 use Rattle.cy_trees.specs.declared.expressions.Expr.{Expr}
 use Rattle.cy_trees.specs.Trees.{Name, call}
-use Rattle.cy_trees.specs.Views.{expression_of, expressions_from}
+use Rattle.cy_trees.specs.TreeModels.{expression_of, expressions_from}
 use Rattle.cy_graph.specs.Graph.{Content}
 use Rattle.cy_scope_kinds.specs.declared.functions.Function.{Function}
 use Rattle.cy_scope_kinds.specs.declared.functions.Function.TheVariants.{Count}

@@ -17,7 +17,7 @@ use Rattle.std.proofs.lemmas.Option.{none-some, same_Some}
 use Rattle.std.proofs.lemmas.Slice.Eq.{bytes_eq-Decides}
 use Rattle.cy_trees.specs.declared.clauses.Item as coded
 use Rattle.cy_trees.specs.Trees.{Expression, Item}
-use Rattle.cy_trees.specs.Views.{expression_of, item_of}
+use Rattle.cy_trees.specs.TreeModels.{expression_of, item_of}
 use Rattle.cy_scope_kinds.specs.Same.{same}
 use Rattle.cy_scope_kinds.specs.internal.TreeWords.{words_of}
 use Rattle.cy_scope.proofs.TreeWordsLemmas.{same_words}

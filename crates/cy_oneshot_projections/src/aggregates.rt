@@ -2,7 +2,7 @@
 
 ghost use Rattle.std.specs.Prelude.{◌≡◌, ◌⊎◌, IsTrue, Result, Some, Ok, Err, map};
 ghost use Rattle.cy_trees.specs.Trees.{call};
-ghost use Rattle.cy_trees.specs.Views.{expression_of, expressions_from};
+ghost use Rattle.cy_trees.specs.TreeModels.{expression_of, expressions_from};
 ghost use Rattle.cy_expr.specs.declared.faults.EvalFault.TheVariants.{NoMemory};
 ghost use Rattle.cy_expr.specs.Arithmetic.{integer};
 ghost use Rattle.cy_expr.specs.Comparison.{is_null_cell};

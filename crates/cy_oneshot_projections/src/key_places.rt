@@ -2,7 +2,7 @@
 
 ghost use Rattle.std.specs.Prelude.{◌≡◌, IfOk, IfSome, map};
 ghost use Rattle.std.specs.List.{position_from};
-ghost use Rattle.cy_trees.specs.Views.{expression_of, item_of};
+ghost use Rattle.cy_trees.specs.TreeModels.{expression_of, item_of};
 ghost use Rattle.cy_scope_kinds.specs.Same as trees;
 ghost use Rattle.cy_oneshot_projections.specs.internal.KeyPlaces.{AreFirst};
 

@@ -4,7 +4,7 @@
 ghost use Rattle.std.specs.Prelude.{◌≡◌, ◌⊎◌, ◌+◌, ◌<◌, [], ◌∷◌, ◌++◌, IfOk, IfSome, OnOk, None, Result, Err, false, drop, length, map, slice_index_or, take};
 ghost use Rattle.cy_values.specs.declared.rows.Cell.TheVariants as cell;
 ghost use Rattle.cy_values.specs.declared.scalars.Value.TheVariants as value;
-ghost use Rattle.cy_trees.specs.Views.{expression_of, item_of, key_of, projection_of};
+ghost use Rattle.cy_trees.specs.TreeModels.{expression_of, item_of, key_of, projection_of};
 ghost use Rattle.cy_expr.specs.declared.faults.EvalFault.TheVariants.{NoMemory};
 ghost use Rattle.cy_oneshot_patterns.specs.Outcomes as outcomes;
 ghost use Rattle.cy_oneshot_meaning.specs.Projection as spec;

@@ -3,7 +3,7 @@ use Rattle.std.proofs.Common.{◌≡◌, Bor, None, Some, refl, ap, ◌∙◌}
 use Rattle.std.specs.Prelude.{Option, option_map}
 use Rattle.std.specs.Option.{option_copied}
 use Rattle.cy_trees.specs.declared.expressions.Expr.{Expr}
-use Rattle.cy_trees.specs.Views.{expression_of, filter_of}
+use Rattle.cy_trees.specs.TreeModels.{expression_of, filter_of}
 
 lent : (r : Option (Bor Expr)) → option_map (λ e. expression_of e.now) r ≡ filter_of (option_copied r)
 lent None = refl

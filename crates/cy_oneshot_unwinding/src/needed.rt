@@ -2,7 +2,7 @@
 
 ghost use Rattle.std.specs.Prelude.{◌≡◌, ◌⊎◌, ◌≤◌, ℕ, [], IfOk, IfSome, OnOk, flat_map, length, map, option_map, slice_get, true, false};
 ghost use Rattle.std.specs.List.{AllByRecursion};
-ghost use Rattle.cy_trees.specs.Views.{clause_of, entry_of, expression_of, item_of, path_of, path_test_of, projection_of, remove_item_of, set_item_of, step_of, where_of};
+ghost use Rattle.cy_trees.specs.TreeModels.{clause_of, entry_of, expression_of, item_of, path_of, path_test_of, projection_of, remove_item_of, set_item_of, step_of, where_of};
 ghost use Rattle.cy_oneshot_outcomes.specs.Columns.{columns_read};
 ghost use Rattle.cy_oneshot_patterns.specs.Places.{path_places, places, step_places};
 ghost use Rattle.cy_oneshot_patterns.specs.internal.Patterns.{place_of};

@@ -4,7 +4,7 @@ ghost use Rattle.std.specs.Prelude.{◌≡◌, [], ◌∷◌, ◌++◌, IfOk, ma
 ghost use Rattle.cy_values.specs.declared.rows.Cell.TheVariants as cell;
 ghost use Rattle.cy_values.specs.declared.scalars.Value.TheVariants as value;
 ghost use Rattle.cy_values.specs.Compare.{value_in};
-ghost use Rattle.cy_trees.specs.Views.{expression_of};
+ghost use Rattle.cy_trees.specs.TreeModels.{expression_of};
 ghost use Rattle.cy_oneshot_patterns.specs.Matching as spec;
 ghost use Rattle.cy_oneshot_patterns.specs.Outcomes.{joined};
 ghost use Rattle.cy_oneshot_unwinding.specs.Carried as carrying;

@@ -7,7 +7,7 @@ use Rattle.cy_trees.specs.declared.expressions.Link.{Link}
 use Rattle.cy_trees.specs.declared.expressions.Comparator.{Comparator}
 use Rattle.cy_trees.specs.Trees.{Expression}
 use Rattle.cy_trees.specs.Depth.{depth, deepest, links_depth, arms_depth}
-use Rattle.cy_trees.specs.Views.{expression_of, arm_of, link_of, expressions_from, links_from, arms_from}
+use Rattle.cy_trees.specs.TreeModels.{expression_of, arm_of, link_of, expressions_from, links_from, arms_from}
 
 pub deepest_push : (es : List Expression) (e : Expression) → deepest (expressions_from (es ++ e ∷ [])) ≡ max (deepest (expressions_from es)) (depth e)
 deepest_push [] e = omega arith

@@ -4,7 +4,7 @@ ghost use Rattle.std.specs.Prelude.{◌≡◌, ◌≢◌, ◌≤◌, ◌++◌, �
 ghost use Rattle.cy_parser.specs.declared.refusals.Refusal.TheVariants.{NoMemory};
 ghost use Rattle.cy_trees.specs.Depth as spec;
 ghost use Rattle.cy_trees.specs.Trees as tree;
-ghost use Rattle.cy_trees.specs.Views.{expression_of, expressions_of, links_of, arms_of};
+ghost use Rattle.cy_trees.specs.TreeModels.{expression_of, expressions_of, links_of, arms_of};
 ghost use Rattle.cy_parser.specs.internal.Operands.{operand_of, otherwise_of, elements_of, arms_in, links_in, AreMeasured, ArmsAreMeasured, LinksAreMeasured};
 ghost use Rattle.cy_parser_grammar.specs.internal.Reader.{checked};
 ghost use Rattle.cy_parser.specs.internal.Reads.{Reads};
@@ -138,7 +138,7 @@ pub(crate) fn call(
 }
 
 /// A CASE of its arms and what stands after ELSE.
-#[tactic(auto, using(cy_trees::proofs::ViewsLemmas::case_otherwise), unfolding(cy_parser_grammar::specs::internal::Reader::checked))]
+#[tactic(auto, using(cy_trees::proofs::TreeModelsLemmas::case_otherwise), unfolding(cy_parser_grammar::specs::internal::Reader::checked))]
 pub(crate) fn case(
     alloc: Global,
     tokens: &Cursor<'_>,

@@ -1,7 +1,7 @@
 //! Conditions: what stands after WHERE.
 
 ghost use Rattle.std.specs.Prelude.{◌≡◌, map, option_map, reverse};
-ghost use Rattle.cy_trees.specs.Views.{path_of, path_test_of, where_of};
+ghost use Rattle.cy_trees.specs.TreeModels.{path_of, path_test_of, where_of};
 ghost use Rattle.cy_parser_grammar.specs.SpellsClauses as spells;
 ghost use Rattle.cy_parser_grammar.specs.internal.Clauses as spec;
 ghost use Rattle.cy_parser.specs.internal.Parts.{condition_of, part_of};

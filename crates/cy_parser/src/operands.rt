@@ -2,7 +2,7 @@
 
 ghost use Rattle.std.specs.Prelude.{◌≡◌, ◌≤◌};
 ghost use Rattle.cy_trees.specs.Depth as spec;
-ghost use Rattle.cy_trees.specs.Views.{expression_of};
+ghost use Rattle.cy_trees.specs.TreeModels.{expression_of};
 
 use cy_trees::Expr;
 

@@ -3,7 +3,7 @@
 ghost use Rattle.std.specs.Prelude.{◌≡◌};
 ghost use Rattle.cy_parser_grammar.specs.SpellsClauses as spells;
 ghost use Rattle.cy_parser_grammar.specs.internal.Clauses as spec;
-ghost use Rattle.cy_trees.specs.Views.{clause_of};
+ghost use Rattle.cy_trees.specs.TreeModels.{clause_of};
 
 use cy_lexer::{Keyword, Symbol, TokenKind};
 use cy_parser_grammar::{ClausePhase, Opening};

@@ -12,7 +12,7 @@ ghost use Rattle.cy_parser.specs.declared.refusals.Refusal.TheVariants as refusa
 ghost use Rattle.cy_parser_grammar.specs.Shown.{AreAlike, AreNeighbours, with_columns};
 ghost use Rattle.cy_trees.specs.Show as shown;
 ghost use Rattle.cy_trees.specs.Trees as tree;
-ghost use Rattle.cy_trees.specs.Views.{statement_of};
+ghost use Rattle.cy_trees.specs.TreeModels.{statement_of};
 ghost use Rattle.cy_parser_grammar.specs.internal.Clauses as spec;
 
 use crate::cursor::Cursor;

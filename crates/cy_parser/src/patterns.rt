@@ -1,7 +1,7 @@
 //! Patterns: nodes, relationships and the paths that they make.
 
 ghost use Rattle.std.specs.Prelude.{◌≡◌, ◌∷◌, [], ◌≤◌, ◌<◌, ◌≢◌, map, option_map, IfOk};
-ghost use Rattle.cy_trees.specs.Views.{expression_of, entry_of, properties_of, node_of, relationship_of, step_of, path_of, paths_of};
+ghost use Rattle.cy_trees.specs.TreeModels.{expression_of, entry_of, properties_of, node_of, relationship_of, step_of, path_of, paths_of};
 ghost use Rattle.cy_parser_grammar.specs.SpellsClauses as spells;
 ghost use Rattle.cy_parser_grammar.specs.internal.Clauses as spec;
 ghost use Rattle.cy_parser.specs.internal.Reads.{Reads};

@@ -2,7 +2,7 @@
 
 ghost use Rattle.std.specs.Prelude.{◌≡◌, ◌∷◌, [], ◌≤◌, map, IfOk, pos};
 ghost use Rattle.cy_trees.specs.Depth.{deepest, arms_depth};
-ghost use Rattle.cy_trees.specs.Views.{expression_of, expressions_of, arm_of, arms_of};
+ghost use Rattle.cy_trees.specs.TreeModels.{expression_of, expressions_of, arm_of, arms_of};
 ghost use Rattle.cy_parser_grammar.specs.Words.{negated};
 ghost use Rattle.cy_parser_grammar.specs.internal.Expressions as spec;
 ghost use Rattle.cy_parser.specs.internal.Nests.{Nests};

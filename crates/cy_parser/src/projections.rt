@@ -3,7 +3,7 @@
 ghost use Rattle.std.specs.Prelude.{◌≡◌, ◌-◌, Some, take, length, map, option_map, IfOk, IfErr};
 ghost use Rattle.cy_parser.specs.declared.refusals.Refusal.TheVariants.{NoMemory};
 ghost use Rattle.cy_parser_grammar.specs.Words as words;
-ghost use Rattle.cy_trees.specs.Views.{expression_of, item_of, key_of, projection_of};
+ghost use Rattle.cy_trees.specs.TreeModels.{expression_of, item_of, key_of, projection_of};
 ghost use Rattle.cy_parser_grammar.specs.SpellsClauses as spells;
 ghost use Rattle.cy_parser_grammar.specs.internal.Clauses as spec;
 ghost use Rattle.cy_parser.specs.internal.Reads.{Reads};

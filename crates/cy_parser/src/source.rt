@@ -1,7 +1,7 @@
 //! The line that tokens are read from.
 
 ghost use Rattle.std.specs.Prelude.{◌≡◌};
-ghost use Rattle.cy_trees.specs.Views.{expression_of};
+ghost use Rattle.cy_trees.specs.TreeModels.{expression_of};
 ghost use Rattle.cy_parser_grammar.specs.internal.Clauses as clauses;
 ghost use Rattle.cy_parser_grammar.specs.internal.Expressions as spec;
 ghost use Rattle.cy_parser.specs.internal.Operands.{operand_of};

@@ -1,7 +1,7 @@
 //! Clauses in their order, queries and statements.
 
 ghost use Rattle.std.specs.Prelude.{◌≡◌, map, length};
-ghost use Rattle.cy_trees.specs.Views.{clause_of, query_of, statement_of};
+ghost use Rattle.cy_trees.specs.TreeModels.{clause_of, query_of, statement_of};
 ghost use Rattle.cy_parser_grammar.specs.SpellsClauses as spells;
 ghost use Rattle.cy_parser_grammar.specs.internal.Clauses as spec;
 ghost use Rattle.cy_parser.specs.internal.Reads.{Reads};

@@ -1,7 +1,7 @@
 //! Items of SET and REMOVE, and the variables of DELETE.
 
 ghost use Rattle.std.specs.Prelude.{◌≡◌, map};
-ghost use Rattle.cy_trees.specs.Views.{expression_of, set_item_of, remove_item_of};
+ghost use Rattle.cy_trees.specs.TreeModels.{expression_of, set_item_of, remove_item_of};
 ghost use Rattle.cy_parser_grammar.specs.internal.Clauses as spec;
 ghost use Rattle.cy_parser.specs.internal.Reads.{Reads};
 

@@ -14,7 +14,7 @@ use Rattle.cy_parser_grammar.specs.declared.places.Nested.{Nested}
 use Rattle.cy_parser_grammar.specs.declared.places.Nested.TheVariants as nested
 use Rattle.cy_trees.specs.Trees.{Name, Expression, list, no_more, call, call_star, variable, property, has_labels, unary, binary, boolean, integer, null, text, comparison, nothing, otherwise, case}
 use Rattle.cy_trees.specs.Depth.{depth, greatest_depth}
-use Rattle.cy_trees.specs.Views.{expressions_from, arms_from, links_from}
+use Rattle.cy_trees.specs.TreeModels.{expressions_from, arms_from, links_from}
 use Rattle.cy_parser_grammar.specs.Words.{is_word, is_name, denotes, lowered, negated, product_operator, sum_operator, comparator_of}
 use Rattle.cy_lexer.specs.Numbers.{greatest_number}
 use Rattle.cy_parser_grammar.specs.internal.Chains.{conjunction_operator, exclusion_operator, disjunction_operator}

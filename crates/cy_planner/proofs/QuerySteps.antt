@@ -8,7 +8,7 @@ use Rattle.cy_trees.specs.declared.clauses.Clause as coded
 use Rattle.cy_trees.specs.declared.clauses.Query as coded_query
 use Rattle.cy_trees.specs.declared.expressions.Variable.{Variable}
 use Rattle.cy_trees.specs.Trees.{Clause, Expression, Query, unwind}
-use Rattle.cy_trees.specs.Views.{clause_of, query_of}
+use Rattle.cy_trees.specs.TreeModels.{clause_of, query_of}
 use Rattle.cy_scope.specs.Checked.{IsViewQuery, single}
 use Rattle.cy_scope.specs.Views.{is_update}
 use Rattle.cy_planner_algebra.specs.Plans.{Plan}

@@ -1,9 +1,9 @@
 //! The plan of a view's query.
 
 ghost use Rattle.std.specs.Prelude.{◌≡◌, ◌<◌, ◌↔◌, [], IfOk, IsErrOf, map};
-ghost use Rattle.cy_trees.specs.Views.{clause_of, query_of, statement_of};
+ghost use Rattle.cy_trees.specs.TreeModels.{clause_of, query_of, statement_of};
 ghost use Rattle.cy_scope.specs.Checked.{IsViewQuery, single};
-ghost use Rattle.cy_planner_algebra.specs.Views.{plan_of};
+ghost use Rattle.cy_planner_algebra.specs.PlanModels.{plan_of};
 ghost use Rattle.cy_planner_algebra.specs.WellFormed.{IsWellFormed};
 ghost use Rattle.cy_planner.specs.Serves.{Serves};
 ghost use Rattle.cy_planner.specs.Weight.{greatest_weight, weight};

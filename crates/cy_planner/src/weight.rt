@@ -1,7 +1,7 @@
 //! The weight of a query: how much of it there is to plan (own). Sums stand still at the greatest u64, far above what is planned.
 
 ghost use Rattle.std.specs.Prelude.{◌≡◌, ◌<◌, ◌↔◌, ◌+◌, IsTrue, min, map, sum_by, length};
-ghost use Rattle.cy_trees.specs.Views.{statement_of, query_of, clause_of, path_of, path_test_of, step_of, node_of, relationship_of, properties_of, filter_of, where_of};
+ghost use Rattle.cy_trees.specs.TreeModels.{statement_of, query_of, clause_of, path_of, path_test_of, step_of, node_of, relationship_of, properties_of, filter_of, where_of};
 ghost use Rattle.cy_planner.specs.Weight as spec;
 
 use cy_scope::ViewQuery;

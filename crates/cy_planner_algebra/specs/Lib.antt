@@ -6,5 +6,5 @@ pub mod Keys
 pub mod Meaning
 pub mod Sure
 pub mod WellFormed
-pub mod Views
+pub mod PlanModels
 pub mod Within

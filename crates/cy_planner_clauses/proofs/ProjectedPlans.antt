@@ -9,7 +9,7 @@ use Rattle.cy_values.specs.Bag.{count_of}
 use Rattle.cy_values.specs.Order.{row_cmp}
 use Rattle.cy_trees.specs.declared.clauses.Item as coded
 use Rattle.cy_trees.specs.Trees.{Item, Projection}
-use Rattle.cy_trees.specs.Views.{expression_of, item_of}
+use Rattle.cy_trees.specs.TreeModels.{expression_of, item_of}
 use Rattle.cy_scope_kinds.specs.Scopes.{Scope}
 use Rattle.cy_graph.specs.Graph.{Content, State}
 use Rattle.cy_expr.specs.declared.faults.EvalFault.{EvalFault}

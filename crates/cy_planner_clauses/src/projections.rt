@@ -1,9 +1,9 @@
 //! WITH and RETURN.
 
 ghost use Rattle.std.specs.Prelude.{◌≡◌, IfOk, length};
-ghost use Rattle.cy_trees.specs.Views.{filter_of, projection_of};
+ghost use Rattle.cy_trees.specs.TreeModels.{filter_of, projection_of};
 ghost use Rattle.cy_scope_kinds.specs.Scopes.{Scope};
-ghost use Rattle.cy_planner_algebra.specs.Views.{plan_of};
+ghost use Rattle.cy_planner_algebra.specs.PlanModels.{plan_of};
 ghost use Rattle.cy_planner_rows.specs.Rows.{AreReadOver};
 ghost use Rattle.cy_planner_clauses.specs.Matched.{IsTestKinded};
 ghost use Rattle.cy_planner_clauses.specs.Projections as spec;

@@ -1,9 +1,9 @@
 //! Parts with one part below them. Each call fails only when out of memory.
 
 ghost use Rattle.std.specs.Prelude.{IfOk, map};
-ghost use Rattle.cy_trees.specs.Views.{expression_of};
+ghost use Rattle.cy_trees.specs.TreeModels.{expression_of};
 ghost use Rattle.cy_planner_algebra.specs.Plans as plan;
-ghost use Rattle.cy_planner_algebra.specs.Views.{output_of};
+ghost use Rattle.cy_planner_algebra.specs.PlanModels.{output_of};
 ghost use Rattle.cy_planner_algebra.specs.WellFormed.{IsWellFormed};
 ghost use Rattle.cy_planner_rewriting.specs.Rewritten.{IsRewritten};
 ghost use Rattle.cy_planner_rewriting.specs.internal.Layers.{over_layer};

@@ -1,7 +1,7 @@
 //! Plans in place of others, with narrower rows. Each call fails only when out of memory.
 
 ghost use Rattle.std.specs.Prelude.{IfOk};
-ghost use Rattle.cy_planner_algebra.specs.Views.{plan_of};
+ghost use Rattle.cy_planner_algebra.specs.PlanModels.{plan_of};
 ghost use Rattle.cy_planner_algebra.specs.WellFormed.{IsWellFormed};
 ghost use Rattle.cy_planner_rewriting.specs.Rewritten.{IsRewritten};
 ghost use Rattle.cy_planner_narrowing.specs.internal.Above as standing;

@@ -3,7 +3,7 @@
 ghost use Rattle.std.specs.Prelude.{◌≡◌, ◌≤◌, IfOk, IsTrue, length};
 ghost use Rattle.std.specs.List.{range_with_len};
 ghost use Rattle.cy_planner_algebra.specs.Plans.{width};
-ghost use Rattle.cy_planner_algebra.specs.Views.{plan_of};
+ghost use Rattle.cy_planner_algebra.specs.PlanModels.{plan_of};
 ghost use Rattle.cy_planner_algebra.specs.WellFormed.{IsWellFormed};
 ghost use Rattle.cy_planner_rewriting.specs.Rewritten.{IsRewritten};
 ghost use Rattle.cy_planner_narrowing.specs.internal.Narrows as spec;

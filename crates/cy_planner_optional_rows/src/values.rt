@@ -2,10 +2,10 @@
 
 ghost use Rattle.std.specs.Prelude.{◌≡◌, ◌+◌, ◌++◌, ◌≤◌, [], IfOk, OnOk, filter, flat_map, length, map, not};
 ghost use Rattle.std.specs.List.{range_with_len};
-ghost use Rattle.cy_trees.specs.Views.{entry_of, expression_of};
+ghost use Rattle.cy_trees.specs.TreeModels.{entry_of, expression_of};
 ghost use Rattle.cy_oneshot_patterns.specs.internal.Patterns.{place_of};
 ghost use Rattle.cy_planner_algebra.specs.Plans.{computed};
-ghost use Rattle.cy_planner_algebra.specs.Views.{output_of, plan_of};
+ghost use Rattle.cy_planner_algebra.specs.PlanModels.{output_of, plan_of};
 ghost use Rattle.cy_planner_algebra.specs.WellFormed.{greatest_width};
 ghost use Rattle.cy_planner_rows.specs.Lowered.{lowered};
 ghost use Rattle.cy_planner_rows.specs.Places.{place};

@@ -8,7 +8,7 @@ use Rattle.cy_values.specs.Truth.{is_yes}
 use Rattle.cy_trees.specs.declared.expressions.BinaryOperator.TheVariants.{And}
 use Rattle.cy_trees.specs.declared.expressions.Expr.{Expr}
 use Rattle.cy_trees.specs.Trees.{Expression, binary}
-use Rattle.cy_trees.specs.Views.{expression_of}
+use Rattle.cy_trees.specs.TreeModels.{expression_of}
 use Rattle.cy_expr.specs.declared.faults.EvalFault.{EvalFault}
 use Rattle.cy_planner_algebra.specs.Expressions.{holds, is_true, no_graph, truth_on}
 use Rattle.cy_planner_algebra.specs.Plans.{Plan}

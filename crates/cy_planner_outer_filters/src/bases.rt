@@ -2,7 +2,7 @@
 
 ghost use Rattle.std.specs.Prelude.{◌≤◌, IfOk};
 ghost use Rattle.cy_planner_algebra.specs.declared.operators.Operator.{size-Operator};
-ghost use Rattle.cy_planner_algebra.specs.Views.{plan_of};
+ghost use Rattle.cy_planner_algebra.specs.PlanModels.{plan_of};
 ghost use Rattle.cy_planner_algebra.specs.WellFormed.{IsWellFormed};
 ghost use Rattle.cy_planner_rewriting.specs.Rewritten.{IsRewritten};
 ghost use Rattle.cy_planner_rewriting.specs.internal.Layers as layers;

@@ -1,7 +1,7 @@
 //! Plans whose outer joins ask little in their predicates. Each call fails only when out of memory.
 
 ghost use Rattle.std.specs.Prelude.{IfOk};
-ghost use Rattle.cy_planner_algebra.specs.Views.{plan_of};
+ghost use Rattle.cy_planner_algebra.specs.PlanModels.{plan_of};
 ghost use Rattle.cy_planner_algebra.specs.WellFormed.{IsWellFormed};
 ghost use Rattle.cy_planner_outer_filters.specs.Standing.{StandsFor};
 ghost use Rattle.cy_planner_outer_filters.specs.internal.Above as spec;

@@ -1,8 +1,8 @@
 //! The predicate of an outer join, taken apart: what it asks of the right rows alone is put on the right part.
 
 ghost use Rattle.std.specs.Prelude.{◌≡◌, ◌+◌, IfOk, option_map};
-ghost use Rattle.cy_trees.specs.Views.{expression_of};
-ghost use Rattle.cy_planner_algebra.specs.Views.{plan_of};
+ghost use Rattle.cy_trees.specs.TreeModels.{expression_of};
+ghost use Rattle.cy_planner_algebra.specs.PlanModels.{plan_of};
 ghost use Rattle.cy_planner_outer_filters.specs.internal.Splits as spec;
 
 use cy_planner_algebra::Plan;

@@ -3,7 +3,7 @@
 ghost use Rattle.std.specs.Prelude.{◌≡◌, ◌+◌, ◌++◌, ◌≤◌, IfOk, OnOk, codes, false, map};
 ghost use Rattle.std.specs.List.{range_with_len};
 ghost use Rattle.cy_trees.specs.Trees.{boolean, call, more, no_more};
-ghost use Rattle.cy_trees.specs.Views.{expression_of};
+ghost use Rattle.cy_trees.specs.TreeModels.{expression_of};
 ghost use Rattle.cy_oneshot_patterns.specs.internal.Patterns.{place_of};
 ghost use Rattle.cy_planner_algebra.specs.WellFormed.{greatest_width};
 ghost use Rattle.cy_planner_pairs.specs.internal.Told as spec;

@@ -1,9 +1,9 @@
 -- What stands above a part of a plan. (own)
 use Rattle.std.specs.Prelude.{List, [], ◌∷◌, map}
-use Rattle.cy_trees.specs.Views.{expression_of}
+use Rattle.cy_trees.specs.TreeModels.{expression_of}
 use Rattle.cy_planner_algebra.specs.Plans as plan
 use Rattle.cy_planner_algebra.specs.Plans.{Plan}
-use Rattle.cy_planner_algebra.specs.Views.{output_of, plan_of}
+use Rattle.cy_planner_algebra.specs.PlanModels.{output_of, plan_of}
 use Rattle.cy_planner_pushdown.specs.declared.above.Above.{Above}
 use Rattle.cy_planner_pushdown.specs.declared.above.Above.TheVariants as above
 use Rattle.cy_planner_pushdown.specs.declared.above.Pair.{Pair}

@@ -2,8 +2,8 @@
 
 ghost use Rattle.std.specs.Prelude.{◌≡◌, IfOk, IfSome, Some, map, nat_lt, slice_get};
 ghost use Rattle.std.specs.List.{list_all};
-ghost use Rattle.cy_trees.specs.Views.{expression_of};
-ghost use Rattle.cy_planner_algebra.specs.Views.{output_of, plan_of};
+ghost use Rattle.cy_trees.specs.TreeModels.{expression_of};
+ghost use Rattle.cy_planner_algebra.specs.PlanModels.{output_of, plan_of};
 ghost use Rattle.cy_planner_algebra.specs.WellFormed.{IsWellFormed};
 ghost use Rattle.cy_planner_pushdown.specs.internal.Conditions as conditions;
 ghost use Rattle.cy_planner_pushdown.specs.internal.Pushed as spec;

@@ -1,8 +1,8 @@
 //! Conditions on the rows of a plan.
 
 ghost use Rattle.std.specs.Prelude.{◌+◌, IfOk, IfSome, map};
-ghost use Rattle.cy_trees.specs.Views.{expression_of};
-ghost use Rattle.cy_planner_algebra.specs.Views.{plan_of};
+ghost use Rattle.cy_trees.specs.TreeModels.{expression_of};
+ghost use Rattle.cy_planner_algebra.specs.PlanModels.{plan_of};
 ghost use Rattle.cy_planner_rows.specs.Rows as spec;
 ghost use Rattle.cy_planner_pushdown.specs.After.{IsKeptIf};
 ghost use Rattle.cy_planner_pushdown.specs.internal.Conditions.{IsOnCells};

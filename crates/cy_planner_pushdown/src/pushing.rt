@@ -1,8 +1,8 @@
 //! A condition on what stands in some columns, put on the parts that this comes from. Fails only when out of memory.
 
 ghost use Rattle.std.specs.Prelude.{IfOk};
-ghost use Rattle.cy_trees.specs.Views.{expression_of};
-ghost use Rattle.cy_planner_algebra.specs.Views.{plan_of};
+ghost use Rattle.cy_trees.specs.TreeModels.{expression_of};
+ghost use Rattle.cy_planner_algebra.specs.PlanModels.{plan_of};
 ghost use Rattle.cy_planner_algebra.specs.WellFormed.{IsWellFormed};
 ghost use Rattle.cy_planner_pushdown.specs.internal.Pushed as spec;
 

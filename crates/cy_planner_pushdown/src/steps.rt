@@ -1,10 +1,10 @@
 //! Where a condition goes on from a part: in one of the parts below it, in both, or not. Each call fails only when out of memory.
 
 ghost use Rattle.std.specs.Prelude.{◌<◌, ℕ, IfOk, map};
-ghost use Rattle.cy_trees.specs.Views.{expression_of};
+ghost use Rattle.cy_trees.specs.TreeModels.{expression_of};
 ghost use Rattle.cy_planner_algebra.specs.declared.operators.Operator.{size-Operator};
 ghost use Rattle.cy_planner_algebra.specs.Plans as plan;
-ghost use Rattle.cy_planner_algebra.specs.Views.{output_of, plan_of};
+ghost use Rattle.cy_planner_algebra.specs.PlanModels.{output_of, plan_of};
 ghost use Rattle.cy_planner_algebra.specs.WellFormed.{IsWellFormed};
 ghost use Rattle.cy_planner_pushdown.specs.internal.Pushed.{CanBePushed};
 ghost use Rattle.cy_planner_pushdown.specs.internal.Steps as spec;

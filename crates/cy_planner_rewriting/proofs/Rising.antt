@@ -6,7 +6,7 @@ use Rattle.std.proofs.lemmas.List.Elements.{All-cons, All-filter, All-head, All-
 use Rattle.cy_values.specs.declared.rows.Cell.{Cell}
 use Rattle.cy_trees.specs.declared.expressions.Expr.{Expr}
 use Rattle.cy_trees.specs.Trees.{Expression}
-use Rattle.cy_trees.specs.Views.{expression_of}
+use Rattle.cy_trees.specs.TreeModels.{expression_of}
 use Rattle.cy_graph.specs.Graph.{Content}
 use Rattle.cy_expr.specs.Faults.{on_one}
 use Rattle.cy_expr.specs.Logic.{truth_of}
@@ -16,7 +16,7 @@ use Rattle.cy_expr.specs.Graphs.{are_different}
 use Rattle.cy_planner_algebra.specs.declared.operators.Output.{Output}
 use Rattle.cy_planner_algebra.specs.Plans as plan
 use Rattle.cy_planner_algebra.specs.Plans.{Plan, width}
-use Rattle.cy_planner_algebra.specs.Views.{output_of}
+use Rattle.cy_planner_algebra.specs.PlanModels.{output_of}
 use Rattle.cy_planner_algebra.specs.Expressions.{cell_of, holds, is_true, no_graph, projected, relationships_at, truth_on}
 use Rattle.cy_planner_algebra.specs.Meaning.{rows_of}
 use Rattle.cy_planner_algebra.specs.Parts.{parts}

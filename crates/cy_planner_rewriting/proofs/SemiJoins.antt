@@ -10,7 +10,7 @@ use Rattle.cy_planner_algebra.specs.declared.operators.KeyColumns.{KeyColumns}
 use Rattle.cy_planner_algebra.specs.declared.operators.Operator.{Operator}
 use Rattle.cy_planner_algebra.specs.Plans as plan
 use Rattle.cy_planner_algebra.specs.Plans.{Plan, width}
-use Rattle.cy_planner_algebra.specs.Views.{plan_of}
+use Rattle.cy_planner_algebra.specs.PlanModels.{plan_of}
 use Rattle.cy_planner_algebra.specs.Keys.{is_same_key, right_key}
 use Rattle.cy_planner_algebra.specs.Meaning.{has_partner, rows_of, stays, with_attribute}
 use Rattle.cy_planner_algebra.specs.Parts.{parts}

@@ -4,11 +4,11 @@ use Rattle.std.specs.Prelude.{Err, Ok, OnOk, Result, Some}
 use Rattle.std.specs.List.{AllByRecursion}
 use Rattle.std.proofs.lemmas.List.{length-reverse, map-append, reverse-append, reverse-reverse}
 use Rattle.cy_trees.specs.declared.expressions.Expr.{Expr}
-use Rattle.cy_trees.specs.Views.{expression_of}
+use Rattle.cy_trees.specs.TreeModels.{expression_of}
 use Rattle.cy_planner_algebra.specs.declared.operators.Output.{Output}
 use Rattle.cy_planner_algebra.specs.Plans as plan
 use Rattle.cy_planner_algebra.specs.Plans.{Plan, width}
-use Rattle.cy_planner_algebra.specs.Views.{output_of}
+use Rattle.cy_planner_algebra.specs.PlanModels.{output_of}
 use Rattle.cy_planner_algebra.specs.WellFormed.{IsWellFormed, greatest_width}
 use Rattle.cy_planner_rows.specs.declared.places.Wanted.{Wanted}
 use Rattle.cy_planner_rows.specs.internal.Lookups.{over}

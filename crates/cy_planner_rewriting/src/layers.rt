@@ -5,7 +5,7 @@ ghost use Rattle.std.specs.List.{AllByRecursion};
 ghost use Rattle.cy_planner_algebra.specs.declared.operators.Operator.{size-Operator};
 ghost use Rattle.cy_planner_algebra.specs.declared.operators.Operator.TheVariants as operator;
 ghost use Rattle.cy_planner_algebra.specs.Plans.{Plan, width};
-ghost use Rattle.cy_planner_algebra.specs.Views.{output_of, plan_of};
+ghost use Rattle.cy_planner_algebra.specs.PlanModels.{output_of, plan_of};
 ghost use Rattle.cy_planner_algebra.specs.WellFormed.{IsWellFormed};
 ghost use Rattle.cy_planner_rows.specs.internal.Lookups.{over};
 ghost use Rattle.cy_planner_rewriting.specs.declared.layers.Layer.TheVariants as layer;

@@ -1,8 +1,8 @@
 //! Projections that take over columns, and projections of them.
 
 ghost use Rattle.std.specs.Prelude.{◌≡◌, IfOk, IfSome, map};
-ghost use Rattle.cy_trees.specs.Views.{expression_of};
-ghost use Rattle.cy_planner_algebra.specs.Views.{output_of};
+ghost use Rattle.cy_trees.specs.TreeModels.{expression_of};
+ghost use Rattle.cy_planner_algebra.specs.PlanModels.{output_of};
 ghost use Rattle.cy_planner_rows.specs.Renumbered.{new_column};
 ghost use Rattle.cy_planner_rewriting.specs.internal.Columns as spec;
 

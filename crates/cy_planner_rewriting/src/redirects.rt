@@ -5,7 +5,7 @@ ghost use Rattle.std.specs.Prelude.{◌≡◌, ◌+◌, ◌≤◌, IfOk, List, O
 ghost use Rattle.std.specs.List.{All, AllByRecursion, Contains};
 ghost use Rattle.cy_planner_algebra.specs.declared.operators.KeyColumns.{KeyColumns};
 ghost use Rattle.cy_planner_algebra.specs.Plans.{width};
-ghost use Rattle.cy_planner_algebra.specs.Views.{plan_of};
+ghost use Rattle.cy_planner_algebra.specs.PlanModels.{plan_of};
 ghost use Rattle.cy_planner_algebra.specs.WellFormed.{IsKeyBetween, IsWellFormed, greatest_width};
 ghost use Rattle.cy_planner_rewriting.specs.internal.Redirected as spec;
 

@@ -7,8 +7,8 @@ use Rattle.cy_trees.specs.declared.expressions.Expr.{Expr, Boolean, Call, Case, 
 use Rattle.cy_trees.specs.declared.expressions.UnaryOperator.TheVariants.{IsNull, Not}
 use Rattle.cy_trees.specs.declared.expressions.Comparator.{Comparator}
 use Rattle.cy_trees.specs.Trees.{Name, Expression, Arms, more, link, arm, binary, boolean, call, case, null, otherwise, text, unary}
-use Rattle.cy_trees.specs.Views.{arm_of, expression_of, expressions_from, links_from, arms_from}
-use Rattle.cy_trees.proofs.ViewsLemmas.{case_otherwise}
+use Rattle.cy_trees.specs.TreeModels.{arm_of, expression_of, expressions_from, links_from, arms_from}
+use Rattle.cy_trees.proofs.TreeModelsLemmas.{case_otherwise}
 use Rattle.cy_scope_kinds.specs.declared.functions.Function.{Function}
 use Rattle.cy_planner_algebra.specs.declared.operators.Attribute.{Attribute}
 use Rattle.cy_planner_rows.specs.Lowered.{all_in, lowered, lowered_arm, lowered_arms, lowered_call, lowered_expressions, lowered_link, lowered_links, lowered_single, missing_arms, unless_null}

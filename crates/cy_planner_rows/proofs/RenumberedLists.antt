@@ -5,8 +5,8 @@ use Rattle.cy_trees.specs.declared.expressions.Arm.{Arm}
 use Rattle.cy_trees.specs.declared.expressions.Comparator.{Comparator}
 use Rattle.cy_trees.specs.declared.expressions.Expr.{Expr, Case}
 use Rattle.cy_trees.specs.Trees.{Expression, more, link, arm, case, otherwise}
-use Rattle.cy_trees.specs.Views.{arm_of, expression_of, expressions_from, links_from, arms_from}
-use Rattle.cy_trees.proofs.ViewsLemmas.{case_otherwise}
+use Rattle.cy_trees.specs.TreeModels.{arm_of, expression_of, expressions_from, links_from, arms_from}
+use Rattle.cy_trees.proofs.TreeModelsLemmas.{case_otherwise}
 use Rattle.cy_planner_rows.specs.Renumbered.{renumbered, renumbered_arm, renumbered_arms, renumbered_expressions, renumbered_link, renumbered_links}
 
 pub renumbered_list : (columns : List ℕ) (es : List Expression) → expressions_from (map (renumbered columns) es) ≡ renumbered_expressions columns (expressions_from es)

@@ -4,7 +4,7 @@ use Rattle.cy_trees.specs.declared.expressions.BinaryOperator.{BinaryOperator}
 use Rattle.cy_trees.specs.declared.expressions.BinaryOperator.TheVariants.{And}
 use Rattle.cy_trees.specs.declared.expressions.Expr.{Expr}
 use Rattle.cy_trees.specs.Trees.{Expression, binary}
-use Rattle.cy_trees.specs.Views.{expression_of}
+use Rattle.cy_trees.specs.TreeModels.{expression_of}
 
 -- of two operands the conditions of both, if the operator is AND; of another one the whole
 abbrev pub joined_by : BinaryOperator → List Expression → List Expression → Expression → List Expression

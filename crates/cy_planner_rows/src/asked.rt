@@ -2,7 +2,7 @@
 //! once, and fails only when out of memory; some of it may then have been added.
 
 ghost use Rattle.std.specs.Prelude.{◌≡◌, OnOk, map};
-ghost use Rattle.cy_trees.specs.Views.{arm_of, arms_from, expression_of, expressions_from, link_of, links_from};
+ghost use Rattle.cy_trees.specs.TreeModels.{arm_of, arms_from, expression_of, expressions_from, link_of, links_from};
 ghost use Rattle.cy_scope_kinds.specs.Functions.{function_named};
 ghost use Rattle.cy_scope_kinds.specs.internal.ExpressionTrees.{otherwise_of};
 ghost use Rattle.cy_planner_algebra.specs.declared.operators.Attribute.TheVariants as attribute;

@@ -2,7 +2,7 @@
 
 ghost use Rattle.std.specs.Prelude.{◌≡◌, ◌≤◌, IfOk, map};
 ghost use Rattle.cy_planner_algebra.specs.Plans.{width};
-ghost use Rattle.cy_planner_algebra.specs.Views.{plan_of, output_of};
+ghost use Rattle.cy_planner_algebra.specs.PlanModels.{plan_of, output_of};
 ghost use Rattle.cy_planner_rows.specs.Columns as shape;
 ghost use Rattle.cy_planner_rows.specs.internal.Lookups as spec;
 

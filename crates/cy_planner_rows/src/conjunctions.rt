@@ -1,7 +1,7 @@
 //! Conditions that AND joins. Each call fails only when out of memory.
 
 ghost use Rattle.std.specs.Prelude.{◌≡◌, ◌<◌, IfOk, length, map};
-ghost use Rattle.cy_trees.specs.Views.{expression_of};
+ghost use Rattle.cy_trees.specs.TreeModels.{expression_of};
 ghost use Rattle.cy_planner_rows.specs.Conjuncts as spec;
 ghost use Rattle.cy_planner_rows.specs.internal.Opened.{IsOpened};
 

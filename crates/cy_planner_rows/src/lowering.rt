@@ -9,7 +9,7 @@ ghost use Rattle.cy_values.specs.Compare.{is_null};
 ghost use Rattle.cy_trees.specs.declared.expressions.BinaryOperator.TheVariants.{In};
 ghost use Rattle.cy_trees.specs.declared.expressions.UnaryOperator.TheVariants.{IsNotNull, IsNull};
 ghost use Rattle.cy_trees.specs.Trees.{Expression, Name, binary, call, text, unary};
-ghost use Rattle.cy_trees.specs.Views.{arm_of, arms_from, expression_of, expressions_from, link_of, links_from};
+ghost use Rattle.cy_trees.specs.TreeModels.{arm_of, arms_from, expression_of, expressions_from, link_of, links_from};
 ghost use Rattle.cy_expr.specs.Evaluation.{cell_of};
 ghost use Rattle.cy_expr.specs.Lookups.{Lookups};
 ghost use Rattle.cy_scope_kinds.specs.Functions.{function_named};

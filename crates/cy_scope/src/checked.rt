@@ -4,7 +4,7 @@ ghost use Rattle.std.specs.Prelude.{◌≡◌};
 ghost use Rattle.std.specs.Coded.{codes};
 ghost use Rattle.cy_trees.specs.contracts.expressions.Expr as expr;
 ghost use Rattle.cy_trees.specs.declared.clauses.Statement as coded;
-ghost use Rattle.cy_trees.specs.Views.{statement_of};
+ghost use Rattle.cy_trees.specs.TreeModels.{statement_of};
 ghost use Rattle.cy_scope.specs.Checked.{IsChecked, IsViewQuery};
 
 use cy_trees::Statement;

@@ -1,7 +1,7 @@
 //! The faults of clauses (own).
 
 ghost use Rattle.std.specs.Prelude.{◌≡◌, ◌⊎◌, [], map, None, Some, MatchResult};
-ghost use Rattle.cy_trees.specs.Views.{set_item_of, remove_item_of, clause_of, query_of};
+ghost use Rattle.cy_trees.specs.TreeModels.{set_item_of, remove_item_of, clause_of, query_of};
 ghost use Rattle.cy_scope_kinds.specs.Scopes.{find_kind};
 ghost use Rattle.cy_scope.specs.ClauseScopes.{scope_after, query_scope};
 ghost use Rattle.cy_scope_kinds.specs.internal.Answers.{Fault, GoesOn};

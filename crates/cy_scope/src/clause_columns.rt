@@ -1,7 +1,7 @@
 //! Setting the columns of the variables of clauses.
 
 ghost use Rattle.std.specs.Prelude.{◌≡◌, ◌++◌, [], map, IfOk, OnOk};
-ghost use Rattle.cy_trees.specs.Views.{expression_of, item_of, key_of, projection_of, set_item_of, remove_item_of, clause_of};
+ghost use Rattle.cy_trees.specs.TreeModels.{expression_of, item_of, key_of, projection_of, set_item_of, remove_item_of, clause_of};
 ghost use Rattle.cy_scope.specs.ClauseScopes.{scope_after, columns_of};
 ghost use Rattle.cy_scope.specs.ProjectionFaults.{seen_by_keys};
 ghost use Rattle.cy_scope_kinds.specs.internal.TreeWords.{ArePlaced};

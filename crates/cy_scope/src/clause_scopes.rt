@@ -1,7 +1,7 @@
 //! The scope after a clause of a checked statement (openCypher 9, *Clauses*).
 
 ghost use Rattle.std.specs.Prelude.{◌≡◌, map, IfOk, OnOk};
-ghost use Rattle.cy_trees.specs.Views.{clause_of, item_of};
+ghost use Rattle.cy_trees.specs.TreeModels.{clause_of, item_of};
 ghost use Rattle.cy_scope.specs.ClauseScopes as spec;
 
 use cy_scope_kinds::{Kind, Scope, kind_of};

@@ -1,7 +1,7 @@
 //! The faults of what stands after WHERE: a condition, and paths (own).
 
 ghost use Rattle.std.specs.Prelude.{◌≡◌, map, None, Some};
-ghost use Rattle.cy_trees.specs.Views.{filter_of, node_of, relationship_of, step_of, path_of, path_test_of, where_of};
+ghost use Rattle.cy_trees.specs.TreeModels.{filter_of, node_of, relationship_of, step_of, path_of, path_test_of, where_of};
 ghost use Rattle.cy_scope_kinds.specs.Scopes.{find_kind};
 ghost use Rattle.cy_scope_kinds.specs.internal.Answers.{Fault};
 ghost use Rattle.cy_scope.specs.ConditionFaults as spec;

@@ -1,7 +1,7 @@
 //! The faults of patterns, of MATCH and of CREATE (own).
 
 ghost use Rattle.std.specs.Prelude.{◌≡◌, ◌⊎◌, ◌++◌, [], ◌∷◌, map, None, Some, OnOk, MatchResult};
-ghost use Rattle.cy_trees.specs.Views.{properties_of, node_of, relationship_of, step_of, path_of, entry_of};
+ghost use Rattle.cy_trees.specs.TreeModels.{properties_of, node_of, relationship_of, step_of, path_of, entry_of};
 ghost use Rattle.cy_scope_kinds.specs.declared.kinds.Kind.TheVariants as kinds;
 ghost use Rattle.cy_scope_kinds.specs.Scopes.{added_name, added, relationship_kind, with_step, with_path};
 ghost use Rattle.cy_scope_kinds.specs.internal.Answers.{Fault, MayFault, GoesOn};

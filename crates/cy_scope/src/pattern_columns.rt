@@ -1,7 +1,7 @@
 //! Setting the columns of the variables of patterns, and of what stands after WHERE.
 
 ghost use Rattle.std.specs.Prelude.{◌≡◌, map};
-ghost use Rattle.cy_trees.specs.Views.{expression_of, entry_of, properties_of, node_of, relationship_of, step_of, path_of, filter_of, path_test_of, where_of};
+ghost use Rattle.cy_trees.specs.TreeModels.{expression_of, entry_of, properties_of, node_of, relationship_of, step_of, path_of, filter_of, path_test_of, where_of};
 ghost use Rattle.cy_scope.specs.Resolved as spec;
 
 use cy_scope_kinds::{Scope, resolved, resolved_variable};

@@ -1,7 +1,7 @@
 //! The faults of projections (own).
 
 ghost use Rattle.std.specs.Prelude.{◌≡◌, ◌⊎◌, ◌++◌, [], map, None, Some, MatchResult};
-ghost use Rattle.cy_trees.specs.Views.{expression_of, item_of, key_of, projection_of};
+ghost use Rattle.cy_trees.specs.TreeModels.{expression_of, item_of, key_of, projection_of};
 ghost use Rattle.cy_scope_kinds.specs.declared.faults.ScopeFault.TheVariants.{NoMemory};
 ghost use Rattle.cy_scope_kinds.specs.Scopes.{added_name};
 ghost use Rattle.cy_scope_kinds.specs.ExpressionKinds.{kind_of};

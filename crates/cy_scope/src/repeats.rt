@@ -2,7 +2,7 @@
 
 ghost use Rattle.std.specs.Prelude.{◌≡◌, IfOk, map};
 ghost use Rattle.std.specs.List.{position_from};
-ghost use Rattle.cy_trees.specs.Views.{expression_of, item_of};
+ghost use Rattle.cy_trees.specs.TreeModels.{expression_of, item_of};
 ghost use Rattle.cy_scope_kinds.specs.internal.TreeWords.{ArePlaced};
 ghost use Rattle.cy_scope.specs.ProjectionFaults as spec;
 ghost use Rattle.cy_scope_kinds.specs.Same as trees;

@@ -1,7 +1,7 @@
 //! Statements without a fault (own).
 
 ghost use Rattle.std.specs.Prelude.{◌≡◌, ◌⊎◌, map, None, Some, IfOk, OnOk, MatchResult};
-ghost use Rattle.cy_trees.specs.Views.{query_of, statement_of};
+ghost use Rattle.cy_trees.specs.TreeModels.{query_of, statement_of};
 ghost use Rattle.cy_scope_kinds.specs.declared.faults.ScopeFault.TheVariants.{NoMemory};
 ghost use Rattle.cy_scope_kinds.specs.Faults.{first_fault};
 ghost use Rattle.cy_scope_kinds.specs.internal.Answers.{MayFault};

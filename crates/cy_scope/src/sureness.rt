@@ -2,7 +2,7 @@
 
 ghost use Rattle.std.specs.Prelude.{◌≡◌, [], map, IfOk};
 ghost use Rattle.std.specs.List.{list_all};
-ghost use Rattle.cy_trees.specs.Views.{properties_of, filter_of, where_of, path_test_of, clause_of, query_of, item_of, path_of, step_of};
+ghost use Rattle.cy_trees.specs.TreeModels.{properties_of, filter_of, where_of, path_test_of, clause_of, query_of, item_of, path_of, step_of};
 ghost use Rattle.cy_scope.specs.internal.Trees.{match_of};
 ghost use Rattle.cy_scope.specs.Views as spec;
 

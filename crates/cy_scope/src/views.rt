@@ -2,7 +2,7 @@
 
 ghost use Rattle.std.specs.Prelude.{◌≡◌, ◌⊎◌, map, None, Some, Ok, Err, MatchResult, IfOk, IfSome};
 ghost use Rattle.std.specs.List.{list_any, list_all};
-ghost use Rattle.cy_trees.specs.Views.{clause_of, query_of, statement_of, path_of, path_test_of, projection_of};
+ghost use Rattle.cy_trees.specs.TreeModels.{clause_of, query_of, statement_of, path_of, path_test_of, projection_of};
 ghost use Rattle.cy_scope_kinds.specs.declared.faults.ViewFault.TheVariants.{MayFail, NoMemory};
 ghost use Rattle.cy_scope.specs.Views as spec;
 

@@ -2,7 +2,7 @@
 use Rattle.std.proofs.Common.{◌≡◌, ℕ, zero, suc, ◌<◌, List, [], ◌∷◌, ◌++◌, map, length, get_or, set, take, drop, refl, ap, arith}
 use Rattle.cy_trees.specs.declared.expressions.Comparator.{Comparator}
 use Rattle.cy_trees.specs.Trees.{Expression, Expressions, more, Links, link, Arms, arm}
-use Rattle.cy_trees.specs.Views.{expressions_from, links_from, arms_from}
+use Rattle.cy_trees.specs.TreeModels.{expressions_from, links_from, arms_from}
 use Rattle.cy_scope_kinds.specs.Scopes.{Scope}
 use Rattle.cy_scope_kinds.specs.ResolvedExpressions.{resolved, resolved_expressions, resolved_links, resolved_arms}
 use Rattle.cy_scope_kinds.specs.internal.ExpressionTrees.{resolved_link, resolved_arm}

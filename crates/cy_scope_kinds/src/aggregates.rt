@@ -1,7 +1,7 @@
 //! Which items are aggregates.
 
 ghost use Rattle.std.specs.Prelude.{◌≡◌};
-ghost use Rattle.cy_trees.specs.Views.{expression_of, projection_of};
+ghost use Rattle.cy_trees.specs.TreeModels.{expression_of, projection_of};
 ghost use Rattle.cy_scope_kinds.specs.Aggregates as spec;
 
 use crate::functions::Function;

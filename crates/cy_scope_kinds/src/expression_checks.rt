@@ -1,7 +1,7 @@
 //! The faults of expressions (own).
 
 ghost use Rattle.std.specs.Prelude.{◌≡◌, ◌++◌, map, None, Some, MatchResult};
-ghost use Rattle.cy_trees.specs.Views.{expression_of, expressions_from, links_from, link_of, arms_from, arm_of};
+ghost use Rattle.cy_trees.specs.TreeModels.{expression_of, expressions_from, links_from, link_of, arms_from, arm_of};
 ghost use Rattle.cy_scope_kinds.specs.Scopes.{find_kind};
 ghost use Rattle.cy_scope_kinds.specs.Functions as functions;
 ghost use Rattle.cy_scope_kinds.specs.Functions.{function_named};

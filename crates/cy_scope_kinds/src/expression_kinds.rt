@@ -1,7 +1,7 @@
 //! The kinds of the expressions of a checked statement.
 
 ghost use Rattle.std.specs.Prelude.{◌≡◌, map};
-ghost use Rattle.cy_trees.specs.Views.{expression_of, expressions_from, arms_from, arm_of};
+ghost use Rattle.cy_trees.specs.TreeModels.{expression_of, expressions_from, arms_from, arm_of};
 ghost use Rattle.cy_scope_kinds.specs.ExpressionKinds as spec;
 ghost use Rattle.cy_scope_kinds.specs.Scopes.{kind_in};
 

@@ -1,7 +1,7 @@
 //! Setting the columns of variables.
 
 ghost use Rattle.std.specs.Prelude.{◌≡◌, ◌++◌, map};
-ghost use Rattle.cy_trees.specs.Views.{expression_of, expressions_from, links_from, link_of, arms_from, arm_of};
+ghost use Rattle.cy_trees.specs.TreeModels.{expression_of, expressions_from, links_from, link_of, arms_from, arm_of};
 ghost use Rattle.cy_scope_kinds.specs.Scopes.{find_column};
 ghost use Rattle.cy_scope_kinds.specs.internal.ExpressionTrees.{otherwise_of};
 ghost use Rattle.cy_scope_kinds.specs.ResolvedExpressions as spec;

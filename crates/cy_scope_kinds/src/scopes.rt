@@ -4,7 +4,7 @@ ghost use Rattle.std.specs.Prelude.{◌≡◌, List, ℕ, [], ◌∷◌, ◌++�
 ghost use Rattle.cy_scope_kinds.specs.declared.kinds.Kind.{Kind};
 ghost use Rattle.cy_scope_kinds.specs.Scopes as spec;
 ghost use Rattle.cy_scope_kinds.specs.internal.Maps.{variables_of, AreColumns};
-ghost use Rattle.cy_trees.specs.Views.{path_of, step_of};
+ghost use Rattle.cy_trees.specs.TreeModels.{path_of, step_of};
 
 use crate::kinds::Kind;
 use cy_trees::{Length, Path, Step, Variable};

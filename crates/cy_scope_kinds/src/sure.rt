@@ -1,7 +1,7 @@
 //! Sure expressions: those whose form shows that they have a value on every row and every graph (own).
 
 ghost use Rattle.std.specs.Prelude.{◌≡◌, map};
-ghost use Rattle.cy_trees.specs.Views.{expression_of, expressions_from, links_from, link_of, arms_from, arm_of};
+ghost use Rattle.cy_trees.specs.TreeModels.{expression_of, expressions_from, links_from, link_of, arms_from, arm_of};
 ghost use Rattle.cy_scope_kinds.specs.Sure as spec;
 
 use crate::expression_kinds::kind_of;

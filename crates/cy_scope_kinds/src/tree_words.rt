@@ -1,7 +1,7 @@
 //! The words of an expression's tree: those of one tree are the same, and those of two trees differ.
 
 ghost use Rattle.std.specs.Prelude.{◌≡◌, map, IfOk, OnOk};
-ghost use Rattle.cy_trees.specs.Views.{expression_of, expressions_from, links_from, link_of, arms_from, arm_of};
+ghost use Rattle.cy_trees.specs.TreeModels.{expression_of, expressions_from, links_from, link_of, arms_from, arm_of};
 ghost use Rattle.cy_scope_kinds.specs.internal.ExpressionTrees.{otherwise_of};
 ghost use Rattle.cy_scope_kinds.specs.internal.TreeWords as spec;
 

@@ -2,7 +2,7 @@
 
 ghost use Rattle.std.specs.Prelude.{◌≡◌, false, map};
 ghost use Rattle.std.specs.List.{list_any};
-ghost use Rattle.cy_trees.specs.Views.{query_of, statement_of};
+ghost use Rattle.cy_trees.specs.TreeModels.{query_of, statement_of};
 ghost use Rattle.cy_scope.specs.Views.{is_update};
 
 use cy_expr::EvalFault;

@@ -2,12 +2,12 @@
 
 ghost use Rattle.std.specs.Prelude.{◌≡◌, Some, IsNone, IsSome, IfOk, OnOk, map};
 ghost use Rattle.std.specs.List.{list_any};
-ghost use Rattle.cy_trees.specs.Views.{query_of};
+ghost use Rattle.cy_trees.specs.TreeModels.{query_of};
 ghost use Rattle.cy_scope.specs.Views.{is_update};
 ghost use Rattle.cy_graph.specs.Graph.{Content};
 ghost use Rattle.cy_network_touches.specs.Changes.{before_change};
 ghost use Rattle.cy_planner_algebra.specs.Sure.{IsSure};
-ghost use Rattle.cy_planner_algebra.specs.Views.{plan_of};
+ghost use Rattle.cy_planner_algebra.specs.PlanModels.{plan_of};
 ghost use Rattle.cy_network.specs.Networks.{HasRows, IsPrepared, StandsFor, state_of};
 
 use cy_bags::counted_in_order;

@@ -1,3 +1,3 @@
-pub mod ViewsLemmas
+pub mod TreeModelsLemmas
 pub mod QuotingLemmas
 pub mod ShowLemmas

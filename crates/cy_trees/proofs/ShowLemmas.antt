@@ -12,7 +12,7 @@ use Rattle.cy_trees.specs.declared.clauses.PathTest as coded_path_test
 use Rattle.cy_trees.specs.declared.clauses.Query as coded_query
 use Rattle.cy_trees.specs.declared.clauses.Clause as coded_clause
 use Rattle.cy_trees.specs.Show.{order_pieces, list_pieces, says, space, entry_pieces, step_pieces, path_pieces, item_pieces, key_pieces, set_item_pieces, remove_item_pieces, path_test_pieces, conjuncts_pieces, where_pieces, clause_pieces, query_pieces}
-use Rattle.cy_trees.specs.Views.{entry_of, step_of, path_of, item_of, key_of, set_item_of, remove_item_of, path_test_of, clause_of, query_of}
+use Rattle.cy_trees.specs.TreeModels.{entry_of, step_of, path_of, item_of, key_of, set_item_of, remove_item_of, path_test_of, clause_of, query_of}
 
 fused : {A B C : Type 0} (f : B → C) (g : A → B) (xs : List A) → map (λ x. f (g x)) xs ≡ map f (map g xs)
 fused f g [] = refl

@@ -1,5 +1,5 @@
 pub mod Trees
-pub mod Views
+pub mod TreeModels
 pub mod Depth
 pub mod Show
 pub mod internal

@@ -5,7 +5,7 @@ ghost use Rattle.cy_lexer.specs.declared.keywords.Keyword.TheVariants as keyword
 ghost use Rattle.cy_trees.specs.Show as shown;
 ghost use Rattle.cy_trees.specs.Show.{pieces_text};
 ghost use Rattle.cy_trees.specs.Trees as trees;
-ghost use Rattle.cy_trees.specs.Views as tree;
+ghost use Rattle.cy_trees.specs.TreeModels as tree;
 
 use crate::clauses::{
     Clause, Item, Key, Match, Path, PathTest, Projection, RemoveItem, SetItem, Where,

@@ -3,7 +3,7 @@
 ghost use Rattle.std.specs.Prelude.{◌≡◌, ◌++◌, ◌∷◌, [], OnOk, string_bytes, map};
 ghost use Rattle.cy_trees.specs.Show as shown;
 ghost use Rattle.cy_trees.specs.Show.{pieces_text};
-ghost use Rattle.cy_trees.specs.Views as tree;
+ghost use Rattle.cy_trees.specs.TreeModels as tree;
 
 use crate::clauses::{Direction, Length, MapEntry, NodePattern, Path, RelationshipPattern, Step};
 use crate::expressions::Variable;

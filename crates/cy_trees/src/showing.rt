@@ -3,7 +3,7 @@
 ghost use Rattle.std.specs.Prelude.{◌≡◌, ◌++◌, OnOk, string_bytes, map, codes};
 ghost use Rattle.cy_trees.specs.Show.{pieces_text, expression_pieces, elements_pieces, links_pieces, arms_pieces, binary_pieces, comparator_symbol, piece_text, mark, label_pieces, is_literal_or_list, owner_pieces, unary_pieces};
 ghost use Rattle.cy_trees.specs.internal.Showing.{inside_pieces};
-ghost use Rattle.cy_trees.specs.Views.{expression_of, expressions_from, links_from, link_of, arms_from, arm_of};
+ghost use Rattle.cy_trees.specs.TreeModels.{expression_of, expressions_from, links_from, link_of, arms_from, arm_of};
 
 use crate::expressions::{Arm, BinaryOperator, Comparator, Expr, Link, UnaryOperator};
 use crate::quoting::{write_name, write_quoted};

@@ -4,8 +4,8 @@ ghost use Rattle.std.specs.Prelude.{◌≡◌, ◌++◌, MatchResult, OnOk, map,
 ghost use Rattle.cy_values.specs.declared.faults.Fault.TheVariants.{NoMemory};
 ghost use Rattle.cy_trees.specs.Show as shown;
 ghost use Rattle.cy_trees.specs.Show.{pieces_text};
-ghost use Rattle.cy_trees.specs.Views.{statement_of};
-ghost use Rattle.cy_trees.specs.Views as tree;
+ghost use Rattle.cy_trees.specs.TreeModels.{statement_of};
+ghost use Rattle.cy_trees.specs.TreeModels as tree;
 ghost use Rattle.cy_trees.specs.internal.Separators.{separator_pieces};
 
 use crate::clauses::{Clause, Query, Statement};

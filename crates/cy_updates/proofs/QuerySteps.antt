@@ -4,7 +4,7 @@ use Rattle.std.specs.Prelude.{Result, Ok, Err, IfOk}
 use Rattle.cy_values.specs.declared.rows.Cell.{Cell}
 use Rattle.cy_trees.specs.declared.clauses.Query as coded
 use Rattle.cy_trees.specs.Trees.{Query, Statement}
-use Rattle.cy_trees.specs.Views.{query_of}
+use Rattle.cy_trees.specs.TreeModels.{query_of}
 use Rattle.cy_graph.specs.Graph.{State, IsGraph}
 use Rattle.cy_scope.specs.Views.{ends_with_return}
 use Rattle.cy_oneshot_meaning.specs.Queries.{put_together, united}

@@ -2,7 +2,7 @@
 
 ghost use Rattle.std.specs.Prelude.{◌≡◌, true, map, IfOk, IsSome};
 ghost use Rattle.cy_trees.specs.Trees as trees;
-ghost use Rattle.cy_trees.specs.Views.{clause_of, path_of, remove_item_of, set_item_of};
+ghost use Rattle.cy_trees.specs.TreeModels.{clause_of, path_of, remove_item_of, set_item_of};
 ghost use Rattle.cy_scope.specs.Views.{is_update};
 ghost use Rattle.cy_oneshot_meaning.specs.Queries.{columns_after};
 ghost use Rattle.cy_oneshot_meaning.specs.Reading.{AreInGraph};

@@ -2,7 +2,7 @@
 
 ghost use Rattle.std.specs.Prelude.{◌≡◌, ◌⊎◌, [], ◌∷◌, length, map, IfErr, IfOk, IsSome, IsTrue, Err, if◌then◌else◌};
 ghost use Rattle.std.specs.List.{AllByRecursion};
-ghost use Rattle.cy_trees.specs.Views.{clause_of, query_of};
+ghost use Rattle.cy_trees.specs.TreeModels.{clause_of, query_of};
 ghost use Rattle.cy_graph.specs.Graph.{IsGraph};
 ghost use Rattle.cy_scope.specs.Checked.{IsChecked, single};
 ghost use Rattle.cy_scope.specs.Views as scopes;

@@ -2,7 +2,7 @@
 
 ghost use Rattle.std.specs.Prelude.{◌≡◌, ◌⊎◌, [], map, IfErr, IfOk, IsNone, IsSome, Ok, Err, OnErr, OnOk, Some};
 ghost use Rattle.std.specs.List.{All};
-ghost use Rattle.cy_trees.specs.Views.{query_of, statement_of};
+ghost use Rattle.cy_trees.specs.TreeModels.{query_of, statement_of};
 ghost use Rattle.cy_graph.specs.Graph.{IsGraph};
 ghost use Rattle.cy_scope.specs.Checked.{IsChecked, single};
 ghost use Rattle.cy_oneshot_meaning.specs.Queries as reading;

@@ -3,7 +3,7 @@
 ghost use Rattle.std.specs.Prelude.{◌≡◌, ◌++◌, List, [], IfErr, IfOk, IsSome, OnOk, Some, map, option_map, slice_get};
 ghost use Rattle.std.specs.Option.{option_and_then, option_map_or};
 ghost use Rattle.cy_values.specs.declared.rows.Cell.{Cell};
-ghost use Rattle.cy_trees.specs.Views.{node_of, path_of, relationship_of, step_of};
+ghost use Rattle.cy_trees.specs.TreeModels.{node_of, path_of, relationship_of, step_of};
 ghost use Rattle.cy_graph.specs.Stored.{IsStorable};
 ghost use Rattle.cy_oneshot_meaning.specs.Reading.{AreInGraph};
 ghost use Rattle.cy_oneshot_meaning.specs.internal.Answers.{IsRowThere};

@@ -4,7 +4,7 @@
 ghost use Rattle.std.specs.Prelude.{◌≡◌, Ok, Err, IfErr, IfOk, IfSome, IsTrue, MatchResult, OnOk, Some, map, not};
 ghost use Rattle.std.specs.BTreeMap.{IsOrdered};
 ghost use Rattle.std.specs.List.{list_all};
-ghost use Rattle.cy_trees.specs.Views.{entry_of, expression_of, properties_of};
+ghost use Rattle.cy_trees.specs.TreeModels.{entry_of, expression_of, properties_of};
 ghost use Rattle.cy_graph.specs.Graph.{set_or_removed};
 ghost use Rattle.cy_graph.specs.Maps.{text_order};
 ghost use Rattle.cy_graph.specs.Stored as graphs;

@@ -1,7 +1,7 @@
 //! REMOVE (openCypher 9, REMOVE; null as a target: own).
 
 ghost use Rattle.std.specs.Prelude.{◌≡◌, IfErr, IsSome, OnOk, fold, map};
-ghost use Rattle.cy_trees.specs.Views.{remove_item_of};
+ghost use Rattle.cy_trees.specs.TreeModels.{remove_item_of};
 ghost use Rattle.cy_oneshot_meaning.specs.Reading.{AreInGraph};
 ghost use Rattle.cy_oneshot_meaning.specs.internal.Answers.{IsRowThere};
 ghost use Rattle.cy_updates_meaning.specs.declared.faults.UpdateFault.TheVariants.{NoMemory};

@@ -1,7 +1,7 @@
 //! SET (openCypher 9, SET; null as a target, and faults: own).
 
 ghost use Rattle.std.specs.Prelude.{◌≡◌, IsSome, map};
-ghost use Rattle.cy_trees.specs.Views.{set_item_of};
+ghost use Rattle.cy_trees.specs.TreeModels.{set_item_of};
 ghost use Rattle.cy_oneshot_meaning.specs.Reading.{AreInGraph};
 ghost use Rattle.cy_oneshot_meaning.specs.internal.Answers.{IsRowThere};
 ghost use Rattle.cy_updates_meaning.specs.Faults.{each_in_turn};

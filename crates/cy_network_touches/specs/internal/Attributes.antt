@@ -6,7 +6,7 @@ use Rattle.cy_values.specs.declared.rows.Cell.{Cell}
 use Rattle.cy_values.specs.declared.rows.Cell.TheVariants as cell
 use Rattle.cy_graph.specs.Graph.{Content}
 use Rattle.cy_network_memory.specs.declared.memory.RowDelta.{RowDelta}
-use Rattle.cy_network_memory.specs.Counts.{Counts, is_row, key_of}
+use Rattle.cy_network_memory.specs.Counts.{Counts, is_row, key_cells}
 use Rattle.cy_planner_algebra.specs.declared.operators.Attribute.{Attribute}
 use Rattle.cy_planner_algebra.specs.Meaning.{with_attribute}
 use Rattle.cy_network_operators.specs.Deltas.{deltas_of, row_delta_between}
@@ -46,10 +46,10 @@ row_delta_at was staged row = record { row = row; before = was row; after = stag
 -- Those row deltas of a row that come from another one without its last cell, where this has the key and didn't change.
 abbrev pub still_deltas : List ℕ → Counts → Counts → List Cell → Attributes → List Cell → List RowDelta
 still_deltas columns was staged key values row =
-    if is_row key (key_of columns (front row)) && (was (front row) == staged (front row)) then deltas_of row (valued values (row_delta_at was staged (front row))) else []
+    if is_row key (key_cells columns (front row)) && (was (front row) == staged (front row)) then deltas_of row (valued values (row_delta_at was staged (front row))) else []
 
 -- those row deltas of a row with an attribute, where the key is the cell in a column
 abbrev pub still : Content → Content → ℕ → Attribute → Counts → Counts → Cell → List Cell → List RowDelta
 still old new column attribute was staged entity row =
-    if is_row (entity ∷ []) (key_of (column ∷ []) (front row)) && (was (front row) == staged (front row))
+    if is_row (entity ∷ []) (key_cells (column ∷ []) (front row)) && (was (front row) == staged (front row))
     then deltas_of row (reattributed old new column attribute (row_delta_at was staged (front row))) else []

@@ -1,7 +1,7 @@
 -- The rows that have a key.
 use Rattle.std.specs.Prelude.{◌≡◌, ℕ, true, List, count_by}
 use Rattle.cy_values.specs.declared.rows.Cell.{Cell}
-use Rattle.cy_network_memory.specs.Counts.{Counts, is_row, key_of}
+use Rattle.cy_network_memory.specs.Counts.{Counts, is_row, key_cells}
 use Rattle.cy_network_memory.specs.Records.{is_counted}
 use Rattle.cy_planner_algebra.specs.Meaning.{is_among}
 
@@ -11,4 +11,4 @@ AreAmong was staged rows = (row : List Cell) → is_counted was staged row ≡ t
 
 -- how many of them have the key
 abbrev pub with_key : List ℕ → List Cell → List (List Cell) → ℕ
-with_key columns key rows = count_by (λ row. is_row key (key_of columns row)) rows
+with_key columns key rows = count_by (λ row. is_row key (key_cells columns row)) rows

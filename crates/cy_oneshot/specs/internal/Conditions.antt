@@ -3,7 +3,7 @@ use Rattle.std.specs.Prelude.{◌≡◌, ℕ, ◌&&◌, Bool, true, false, List,
 use Rattle.std.specs.List.{AllByRecursion, list_all}
 use Rattle.cy_values.specs.declared.rows.Cell.{Cell}
 use Rattle.cy_trees.specs.Trees.{Expression, MapEntry, Path, PathTest, Where}
-use Rattle.cy_trees.specs.Views.{expression_of, path_of, path_test_of}
+use Rattle.cy_trees.specs.TreeModels.{expression_of, path_of, path_test_of}
 use Rattle.cy_graph.specs.Graph.{Content}
 use Rattle.cy_expr.specs.declared.faults.EvalFault.{EvalFault}
 use Rattle.cy_expr.specs.Faults.{on_one}

@@ -8,7 +8,7 @@ use Rattle.cy_parser.specs.declared.operands.Operand.{Operand}
 use Rattle.cy_parser.specs.declared.operands.Gathered.{Gathered}
 use Rattle.cy_trees.specs.Depth.{deepest, arms_depth, links_depth}
 use Rattle.cy_trees.specs.Trees.{Expression, Otherwise, nothing, otherwise}
-use Rattle.cy_trees.specs.Views.{expression_of, arm_of, link_of, expressions_of, arms_of, links_of}
+use Rattle.cy_trees.specs.TreeModels.{expression_of, arm_of, link_of, expressions_of, arms_of, links_of}
 
 abbrev pub operand_of : Operand → Expression
 operand_of o = expression_of o.tree

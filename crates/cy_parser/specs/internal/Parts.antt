@@ -1,6 +1,6 @@
 -- What the parts of a WHERE stand for.
 use Rattle.cy_trees.specs.Trees.{Expression}
-use Rattle.cy_trees.specs.Views.{path_test_of}
+use Rattle.cy_trees.specs.TreeModels.{path_test_of}
 use Rattle.cy_parser_grammar.specs.SpellsClauses as spells
 use Rattle.cy_parser.specs.declared.conditions.Condition.{Condition}
 use Rattle.cy_parser.specs.declared.conditions.Part.{Part}

@@ -11,7 +11,7 @@ use Rattle.cy_trees.specs.declared.expressions.Comparator.{Comparator}
 use Rattle.cy_parser_grammar.specs.declared.places.Nested.{Nested}
 use Rattle.cy_parser_grammar.specs.declared.places.Nested.TheVariants as nested
 use Rattle.cy_trees.specs.Trees.{Name, Expression, null, boolean, integer, text, variable, property, has_labels, unary, binary, comparison, list, case, call, call_star, no_more, Otherwise, nothing, otherwise}
-use Rattle.cy_trees.specs.Views.{expressions_from, links_from, arms_from}
+use Rattle.cy_trees.specs.TreeModels.{expressions_from, links_from, arms_from}
 use Rattle.cy_parser_grammar.specs.Words.{lowered, denotes, negated, comparator_of, sum_operator, product_operator}
 use Rattle.cy_lexer.specs.Numbers.{greatest_number}
 use Rattle.cy_parser_grammar.specs.internal.Chains.{disjunction_operator, exclusion_operator, conjunction_operator}

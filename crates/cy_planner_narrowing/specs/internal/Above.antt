@@ -1,7 +1,7 @@
 -- What stands above a part, the left one of two that go together. (own)
 use Rattle.std.specs.Prelude.{List, [], ◌∷◌}
 use Rattle.cy_planner_algebra.specs.Plans.{Plan}
-use Rattle.cy_planner_algebra.specs.Views.{plan_of}
+use Rattle.cy_planner_algebra.specs.PlanModels.{plan_of}
 use Rattle.cy_planner_algebra.specs.WellFormed.{IsWellFormed}
 use Rattle.cy_planner_rewriting.specs.internal.Layers.{over_layer}
 use Rattle.cy_planner_rewriting.specs.Rewritten.{IsRewritten}

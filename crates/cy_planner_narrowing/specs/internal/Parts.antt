@@ -1,10 +1,10 @@
 -- What the parts of plans are. (own)
 use Rattle.std.specs.Prelude.{◌≡◌, ◌<◌}
-use Rattle.cy_trees.specs.Views.{expression_of}
+use Rattle.cy_trees.specs.TreeModels.{expression_of}
 use Rattle.cy_planner_algebra.specs.declared.operators.Operator.{Operator, size-Operator}
 use Rattle.cy_planner_algebra.specs.Plans as plan
 use Rattle.cy_planner_algebra.specs.Plans.{Plan}
-use Rattle.cy_planner_algebra.specs.Views.{plan_of}
+use Rattle.cy_planner_algebra.specs.PlanModels.{plan_of}
 use Rattle.cy_planner_rewriting.specs.internal.Layers.{over_layer}
 use Rattle.cy_planner_narrowing.specs.declared.parts.Joint.{Joint}
 use Rattle.cy_planner_narrowing.specs.declared.parts.Joint.TheVariants as joint

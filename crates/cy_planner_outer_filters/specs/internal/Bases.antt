@@ -1,10 +1,10 @@
 -- What the layers of a plan stand on: two parts that go together, or none below it. (own)
 use Rattle.std.specs.Prelude.{◌≡◌, ◌<◌, ⊤}
-use Rattle.cy_trees.specs.Views.{expression_of}
+use Rattle.cy_trees.specs.TreeModels.{expression_of}
 use Rattle.cy_planner_algebra.specs.declared.operators.Operator.{Operator, size-Operator}
 use Rattle.cy_planner_algebra.specs.Plans as plan
 use Rattle.cy_planner_algebra.specs.Plans.{Plan}
-use Rattle.cy_planner_algebra.specs.Views.{plan_of}
+use Rattle.cy_planner_algebra.specs.PlanModels.{plan_of}
 use Rattle.cy_planner_algebra.specs.WellFormed.{IsWellFormed}
 use Rattle.cy_planner_outer_filters.specs.declared.bases.Base.{Base}
 use Rattle.cy_planner_outer_filters.specs.declared.bases.Base.TheVariants as base

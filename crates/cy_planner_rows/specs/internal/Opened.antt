@@ -3,7 +3,7 @@ use Rattle.std.specs.Prelude.{◌≡◌, ℕ, zero, suc, ◌+◌, ◌<◌, ◌�
 use Rattle.cy_trees.specs.declared.expressions.BinaryOperator.TheVariants.{And}
 use Rattle.cy_trees.specs.declared.expressions.Expr.{Expr}
 use Rattle.cy_trees.specs.Trees.{Expression, binary}
-use Rattle.cy_trees.specs.Views.{expression_of}
+use Rattle.cy_trees.specs.TreeModels.{expression_of}
 use Rattle.cy_planner_rows.specs.declared.conjunctions.Opened.{Opened}
 use Rattle.cy_planner_rows.specs.declared.conjunctions.Opened.TheVariants as opened
 use Rattle.cy_planner_rows.specs.Conjuncts.{conjuncts}

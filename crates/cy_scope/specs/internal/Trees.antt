@@ -3,7 +3,7 @@ use Rattle.cy_trees.specs.declared.clauses.Unwind as coded_unwind
 use Rattle.cy_trees.specs.declared.clauses.Match as coded_match
 use Rattle.cy_trees.specs.declared.clauses.With as coded_with
 use Rattle.cy_trees.specs.Trees.{Clause, unwind, «match», «with»}
-use Rattle.cy_trees.specs.Views.{expression_of, paths_of, where_of, projection_of}
+use Rattle.cy_trees.specs.TreeModels.{expression_of, paths_of, where_of, projection_of}
 
 -- the clauses that some of the code's parts stand for
 abbrev pub unwind_of : coded_unwind.Unwind → Clause

@@ -7,7 +7,7 @@ use Rattle.cy_trees.specs.declared.expressions.Comparator.{Comparator}
 use Rattle.cy_scope_kinds.specs.Scopes.{Scope}
 use Rattle.cy_scope_kinds.specs.ResolvedExpressions.{resolved}
 use Rattle.cy_trees.specs.Trees.{Expression, Otherwise, nothing, otherwise}
-use Rattle.cy_trees.specs.Views.{expression_of}
+use Rattle.cy_trees.specs.TreeModels.{expression_of}
 
 abbrev pub otherwise_of : Option (Box Expr Global) → Otherwise
 otherwise_of None = nothing

@@ -1,6 +1,6 @@
 use Rattle.std.proofs.Common.{ap}
 use Rattle.std.proofs.lemmas.Result.{err_from_is_err_and}
-use Rattle.cy_trees.specs.Views.{statement_of}
+use Rattle.cy_trees.specs.TreeModels.{statement_of}
 use Rattle.cy_engine.proofs.FromTokens.{query_given, query_unchecked, view_fails}
 use Rattle.cy_engine.proofs.reading.read_query.Goals as goal
 

@@ -1,5 +1,5 @@
 use Rattle.std.proofs.lemmas.Result.{err_from_is_err_and}
-use Rattle.cy_trees.specs.Views.{statement_of}
+use Rattle.cy_trees.specs.TreeModels.{statement_of}
 use Rattle.cy_engine.specs.Verdicts.{scope_verdict}
 use Rattle.cy_engine.proofs.FromTokens.{parse_fails, scope_fails, scope_given}
 use Rattle.cy_engine.proofs.reading.read_statement.Goals as goal

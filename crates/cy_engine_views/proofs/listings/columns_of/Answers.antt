@@ -2,7 +2,7 @@ use Rattle.std.proofs.Common.{List, [], map, sym, ap, ◌∙◌}
 use Rattle.std.specs.Prelude.{slice_get}
 use Rattle.cy_trees.specs.declared.clauses.Clause as coded
 use Rattle.cy_trees.specs.declared.clauses.Query as coded_query
-use Rattle.cy_trees.specs.Views.{clause_of}
+use Rattle.cy_trees.specs.TreeModels.{clause_of}
 use Rattle.cy_scope.specs.Views.{ends_with_return}
 use Rattle.cy_oneshot_meaning.specs.Queries.{columns_after_all}
 use Rattle.cy_engine_views.proofs.Columns.{first_columns, first_returns}

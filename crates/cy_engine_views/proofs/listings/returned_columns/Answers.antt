@@ -1,7 +1,7 @@
 use Rattle.std.proofs.Common.{List, map, sym, ap, ◌∙◌}
 use Rattle.cy_trees.specs.declared.clauses.Item as coded_item
 use Rattle.cy_trees.specs.Trees.{Item}
-use Rattle.cy_trees.specs.Views.{clause_of, item_of, projection_of}
+use Rattle.cy_trees.specs.TreeModels.{clause_of, item_of, projection_of}
 use Rattle.cy_engine_views.proofs.Columns.{last_returns, returned_columns}
 use Rattle.cy_engine_views.proofs.listings.returned_columns.Goals as goal
 

@@ -1,4 +1,4 @@
-use Rattle.cy_trees.specs.Views.{expression_of}
+use Rattle.cy_trees.specs.TreeModels.{expression_of}
 use Rattle.cy_expr.proofs.ReadingLemmas.{sure-cell}
 use Rattle.cy_expr.proofs.cells.eval_sure.Goals as goal
 

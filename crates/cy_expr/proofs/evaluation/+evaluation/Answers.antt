@@ -1,6 +1,6 @@
 use Rattle.std.proofs.Common.{sym, ◌∙◌, inl, map}
 use Rattle.cy_expr.specs.internal.Lent.{held_cell}
-use Rattle.cy_trees.specs.Views.{expression_of, expressions_from}
+use Rattle.cy_trees.specs.TreeModels.{expression_of, expressions_from}
 use Rattle.cy_values.specs.Compare.{lent}
 use Rattle.cy_expr.specs.Evaluation.{cells_of, outcomes_of, property_exists, values_of}
 use Rattle.cy_expr.proofs.ReadingLemmas.{cell-numbered}

@@ -1,5 +1,5 @@
 use Rattle.std.proofs.Common.{◌≡◌, drop, map}
-use Rattle.cy_trees.specs.Views.{expressions_from, expression_of, links_from, link_of, arms_from, arm_of}
+use Rattle.cy_trees.specs.TreeModels.{expressions_from, expression_of, links_from, link_of, arms_from, arm_of}
 use Rattle.cy_expr.specs.Choice.{coalesce}
 use Rattle.cy_expr.specs.internal.Arms.{chosen}
 use Rattle.cy_expr.specs.internal.Membership.{membership_from}

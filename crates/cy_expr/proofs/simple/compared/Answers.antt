@@ -1,6 +1,6 @@
 -- One comparison, of cells that are read where they lie.
 use Rattle.std.proofs.Common.{sym}
-use Rattle.cy_trees.specs.Views.{expression_of}
+use Rattle.cy_trees.specs.TreeModels.{expression_of}
 use Rattle.cy_expr.specs.internal.Lent.{lent_cell}
 use Rattle.cy_expr.proofs.Rules.{one_compared}
 use Rattle.cy_expr.proofs.simple.compared.Goals as goal

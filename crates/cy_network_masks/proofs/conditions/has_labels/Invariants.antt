@@ -1,5 +1,5 @@
 use Rattle.cy_planner_algebra.specs.declared.operators.Operator.{size-Operator}
-use Rattle.cy_planner_algebra.specs.Views.{plan_of}
+use Rattle.cy_planner_algebra.specs.PlanModels.{plan_of}
 use Rattle.cy_network_masks.specs.internal.Labelled.{HasLabels}
 use Rattle.cy_network_masks.proofs.conditions.has_labels.Given as goal
 

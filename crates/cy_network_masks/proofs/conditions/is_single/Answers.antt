@@ -1,12 +1,12 @@
 use Rattle.std.proofs.Common.{◌≡◌, Some, map, length, sym, ap, subst, ◌∙◌}
 use Rattle.std.proofs.lemmas.List.{length-map}
-use Rattle.cy_trees.specs.Views.{expression_of}
+use Rattle.cy_trees.specs.TreeModels.{expression_of}
 use Rattle.cy_planner_algebra.specs.declared.operators.Operator.{Operator}
 use Rattle.cy_planner_algebra.specs.declared.operators.Operator.TheFolds.{fold-roll-Operator}
 use Rattle.cy_planner_algebra.specs.declared.operators.Operator.TheVariants.{rolls-Filter, rolls-Project}
 use Rattle.cy_planner_algebra.specs.Plans as plan
 use Rattle.cy_planner_algebra.specs.Plans.{Plan}
-use Rattle.cy_planner_algebra.specs.Views.{output_of, plan_of, plan_step}
+use Rattle.cy_planner_algebra.specs.PlanModels.{output_of, plan_of, plan_step}
 use Rattle.cy_network_sources.specs.Scans.{kept_at}
 use Rattle.cy_network_masks.specs.internal.Labelled.{IsSingle, NamesNodes}
 use Rattle.cy_network_masks.proofs.Labelled.{single_filter, single_project}

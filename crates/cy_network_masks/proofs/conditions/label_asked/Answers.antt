@@ -1,5 +1,5 @@
-use Rattle.cy_trees.specs.Views.{expression_of}
-use Rattle.cy_planner_algebra.specs.Views.{plan_of}
+use Rattle.cy_trees.specs.TreeModels.{expression_of}
+use Rattle.cy_planner_algebra.specs.PlanModels.{plan_of}
 use Rattle.cy_network_masks.proofs.Labelled.{needs_label}
 use Rattle.cy_network_masks.proofs.conditions.label_asked.Goals as goal
 

@@ -3,7 +3,7 @@ use Rattle.std.proofs.Common.{◌≡◌, true, rules, sym, ap, subst, ◌∙◌,
 use Rattle.cy_trees.specs.declared.expressions.BinaryOperator.TheVariants.{And, In}
 use Rattle.cy_trees.specs.declared.expressions.Expr.{Expr, the_lemmas}
 use Rattle.cy_trees.specs.Trees.{Expression, Name, binary, text}
-use Rattle.cy_trees.specs.Views.{expression_of}
+use Rattle.cy_trees.specs.TreeModels.{expression_of}
 use Rattle.cy_planner_algebra.specs.Plans.{computed}
 use Rattle.cy_network_sources.specs.Scans.{is_column}
 use Rattle.cy_network_masks.specs.internal.Labelled.{Asks}

@@ -1,6 +1,6 @@
 use Rattle.std.proofs.Common.{ℕ, List}
 use Rattle.cy_trees.specs.declared.expressions.Expr.{size-Expr}
-use Rattle.cy_trees.specs.Views.{expression_of}
+use Rattle.cy_trees.specs.TreeModels.{expression_of}
 use Rattle.cy_network_masks.specs.internal.Labelled.{Asks}
 use Rattle.cy_network_masks.proofs.conditions.label_tested.Given as goal
 

@@ -1,11 +1,11 @@
 use Rattle.std.proofs.Common.{◌≡◌, Some, map, rules, refl, sym, ap, subst, ◌∙◌, arith}
-use Rattle.cy_trees.specs.Views.{expression_of}
+use Rattle.cy_trees.specs.TreeModels.{expression_of}
 use Rattle.cy_planner_algebra.specs.declared.operators.Operator.{Operator, the_lemmas}
 use Rattle.cy_planner_algebra.specs.declared.operators.Operator.TheFolds.{fold-roll-Operator}
 use Rattle.cy_planner_algebra.specs.declared.operators.Operator.TheVariants.{rolls-Filter, rolls-Lookup, rolls-Project, rolls-Rels}
 use Rattle.cy_planner_algebra.specs.Plans as plan
 use Rattle.cy_planner_algebra.specs.Plans.{Plan}
-use Rattle.cy_planner_algebra.specs.Views.{output_of, plan_of, plan_step}
+use Rattle.cy_planner_algebra.specs.PlanModels.{output_of, plan_of, plan_step}
 use Rattle.cy_network_sources.specs.Scans.{kept_at}
 use Rattle.cy_network_masks.specs.declared.masks.Mask.{Mask}
 use Rattle.cy_network_masks.specs.internal.Labelled.{LacksWithout}

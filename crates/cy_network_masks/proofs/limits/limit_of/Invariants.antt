@@ -1,5 +1,5 @@
 use Rattle.cy_planner_algebra.specs.declared.operators.Operator.{size-Operator}
-use Rattle.cy_planner_algebra.specs.Views.{plan_of}
+use Rattle.cy_planner_algebra.specs.PlanModels.{plan_of}
 use Rattle.cy_network_masks.specs.declared.masks.Mask.{Mask}
 use Rattle.cy_network_masks.specs.internal.Left.{IsLimited}
 use Rattle.cy_network_masks.proofs.limits.limit_of.Given as goal

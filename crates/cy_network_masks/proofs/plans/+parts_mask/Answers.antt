@@ -1,12 +1,12 @@
 -- Each part leads to the whole.
 use Rattle.std.proofs.Common.{◌≡◌, ◌<◌, ◌≤◌, map, rules, refl, sym, ap, subst, ◌∙◌, arith}
-use Rattle.cy_trees.specs.Views.{expression_of}
+use Rattle.cy_trees.specs.TreeModels.{expression_of}
 use Rattle.cy_planner_algebra.specs.declared.operators.Operator.{Operator, size-Operator, the_lemmas}
 use Rattle.cy_planner_algebra.specs.declared.operators.Operator.TheFolds.{fold-roll-Operator}
 use Rattle.cy_planner_algebra.specs.declared.operators.Operator.TheVariants.{rolls-AllDifferent, rolls-Distinct, rolls-Filter, rolls-Join, rolls-Lookup, rolls-Outer, rolls-Project, rolls-Rels, rolls-Semi, rolls-Union}
 use Rattle.cy_planner_algebra.specs.Plans as plan
 use Rattle.cy_planner_algebra.specs.Plans.{Plan}
-use Rattle.cy_planner_algebra.specs.Views.{output_of, plan_of, plan_step}
+use Rattle.cy_planner_algebra.specs.PlanModels.{output_of, plan_of, plan_step}
 use Rattle.cy_network_masks.specs.declared.masks.Mask.{Mask}
 use Rattle.cy_network_masks.specs.internal.Left.{IsLimited, LeavesUnread, rels_mask}
 use Rattle.cy_network_masks.proofs.Rules.{limited_nodes, limited_rels, unread_nodes, unread_rels}

@@ -1,6 +1,6 @@
 use Rattle.std.proofs.Common.{◌≤◌}
 use Rattle.cy_planner_algebra.specs.declared.operators.Operator.{size-Operator}
-use Rattle.cy_planner_algebra.specs.Views.{plan_of}
+use Rattle.cy_planner_algebra.specs.PlanModels.{plan_of}
 use Rattle.cy_network_masks.proofs.Walk.{Leads}
 use Rattle.cy_network_masks.proofs.plans.+parts_mask.Given as goal
 

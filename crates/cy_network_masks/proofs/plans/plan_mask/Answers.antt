@@ -1,4 +1,4 @@
-use Rattle.cy_planner_algebra.specs.Views.{plan_of}
+use Rattle.cy_planner_algebra.specs.PlanModels.{plan_of}
 use Rattle.cy_network_masks.proofs.Covering.{covers}
 use Rattle.cy_network_masks.proofs.plans.plan_mask.Goals as goal
 

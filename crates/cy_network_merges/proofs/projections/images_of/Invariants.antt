@@ -1,6 +1,6 @@
 use Rattle.std.proofs.Common.{◌≡◌, map}
 use Rattle.cy_planner_algebra.specs.Expressions.{projected}
-use Rattle.cy_planner_algebra.specs.Views.{output_of}
+use Rattle.cy_planner_algebra.specs.PlanModels.{output_of}
 use Rattle.cy_network_merges.specs.internal.Sums.{image}
 use Rattle.cy_network_merges.proofs.projections.images_of.Given as goal
 

@@ -2,7 +2,7 @@ use Rattle.std.proofs.Common.{map, sym, subst}
 use Rattle.std.specs.List.{All}
 use Rattle.cy_network_memory.specs.Counts.{greatest_count}
 use Rattle.cy_planner_algebra.specs.Expressions.{projected}
-use Rattle.cy_planner_algebra.specs.Views.{output_of}
+use Rattle.cy_planner_algebra.specs.PlanModels.{output_of}
 use Rattle.cy_network_operators.specs.Deltas.{IsBounded}
 use Rattle.cy_network_merges.proofs.ChangedRows.{images_bounded, project_held, project_staged, project_delta, project_too_many}
 use Rattle.cy_network_merges.proofs.projections.project.Goals as goal

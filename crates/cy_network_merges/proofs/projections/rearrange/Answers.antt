@@ -1,7 +1,7 @@
 use Rattle.std.proofs.Common.{map, sym, subst}
 use Rattle.std.specs.List.{All}
 use Rattle.cy_planner_algebra.specs.Expressions.{projected}
-use Rattle.cy_planner_algebra.specs.Views.{output_of}
+use Rattle.cy_planner_algebra.specs.PlanModels.{output_of}
 use Rattle.cy_network_operators.specs.Deltas.{IsBounded}
 use Rattle.cy_network_merges.proofs.ChangedRows.{images_bounded}
 use Rattle.cy_network_merges.proofs.OneToOne.{images_delta, if_ok_more}

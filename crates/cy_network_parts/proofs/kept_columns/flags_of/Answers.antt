@@ -2,7 +2,7 @@ use Rattle.std.proofs.Common.{◌≡◌, ℕ, ◌+◌, ◌<◌, ◌||◌, Bool, 
 use Rattle.std.specs.Prelude.{is_some, slice_index_or}
 use Rattle.std.proofs.lemmas.List.{get_or-replicate, length-replicate, map-append, take_all, take_more}
 use Rattle.cy_planner_algebra.specs.declared.operators.Output as coded
-use Rattle.cy_planner_algebra.specs.Views.{output_of}
+use Rattle.cy_planner_algebra.specs.PlanModels.{output_of}
 use Rattle.cy_network_sources.specs.Scans.{is_this, kept_at}
 use Rattle.cy_network_relevance.specs.Lists.{column_alone}
 use Rattle.cy_network_relevance.proofs.Rules.{alone_is}

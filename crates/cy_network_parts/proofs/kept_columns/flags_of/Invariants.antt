@@ -1,6 +1,6 @@
 use Rattle.std.proofs.Common.{◌≡◌, ℕ, ◌<◌, false, length, map, take}
 use Rattle.std.specs.Prelude.{is_some, slice_index_or}
-use Rattle.cy_planner_algebra.specs.Views.{output_of}
+use Rattle.cy_planner_algebra.specs.PlanModels.{output_of}
 use Rattle.cy_network_sources.specs.Scans.{kept_at}
 use Rattle.cy_network_parts.proofs.kept_columns.flags_of.Given as goal
 

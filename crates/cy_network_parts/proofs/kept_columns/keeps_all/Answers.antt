@@ -1,7 +1,7 @@
 use Rattle.std.proofs.Common.{◌<◌, map, ap, sym, subst, ◌∙◌}
 use Rattle.std.specs.List.{list_all}
 use Rattle.std.proofs.lemmas.List.{length-map}
-use Rattle.cy_planner_algebra.specs.Views.{output_of}
+use Rattle.cy_planner_algebra.specs.PlanModels.{output_of}
 use Rattle.cy_network_parts.proofs.Kept.{all_flags, too_few}
 use Rattle.cy_network_parts.proofs.kept_columns.keeps_all.Goals as goal
 

@@ -4,7 +4,7 @@ use Rattle.std.specs.Prelude.{is_some}
 use Rattle.std.proofs.lemmas.List.{length-map}
 use Rattle.cy_planner_algebra.specs.declared.operators.Operator.{Operator}
 use Rattle.cy_planner_algebra.specs.Plans.{Plan}
-use Rattle.cy_planner_algebra.specs.Views.{plan_of}
+use Rattle.cy_planner_algebra.specs.PlanModels.{plan_of}
 use Rattle.cy_network_parts.specs.internal.Parts.{IsWholeAt}
 use Rattle.cy_network_parts.specs.Parts.{chain}
 use Rattle.cy_network_parts.proofs.Cuts.{begins, ends, goes_on, some_parts}

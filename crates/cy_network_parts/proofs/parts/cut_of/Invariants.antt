@@ -1,5 +1,5 @@
 use Rattle.std.proofs.Common.{map}
-use Rattle.cy_planner_algebra.specs.Views.{plan_of}
+use Rattle.cy_planner_algebra.specs.PlanModels.{plan_of}
 use Rattle.cy_network_parts.specs.internal.Parts.{IsWholeAt}
 use Rattle.cy_network_parts.proofs.parts.cut_of.Given as goal
 

@@ -1,6 +1,6 @@
 use Rattle.std.proofs.Common.{◌≡◌, ◌++◌, length, map}
 use Rattle.cy_planner_algebra.specs.Parts.{parts}
-use Rattle.cy_planner_algebra.specs.Views.{plan_of}
+use Rattle.cy_planner_algebra.specs.PlanModels.{plan_of}
 use Rattle.cy_network_parts.specs.Parts.{chain}
 use Rattle.cy_network_parts.proofs.parts.long_chain.Given as goal
 

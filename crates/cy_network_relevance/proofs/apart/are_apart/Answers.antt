@@ -1,6 +1,6 @@
 use Rattle.std.proofs.Common.{sym, ap, ◌∙◌}
 use Rattle.std.specs.Prelude.{◌||◌}
-use Rattle.cy_planner_algebra.specs.Views.{plan_of}
+use Rattle.cy_planner_algebra.specs.PlanModels.{plan_of}
 use Rattle.cy_network_relevance.specs.Lists.{is_above, least_named, most_named}
 use Rattle.cy_network_relevance.proofs.RowsApart.{in_one_part}
 use Rattle.cy_network_relevance.proofs.apart.are_apart.Goals as goal

@@ -4,7 +4,7 @@ use Rattle.cy_planner_algebra.specs.declared.operators.Operator.TheFolds.{fold-r
 use Rattle.cy_planner_algebra.specs.declared.operators.Operator.TheVariants.{rolls-Lookup}
 use Rattle.cy_planner_algebra.specs.Plans as plan
 use Rattle.cy_planner_algebra.specs.Plans.{Plan}
-use Rattle.cy_planner_algebra.specs.Views.{plan_of, plan_step}
+use Rattle.cy_planner_algebra.specs.PlanModels.{plan_of, plan_step}
 use Rattle.cy_network_relevance.specs.internal.Kept.{IsAbsent, IsUnchanged}
 use Rattle.cy_network_relevance.proofs.Rules.{unchanged_absent_lookup}
 use Rattle.cy_network_relevance.proofs.parts.+is_kept.Goals as goal

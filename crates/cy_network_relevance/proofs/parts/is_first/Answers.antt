@@ -1,5 +1,5 @@
 use Rattle.std.proofs.Common.{ap, sym, ◌∙◌}
-use Rattle.cy_planner_algebra.specs.Views.{output_of}
+use Rattle.cy_planner_algebra.specs.PlanModels.{output_of}
 use Rattle.cy_network_sources.specs.Scans.{is_this}
 use Rattle.cy_network_relevance.proofs.Rules.{alone_is}
 use Rattle.cy_network_relevance.proofs.parts.is_first.Goals as goal

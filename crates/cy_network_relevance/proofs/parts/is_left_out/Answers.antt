@@ -1,5 +1,5 @@
-use Rattle.cy_trees.specs.Views.{expression_of}
-use Rattle.cy_planner_algebra.specs.Views.{plan_of}
+use Rattle.cy_trees.specs.TreeModels.{expression_of}
+use Rattle.cy_planner_algebra.specs.PlanModels.{plan_of}
 use Rattle.cy_network_relevance.proofs.Rules.{left_out, unchanged_absent_filter}
 use Rattle.cy_network_relevance.proofs.parts.is_left_out.Goals as goal
 

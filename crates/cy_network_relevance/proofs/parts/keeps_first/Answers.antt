@@ -1,4 +1,4 @@
-use Rattle.cy_planner_algebra.specs.Views.{output_of}
+use Rattle.cy_planner_algebra.specs.PlanModels.{output_of}
 use Rattle.cy_network_relevance.proofs.Rules.{first_kept}
 use Rattle.cy_network_relevance.proofs.parts.keeps_first.Goals as goal
 

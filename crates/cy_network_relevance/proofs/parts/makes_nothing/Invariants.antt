@@ -1,5 +1,5 @@
 use Rattle.cy_planner_algebra.specs.declared.operators.Operator.{size-Operator}
-use Rattle.cy_planner_algebra.specs.Views.{plan_of}
+use Rattle.cy_planner_algebra.specs.PlanModels.{plan_of}
 use Rattle.cy_network_relevance.specs.internal.Kept.{IsAbsent}
 use Rattle.cy_network_relevance.proofs.parts.makes_nothing.Given as goal
 

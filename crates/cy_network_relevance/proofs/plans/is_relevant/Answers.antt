@@ -2,7 +2,7 @@ use Rattle.std.proofs.Common.{ℕ, Option, subst}
 use Rattle.std.specs.List.{All}
 use Rattle.cy_graph.specs.declared.nodes.Rel.{Rel}
 use Rattle.cy_graph.specs.Graph.{Versions, rel_at}
-use Rattle.cy_planner_algebra.specs.Views.{plan_of}
+use Rattle.cy_planner_algebra.specs.PlanModels.{plan_of}
 use Rattle.cy_network_relevance.specs.internal.Kept.{IsRelUnchanged}
 use Rattle.cy_network_relevance.proofs.Untouched.{untouched}
 use Rattle.cy_network_relevance.proofs.plans.is_relevant.Goals as goal

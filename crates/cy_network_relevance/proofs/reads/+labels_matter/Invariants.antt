@@ -1,7 +1,7 @@
 use Rattle.std.proofs.Common.{◌≡◌, ◌≤◌, true}
 use Rattle.cy_planner_algebra.specs.declared.operators.Attribute.TheVariants.{Labels}
 use Rattle.cy_planner_algebra.specs.declared.operators.Operator.{size-Operator}
-use Rattle.cy_planner_algebra.specs.Views.{plan_of}
+use Rattle.cy_planner_algebra.specs.PlanModels.{plan_of}
 use Rattle.cy_network_relevance.specs.internal.Kept.{IsUnchanged, KeepsValue}
 use Rattle.cy_network_relevance.proofs.reads.+labels_matter.Given as goal
 

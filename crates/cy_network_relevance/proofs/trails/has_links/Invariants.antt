@@ -1,6 +1,6 @@
 use Rattle.std.proofs.Common.{◌≡◌}
 use Rattle.cy_planner_algebra.specs.declared.operators.Operator.{size-Operator}
-use Rattle.cy_planner_algebra.specs.Views.{plan_of}
+use Rattle.cy_planner_algebra.specs.PlanModels.{plan_of}
 use Rattle.cy_network_relevance.specs.Trails.{has_links}
 use Rattle.cy_network_relevance.proofs.trails.has_links.Given as goal
 

@@ -1,5 +1,5 @@
 use Rattle.std.proofs.Common.{map, sym, ◌∙◌}
-use Rattle.cy_planner_algebra.specs.Views.{output_of}
+use Rattle.cy_planner_algebra.specs.PlanModels.{output_of}
 use Rattle.cy_network_relevance.specs.Trails.{is_alone}
 use Rattle.cy_network_relevance.proofs.AnyOutput.{any_mapped, at_kept}
 use Rattle.cy_network_relevance.proofs.trails.is_kept.Goals as goal

@@ -3,7 +3,7 @@ use Rattle.cy_planner_algebra.specs.declared.operators.Operator.TheFolds.{fold-r
 use Rattle.cy_planner_algebra.specs.declared.operators.Operator.TheVariants.{rolls-Join}
 use Rattle.cy_planner_algebra.specs.Plans as plan
 use Rattle.cy_planner_algebra.specs.Plans.{Plan}
-use Rattle.cy_planner_algebra.specs.Views.{output_of, plan_of, plan_step}
+use Rattle.cy_planner_algebra.specs.PlanModels.{output_of, plan_of, plan_step}
 use Rattle.cy_network_relevance.proofs.Told.{joins_told}
 use Rattle.cy_network_relevance.proofs.trails.is_told_apart.Goals as goal
 

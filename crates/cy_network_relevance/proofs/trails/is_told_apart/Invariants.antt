@@ -1,6 +1,6 @@
 use Rattle.std.proofs.Common.{◌≡◌, map}
 use Rattle.cy_planner_algebra.specs.declared.operators.Operator.{size-Operator}
-use Rattle.cy_planner_algebra.specs.Views.{output_of, plan_of}
+use Rattle.cy_planner_algebra.specs.PlanModels.{output_of, plan_of}
 use Rattle.cy_planner_algebra.specs.WellFormed.{IsWellFormed}
 use Rattle.cy_network_relevance.specs.Trails.{tells_apart}
 use Rattle.cy_network_relevance.proofs.trails.is_told_apart.Given as goal

@@ -1,5 +1,5 @@
 use Rattle.std.proofs.Common.{map, sym, ◌∙◌}
-use Rattle.cy_planner_algebra.specs.Views.{output_of, plan_of}
+use Rattle.cy_planner_algebra.specs.PlanModels.{output_of, plan_of}
 use Rattle.cy_network_relevance.proofs.Told.{told}
 use Rattle.cy_network_relevance.proofs.trails.tells_apart.Goals as goal
 

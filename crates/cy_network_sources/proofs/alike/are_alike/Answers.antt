@@ -1,6 +1,6 @@
 use Rattle.std.proofs.Common.{map, ap, sym, ◌∙◌, arith}
 use Rattle.std.proofs.lemmas.List.{drop_all, length-map}
-use Rattle.cy_planner_algebra.specs.Views.{plan_of}
+use Rattle.cy_planner_algebra.specs.PlanModels.{plan_of}
 use Rattle.cy_network_sources.specs.internal.Through.{attribute_in, through}
 use Rattle.cy_network_sources.proofs.ThroughScans.{alike_more}
 use Rattle.cy_network_sources.proofs.alike.are_alike.Goals as goal

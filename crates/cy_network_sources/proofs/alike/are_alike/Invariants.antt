@@ -1,7 +1,7 @@
 -- what is left of the parts settles whether all make the same
 use Rattle.std.proofs.Common.{◌≡◌, List, drop, map}
 use Rattle.cy_values.specs.declared.rows.Cell.{Cell}
-use Rattle.cy_planner_algebra.specs.Views.{plan_of}
+use Rattle.cy_planner_algebra.specs.PlanModels.{plan_of}
 use Rattle.cy_network_sources.specs.internal.Through as spec
 use Rattle.cy_network_sources.specs.internal.Through.{attribute_in}
 use Rattle.cy_network_sources.proofs.alike.are_alike.Given as goal

@@ -1,6 +1,6 @@
 use Rattle.std.proofs.Common.{Some, map, ap, sym, ◌∙◌}
 use Rattle.std.specs.Option.{option_copied}
-use Rattle.cy_planner_algebra.specs.Views.{plan_of}
+use Rattle.cy_planner_algebra.specs.PlanModels.{plan_of}
 use Rattle.cy_network_sources.specs.internal.Rows.{node_rows}
 use Rattle.cy_network_sources.specs.internal.Through.{node_made}
 use Rattle.cy_network_sources.proofs.alike.are_alike_nodes.Goals as goal

@@ -1,6 +1,6 @@
 use Rattle.std.proofs.Common.{Some, map, ap, sym, ◌∙◌}
 use Rattle.std.specs.Option.{option_copied}
-use Rattle.cy_planner_algebra.specs.Views.{plan_of}
+use Rattle.cy_planner_algebra.specs.PlanModels.{plan_of}
 use Rattle.cy_network_sources.specs.internal.Rows.{rel_rows}
 use Rattle.cy_network_sources.specs.internal.Through.{attribute_in, rel_made, through}
 use Rattle.cy_network_sources.specs.declared.entities.EntityValue.TheVariants as entity

@@ -6,7 +6,7 @@ use Rattle.std.proofs.lemmas.Result.{IfOk-weaker}
 use Rattle.cy_values.specs.declared.rows.Cell.{Cell}
 use Rattle.cy_values.specs.declared.rows.Cell.TheVariants as cell
 use Rattle.cy_planner_algebra.specs.Plans.{Plan}
-use Rattle.cy_planner_algebra.specs.Views.{plan_of}
+use Rattle.cy_planner_algebra.specs.PlanModels.{plan_of}
 use Rattle.cy_network_sources.specs.declared.entities.EntityValue.TheVariants as entity
 use Rattle.cy_network_sources.specs.internal.Through.{AreFit, IsNodeFit, attribute_in, node_made, through}
 use Rattle.cy_network_sources.proofs.ThroughSteps.{fit_split, through_split}

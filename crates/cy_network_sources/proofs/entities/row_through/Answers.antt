@@ -6,7 +6,7 @@ use Rattle.cy_values.specs.declared.rows.Cell.{Cell}
 use Rattle.cy_planner_algebra.specs.declared.operators.Attribute.{Attribute}
 use Rattle.cy_planner_algebra.specs.declared.operators.Operator.{Operator}
 use Rattle.cy_planner_algebra.specs.Plans.{Plan}
-use Rattle.cy_planner_algebra.specs.Views.{plan_of}
+use Rattle.cy_planner_algebra.specs.PlanModels.{plan_of}
 use Rattle.cy_network_sources.specs.internal.Through.{AreFit, IsFit, attribute_in, made_by, through}
 use Rattle.cy_network_sources.proofs.ThroughSteps.{fit_at, none_after, one_part}
 use Rattle.cy_network_sources.proofs.entities.row_through.Goals as goal

@@ -1,6 +1,6 @@
 -- the row so far is what the parts below those that are left make
 use Rattle.std.proofs.Common.{◌≡◌, ◌∷◌, [], ◌≤◌, drop, length, map}
-use Rattle.cy_planner_algebra.specs.Views.{plan_of}
+use Rattle.cy_planner_algebra.specs.PlanModels.{plan_of}
 use Rattle.cy_network_sources.specs.internal.Through as spec
 use Rattle.cy_network_sources.specs.internal.Through.{attribute_in}
 use Rattle.cy_network_sources.proofs.entities.row_through.Given as goal

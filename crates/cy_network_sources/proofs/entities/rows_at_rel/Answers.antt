@@ -1,7 +1,7 @@
 use Rattle.std.proofs.Common.{List, sym, subst, map}
 use Rattle.std.specs.Option.{option_copied}
 use Rattle.cy_values.specs.declared.rows.Cell.{Cell}
-use Rattle.cy_planner_algebra.specs.Views.{plan_of}
+use Rattle.cy_planner_algebra.specs.PlanModels.{plan_of}
 use Rattle.cy_network_sources.specs.declared.entities.EntityValue.TheVariants as entity
 use Rattle.cy_network_sources.specs.internal.Through.{AreFit, IsRelFit, attribute_in}
 use Rattle.cy_network_sources.proofs.entities.rows_at_rel.Goals as goal

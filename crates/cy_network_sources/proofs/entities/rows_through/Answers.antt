@@ -3,7 +3,7 @@ use Rattle.std.proofs.lemmas.Iterator.Adapters.{YieldsList-from_vec}
 use Rattle.std.proofs.lemmas.Iterator.Consumers.{YieldsList-end, YieldsList-turn}
 use Rattle.std.proofs.lemmas.List.{map-id}
 use Rattle.cy_values.specs.declared.rows.Cell.{Cell}
-use Rattle.cy_planner_algebra.specs.Views.{plan_of}
+use Rattle.cy_planner_algebra.specs.PlanModels.{plan_of}
 use Rattle.cy_network_sources.specs.internal.Through.{AreFit, attribute_in, through}
 use Rattle.cy_network_sources.proofs.ThroughSteps.{fit_each, more_through, none_through}
 use Rattle.cy_network_sources.proofs.entities.rows_through.Goals as goal

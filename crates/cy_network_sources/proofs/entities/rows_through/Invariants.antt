@@ -1,6 +1,6 @@
 -- what the rows so far make
 use Rattle.std.proofs.Common.{◌≡◌, map}
-use Rattle.cy_planner_algebra.specs.Views.{plan_of}
+use Rattle.cy_planner_algebra.specs.PlanModels.{plan_of}
 use Rattle.cy_network_sources.specs.internal.Through as spec
 use Rattle.cy_network_sources.specs.internal.Through.{attribute_in}
 use Rattle.cy_network_sources.proofs.entities.rows_through.Given as goal

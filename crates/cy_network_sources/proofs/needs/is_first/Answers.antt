@@ -1,6 +1,6 @@
 use Rattle.std.proofs.Common.{◌≡◌, List, [], ◌∷◌, length, map, get_or, ap, sym, ◌∙◌, arith}
 use Rattle.cy_planner_algebra.specs.declared.operators.Output.{Output}
-use Rattle.cy_planner_algebra.specs.Views.{output_of}
+use Rattle.cy_planner_algebra.specs.PlanModels.{output_of}
 use Rattle.cy_network_sources.proofs.needs.is_first.Goals as goal
 
 one_only : (outputs : List Output) (x : Output) → length outputs ≡ 1 → x ≡ get_or outputs 0 x → map output_of outputs ≡ output_of x ∷ []

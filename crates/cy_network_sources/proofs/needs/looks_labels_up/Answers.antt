@@ -3,7 +3,7 @@ use Rattle.cy_planner_algebra.specs.declared.operators.Operator.TheFolds.{fold-r
 use Rattle.cy_planner_algebra.specs.declared.operators.Operator.TheVariants.{rolls-Lookup}
 use Rattle.cy_planner_algebra.specs.Plans as plan
 use Rattle.cy_planner_algebra.specs.Plans.{Plan}
-use Rattle.cy_planner_algebra.specs.Views.{plan_of, plan_step}
+use Rattle.cy_planner_algebra.specs.PlanModels.{plan_of, plan_step}
 use Rattle.cy_network_sources.proofs.needs.looks_labels_up.Goals as goal
 
 pub returns-in-Lookup : goal.returns-in-Lookup

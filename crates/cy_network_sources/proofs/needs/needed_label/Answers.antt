@@ -1,5 +1,5 @@
 use Rattle.std.proofs.Common.{◌≤◌, [], ◌∷◌, length, arith}
-use Rattle.cy_planner_algebra.specs.Views.{plan_of}
+use Rattle.cy_planner_algebra.specs.PlanModels.{plan_of}
 use Rattle.cy_network_sources.proofs.NeededLabels.{needed_by_last, without_label}
 use Rattle.cy_network_sources.proofs.ThroughScans.{if_some_then}
 use Rattle.cy_network_sources.proofs.needs.needed_label.Goals as goal

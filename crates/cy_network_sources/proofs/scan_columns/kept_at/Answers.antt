@@ -3,7 +3,7 @@ use Rattle.std.specs.Option.{option_map}
 use Rattle.std.proofs.lemmas.List.{at_drop_more, get_or-map, length-map}
 use Rattle.cy_planner_algebra.specs.declared.operators.Output as coded_output
 use Rattle.cy_planner_algebra.specs.Plans.{Output}
-use Rattle.cy_planner_algebra.specs.Views.{output_of}
+use Rattle.cy_planner_algebra.specs.PlanModels.{output_of}
 use Rattle.cy_network_sources.specs.Scans.{is_column, kept_at}
 use Rattle.cy_network_sources.proofs.scan_columns.kept_at.Goals as goal
 

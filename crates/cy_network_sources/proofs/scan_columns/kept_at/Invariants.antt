@@ -1,7 +1,7 @@
 -- what is left of the columns settles where it stands
 use Rattle.std.proofs.Common.{◌≡◌, ◌+◌, drop, map}
 use Rattle.std.specs.Option.{option_map}
-use Rattle.cy_planner_algebra.specs.Views.{output_of}
+use Rattle.cy_planner_algebra.specs.PlanModels.{output_of}
 use Rattle.cy_network_sources.specs.Scans.{kept_at}
 use Rattle.cy_network_sources.proofs.scan_columns.kept_at.Given as goal
 

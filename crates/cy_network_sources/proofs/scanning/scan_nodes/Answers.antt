@@ -8,7 +8,7 @@ use Rattle.cy_graph.specs.declared.nodes.Node.{Node}
 use Rattle.cy_graph.specs.Graph.{Versions, node_at}
 use Rattle.cy_index.specs.Index.{SightState}
 use Rattle.cy_planner_algebra.specs.Plans.{Plan}
-use Rattle.cy_planner_algebra.specs.Views.{plan_of}
+use Rattle.cy_planner_algebra.specs.PlanModels.{plan_of}
 use Rattle.cy_network_operators.specs.Deltas.{deltas_of}
 use Rattle.cy_network_sources.specs.internal.Through.{IsNodeFit, node_made, recounted}
 use Rattle.cy_network_touches.proofs.AttributeLemmas.{one_less, walked}

@@ -4,7 +4,7 @@ use Rattle.cy_planner_algebra.specs.declared.operators.Operator.TheOpen.{Operato
 use Rattle.cy_planner_algebra.specs.declared.operators.Operator.TheVariants.{rolls-Nodes, rolls-Rels}
 use Rattle.cy_planner_algebra.specs.Plans as plan
 use Rattle.cy_planner_algebra.specs.Plans.{Plan}
-use Rattle.cy_planner_algebra.specs.Views.{plan_of, plan_step}
+use Rattle.cy_planner_algebra.specs.PlanModels.{plan_of, plan_step}
 use Rattle.cy_network_sources.proofs.ThroughScans.{if_ok_then, nodes_delta, nodes_fit, rels_delta, rels_fit}
 use Rattle.cy_network_sources.proofs.scanning.scan_over.Goals as goal
 

@@ -7,7 +7,7 @@ use Rattle.cy_graph.specs.declared.nodes.Rel.{Rel}
 use Rattle.cy_graph.specs.Graph.{Versions, rel_at}
 use Rattle.cy_index.specs.Index.{SightState}
 use Rattle.cy_planner_algebra.specs.Plans.{Plan}
-use Rattle.cy_planner_algebra.specs.Views.{plan_of}
+use Rattle.cy_planner_algebra.specs.PlanModels.{plan_of}
 use Rattle.cy_network_operators.specs.Deltas.{deltas_of}
 use Rattle.cy_trees.specs.Trees.{Name}
 use Rattle.cy_planner_algebra.specs.declared.operators.Orientation.{Orientation}

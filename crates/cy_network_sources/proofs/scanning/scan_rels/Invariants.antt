@@ -6,7 +6,7 @@ use Rattle.std.specs.Option.{option_copied}
 use Rattle.cy_values.specs.declared.rows.Cell.{Cell}
 use Rattle.cy_graph.specs.declared.nodes.Rel.{Rel}
 use Rattle.cy_graph.specs.Graph.{rel_at}
-use Rattle.cy_planner_algebra.specs.Views.{plan_of}
+use Rattle.cy_planner_algebra.specs.PlanModels.{plan_of}
 use Rattle.cy_network_operators.specs.Deltas.{IsBounded, deltas_of}
 use Rattle.cy_network_sources.specs.internal.Through.{IsRelFit, recounted, rel_made}
 use Rattle.cy_network_sources.proofs.scanning.scan_rels.Given as goal

@@ -1,6 +1,6 @@
 -- What was found for a row of nulls.
 use Rattle.std.proofs.Common.{◌≡◌, true, map}
-use Rattle.cy_trees.specs.Views.{path_of}
+use Rattle.cy_trees.specs.TreeModels.{path_of}
 use Rattle.cy_oneshot.proofs.KnownPaths.{known_by_nulls}
 use Rattle.cy_oneshot.proofs.conditions.known_presence.Goals as goal
 

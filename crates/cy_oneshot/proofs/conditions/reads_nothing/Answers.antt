@@ -1,7 +1,7 @@
 -- No column was marked.
 use Rattle.std.proofs.Common.{◌≡◌, true, not, sym, ap, ◌∙◌}
 use Rattle.std.specs.List.{list_all}
-use Rattle.cy_trees.specs.Views.{path_of}
+use Rattle.cy_trees.specs.TreeModels.{path_of}
 use Rattle.cy_oneshot.proofs.KnownPaths.{none_read}
 use Rattle.cy_oneshot.proofs.conditions.reads_nothing.Goals as goal
 

@@ -2,7 +2,7 @@
 use Rattle.std.proofs.Common.{◌≡◌, ◌++◌, ◌∷◌, [], All, map, take, sym, ap, subst, ◌∙◌}
 use Rattle.std.proofs.lemmas.List.{map-append, take_more}
 use Rattle.std.proofs.lemmas.List.Elements.{All-push}
-use Rattle.cy_trees.specs.Views.{path_test_of}
+use Rattle.cy_trees.specs.TreeModels.{path_test_of}
 use Rattle.cy_oneshot.specs.declared.conditions.PathCondition.{PathCondition}
 use Rattle.cy_oneshot.specs.internal.Conditions.{IsReady, tests_in}
 use Rattle.cy_oneshot.proofs.conditions.ready_paths.Goals as goal

@@ -1,6 +1,6 @@
 -- The paths so far are made ready.
 use Rattle.std.proofs.Common.{◌≡◌, All, map, take}
-use Rattle.cy_trees.specs.Views.{path_test_of}
+use Rattle.cy_trees.specs.TreeModels.{path_test_of}
 use Rattle.cy_oneshot.specs.internal.Conditions.{IsReady, tests_in}
 use Rattle.cy_oneshot.proofs.conditions.ready_paths.Given as goal
 

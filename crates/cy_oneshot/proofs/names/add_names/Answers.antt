@@ -1,7 +1,7 @@
 use Rattle.std.proofs.Common.{◌+◌, List, map, drop, sym, ap, ◌∙◌}
 use Rattle.cy_trees.specs.declared.clauses.Path.{Path}
 use Rattle.cy_trees.specs.Trees.{Name}
-use Rattle.cy_trees.specs.Views.{path_of, step_of}
+use Rattle.cy_trees.specs.TreeModels.{path_of, step_of}
 use Rattle.cy_oneshot_patterns.specs.Places.{places}
 use Rattle.cy_oneshot_meaning.specs.Queries.{with_new_names}
 use Rattle.cy_oneshot.specs.internal.Names.{with_steps_names}

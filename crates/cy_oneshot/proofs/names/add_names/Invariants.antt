@@ -1,5 +1,5 @@
 use Rattle.std.proofs.Common.{◌≡◌, drop, map}
-use Rattle.cy_trees.specs.Views.{path_of}
+use Rattle.cy_trees.specs.TreeModels.{path_of}
 use Rattle.cy_oneshot_patterns.specs.Places.{places}
 use Rattle.cy_oneshot_meaning.specs.Queries.{with_new_names}
 use Rattle.cy_oneshot.proofs.names.add_names.Given as goal

@@ -1,7 +1,7 @@
 use Rattle.std.proofs.Common.{◌+◌, List, map, drop, sym, ap, ◌∙◌}
 use Rattle.cy_trees.specs.declared.clauses.Step.{Step}
 use Rattle.cy_trees.specs.Trees.{Name}
-use Rattle.cy_trees.specs.Views.{step_of}
+use Rattle.cy_trees.specs.TreeModels.{step_of}
 use Rattle.cy_oneshot.specs.internal.Names.{with_name, with_steps_names}
 use Rattle.cy_oneshot_patterns.proofs.SliceReads.{next_of}
 use Rattle.cy_oneshot.proofs.names.add_steps.Goals as goal

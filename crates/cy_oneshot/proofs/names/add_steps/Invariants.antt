@@ -1,5 +1,5 @@
 use Rattle.std.proofs.Common.{◌≡◌, drop, map}
-use Rattle.cy_trees.specs.Views.{step_of}
+use Rattle.cy_trees.specs.TreeModels.{step_of}
 use Rattle.cy_oneshot.specs.internal.Names.{with_steps_names}
 use Rattle.cy_oneshot.proofs.names.add_steps.Given as goal
 

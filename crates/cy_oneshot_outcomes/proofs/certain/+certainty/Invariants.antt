@@ -1,6 +1,6 @@
 -- What is left decides.
 use Rattle.std.proofs.Common.{◌≡◌, drop, map}
-use Rattle.cy_trees.specs.Views.{expression_of, expressions_from, link_of, links_from}
+use Rattle.cy_trees.specs.TreeModels.{expression_of, expressions_from, link_of, links_from}
 use Rattle.cy_oneshot_outcomes.specs.Certain as spec
 use Rattle.cy_oneshot_outcomes.proofs.certain.+certainty.Given as goal
 

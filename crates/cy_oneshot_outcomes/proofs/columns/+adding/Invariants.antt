@@ -1,6 +1,6 @@
 -- The parts that are left settle the columns.
 use Rattle.std.proofs.Common.{◌≡◌, drop, map}
-use Rattle.cy_trees.specs.Views.{expression_of, expressions_from, links_from, link_of, arms_from, arm_of}
+use Rattle.cy_trees.specs.TreeModels.{expression_of, expressions_from, links_from, link_of, arms_from, arm_of}
 use Rattle.cy_oneshot_outcomes.specs.internal.Collected as spec
 use Rattle.cy_oneshot_outcomes.proofs.columns.+adding.Given as goal
 

@@ -1,5 +1,5 @@
 use Rattle.std.proofs.Common.{ℕ, List, ◌++◌, ap, ◌∙◌}
-use Rattle.cy_trees.specs.Views.{expression_of}
+use Rattle.cy_trees.specs.TreeModels.{expression_of}
 use Rattle.cy_oneshot_outcomes.specs.Columns.{columns_read}
 use Rattle.cy_oneshot_outcomes.proofs.Collecting.{collected}
 use Rattle.cy_oneshot_outcomes.proofs.columns.columns_read.Goals as goal

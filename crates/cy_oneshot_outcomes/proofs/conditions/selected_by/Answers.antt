@@ -3,7 +3,7 @@ use Rattle.std.specs.Option.{option_to_list}
 use Rattle.std.specs.Vec.Iter.{into_iter_items}
 use Rattle.std.proofs.lemmas.List.{nil_from_length}
 use Rattle.cy_values.specs.declared.rows.Cell.{Cell}
-use Rattle.cy_trees.specs.Views.{expression_of}
+use Rattle.cy_trees.specs.TreeModels.{expression_of}
 use Rattle.cy_oneshot_patterns.specs.Matching.{selected}
 use Rattle.cy_oneshot_patterns.specs.Outcomes.{together, joined}
 use Rattle.cy_oneshot_meaning.specs.Reading.{AreInGraph}

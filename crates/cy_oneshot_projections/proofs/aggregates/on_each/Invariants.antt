@@ -1,5 +1,5 @@
 use Rattle.std.proofs.Common.{◌≡◌, drop, map}
-use Rattle.cy_trees.specs.Views.{expression_of}
+use Rattle.cy_trees.specs.TreeModels.{expression_of}
 use Rattle.cy_expr.specs.Evaluation.{cell_of}
 use Rattle.cy_expr.specs.Graphs.{lookups}
 use Rattle.cy_oneshot_patterns.specs.Outcomes.{together, gathered}

@@ -3,7 +3,7 @@ use Rattle.std.specs.Prelude.{[], None}
 use Rattle.std.proofs.lemmas.Bool.{eqb-false, eqb-true}
 use Rattle.std.proofs.lemmas.List.{nil_from_length}
 use Rattle.cy_trees.specs.Trees.{Expression}
-use Rattle.cy_trees.specs.Views.{expression_of, item_of}
+use Rattle.cy_trees.specs.TreeModels.{expression_of, item_of}
 use Rattle.cy_oneshot_meaning.specs.Groups.{arguments, grouping}
 use Rattle.cy_oneshot_patterns.specs.Outcomes.{gathered}
 use Rattle.cy_oneshot_meaning.specs.internal.Answers.{sifted}

@@ -1,6 +1,6 @@
 use Rattle.std.proofs.Common.{◌+◌, refl, map, drop, ◌∙◌, ap}
 use Rattle.std.proofs.lemmas.List.{drop_all}
-use Rattle.cy_trees.specs.Views.{expression_of}
+use Rattle.cy_trees.specs.TreeModels.{expression_of}
 use Rattle.cy_expr.specs.Evaluation.{cell_of}
 use Rattle.cy_expr.specs.Graphs.{lookups}
 use Rattle.cy_oneshot_patterns.specs.Outcomes.{together}

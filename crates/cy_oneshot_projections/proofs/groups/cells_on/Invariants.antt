@@ -1,5 +1,5 @@
 use Rattle.std.proofs.Common.{◌≡◌, drop, map}
-use Rattle.cy_trees.specs.Views.{expression_of}
+use Rattle.cy_trees.specs.TreeModels.{expression_of}
 use Rattle.cy_oneshot_patterns.specs.Outcomes.{together}
 use Rattle.cy_oneshot_meaning.specs.internal.Seen.{cells_by}
 use Rattle.cy_oneshot_projections.proofs.groups.cells_on.Given as goal

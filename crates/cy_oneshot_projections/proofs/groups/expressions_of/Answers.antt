@@ -3,7 +3,7 @@ use Rattle.std.proofs.lemmas.List.{take_all}
 use Rattle.std.proofs.lemmas.Simd.{map-map}
 use Rattle.cy_trees.specs.declared.clauses.Item as coded
 use Rattle.cy_trees.specs.Trees.{Item}
-use Rattle.cy_trees.specs.Views.{expression_of, item_of}
+use Rattle.cy_trees.specs.TreeModels.{expression_of, item_of}
 use Rattle.cy_oneshot_projections.proofs.groups.expressions_of.Goals as goal
 
 pub returns : goal.returns

@@ -1,5 +1,5 @@
 use Rattle.std.proofs.Common.{◌≡◌, map, take}
-use Rattle.cy_trees.specs.Views.{expression_of}
+use Rattle.cy_trees.specs.TreeModels.{expression_of}
 use Rattle.cy_oneshot_projections.proofs.groups.expressions_of.Given as goal
 
 -- the expressions so far

@@ -4,7 +4,7 @@ use Rattle.std.specs.Vec.Iter.{into_iter_items}
 use Rattle.std.proofs.lemmas.List.{drop_all}
 use Rattle.std.proofs.lemmas.Result.{err_from_is_err_and}
 use Rattle.cy_trees.specs.declared.clauses.Item.{Item}
-use Rattle.cy_trees.specs.Views.{item_of}
+use Rattle.cy_trees.specs.TreeModels.{item_of}
 use Rattle.cy_oneshot_meaning.specs.Groups.{group_cells}
 use Rattle.cy_oneshot_patterns.specs.Outcomes.{gathered, together}
 use Rattle.cy_oneshot_projections.proofs.GroupAnswers.{cells_more}

@@ -1,6 +1,6 @@
 use Rattle.std.proofs.Common.{◌≡◌, drop, map}
 use Rattle.std.specs.Vec.Iter.{into_iter_items}
-use Rattle.cy_trees.specs.Views.{item_of}
+use Rattle.cy_trees.specs.TreeModels.{item_of}
 use Rattle.cy_oneshot_meaning.specs.Groups.{group_cells}
 use Rattle.cy_oneshot_patterns.specs.Outcomes.{together, gathered}
 use Rattle.cy_oneshot_projections.proofs.groups.group_row.Given as goal

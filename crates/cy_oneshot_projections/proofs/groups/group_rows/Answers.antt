@@ -2,7 +2,7 @@ use Rattle.std.proofs.Common.{refl, List, map, sym, subst, ◌∙◌, ap}
 use Rattle.std.specs.List.{AllByRecursion}
 use Rattle.std.specs.Vec.Iter.{into_iter_items}
 use Rattle.std.proofs.lemmas.List.{nil_from_length}
-use Rattle.cy_trees.specs.Views.{item_of}
+use Rattle.cy_trees.specs.TreeModels.{item_of}
 use Rattle.cy_oneshot_patterns.specs.Outcomes.{together, gathered}
 use Rattle.cy_oneshot_meaning.specs.Reading.{AreInGraph}
 use Rattle.cy_oneshot_projections.specs.declared.groups.Group.{Group}

@@ -1,5 +1,5 @@
 use Rattle.std.proofs.Common.{◌+◌, drop, map, ap}
-use Rattle.cy_trees.specs.Views.{expression_of, item_of}
+use Rattle.cy_trees.specs.TreeModels.{expression_of, item_of}
 use Rattle.cy_oneshot_projections.proofs.GroupAnswers.{grouping_more}
 use Rattle.cy_oneshot_patterns.proofs.SliceReads.{next_of}
 use Rattle.cy_oneshot_projections.proofs.groups.grouping.Goals as goal

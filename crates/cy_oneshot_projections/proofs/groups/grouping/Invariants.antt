@@ -1,5 +1,5 @@
 use Rattle.std.proofs.Common.{◌≡◌, ◌++◌, drop, map}
-use Rattle.cy_trees.specs.Views.{expression_of, item_of}
+use Rattle.cy_trees.specs.TreeModels.{expression_of, item_of}
 use Rattle.cy_oneshot_meaning.specs.Groups.{grouping}
 use Rattle.cy_oneshot_projections.proofs.groups.grouping.Given as goal
 

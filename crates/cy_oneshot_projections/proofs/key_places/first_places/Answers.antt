@@ -1,5 +1,5 @@
 use Rattle.std.proofs.Common.{◌≡◌, ◌+◌, ◌-◌, ◌<◌, ◌≤◌, drop, length, map, subst, sym, arith}
-use Rattle.cy_trees.specs.Views.{item_of}
+use Rattle.cy_trees.specs.TreeModels.{item_of}
 use Rattle.cy_oneshot_projections.specs.internal.KeyPlaces.{AreFirst}
 use Rattle.cy_oneshot_projections.proofs.KeyPlaces.{first_more}
 use Rattle.cy_oneshot_projections.proofs.key_places.first_places.Goals as goal

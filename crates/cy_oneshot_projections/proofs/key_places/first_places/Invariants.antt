@@ -1,5 +1,5 @@
 use Rattle.std.proofs.Common.{◌≤◌, drop, length, map}
-use Rattle.cy_trees.specs.Views.{item_of}
+use Rattle.cy_trees.specs.TreeModels.{item_of}
 use Rattle.cy_oneshot_projections.specs.internal.KeyPlaces.{AreFirst}
 use Rattle.cy_oneshot_projections.proofs.key_places.first_places.Given as goal
 

@@ -2,7 +2,7 @@ use Rattle.std.proofs.Common.{◌≡◌, true, Some, None, map, sym, ap, ◌∙�
 use Rattle.std.specs.List.{position_from}
 use Rattle.std.specs.Map.{lookup}
 use Rattle.std.proofs.lemmas.Option.{slice_get-get_or}
-use Rattle.cy_trees.specs.Views.{expression_of, item_of}
+use Rattle.cy_trees.specs.TreeModels.{expression_of, item_of}
 use Rattle.cy_scope_kinds.specs.Same.{same}
 use Rattle.cy_scope_kinds.specs.internal.TreeWords.{words_of}
 use Rattle.cy_oneshot_projections.specs.internal.KeyPlaces.{has, has_words}

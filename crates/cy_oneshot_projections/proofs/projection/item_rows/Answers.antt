@@ -1,6 +1,6 @@
 use Rattle.std.proofs.Common.{map, sym, ◌∙◌}
 use Rattle.std.proofs.lemmas.List.{length-map}
-use Rattle.cy_trees.specs.Views.{item_of, projection_of}
+use Rattle.cy_trees.specs.TreeModels.{item_of, projection_of}
 use Rattle.cy_oneshot_projections.proofs.ProjectionAnswers.{groups_answer, rows_answer}
 use Rattle.cy_oneshot_projections.proofs.RowsThere.{groups_answer_there}
 use Rattle.cy_oneshot_projections.proofs.projection.item_rows.Goals as goal

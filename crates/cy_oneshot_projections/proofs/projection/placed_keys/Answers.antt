@@ -3,7 +3,7 @@ use Rattle.std.proofs.lemmas.List.{take_all}
 use Rattle.std.proofs.lemmas.Simd.{map-map}
 use Rattle.cy_trees.specs.declared.clauses.Key as coded
 use Rattle.cy_trees.specs.Trees.{Key}
-use Rattle.cy_trees.specs.Views.{item_of, key_of}
+use Rattle.cy_trees.specs.TreeModels.{item_of, key_of}
 use Rattle.cy_oneshot_meaning.specs.Projection.{item_of_key}
 use Rattle.cy_oneshot_projections.specs.SortKeys.{sort_key_of}
 use Rattle.cy_oneshot_projections.proofs.ProjectionAnswers.{made_more}

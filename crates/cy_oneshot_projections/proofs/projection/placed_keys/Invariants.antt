@@ -1,5 +1,5 @@
 use Rattle.std.proofs.Common.{◌≡◌, map, take}
-use Rattle.cy_trees.specs.Views.{item_of, key_of}
+use Rattle.cy_trees.specs.TreeModels.{item_of, key_of}
 use Rattle.cy_oneshot_meaning.specs.Projection.{item_of_key}
 use Rattle.cy_oneshot_projections.specs.SortKeys.{sort_key_of}
 use Rattle.cy_oneshot_projections.proofs.projection.placed_keys.Given as goal

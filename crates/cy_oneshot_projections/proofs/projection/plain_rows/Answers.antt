@@ -2,7 +2,7 @@ use Rattle.std.proofs.Common.{List, length, map, take, refl, sym, ap, subst, ◌
 use Rattle.std.specs.Prelude.{Ok}
 use Rattle.std.proofs.lemmas.Result.{err_from_is_err_and}
 use Rattle.cy_values.specs.declared.rows.Cell.{Cell}
-use Rattle.cy_trees.specs.Views.{key_of, projection_of}
+use Rattle.cy_trees.specs.TreeModels.{key_of, projection_of}
 use Rattle.cy_expr.specs.Faults.{on_one}
 use Rattle.cy_oneshot_meaning.specs.internal.Permuted.{Alike}
 use Rattle.cy_oneshot_patterns.specs.Outcomes.{gathered}

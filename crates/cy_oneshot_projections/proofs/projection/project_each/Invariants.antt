@@ -1,6 +1,6 @@
 use Rattle.std.proofs.Common.{◌≡◌, map}
 use Rattle.std.specs.Vec.Iter.{into_iter_items}
-use Rattle.cy_trees.specs.Views.{expression_of}
+use Rattle.cy_trees.specs.TreeModels.{expression_of}
 use Rattle.cy_oneshot_patterns.specs.Outcomes.{together, gathered}
 use Rattle.cy_oneshot_meaning.specs.Reading.{AreInGraph}
 use Rattle.cy_oneshot_meaning.specs.internal.Seen.{seen_by}

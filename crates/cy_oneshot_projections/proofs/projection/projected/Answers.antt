@@ -2,7 +2,7 @@ use Rattle.std.proofs.Common.{List, length, map, take, sym, ap, subst, ◌∙◌
 use Rattle.std.proofs.lemmas.List.{length-map}
 use Rattle.cy_values.specs.declared.rows.Cell.{Cell}
 use Rattle.cy_values.specs.Order.{row_cmp}
-use Rattle.cy_trees.specs.Views.{item_of, projection_of}
+use Rattle.cy_trees.specs.TreeModels.{item_of, projection_of}
 use Rattle.cy_oneshot_meaning.specs.Order.{each_once, in_order}
 use Rattle.cy_oneshot_meaning.specs.Reading.{AreInGraph}
 use Rattle.cy_oneshot_meaning.specs.internal.Seen.{projected_of}

@@ -3,7 +3,7 @@ use Rattle.std.specs.Prelude.{Ok, Result}
 use Rattle.std.proofs.lemmas.Simd.{map-map}
 use Rattle.std.proofs.lemmas.Result.{err_from_is_err_and}
 use Rattle.cy_trees.specs.Trees.{Key}
-use Rattle.cy_trees.specs.Views.{key_of, projection_of}
+use Rattle.cy_trees.specs.TreeModels.{key_of, projection_of}
 use Rattle.cy_expr.specs.declared.faults.EvalFault.{EvalFault}
 use Rattle.cy_expr.specs.Faults.{on_one}
 use Rattle.cy_oneshot_meaning.specs.Order.{Keyed}

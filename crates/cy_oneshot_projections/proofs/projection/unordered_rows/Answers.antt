@@ -1,4 +1,4 @@
-use Rattle.cy_trees.specs.Views.{projection_of}
+use Rattle.cy_trees.specs.TreeModels.{projection_of}
 use Rattle.cy_oneshot_meaning.specs.Projection.{projection_rows}
 use Rattle.cy_oneshot_projections.proofs.Unordered.{as_alike}
 use Rattle.cy_oneshot_projections.proofs.projection.unordered_rows.Goals as goal

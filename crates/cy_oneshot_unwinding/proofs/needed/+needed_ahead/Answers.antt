@@ -2,7 +2,7 @@
 use Rattle.std.proofs.Common.{true, List, map, refl, subst, sym}
 use Rattle.std.specs.Prelude.{IfOk}
 use Rattle.cy_trees.specs.declared.clauses.Clause as coded
-use Rattle.cy_trees.specs.Views.{clause_of}
+use Rattle.cy_trees.specs.TreeModels.{clause_of}
 use Rattle.cy_oneshot_unwinding.specs.Carried.{IsEnough}
 use Rattle.cy_oneshot_unwinding.proofs.Marked.{enough_then}
 use Rattle.cy_oneshot_unwinding.proofs.needed.+needed_ahead.Goals as goal

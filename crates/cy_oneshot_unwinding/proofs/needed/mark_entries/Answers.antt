@@ -1,7 +1,7 @@
 use Rattle.std.proofs.Common.{List, map, subst}
 use Rattle.std.proofs.lemmas.List.{take_all}
 use Rattle.cy_trees.specs.declared.clauses.MapEntry.{MapEntry}
-use Rattle.cy_trees.specs.Views.{entry_of}
+use Rattle.cy_trees.specs.TreeModels.{entry_of}
 use Rattle.cy_oneshot_outcomes.specs.Columns.{columns_read}
 use Rattle.cy_oneshot_unwinding.specs.Carried.{AreEntriesRead, AreNeeded}
 use Rattle.cy_oneshot_unwinding.proofs.Marked.{each_more, still_entry, still_nothing, still_then}

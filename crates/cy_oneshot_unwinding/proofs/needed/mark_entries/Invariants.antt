@@ -1,6 +1,6 @@
 -- The columns of the entries so far are marked.
 use Rattle.std.proofs.Common.{map, take}
-use Rattle.cy_trees.specs.Views.{entry_of}
+use Rattle.cy_trees.specs.TreeModels.{entry_of}
 use Rattle.cy_oneshot_unwinding.specs.Carried.{AreEntriesRead}
 use Rattle.cy_oneshot_unwinding.specs.internal.Carried.{StillNeeded}
 use Rattle.cy_oneshot_unwinding.proofs.needed.mark_entries.Given as goal

@@ -1,7 +1,7 @@
 use Rattle.std.proofs.Common.{List, map, subst}
 use Rattle.std.proofs.lemmas.List.{take_all}
 use Rattle.cy_trees.specs.declared.clauses.Item.{Item}
-use Rattle.cy_trees.specs.Views.{item_of}
+use Rattle.cy_trees.specs.TreeModels.{item_of}
 use Rattle.cy_oneshot_outcomes.specs.Columns.{columns_read}
 use Rattle.cy_oneshot_unwinding.specs.Carried.{AreNeeded, AreRead}
 use Rattle.cy_oneshot_unwinding.proofs.Marked.{each_more, still_item, still_nothing, still_then}

@@ -1,6 +1,6 @@
 -- The columns of the items so far are marked.
 use Rattle.std.proofs.Common.{map, take}
-use Rattle.cy_trees.specs.Views.{item_of}
+use Rattle.cy_trees.specs.TreeModels.{item_of}
 use Rattle.cy_oneshot_unwinding.specs.Carried.{AreRead}
 use Rattle.cy_oneshot_unwinding.specs.internal.Carried.{StillNeeded}
 use Rattle.cy_oneshot_unwinding.proofs.needed.mark_items.Given as goal

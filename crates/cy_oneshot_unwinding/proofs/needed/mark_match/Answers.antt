@@ -1,7 +1,7 @@
 use Rattle.std.proofs.Common.{List, map, subst}
 use Rattle.std.proofs.lemmas.Result.{on_ok_weaker}
 use Rattle.cy_trees.specs.declared.clauses.Path as coded
-use Rattle.cy_trees.specs.Views.{path_of, where_of}
+use Rattle.cy_trees.specs.TreeModels.{path_of, where_of}
 use Rattle.cy_oneshot_patterns.specs.Places.{places}
 use Rattle.cy_oneshot_unwinding.specs.Carried.{ArePlacesRead}
 use Rattle.cy_oneshot_unwinding.proofs.Marked.{still_then, still_where}

@@ -2,7 +2,7 @@ use Rattle.std.proofs.Common.{List, map, subst}
 use Rattle.std.specs.Prelude.{flat_map}
 use Rattle.std.proofs.lemmas.Result.{on_ok_weaker}
 use Rattle.cy_trees.specs.declared.clauses.Step as coded
-use Rattle.cy_trees.specs.Views.{path_of, step_of}
+use Rattle.cy_trees.specs.TreeModels.{path_of, step_of}
 use Rattle.cy_oneshot_patterns.specs.Places.{node, step_places}
 use Rattle.cy_oneshot_unwinding.specs.Carried.{ArePlacesRead}
 use Rattle.cy_oneshot_unwinding.specs.internal.Carried.{StillNeeded}

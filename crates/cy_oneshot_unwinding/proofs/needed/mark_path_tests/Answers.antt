@@ -3,7 +3,7 @@ use Rattle.std.proofs.lemmas.List.{take_all}
 use Rattle.std.specs.List.{AllByRecursion}
 use Rattle.cy_trees.specs.Trees.{Path}
 use Rattle.cy_trees.specs.declared.clauses.PathTest as coded
-use Rattle.cy_trees.specs.Views.{path_of, path_test_of}
+use Rattle.cy_trees.specs.TreeModels.{path_of, path_test_of}
 use Rattle.cy_oneshot_patterns.specs.Places.{path_places, places}
 use Rattle.cy_oneshot_unwinding.specs.Carried.{ArePlacesRead}
 use Rattle.cy_oneshot_unwinding.proofs.Marked.{each_more, paths_read, still_nothing, still_places, still_then}

@@ -1,7 +1,7 @@
 -- The columns that the paths of the tests so far read are marked.
 use Rattle.std.proofs.Common.{map, take}
 use Rattle.std.specs.List.{AllByRecursion}
-use Rattle.cy_trees.specs.Views.{path_of}
+use Rattle.cy_trees.specs.TreeModels.{path_of}
 use Rattle.cy_oneshot_patterns.specs.Places.{path_places}
 use Rattle.cy_oneshot_unwinding.specs.Carried.{ArePlacesRead}
 use Rattle.cy_oneshot_unwinding.specs.internal.Carried.{StillNeeded}

@@ -2,7 +2,7 @@ use Rattle.std.proofs.Common.{List, map, subst}
 use Rattle.std.proofs.lemmas.List.{take_all}
 use Rattle.std.specs.List.{AllByRecursion}
 use Rattle.cy_trees.specs.declared.clauses.Path as coded
-use Rattle.cy_trees.specs.Views.{path_of}
+use Rattle.cy_trees.specs.TreeModels.{path_of}
 use Rattle.cy_oneshot_patterns.specs.Places.{path_places}
 use Rattle.cy_oneshot_unwinding.specs.Carried.{ArePlacesRead}
 use Rattle.cy_oneshot_unwinding.proofs.Marked.{each_more, paths_read, still_nothing, still_places, still_then}

@@ -4,7 +4,7 @@ use Rattle.std.proofs.lemmas.List.{length-map}
 use Rattle.std.proofs.lemmas.Result.{on_ok_weaker}
 use Rattle.cy_trees.specs.declared.clauses.Item as coded_item
 use Rattle.cy_trees.specs.Trees.{Key}
-use Rattle.cy_trees.specs.Views.{item_of, projection_of}
+use Rattle.cy_trees.specs.TreeModels.{item_of, projection_of}
 use Rattle.cy_oneshot_projections.specs.declared.projection.SortKey.{SortKey}
 use Rattle.cy_oneshot_projections.specs.SortKeys.{sort_key_of}
 use Rattle.cy_oneshot_unwinding.specs.Carried.{AreKeysRead, AreRead, keys_of}

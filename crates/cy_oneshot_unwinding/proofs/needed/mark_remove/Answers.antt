@@ -2,7 +2,7 @@ use Rattle.std.proofs.Common.{List, map, subst}
 use Rattle.std.proofs.lemmas.List.{take_all}
 use Rattle.std.specs.List.{AllByRecursion}
 use Rattle.cy_trees.specs.declared.clauses.RemoveItem.{RemoveItem}
-use Rattle.cy_trees.specs.Views.{remove_item_of}
+use Rattle.cy_trees.specs.TreeModels.{remove_item_of}
 use Rattle.cy_oneshot_unwinding.specs.Carried.{IsRemoveRead}
 use Rattle.cy_oneshot_unwinding.proofs.Marked.{each_more, still_nothing, still_remove, still_then}
 use Rattle.cy_oneshot_unwinding.proofs.needed.mark_remove.Goals as goal

@@ -1,7 +1,7 @@
 -- The columns of the items so far are marked.
 use Rattle.std.proofs.Common.{map, take}
 use Rattle.std.specs.List.{AllByRecursion}
-use Rattle.cy_trees.specs.Views.{remove_item_of}
+use Rattle.cy_trees.specs.TreeModels.{remove_item_of}
 use Rattle.cy_oneshot_unwinding.specs.Carried.{IsRemoveRead}
 use Rattle.cy_oneshot_unwinding.specs.internal.Carried.{StillNeeded}
 use Rattle.cy_oneshot_unwinding.proofs.needed.mark_remove.Given as goal

@@ -2,7 +2,7 @@ use Rattle.std.proofs.Common.{List, map, subst}
 use Rattle.std.proofs.lemmas.List.{take_all}
 use Rattle.std.specs.List.{AllByRecursion}
 use Rattle.cy_trees.specs.declared.clauses.SetItem.{SetItem}
-use Rattle.cy_trees.specs.Views.{set_item_of}
+use Rattle.cy_trees.specs.TreeModels.{set_item_of}
 use Rattle.cy_oneshot_unwinding.specs.Carried.{IsSetRead}
 use Rattle.cy_oneshot_unwinding.proofs.Marked.{each_more, still_nothing, still_set, still_then}
 use Rattle.cy_oneshot_unwinding.proofs.needed.mark_set.Goals as goal

@@ -1,5 +1,5 @@
 use Rattle.std.proofs.lemmas.Result.{on_ok_weaker}
-use Rattle.cy_trees.specs.Views.{step_of}
+use Rattle.cy_trees.specs.TreeModels.{step_of}
 use Rattle.cy_oneshot_patterns.specs.Places.{node, relationship}
 use Rattle.cy_oneshot_unwinding.specs.Carried.{IsPlaceRead}
 use Rattle.cy_oneshot_unwinding.specs.internal.Carried.{StillNeeded}

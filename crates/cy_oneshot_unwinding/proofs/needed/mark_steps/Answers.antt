@@ -2,7 +2,7 @@ use Rattle.std.proofs.Common.{List, map, subst}
 use Rattle.std.proofs.lemmas.List.{take_all}
 use Rattle.std.specs.List.{AllByRecursion}
 use Rattle.cy_trees.specs.declared.clauses.Step as coded
-use Rattle.cy_trees.specs.Views.{step_of}
+use Rattle.cy_trees.specs.TreeModels.{step_of}
 use Rattle.cy_oneshot_patterns.specs.Places.{step_places}
 use Rattle.cy_oneshot_unwinding.specs.Carried.{ArePlacesRead}
 use Rattle.cy_oneshot_unwinding.proofs.Marked.{each_more, steps_read, still_nothing, still_places, still_then}

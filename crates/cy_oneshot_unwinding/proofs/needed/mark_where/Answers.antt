@@ -3,7 +3,7 @@ use Rattle.std.specs.Prelude.{Option}
 use Rattle.std.proofs.lemmas.Result.{on_ok_weaker}
 use Rattle.cy_trees.specs.declared.clauses.PathTest as coded
 use Rattle.cy_trees.specs.Trees.{Expression}
-use Rattle.cy_trees.specs.Views.{filter_of, path_test_of}
+use Rattle.cy_trees.specs.TreeModels.{filter_of, path_test_of}
 use Rattle.cy_oneshot_patterns.specs.Places.{places}
 use Rattle.cy_oneshot_unwinding.specs.Carried.{ArePlacesRead, IsTestRead}
 use Rattle.cy_oneshot_unwinding.specs.internal.Carried.{StillNeeded}

@@ -1,5 +1,5 @@
 use Rattle.std.proofs.Common.{Bool, List, map, sym, subst}
-use Rattle.cy_trees.specs.Views.{clause_of}
+use Rattle.cy_trees.specs.TreeModels.{clause_of}
 use Rattle.cy_oneshot_unwinding.specs.Carried.{AreAlike, IsEnough, updates_ahead}
 use Rattle.cy_oneshot_unwinding.proofs.Marked.{all_alike, none_enough}
 use Rattle.cy_oneshot_unwinding.proofs.needed.needed_after.Goals as goal

@@ -1,7 +1,7 @@
 use Rattle.std.proofs.Common.{List, Bool, [], map, subst, sym, ◌≡◌, ◌∙◌, true, false, arith}
 use Rattle.std.proofs.lemmas.Bool.{false≢true}
 use Rattle.std.proofs.lemmas.Grind.{common_steps}
-use Rattle.cy_trees.specs.Views.{clause_of}
+use Rattle.cy_trees.specs.TreeModels.{clause_of}
 use Rattle.cy_oneshot_unwinding.specs.Carried.{AreAlike, IsEnough, updates_ahead}
 use Rattle.cy_oneshot_unwinding.proofs.Marked.{all_alike, none_enough, only_ahead, still_enough}
 use Rattle.cy_oneshot_unwinding.proofs.needed.needed_by.Goals as goal

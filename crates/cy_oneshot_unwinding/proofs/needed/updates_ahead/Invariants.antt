@@ -1,6 +1,6 @@
 -- None of the clauses so far updates or projects.
 use Rattle.std.proofs.Common.{◌≡◌, drop, map}
-use Rattle.cy_trees.specs.Views.{clause_of}
+use Rattle.cy_trees.specs.TreeModels.{clause_of}
 use Rattle.cy_oneshot_unwinding.specs.Carried.{updates_ahead}
 use Rattle.cy_oneshot_unwinding.proofs.needed.updates_ahead.Given as goal
 

@@ -1,7 +1,7 @@
 use Rattle.std.proofs.Common.{◌≡◌, subst, ap, ◌∙◌, [], length, arith}
 use Rattle.std.proofs.lemmas.Bool.Decides.{nat_tests}
 use Rattle.cy_parser_grammar.specs.SpellsClauses.{SpellsStatement}
-use Rattle.cy_trees.specs.Views.{statement_of}
+use Rattle.cy_trees.specs.TreeModels.{statement_of}
 use Rattle.cy_parser_grammar.proofs.SoundStatements.{statement-sound}
 use Rattle.cy_parser_grammar.proofs.StatementsComplete.{statement-complete, statement-some}
 use Rattle.cy_parser_grammar.proofs.ShownAgain.{shown-again}

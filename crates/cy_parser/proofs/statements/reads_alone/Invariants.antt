@@ -1,5 +1,5 @@
 use Rattle.std.proofs.Common.{◌≡◌, map, drop}
-use Rattle.cy_trees.specs.Views.{clause_of}
+use Rattle.cy_trees.specs.TreeModels.{clause_of}
 use Rattle.cy_parser_grammar.specs.SpellsClauses.{reads_alone}
 use Rattle.cy_parser.proofs.statements.reads_alone.Given as goal
 

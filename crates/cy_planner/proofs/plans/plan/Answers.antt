@@ -1,9 +1,9 @@
 use Rattle.std.proofs.Common.{rules, arith}
 use Rattle.std.proofs.lemmas.Grind.{common_steps}
 use Rattle.cy_trees.specs.Trees.{Statement}
-use Rattle.cy_trees.specs.Views.{statement_of}
+use Rattle.cy_trees.specs.TreeModels.{statement_of}
 use Rattle.cy_planner_algebra.specs.Plans.{Plan}
-use Rattle.cy_planner_algebra.specs.Views.{plan_of}
+use Rattle.cy_planner_algebra.specs.PlanModels.{plan_of}
 use Rattle.cy_planner_outer_filters.specs.Standing.{StandsFor}
 use Rattle.cy_planner_outer_filters.proofs.Congruent.{on_graphs, stands_again}
 use Rattle.cy_planner.specs.Serves.{Serves}

@@ -2,11 +2,11 @@ use Rattle.std.proofs.Common.{ℕ, ◌+◌, List, drop, map, sym, subst}
 use Rattle.std.specs.Prelude.{IsOk}
 use Rattle.cy_trees.specs.declared.clauses.Clause as coded
 use Rattle.cy_trees.specs.Trees.{Clause, Query}
-use Rattle.cy_trees.specs.Views.{clause_of}
+use Rattle.cy_trees.specs.TreeModels.{clause_of}
 use Rattle.cy_graph.specs.Graph.{State, IsGraph}
 use Rattle.cy_oneshot_meaning.specs.Queries.{query_rows}
 use Rattle.cy_planner_algebra.specs.Plans.{Plan}
-use Rattle.cy_planner_algebra.specs.Views.{plan_of}
+use Rattle.cy_planner_algebra.specs.PlanModels.{plan_of}
 use Rattle.cy_planner.specs.internal.Stands.{IsUnderWay}
 use Rattle.cy_planner.proofs.QuerySteps.{left_is, none_left}
 use Rattle.cy_planner.proofs.UnderWay.{all_planned, next_given, next_planned, under_way}

@@ -1,7 +1,7 @@
 -- The plan so far stands for the clauses before those that are left.
 use Rattle.std.proofs.Common.{drop, map}
-use Rattle.cy_trees.specs.Views.{clause_of}
-use Rattle.cy_planner_algebra.specs.Views.{plan_of}
+use Rattle.cy_trees.specs.TreeModels.{clause_of}
+use Rattle.cy_planner_algebra.specs.PlanModels.{plan_of}
 use Rattle.cy_planner.specs.internal.Stands.{IsUnderWay}
 use Rattle.cy_planner.proofs.plans.query_rows.Given as goal
 

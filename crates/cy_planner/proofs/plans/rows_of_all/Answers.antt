@@ -2,10 +2,10 @@ use Rattle.std.proofs.Common.{ℕ, ◌+◌, List, drop, map, sym, ap, subst, ◌
 use Rattle.cy_trees.specs.declared.clauses.Clause as coded_clause
 use Rattle.cy_trees.specs.declared.clauses.Query as coded
 use Rattle.cy_trees.specs.Trees.{Query}
-use Rattle.cy_trees.specs.Views.{clause_of, query_of}
+use Rattle.cy_trees.specs.TreeModels.{clause_of, query_of}
 use Rattle.cy_scope.specs.Checked.{IsViewQuery, single}
 use Rattle.cy_planner_algebra.specs.Plans.{Plan}
-use Rattle.cy_planner_algebra.specs.Views.{plan_of}
+use Rattle.cy_planner_algebra.specs.PlanModels.{plan_of}
 use Rattle.cy_planner.specs.internal.QueryPlans.{IsPlanOfAll, IsQueryPlan}
 use Rattle.cy_planner.proofs.QuerySteps.{first_among, is_view, later_among, queries_left}
 use Rattle.cy_planner.proofs.Unions.{first_planned, next_planned}

@@ -1,7 +1,7 @@
 -- The plan so far is that of the queries before those that are left.
 use Rattle.std.proofs.Common.{drop, map}
-use Rattle.cy_trees.specs.Views.{query_of}
-use Rattle.cy_planner_algebra.specs.Views.{plan_of}
+use Rattle.cy_trees.specs.TreeModels.{query_of}
+use Rattle.cy_planner_algebra.specs.PlanModels.{plan_of}
 use Rattle.cy_planner.specs.internal.QueryPlans.{IsPlanOfAll}
 use Rattle.cy_planner.proofs.plans.rows_of_all.Given as goal
 

@@ -2,10 +2,10 @@ use Rattle.std.proofs.Common.{◌≡◌, List, [], length, map, sym, ap, subst, 
 use Rattle.std.proofs.lemmas.List.{length-map}
 use Rattle.cy_trees.specs.declared.clauses.Query as coded
 use Rattle.cy_trees.specs.Trees.{Statement}
-use Rattle.cy_trees.specs.Views.{query_of, statement_of}
+use Rattle.cy_trees.specs.TreeModels.{query_of, statement_of}
 use Rattle.cy_planner_algebra.specs.Plans as plan
 use Rattle.cy_planner_algebra.specs.Plans.{Plan}
-use Rattle.cy_planner_algebra.specs.Views.{plan_of}
+use Rattle.cy_planner_algebra.specs.PlanModels.{plan_of}
 use Rattle.cy_planner_rows.proofs.Filtered.{if_ok_map}
 use Rattle.cy_planner.specs.Serves.{Serves}
 use Rattle.cy_planner.specs.internal.QueryPlans.{AreViewQueries, IsPlanOfAll}

@@ -1,7 +1,7 @@
 -- The sum so far.
 use Rattle.std.proofs.Common.{◌≡◌, map, min, take}
 use Rattle.std.specs.Prelude.{sum_by}
-use Rattle.cy_trees.specs.Views.{query_of}
+use Rattle.cy_trees.specs.TreeModels.{query_of}
 use Rattle.cy_planner.specs.Weight as spec
 use Rattle.cy_planner.proofs.weight.queries_weight.Given as goal
 

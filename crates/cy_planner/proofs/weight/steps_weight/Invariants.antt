@@ -1,7 +1,7 @@
 -- The sum so far.
 use Rattle.std.proofs.Common.{◌≡◌, map, min, take}
 use Rattle.std.specs.Prelude.{sum_by}
-use Rattle.cy_trees.specs.Views.{step_of}
+use Rattle.cy_trees.specs.TreeModels.{step_of}
 use Rattle.cy_planner.specs.Weight as spec
 use Rattle.cy_planner.proofs.weight.steps_weight.Given as goal
 

@@ -1,10 +1,10 @@
 use Rattle.std.proofs.Common.{◌≡◌, Bool, true, false, cond, List, map, sym, ap, subst, ◌∙◌, rules}
 use Rattle.cy_trees.specs.declared.clauses.Item.{Item}
 use Rattle.cy_trees.specs.Trees.{Expression, Projection}
-use Rattle.cy_trees.specs.Views.{expression_of, projection_of}
+use Rattle.cy_trees.specs.TreeModels.{expression_of, projection_of}
 use Rattle.cy_planner_algebra.specs.Plans as plan
 use Rattle.cy_planner_algebra.specs.Plans.{Plan}
-use Rattle.cy_planner_algebra.specs.Views.{plan_of}
+use Rattle.cy_planner_algebra.specs.PlanModels.{plan_of}
 use Rattle.cy_planner_rows.specs.Rows.{AreReadOver, IsProjected}
 use Rattle.cy_planner_rows.proofs.Filtered.{if_ok_map}
 use Rattle.cy_planner_clauses.specs.Projections.{IsProjection, expressions_in}

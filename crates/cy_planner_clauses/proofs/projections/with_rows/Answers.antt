@@ -1,8 +1,8 @@
 use Rattle.std.proofs.Common.{sym, ◌∙◌}
 use Rattle.cy_trees.specs.Trees.{Expression, Projection}
-use Rattle.cy_trees.specs.Views.{expression_of, filter_of, projection_of}
+use Rattle.cy_trees.specs.TreeModels.{expression_of, filter_of, projection_of}
 use Rattle.cy_planner_algebra.specs.Plans.{Plan}
-use Rattle.cy_planner_algebra.specs.Views.{plan_of}
+use Rattle.cy_planner_algebra.specs.PlanModels.{plan_of}
 use Rattle.cy_planner_rows.specs.Rows.{IsFiltered}
 use Rattle.cy_planner_rows.proofs.Filtered.{if_ok_map}
 use Rattle.cy_planner_clauses.specs.Projections.{IsWith}

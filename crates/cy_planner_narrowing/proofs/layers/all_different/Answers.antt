@@ -1,7 +1,7 @@
 use Rattle.std.proofs.Common.{◌≡◌, ℕ, rules, List, map, arith}
 use Rattle.std.proofs.lemmas.Grind.{common_steps}
 use Rattle.cy_planner_algebra.specs.Plans.{Plan}
-use Rattle.cy_planner_algebra.specs.Views.{plan_of}
+use Rattle.cy_planner_algebra.specs.PlanModels.{plan_of}
 use Rattle.cy_planner_rows.specs.Renumbered.{new_column}
 use Rattle.cy_planner_narrowing.proofs.Made.{different_as, different_over}
 use Rattle.cy_planner_narrowing.proofs.layers.all_different.Goals as goal

@@ -1,7 +1,7 @@
 -- The part stands below what was taken off the whole.
 use Rattle.std.proofs.Common.{◌≤◌}
 use Rattle.cy_planner_algebra.specs.declared.operators.Operator.{size-Operator}
-use Rattle.cy_planner_algebra.specs.Views.{plan_of}
+use Rattle.cy_planner_algebra.specs.PlanModels.{plan_of}
 use Rattle.cy_planner_narrowing.specs.internal.Above.{StandsBelow}
 use Rattle.cy_planner_narrowing.proofs.narrowing.+narrow.Given as goal
 

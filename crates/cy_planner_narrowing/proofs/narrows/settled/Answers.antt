@@ -2,7 +2,7 @@ use Rattle.std.proofs.Common.{◌≡◌, ℕ, ◌<◌, List, map, sym, ap, subst
 use Rattle.std.specs.List.{All, AllByRecursion}
 use Rattle.cy_planner_algebra.specs.Plans as plan
 use Rattle.cy_planner_algebra.specs.Plans.{Output, Plan, width}
-use Rattle.cy_planner_algebra.specs.Views.{output_of, plan_of}
+use Rattle.cy_planner_algebra.specs.PlanModels.{output_of, plan_of}
 use Rattle.cy_planner_algebra.specs.WellFormed.{IsOutputOver}
 use Rattle.cy_planner_rows.specs.Columns.{column_output}
 use Rattle.cy_planner_narrowing.specs.internal.Ranks.{AreRanked}

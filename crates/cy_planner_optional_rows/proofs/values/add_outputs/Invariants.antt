@@ -1,8 +1,8 @@
 -- The columns so far.
 use Rattle.std.proofs.Common.{◌≡◌, ◌++◌, map, take}
-use Rattle.cy_trees.specs.Views.{expression_of}
+use Rattle.cy_trees.specs.TreeModels.{expression_of}
 use Rattle.cy_planner_algebra.specs.Plans.{computed}
-use Rattle.cy_planner_algebra.specs.Views.{output_of}
+use Rattle.cy_planner_algebra.specs.PlanModels.{output_of}
 use Rattle.cy_planner_rows.specs.Lowered.{lowered}
 use Rattle.cy_planner_rows.specs.Places.{place}
 use Rattle.cy_planner_optional_rows.proofs.values.add_outputs.Given as goal

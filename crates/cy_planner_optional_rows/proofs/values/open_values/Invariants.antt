@@ -1,6 +1,6 @@
 -- The values so far, and those of the places that are left.
 use Rattle.std.proofs.Common.{◌≡◌, ◌++◌, drop, map}
-use Rattle.cy_trees.specs.Views.{expression_of}
+use Rattle.cy_trees.specs.TreeModels.{expression_of}
 use Rattle.cy_oneshot_patterns.specs.internal.Patterns.{place_of}
 use Rattle.cy_planner_optional_rows.specs.Columns.{reading_entries, values_of}
 use Rattle.cy_planner_optional_rows.proofs.values.open_values.Given as goal

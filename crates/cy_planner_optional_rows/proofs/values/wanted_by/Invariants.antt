@@ -1,7 +1,7 @@
 -- What is wanted so far, with what is left to ask.
 use Rattle.std.proofs.Common.{◌≡◌, [], drop, map}
 use Rattle.std.specs.Prelude.{flat_map}
-use Rattle.cy_trees.specs.Views.{expression_of}
+use Rattle.cy_trees.specs.TreeModels.{expression_of}
 use Rattle.cy_planner_rows.specs.internal.Asked.{asked, with_asked}
 use Rattle.cy_planner_optional_rows.proofs.values.wanted_by.Given as goal
 

@@ -1,7 +1,7 @@
 use Rattle.std.proofs.Common.{sym, ap, ◌∙◌}
 use Rattle.std.proofs.lemmas.Result.{IfOk-weaker}
 use Rattle.cy_planner_algebra.specs.Plans.{Plan}
-use Rattle.cy_planner_algebra.specs.Views.{plan_of}
+use Rattle.cy_planner_algebra.specs.PlanModels.{plan_of}
 use Rattle.cy_planner_outer_filters.specs.internal.Bases.{together}
 use Rattle.cy_planner_outer_filters.proofs.Congruent.{equal_plans}
 use Rattle.cy_planner_outer_filters.proofs.bases.put_together.Goals as goal

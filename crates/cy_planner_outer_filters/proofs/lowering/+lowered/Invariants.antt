@@ -1,7 +1,7 @@
 -- What stands for the part stands, below what stands above it, for the whole.
 use Rattle.std.proofs.Common.{◌≤◌}
 use Rattle.cy_planner_algebra.specs.declared.operators.Operator.{size-Operator}
-use Rattle.cy_planner_algebra.specs.Views.{plan_of}
+use Rattle.cy_planner_algebra.specs.PlanModels.{plan_of}
 use Rattle.cy_planner_outer_filters.specs.internal.Above.{StandsBelow}
 use Rattle.cy_planner_outer_filters.proofs.lowering.+lowered.Given as goal
 

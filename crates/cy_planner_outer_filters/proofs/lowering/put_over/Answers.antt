@@ -1,6 +1,6 @@
 use Rattle.std.proofs.Common.{◌≡◌, rules, [], ◌∷◌, ◌++◌, refl, arith}
 use Rattle.std.proofs.lemmas.Grind.{common_steps}
-use Rattle.cy_planner_algebra.specs.Views.{plan_of}
+use Rattle.cy_planner_algebra.specs.PlanModels.{plan_of}
 use Rattle.cy_planner_outer_filters.specs.declared.lowering.Above.{Above}
 use Rattle.cy_planner_outer_filters.specs.internal.Above.{put_over}
 use Rattle.cy_planner_outer_filters.proofs.Congruent.{equal_plans}

@@ -1,6 +1,6 @@
 -- What is left above the plan so far stands for all above the base.
 use Rattle.std.proofs.Common.{vec_len}
-use Rattle.cy_planner_algebra.specs.Views.{plan_of}
+use Rattle.cy_planner_algebra.specs.PlanModels.{plan_of}
 use Rattle.cy_planner_outer_filters.specs.Standing.{StandsFor}
 use Rattle.cy_planner_outer_filters.specs.internal.Above as spec
 use Rattle.cy_planner_outer_filters.proofs.lowering.put_over.Given as goal

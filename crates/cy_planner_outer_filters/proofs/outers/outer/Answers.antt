@@ -2,11 +2,11 @@ use Rattle.std.proofs.Common.{◌≡◌, ◌+◌, ◌≤◌, ℕ, List, sym, ap,
 use Rattle.std.specs.Prelude.{Option, option_map}
 use Rattle.std.specs.List.{All}
 use Rattle.cy_trees.specs.Trees.{Expression}
-use Rattle.cy_trees.specs.Views.{expression_of}
+use Rattle.cy_trees.specs.TreeModels.{expression_of}
 use Rattle.cy_planner_algebra.specs.declared.operators.KeyColumns.{KeyColumns}
 use Rattle.cy_planner_algebra.specs.Plans as plan
 use Rattle.cy_planner_algebra.specs.Plans.{Plan, width}
-use Rattle.cy_planner_algebra.specs.Views.{plan_of}
+use Rattle.cy_planner_algebra.specs.PlanModels.{plan_of}
 use Rattle.cy_planner_algebra.specs.WellFormed.{IsKeyBetween, IsOver, IsWellFormed, greatest_width}
 use Rattle.cy_planner_outer_filters.specs.Standing.{StandsFor}
 use Rattle.cy_planner_rows.specs.Conditions.{or_true}

@@ -1,8 +1,8 @@
 use Rattle.std.proofs.Common.{Bool, subst}
 use Rattle.cy_trees.specs.Trees.{Expression}
-use Rattle.cy_trees.specs.Views.{expression_of}
+use Rattle.cy_trees.specs.TreeModels.{expression_of}
 use Rattle.cy_planner_algebra.specs.Plans.{Plan}
-use Rattle.cy_planner_algebra.specs.Views.{plan_of}
+use Rattle.cy_planner_algebra.specs.PlanModels.{plan_of}
 use Rattle.cy_planner_pushdown.specs.After.{IsKeptIf}
 use Rattle.cy_planner_outer_filters.proofs.Predicates.{kept_split, stays_split}
 use Rattle.cy_planner_outer_filters.proofs.splitting.split_one.Goals as goal

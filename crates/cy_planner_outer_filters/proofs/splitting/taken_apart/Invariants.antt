@@ -1,8 +1,8 @@
 -- The conditions so far are taken apart, and the others wait.
 use Rattle.std.proofs.Common.{vec_len}
 use Rattle.std.specs.Prelude.{option_map}
-use Rattle.cy_trees.specs.Views.{expression_of}
-use Rattle.cy_planner_algebra.specs.Views.{plan_of}
+use Rattle.cy_trees.specs.TreeModels.{expression_of}
+use Rattle.cy_planner_algebra.specs.PlanModels.{plan_of}
 use Rattle.cy_planner_outer_filters.specs.internal.Splits.{IsPartway}
 use Rattle.cy_planner_outer_filters.proofs.splitting.taken_apart.Given as goal
 

@@ -1,6 +1,6 @@
 use Rattle.std.proofs.Common.{◌∙◌}
 use Rattle.std.specs.Prelude.{option_map}
-use Rattle.cy_trees.specs.Views.{expression_of}
+use Rattle.cy_trees.specs.TreeModels.{expression_of}
 use Rattle.cy_planner_pairs.proofs.CodeSteps.{columns_done}
 use Rattle.cy_planner_pairs.proofs.told.all_there.Goals as goal
 

@@ -1,7 +1,7 @@
 -- The conditions so far with those of the columns that are left.
 use Rattle.std.proofs.Common.{◌≡◌, drop, map}
 use Rattle.std.specs.Prelude.{None, option_map}
-use Rattle.cy_trees.specs.Views.{expression_of}
+use Rattle.cy_trees.specs.TreeModels.{expression_of}
 use Rattle.cy_planner_rows.specs.Conditions.{with_tests}
 use Rattle.cy_planner_pairs.specs.internal.Told.{is_not_null_at}
 use Rattle.cy_planner_pairs.proofs.told.all_there.Given as goal

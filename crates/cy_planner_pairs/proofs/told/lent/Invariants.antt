@@ -1,6 +1,6 @@
 -- Those so far.
 use Rattle.std.proofs.Common.{◌≡◌, map, take}
-use Rattle.cy_trees.specs.Views.{expression_of}
+use Rattle.cy_trees.specs.TreeModels.{expression_of}
 use Rattle.cy_planner_pairs.proofs.told.lent.Given as goal
 
 abbrev pub invariant-loop-expression : goal.invariant-loop-expression

@@ -1,6 +1,6 @@
 -- What is told so far, and of the values that are left.
 use Rattle.std.proofs.Common.{◌≡◌, ◌++◌, drop, map}
-use Rattle.cy_trees.specs.Views.{expression_of}
+use Rattle.cy_trees.specs.TreeModels.{expression_of}
 use Rattle.cy_planner_pairs.specs.internal.Told.{told}
 use Rattle.cy_planner_pairs.proofs.told.told_values.Given as goal
 

@@ -1,6 +1,6 @@
 -- The columns so far.
 use Rattle.std.proofs.Common.{◌≡◌, map, take}
-use Rattle.cy_planner_algebra.specs.Views.{output_of}
+use Rattle.cy_planner_algebra.specs.PlanModels.{output_of}
 use Rattle.cy_planner_paths.proofs.copies.copy_outputs.Given as goal
 
 abbrev pub invariant-loop-output : goal.invariant-loop-output

@@ -1,6 +1,6 @@
 use Rattle.std.proofs.Common.{◌≡◌, ◌<◌, ◌≤◌, arith}
 use Rattle.cy_planner_algebra.specs.Plans.{Plan, width}
-use Rattle.cy_planner_algebra.specs.Views.{plan_of}
+use Rattle.cy_planner_algebra.specs.PlanModels.{plan_of}
 use Rattle.cy_planner_pushdown.proofs.Moves.{keys_left, own_left}
 use Rattle.cy_planner_pushdown.proofs.columns.column_on_left.Goals as goal
 

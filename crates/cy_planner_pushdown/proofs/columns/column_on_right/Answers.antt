@@ -1,6 +1,6 @@
 use Rattle.std.proofs.Common.{◌≡◌, ℕ, ◌-◌, ◌<◌, ◌≤◌, sym, subst, arith}
 use Rattle.cy_planner_algebra.specs.Plans.{Plan, width}
-use Rattle.cy_planner_algebra.specs.Views.{plan_of}
+use Rattle.cy_planner_algebra.specs.PlanModels.{plan_of}
 use Rattle.cy_planner_pushdown.specs.internal.Pushed.{IsOnRight}
 use Rattle.cy_planner_pushdown.proofs.Moves.{keys_right, own_right}
 use Rattle.cy_planner_pushdown.proofs.columns.column_on_right.Goals as goal

@@ -1,6 +1,6 @@
 -- The columns so far.
 use Rattle.std.proofs.Common.{map, take}
-use Rattle.cy_planner_algebra.specs.Views.{output_of}
+use Rattle.cy_planner_algebra.specs.PlanModels.{output_of}
 use Rattle.cy_planner_pushdown.specs.internal.Pushed.{AreMoved, IsTakenOver}
 use Rattle.cy_planner_pushdown.proofs.columns.columns_of.Given as goal
 

@@ -1,7 +1,7 @@
 use Rattle.std.proofs.Common.{◌≡◌, ℕ, ◌+◌, List, [], ◌∷◌, ◌++◌, false, sym, subst, take, arith, rules}
 use Rattle.std.proofs.lemmas.Grind.{common_steps}
 use Rattle.std.proofs.lemmas.List.{take_all}
-use Rattle.cy_planner_algebra.specs.Views.{plan_of}
+use Rattle.cy_planner_algebra.specs.PlanModels.{plan_of}
 use Rattle.cy_planner_pushdown.specs.internal.Conditions.{is_among}
 use Rattle.cy_planner_pushdown.specs.internal.Pushed.{AreMoved, IsOnLeft}
 use Rattle.cy_planner_pushdown.proofs.Moves.{moved_next, none_moved}

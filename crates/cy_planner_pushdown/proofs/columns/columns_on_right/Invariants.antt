@@ -1,6 +1,6 @@
 -- The columns so far.
 use Rattle.std.proofs.Common.{take}
-use Rattle.cy_planner_algebra.specs.Views.{plan_of}
+use Rattle.cy_planner_algebra.specs.PlanModels.{plan_of}
 use Rattle.cy_planner_pushdown.specs.internal.Pushed.{AreMoved, IsOnRight}
 use Rattle.cy_planner_pushdown.proofs.columns.columns_on_right.Given as goal
 

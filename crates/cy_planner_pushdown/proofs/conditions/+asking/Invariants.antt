@@ -1,6 +1,6 @@
 -- The parts that are left settle the answer.
 use Rattle.std.proofs.Common.{◌≡◌, drop, map}
-use Rattle.cy_trees.specs.Views.{arm_of, arms_from, expression_of, expressions_from, link_of, links_from}
+use Rattle.cy_trees.specs.TreeModels.{arm_of, arms_from, expression_of, expressions_from, link_of, links_from}
 use Rattle.cy_planner_pushdown.specs.internal.Conditions as spec
 use Rattle.cy_planner_pushdown.proofs.conditions.+asking.Given as goal
 

@@ -1,7 +1,7 @@
 use Rattle.std.proofs.Common.{◌≡◌, ℕ, List, true, arith, rules}
 use Rattle.std.proofs.lemmas.Grind.{common_steps}
 use Rattle.cy_trees.specs.Trees.{Expression}
-use Rattle.cy_trees.specs.Views.{expression_of}
+use Rattle.cy_trees.specs.TreeModels.{expression_of}
 use Rattle.cy_scope_kinds.specs.Scopes.{Scope}
 use Rattle.cy_scope_kinds.specs.Sure.{is_sure_flag}
 use Rattle.cy_planner_pushdown.specs.internal.Conditions.{asks_of}

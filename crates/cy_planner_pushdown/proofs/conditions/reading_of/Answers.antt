@@ -5,7 +5,7 @@ use Rattle.cy_trees.specs.Trees.{Name}
 use Rattle.cy_scope_kinds.specs.declared.kinds.Kind.{Kind}
 use Rattle.cy_scope_kinds.specs.Scopes.{Scope, added_name}
 use Rattle.cy_planner_algebra.specs.Plans.{Plan}
-use Rattle.cy_planner_algebra.specs.Views.{plan_of}
+use Rattle.cy_planner_algebra.specs.PlanModels.{plan_of}
 use Rattle.cy_planner_pushdown.specs.internal.Conditions.{is_new}
 use Rattle.cy_planner_pushdown.specs.internal.Pushed.{StandIn, kind_at}
 use Rattle.cy_planner_pushdown.proofs.Readings.{none_stand, stands_next, written_next}

@@ -1,6 +1,6 @@
 -- The variables so far stand in their columns.
 use Rattle.std.proofs.Common.{◌≡◌, ◌+◌, map}
-use Rattle.cy_planner_algebra.specs.Views.{plan_of}
+use Rattle.cy_planner_algebra.specs.PlanModels.{plan_of}
 use Rattle.cy_planner_pushdown.specs.internal.Pushed.{StandIn}
 use Rattle.cy_planner_pushdown.proofs.conditions.reading_of.Given as goal
 

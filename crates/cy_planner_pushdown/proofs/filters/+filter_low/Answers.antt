@@ -2,9 +2,9 @@ use Rattle.std.proofs.Common.{◌≡◌, rules, subst, sym}
 use Rattle.cy_trees.specs.declared.expressions.BinaryOperator.TheVariants.{And}
 use Rattle.cy_trees.specs.declared.expressions.Expr.{the_lemmas}
 use Rattle.cy_trees.specs.Trees.{Expression, binary}
-use Rattle.cy_trees.specs.Views.{expression_of}
+use Rattle.cy_trees.specs.TreeModels.{expression_of}
 use Rattle.cy_planner_algebra.specs.Plans.{Plan}
-use Rattle.cy_planner_algebra.specs.Views.{plan_of}
+use Rattle.cy_planner_algebra.specs.PlanModels.{plan_of}
 use Rattle.cy_planner_rows.specs.Rows.{IsFiltered}
 use Rattle.cy_planner_rows.proofs.Filtered.{if_ok_map}
 use Rattle.cy_planner_pushdown.proofs.Conjunctions.{both_filtered}

@@ -1,10 +1,10 @@
 use Rattle.std.proofs.Common.{◌≡◌, ◌<◌, ℕ, List, sym, ap, subst, ◌∙◌, arith}
 use Rattle.std.proofs.lemmas.Result.{IfOk-weaker}
 use Rattle.cy_trees.specs.Trees.{Expression}
-use Rattle.cy_trees.specs.Views.{expression_of}
+use Rattle.cy_trees.specs.TreeModels.{expression_of}
 use Rattle.cy_planner_algebra.specs.declared.operators.Operator.{size-Operator}
 use Rattle.cy_planner_algebra.specs.Plans.{Plan}
-use Rattle.cy_planner_algebra.specs.Views.{plan_of}
+use Rattle.cy_planner_algebra.specs.PlanModels.{plan_of}
 use Rattle.cy_planner_algebra.specs.WellFormed.{IsWellFormed}
 use Rattle.cy_planner_pushdown.specs.declared.above.Above.{Above}
 use Rattle.cy_planner_pushdown.specs.Above.{paired, placed, placed_over}

@@ -1,8 +1,8 @@
 -- The condition leads to the place, and what stands above is put around that.
 use Rattle.std.proofs.Common.{◌≤◌}
-use Rattle.cy_trees.specs.Views.{expression_of}
+use Rattle.cy_trees.specs.TreeModels.{expression_of}
 use Rattle.cy_planner_algebra.specs.declared.operators.Operator.{size-Operator}
-use Rattle.cy_planner_algebra.specs.Views.{plan_of}
+use Rattle.cy_planner_algebra.specs.PlanModels.{plan_of}
 use Rattle.cy_planner_pushdown.specs.Above.{placed_over}
 use Rattle.cy_planner_pushdown.specs.internal.Steps.{LeadsTo}
 use Rattle.cy_planner_pushdown.proofs.pushing.+push.Given as goal

@@ -1,10 +1,10 @@
 use Rattle.std.proofs.Common.{ℕ, List, map, sym, subst}
 use Rattle.cy_trees.specs.Trees.{Expression}
-use Rattle.cy_trees.specs.Views.{expression_of}
+use Rattle.cy_trees.specs.TreeModels.{expression_of}
 use Rattle.cy_planner_algebra.specs.declared.operators.Operator.{Operator}
 use Rattle.cy_planner_algebra.specs.Plans as plan
 use Rattle.cy_planner_algebra.specs.Plans.{Output, Plan}
-use Rattle.cy_planner_algebra.specs.Views.{output_of, plan_of}
+use Rattle.cy_planner_algebra.specs.PlanModels.{output_of, plan_of}
 use Rattle.cy_planner_pushdown.specs.declared.above.Above.TheVariants as above
 use Rattle.cy_planner_pushdown.specs.Above.{placed}
 use Rattle.cy_planner_pushdown.specs.internal.Pushed.{AreMoved, IsTakenOver}

@@ -1,6 +1,6 @@
 use Rattle.std.proofs.Common.{◌≡◌, ℕ, List, rules, sym, ap, subst, ◌∙◌}
 use Rattle.cy_trees.specs.Trees.{Expression}
-use Rattle.cy_trees.specs.Views.{expression_of}
+use Rattle.cy_trees.specs.TreeModels.{expression_of}
 use Rattle.cy_planner_algebra.specs.declared.operators.KeyColumns.{KeyColumns}
 use Rattle.cy_planner_algebra.specs.declared.operators.Keeping.{Keeping}
 use Rattle.cy_planner_algebra.specs.declared.operators.Operator.{Operator, size-Operator, the_lemmas}
@@ -10,7 +10,7 @@ use Rattle.cy_planner_algebra.specs.declared.operators.Operator.TheVariants.{rol
 use Rattle.cy_planner_algebra.specs.Fields.{operator_of}
 use Rattle.cy_planner_algebra.specs.Plans as plan
 use Rattle.cy_planner_algebra.specs.Plans.{Plan}
-use Rattle.cy_planner_algebra.specs.Views.{plan_of, plan_step}
+use Rattle.cy_planner_algebra.specs.PlanModels.{plan_of, plan_step}
 use Rattle.cy_planner_algebra.specs.WellFormed.{IsWellFormed}
 use Rattle.cy_planner_pushdown.specs.declared.above.Above.TheVariants as above
 use Rattle.cy_planner_pushdown.specs.Above.{placed}

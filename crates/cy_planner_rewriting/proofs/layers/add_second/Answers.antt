@@ -1,6 +1,6 @@
 use Rattle.std.proofs.Common.{List, map}
 use Rattle.std.proofs.lemmas.Result.{on_ok_weaker}
-use Rattle.cy_planner_algebra.specs.Views.{output_of}
+use Rattle.cy_planner_algebra.specs.PlanModels.{output_of}
 use Rattle.cy_planner_rewriting.specs.declared.layers.Layer.{Layer}
 use Rattle.cy_planner_rewriting.specs.internal.Columns.{IsMerged}
 use Rattle.cy_planner_rewriting.proofs.Layering.{both_in_place}

@@ -8,7 +8,7 @@ use Rattle.cy_planner_algebra.specs.declared.operators.Operator.TheVariants.{rol
 use Rattle.cy_planner_algebra.specs.Fields.{operator_of}
 use Rattle.cy_planner_algebra.specs.Plans as plan
 use Rattle.cy_planner_algebra.specs.Plans.{Plan}
-use Rattle.cy_planner_algebra.specs.Views.{plan_of, plan_step}
+use Rattle.cy_planner_algebra.specs.PlanModels.{plan_of, plan_step}
 use Rattle.cy_planner_rewriting.proofs.Congruent.{put_together}
 use Rattle.cy_planner_rewriting.proofs.Rules.{join_with_unit}
 use Rattle.cy_planner_rewriting.proofs.layers.open_part.Goals as goal

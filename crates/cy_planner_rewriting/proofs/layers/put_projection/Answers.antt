@@ -2,7 +2,7 @@ use Rattle.std.proofs.Common.{◌≡◌, List, [], length, map, rules, subst, �
 use Rattle.std.proofs.lemmas.Grind.{common_steps}
 use Rattle.std.proofs.lemmas.Result.{on_ok_weaker}
 use Rattle.cy_planner_algebra.specs.Plans.{Plan, width}
-use Rattle.cy_planner_algebra.specs.Views.{output_of, plan_of}
+use Rattle.cy_planner_algebra.specs.PlanModels.{output_of, plan_of}
 use Rattle.cy_planner_rows.specs.declared.places.Wanted.{Wanted}
 use Rattle.cy_planner_rewriting.specs.declared.layers.Layer.TheVariants as layer
 use Rattle.cy_planner_rewriting.specs.internal.Lowered.{AreMoved, with_columns}

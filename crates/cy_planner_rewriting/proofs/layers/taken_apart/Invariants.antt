@@ -1,7 +1,7 @@
 -- The layers and look-ups so far over what is left can stand in place of the plan.
 use Rattle.std.proofs.Common.{◌≤◌}
 use Rattle.cy_planner_algebra.specs.declared.operators.Operator.{size-Operator}
-use Rattle.cy_planner_algebra.specs.Views.{plan_of}
+use Rattle.cy_planner_algebra.specs.PlanModels.{plan_of}
 use Rattle.cy_planner_rows.specs.internal.Lookups.{over}
 use Rattle.cy_planner_rewriting.specs.internal.Layers.{stacked}
 use Rattle.cy_planner_rewriting.specs.Rewritten.{IsRewritten}

@@ -1,5 +1,5 @@
 use Rattle.std.proofs.Common.{◌∙◌}
-use Rattle.cy_planner_algebra.specs.Views.{plan_of}
+use Rattle.cy_planner_algebra.specs.PlanModels.{plan_of}
 use Rattle.cy_planner_rows.specs.internal.Lookups.{over}
 use Rattle.cy_planner_rewriting.specs.internal.Layers.{layered}
 use Rattle.cy_planner_rewriting.proofs.Stacking.{settled}

@@ -1,7 +1,7 @@
 -- The look-ups so far.
 use Rattle.std.proofs.Common.{◌≡◌, map, take}
 use Rattle.std.specs.Prelude.{Some}
-use Rattle.cy_planner_algebra.specs.Views.{output_of}
+use Rattle.cy_planner_algebra.specs.PlanModels.{output_of}
 use Rattle.cy_planner_rewriting.specs.internal.Lowered.{moved}
 use Rattle.cy_planner_rewriting.proofs.lookups.all_moved.Given as goal
 

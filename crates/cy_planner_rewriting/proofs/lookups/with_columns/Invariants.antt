@@ -1,6 +1,6 @@
 -- The columns so far.
 use Rattle.std.proofs.Common.{◌≡◌, map}
-use Rattle.cy_planner_algebra.specs.Views.{output_of}
+use Rattle.cy_planner_algebra.specs.PlanModels.{output_of}
 use Rattle.cy_planner_rewriting.specs.internal.Lowered.{with_columns}
 use Rattle.cy_planner_rewriting.proofs.lookups.with_columns.Given as goal
 

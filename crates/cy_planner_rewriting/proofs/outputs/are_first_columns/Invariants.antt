@@ -1,6 +1,6 @@
 -- The outputs that are left settle the answer.
 use Rattle.std.proofs.Common.{◌≡◌, drop, map}
-use Rattle.cy_planner_algebra.specs.Views.{output_of}
+use Rattle.cy_planner_algebra.specs.PlanModels.{output_of}
 use Rattle.cy_planner_rewriting.specs.internal.Columns.{are_columns_from}
 use Rattle.cy_planner_rewriting.proofs.outputs.are_first_columns.Given as goal
 

@@ -1,6 +1,6 @@
 -- The layers that are left over the plan so far can stand in place of all layers over the base.
 use Rattle.std.proofs.Common.{vec_len}
-use Rattle.cy_planner_algebra.specs.Views.{plan_of}
+use Rattle.cy_planner_algebra.specs.PlanModels.{plan_of}
 use Rattle.cy_planner_rewriting.specs.internal.Layers.{layered}
 use Rattle.cy_planner_rewriting.specs.Rewritten.{IsRewritten}
 use Rattle.cy_planner_rewriting.proofs.parts.layered.Given as goal

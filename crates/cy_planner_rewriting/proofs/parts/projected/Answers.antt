@@ -4,7 +4,7 @@ use Rattle.std.proofs.lemmas.List.{length-map}
 use Rattle.std.proofs.lemmas.Result.{IfOk-weaker}
 use Rattle.cy_planner_algebra.specs.Plans as plan
 use Rattle.cy_planner_algebra.specs.Plans.{width}
-use Rattle.cy_planner_algebra.specs.Views.{output_of, plan_of}
+use Rattle.cy_planner_algebra.specs.PlanModels.{output_of, plan_of}
 use Rattle.cy_planner_rewriting.specs.internal.Columns.{are_columns_from}
 use Rattle.cy_planner_rewriting.proofs.Congruent.{equal_plans}
 use Rattle.cy_planner_rewriting.proofs.Rules.{project_to_all}

@@ -1,7 +1,7 @@
 -- Each so far is one.
 use Rattle.std.specs.List.{AllByRecursion}
 use Rattle.cy_planner_algebra.specs.Plans.{width}
-use Rattle.cy_planner_algebra.specs.Views.{plan_of}
+use Rattle.cy_planner_algebra.specs.PlanModels.{plan_of}
 use Rattle.cy_planner_rewriting.specs.internal.Redirected.{IsRedirect}
 use Rattle.cy_planner_rewriting.proofs.redirects.redirects.Given as goal
 

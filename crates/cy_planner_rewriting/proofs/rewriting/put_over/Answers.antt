@@ -1,6 +1,6 @@
 use Rattle.std.proofs.Common.{◌≡◌, rules, [], ◌∷◌, ◌++◌, arith}
 use Rattle.std.proofs.lemmas.Grind.{common_steps}
-use Rattle.cy_planner_algebra.specs.Views.{plan_of}
+use Rattle.cy_planner_algebra.specs.PlanModels.{plan_of}
 use Rattle.cy_planner_rewriting.specs.declared.rewriting.Above.{Above}
 use Rattle.cy_planner_rewriting.specs.internal.Above.{put_over}
 use Rattle.cy_planner_rewriting.proofs.Putting.{next_over, well_lowest}

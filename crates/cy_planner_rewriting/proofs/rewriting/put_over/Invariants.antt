@@ -1,6 +1,6 @@
 -- What is left above the plan so far can stand in place of all above the base.
 use Rattle.std.proofs.Common.{vec_len}
-use Rattle.cy_planner_algebra.specs.Views.{plan_of}
+use Rattle.cy_planner_algebra.specs.PlanModels.{plan_of}
 use Rattle.cy_planner_rewriting.specs.internal.Above as standing
 use Rattle.cy_planner_rewriting.specs.Rewritten.{IsRewritten}
 use Rattle.cy_planner_rewriting.proofs.rewriting.put_over.Given as goal

@@ -1,13 +1,13 @@
 use Rattle.std.proofs.Common.{◌≡◌, ◌+◌, ℕ, sym, ap, subst, ◌∙◌}
 use Rattle.std.specs.List.{AllByRecursion}
-use Rattle.cy_trees.specs.Views.{expression_of}
+use Rattle.cy_trees.specs.TreeModels.{expression_of}
 use Rattle.cy_planner_algebra.specs.declared.operators.Operator.TheFolds.{fold-roll-Operator}
 use Rattle.cy_planner_algebra.specs.declared.operators.Operator.TheOpen.{Operator-F}
 use Rattle.cy_planner_algebra.specs.declared.operators.Operator.TheVariants.{rolls-Join, rolls-Outer, rolls-Rels}
 use Rattle.cy_planner_algebra.specs.Fields.{operator_of}
 use Rattle.cy_planner_algebra.specs.Plans as plan
 use Rattle.cy_planner_algebra.specs.Plans.{Plan, width}
-use Rattle.cy_planner_algebra.specs.Views.{plan_of, plan_step}
+use Rattle.cy_planner_algebra.specs.PlanModels.{plan_of, plan_step}
 use Rattle.cy_planner_rows.proofs.OverRows.{IsInside}
 use Rattle.cy_planner_rewriting.proofs.splits.split_base.Goals as goal
 

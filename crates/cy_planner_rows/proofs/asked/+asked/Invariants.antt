@@ -1,6 +1,6 @@
 -- What is wanted so far, with what is left to ask.
 use Rattle.std.proofs.Common.{◌≡◌, drop, map}
-use Rattle.cy_trees.specs.Views.{arm_of, arms_from, expression_of, expressions_from, link_of, links_from}
+use Rattle.cy_trees.specs.TreeModels.{arm_of, arms_from, expression_of, expressions_from, link_of, links_from}
 use Rattle.cy_planner_rows.specs.internal.Asked as spec
 use Rattle.cy_planner_rows.proofs.asked.+asked.Given as goal
 

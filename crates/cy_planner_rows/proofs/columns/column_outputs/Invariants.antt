@@ -1,6 +1,6 @@
 -- The columns so far.
 use Rattle.std.proofs.Common.{◌≡◌, map, take}
-use Rattle.cy_planner_algebra.specs.Views.{output_of}
+use Rattle.cy_planner_algebra.specs.PlanModels.{output_of}
 use Rattle.cy_planner_rows.specs.Columns.{column_output}
 use Rattle.cy_planner_rows.proofs.columns.column_outputs.Given as goal
 

@@ -3,7 +3,7 @@ use Rattle.std.specs.List.{All}
 use Rattle.std.proofs.lemmas.List.{length-map}
 use Rattle.std.proofs.lemmas.List.FromFn.{length-map-range_with_len}
 use Rattle.cy_planner_algebra.specs.Plans.{Output, width}
-use Rattle.cy_planner_algebra.specs.Views.{output_of, plan_of}
+use Rattle.cy_planner_algebra.specs.PlanModels.{output_of, plan_of}
 use Rattle.cy_planner_algebra.specs.WellFormed.{IsOutputOver, greatest_width}
 use Rattle.cy_planner_rows.specs.Columns.{column_output}
 use Rattle.cy_planner_rows.proofs.OverRows.{first_over, width_bounded}

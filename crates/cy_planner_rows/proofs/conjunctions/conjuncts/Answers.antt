@@ -1,6 +1,6 @@
 use Rattle.std.proofs.Common.{◌≡◌, rules, [], ◌∷◌, ◌++◌, map, ap, ◌∙◌, arith}
 use Rattle.std.proofs.lemmas.Grind.{common_steps}
-use Rattle.cy_trees.specs.Views.{expression_of}
+use Rattle.cy_trees.specs.TreeModels.{expression_of}
 use Rattle.cy_planner_rows.proofs.Stacks.{fewer_both, fewer_one, open_both, open_one}
 use Rattle.cy_planner_rows.proofs.conjunctions.conjuncts.Goals as goal
 

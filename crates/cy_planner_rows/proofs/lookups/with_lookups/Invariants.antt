@@ -1,7 +1,7 @@
 -- What is left to look up makes the same plan, and there is room for it.
 use Rattle.std.proofs.Common.{◌≡◌, ◌+◌, drop}
 use Rattle.cy_planner_algebra.specs.Plans.{width}
-use Rattle.cy_planner_algebra.specs.Views.{plan_of}
+use Rattle.cy_planner_algebra.specs.PlanModels.{plan_of}
 use Rattle.cy_planner_rows.specs.internal.Lookups.{over}
 use Rattle.cy_planner_rows.proofs.lookups.with_lookups.Given as goal
 

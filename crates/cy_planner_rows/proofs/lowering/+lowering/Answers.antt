@@ -6,7 +6,7 @@ use Rattle.cy_trees.specs.declared.expressions.Arm.{Arm}
 use Rattle.cy_trees.specs.declared.expressions.Expr.{Expr, Call}
 use Rattle.cy_trees.specs.declared.expressions.Link.{Link}
 use Rattle.cy_trees.specs.Trees.{Expression, call}
-use Rattle.cy_trees.specs.Views.{arm_of, arms_from, expression_of, expressions_from, link_of, links_from}
+use Rattle.cy_trees.specs.TreeModels.{arm_of, arms_from, expression_of, expressions_from, link_of, links_from}
 use Rattle.cy_scope_kinds.specs.Functions.{function_named}
 use Rattle.cy_planner_rows.specs.Lowered as spec
 use Rattle.cy_planner_rows.specs.Places.{place}

@@ -3,7 +3,7 @@ use Rattle.std.proofs.lemmas.List.{take_all}
 use Rattle.cy_trees.specs.declared.expressions.BinaryOperator.TheVariants.{In}
 use Rattle.cy_trees.specs.declared.expressions.UnaryOperator.TheVariants.{IsNull, Not}
 use Rattle.cy_trees.specs.Trees.{Name, binary, boolean, null, text, unary}
-use Rattle.cy_trees.specs.Views.{expression_of}
+use Rattle.cy_trees.specs.TreeModels.{expression_of}
 use Rattle.cy_planner_rows.proofs.LoweredLists.{all_in_by_arms, boolean_is}
 use Rattle.cy_planner_rows.proofs.lowering.all_in.Goals as goal
 

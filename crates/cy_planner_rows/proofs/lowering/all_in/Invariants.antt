@@ -3,7 +3,7 @@ use Rattle.std.proofs.Common.{◌≡◌, ◌∷◌, map, take, false}
 use Rattle.cy_trees.specs.declared.expressions.BinaryOperator.TheVariants.{In}
 use Rattle.cy_trees.specs.declared.expressions.UnaryOperator.TheVariants.{IsNull, Not}
 use Rattle.cy_trees.specs.Trees.{binary, boolean, null, text, unary}
-use Rattle.cy_trees.specs.Views.{arm_of, expression_of}
+use Rattle.cy_trees.specs.TreeModels.{arm_of, expression_of}
 use Rattle.cy_planner_rows.proofs.lowering.all_in.Given as goal
 
 abbrev pub invariant-loop-label : goal.invariant-loop-label

@@ -2,7 +2,7 @@ use Rattle.std.proofs.Common.{◌≡◌, [], ◌∷◌, map, rules, arith, ap, �
 use Rattle.std.proofs.lemmas.Grind.{common_steps}
 use Rattle.cy_trees.specs.declared.expressions.Arm.{roll-Arm}
 use Rattle.cy_trees.specs.declared.expressions.Expr.{Null}
-use Rattle.cy_trees.specs.Views.{arm_of, expression_of}
+use Rattle.cy_trees.specs.TreeModels.{arm_of, expression_of}
 use Rattle.cy_planner_rows.proofs.LoweredLists.{guarded_case, null_arm}
 use Rattle.cy_planner_rows.proofs.lowering.unless_null.Goals as goal
 

@@ -1,7 +1,7 @@
 use Rattle.std.proofs.Common.{◌+◌, List, map, drop, sym, ap, ◌∙◌}
 use Rattle.std.specs.Prelude.{flat_map}
 use Rattle.cy_trees.specs.declared.clauses.Item.{Item}
-use Rattle.cy_trees.specs.Views.{expression_of}
+use Rattle.cy_trees.specs.TreeModels.{expression_of}
 use Rattle.cy_planner_rows.specs.declared.places.Wanted.{Wanted}
 use Rattle.cy_planner_rows.specs.internal.Asked.{asked, with_asked}
 use Rattle.cy_planner_rows.proofs.AskedLists.{next_of, tree_is, with_more_asked}

@@ -3,7 +3,7 @@ use Rattle.std.proofs.lemmas.List.{take_all}
 use Rattle.cy_trees.specs.declared.expressions.Arm.{Arm}
 use Rattle.cy_trees.specs.declared.expressions.Expr.{Expr}
 use Rattle.cy_trees.specs.declared.expressions.Link.{Link}
-use Rattle.cy_trees.specs.Views.{arm_of, arms_from, expression_of, expressions_from, link_of, links_from}
+use Rattle.cy_trees.specs.TreeModels.{arm_of, arms_from, expression_of, expressions_from, link_of, links_from}
 use Rattle.cy_planner_rows.specs.Renumbered as spec
 use Rattle.cy_planner_rows.proofs.RenumberedLists.{renumbered_arms_list, renumbered_links_list, renumbered_list}
 use Rattle.cy_planner_rows.proofs.renumbering.+renumbering.Goals as goal

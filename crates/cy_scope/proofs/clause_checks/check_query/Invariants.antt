@@ -1,6 +1,6 @@
 -- What is left settles the fault and the scope.
 use Rattle.std.proofs.Common.{◌≡◌, drop, map}
-use Rattle.cy_trees.specs.Views.{clause_of, query_of}
+use Rattle.cy_trees.specs.TreeModels.{clause_of, query_of}
 use Rattle.cy_scope.specs.ClauseScopes.{scope_after_all, query_scope}
 use Rattle.cy_scope.specs.ClauseFaults.{clauses_fault, query_fault}
 use Rattle.cy_scope.proofs.clause_checks.check_query.Given as goal

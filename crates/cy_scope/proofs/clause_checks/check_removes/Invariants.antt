@@ -1,6 +1,6 @@
 -- What is left settles the fault.
 use Rattle.std.proofs.Common.{◌≡◌, drop, map}
-use Rattle.cy_trees.specs.Views.{remove_item_of}
+use Rattle.cy_trees.specs.TreeModels.{remove_item_of}
 use Rattle.cy_scope.specs.ClauseFaults as spec
 use Rattle.cy_scope.proofs.clause_checks.check_removes.Given as goal
 

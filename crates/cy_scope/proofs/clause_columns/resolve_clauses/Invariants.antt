@@ -1,6 +1,6 @@
 -- What is done, and what the others are to become.
 use Rattle.std.proofs.Common.{◌≡◌, ◌++◌, [], map, take, drop}
-use Rattle.cy_trees.specs.Views.{clause_of}
+use Rattle.cy_trees.specs.TreeModels.{clause_of}
 use Rattle.cy_scope.specs.Resolved as spec
 use Rattle.cy_scope.proofs.clause_columns.resolve_clauses.Given as goal
 

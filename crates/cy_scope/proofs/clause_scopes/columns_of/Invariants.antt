@@ -1,6 +1,6 @@
 -- The items that are left give the rest of the columns.
 use Rattle.std.proofs.Common.{◌≡◌, drop, map}
-use Rattle.cy_trees.specs.Views.{item_of}
+use Rattle.cy_trees.specs.TreeModels.{item_of}
 use Rattle.cy_scope.specs.ClauseScopes.{with_items, columns_of}
 use Rattle.cy_scope.proofs.clause_scopes.columns_of.Given as goal
 

@@ -1,6 +1,6 @@
 -- The steps that are left settle the fault.
 use Rattle.std.proofs.Common.{◌≡◌, drop, map}
-use Rattle.cy_trees.specs.Views.{step_of}
+use Rattle.cy_trees.specs.TreeModels.{step_of}
 use Rattle.cy_scope_kinds.specs.Faults.{first_fault}
 use Rattle.cy_scope.specs.ConditionFaults as spec
 use Rattle.cy_scope.proofs.condition_checks.check_path.Given as goal

@@ -1,6 +1,6 @@
 -- The paths that are left settle the fault.
 use Rattle.std.proofs.Common.{◌≡◌, drop, map}
-use Rattle.cy_trees.specs.Views.{path_test_of}
+use Rattle.cy_trees.specs.TreeModels.{path_test_of}
 use Rattle.cy_scope.specs.ConditionFaults as spec
 use Rattle.cy_scope.proofs.condition_checks.check_tests.Given as goal
 

@@ -1,6 +1,6 @@
 -- The entries that are left settle the fault.
 use Rattle.std.proofs.Common.{◌≡◌, drop, map}
-use Rattle.cy_trees.specs.Views.{entry_of}
+use Rattle.cy_trees.specs.TreeModels.{entry_of}
 use Rattle.cy_scope.specs.PatternFaults.{entries_fault}
 use Rattle.cy_scope.proofs.pattern_checks.check_map.Given as goal
 

@@ -1,6 +1,6 @@
 -- The steps that are left settle the fault and the scope.
 use Rattle.std.proofs.Common.{◌≡◌, ◌++◌, drop, map}
-use Rattle.cy_trees.specs.Views.{path_of, step_of}
+use Rattle.cy_trees.specs.TreeModels.{path_of, step_of}
 use Rattle.cy_scope_kinds.specs.Scopes.{with_steps, with_path}
 use Rattle.cy_scope.specs.PatternFaults.{steps_fault, path_fault}
 use Rattle.cy_scope.proofs.pattern_checks.check_path.Given as goal

@@ -1,6 +1,6 @@
 -- The paths that are left settle the fault.
 use Rattle.std.proofs.Common.{◌≡◌, ◌++◌, drop, map}
-use Rattle.cy_trees.specs.Views.{path_of}
+use Rattle.cy_trees.specs.TreeModels.{path_of}
 use Rattle.cy_scope.specs.PatternFaults.{paths_fault}
 use Rattle.cy_scope.proofs.pattern_checks.check_paths.Given as goal
 

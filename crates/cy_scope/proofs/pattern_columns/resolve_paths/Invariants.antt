@@ -1,6 +1,6 @@
 -- What is done, and what the others are to become.
 use Rattle.std.proofs.Common.{◌≡◌, map}
-use Rattle.cy_trees.specs.Views.{path_of}
+use Rattle.cy_trees.specs.TreeModels.{path_of}
 use Rattle.cy_scope.specs.Resolved as spec
 use Rattle.cy_scope_kinds.proofs.ResolvedLemmas.{mixed}
 use Rattle.cy_scope.proofs.pattern_columns.resolve_paths.Given as goal

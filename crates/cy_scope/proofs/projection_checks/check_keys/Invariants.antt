@@ -1,6 +1,6 @@
 -- The keys that are left settle the fault.
 use Rattle.std.proofs.Common.{◌≡◌, ◌++◌, drop, map}
-use Rattle.cy_trees.specs.Views.{item_of, key_of}
+use Rattle.cy_trees.specs.TreeModels.{item_of, key_of}
 use Rattle.cy_scope.specs.ProjectionFaults.{keys_fault}
 use Rattle.cy_scope.proofs.projection_checks.check_keys.Given as goal
 

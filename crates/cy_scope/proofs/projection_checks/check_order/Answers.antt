@@ -1,5 +1,5 @@
 use Rattle.std.proofs.Common.{◌++◌, map, subst}
-use Rattle.cy_trees.specs.Views.{item_of, key_of, projection_of}
+use Rattle.cy_trees.specs.TreeModels.{item_of, key_of, projection_of}
 use Rattle.cy_scope_kinds.specs.internal.Answers.{MayFault}
 use Rattle.cy_scope.specs.ProjectionFaults.{keys_fault}
 use Rattle.cy_scope_kinds.specs.Scopes.{Scope}

@@ -1,5 +1,5 @@
 use Rattle.std.proofs.Common.{◌≡◌, ◌⊎◌, ◌++◌, [], map, Option, Some, None, Result, Ok, Err, IsErrAnd, MatchResult, inl, inr, ap, sym, ◌∙◌}
-use Rattle.cy_trees.specs.Views.{item_of, projection_of}
+use Rattle.cy_trees.specs.TreeModels.{item_of, projection_of}
 use Rattle.cy_scope_kinds.specs.declared.faults.ScopeFault.{ScopeFault}
 use Rattle.cy_scope_kinds.specs.declared.faults.ScopeFault.TheVariants.{NoMemory}
 use Rattle.cy_scope_kinds.specs.Scopes.{Scope}

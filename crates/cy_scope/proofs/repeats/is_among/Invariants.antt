@@ -1,6 +1,6 @@
 -- The items that are left settle the answer.
 use Rattle.std.proofs.Common.{◌≡◌, drop, map}
-use Rattle.cy_trees.specs.Views.{expression_of, item_of}
+use Rattle.cy_trees.specs.TreeModels.{expression_of, item_of}
 use Rattle.cy_scope.specs.ProjectionFaults.{repeats}
 use Rattle.cy_scope.proofs.repeats.is_among.Given as goal
 

@@ -1,6 +1,6 @@
 use Rattle.std.proofs.Common.{◌≡◌, drop, map}
 use Rattle.std.specs.List.{position_from}
-use Rattle.cy_trees.specs.Views.{expression_of, item_of}
+use Rattle.cy_trees.specs.TreeModels.{expression_of, item_of}
 use Rattle.cy_scope_kinds.specs.Same.{same}
 use Rattle.cy_scope.proofs.repeats.place_of_item.Given as goal
 

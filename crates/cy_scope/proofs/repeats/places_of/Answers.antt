@@ -1,6 +1,6 @@
 use Rattle.std.proofs.Common.{rules, ◌+◌, ◌<◌, ◌≤◌, length, take, subst, sym, ap, ◌∙◌}
 use Rattle.std.specs.List.{All}
-use Rattle.cy_trees.specs.Views.{expression_of}
+use Rattle.cy_trees.specs.TreeModels.{expression_of}
 use Rattle.cy_scope_kinds.specs.internal.TreeWords.{words_of}
 use Rattle.cy_scope.proofs.TreeWordsLemmas.{IsPlaced, placed_more, placed_all}
 use Rattle.cy_scope.proofs.repeats.places_of.Goals as goal

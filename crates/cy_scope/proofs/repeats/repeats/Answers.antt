@@ -1,7 +1,7 @@
 use Rattle.std.proofs.Common.{◌≡◌, ◌||◌, true, Some, map, sym, ap, ◌∙◌}
 use Rattle.std.proofs.lemmas.Option.{slice_get-get_or}
 use Rattle.std.specs.Map.{lookup}
-use Rattle.cy_trees.specs.Views.{expression_of, item_of}
+use Rattle.cy_trees.specs.TreeModels.{expression_of, item_of}
 use Rattle.cy_scope_kinds.specs.Same.{same}
 use Rattle.cy_scope.specs.ProjectionFaults as spec
 use Rattle.cy_scope.proofs.TreeWordsLemmas.{has, no_repeat, looked_at}

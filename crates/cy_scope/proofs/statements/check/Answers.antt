@@ -1,5 +1,5 @@
 use Rattle.std.proofs.Common.{rules, ◌≡◌, None}
-use Rattle.cy_trees.specs.Views.{statement_of}
+use Rattle.cy_trees.specs.TreeModels.{statement_of}
 use Rattle.cy_scope.specs.ClauseFaults.{statement_fault}
 use Rattle.cy_scope.proofs.statements.check.Goals as goal
 

@@ -1,6 +1,6 @@
 -- The parts that are left settle the answer.
 use Rattle.std.proofs.Common.{◌≡◌, drop, map}
-use Rattle.cy_trees.specs.Views.{item_of}
+use Rattle.cy_trees.specs.TreeModels.{item_of}
 use Rattle.cy_scope.specs.Views as spec
 use Rattle.cy_scope.proofs.sureness.are_sure_items.Given as goal
 

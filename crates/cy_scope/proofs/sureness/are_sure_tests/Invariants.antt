@@ -1,6 +1,6 @@
 -- The parts that are left settle the answer.
 use Rattle.std.proofs.Common.{◌≡◌, drop, map}
-use Rattle.cy_trees.specs.Views.{path_test_of}
+use Rattle.cy_trees.specs.TreeModels.{path_test_of}
 use Rattle.cy_scope.specs.Views as spec
 use Rattle.cy_scope.proofs.sureness.are_sure_tests.Given as goal
 

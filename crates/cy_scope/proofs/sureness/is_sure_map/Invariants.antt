@@ -1,7 +1,7 @@
 -- The parts that are left settle the answer.
 use Rattle.std.proofs.Common.{◌≡◌, drop, map}
 use Rattle.std.specs.List.{list_all}
-use Rattle.cy_trees.specs.Views.{entry_of}
+use Rattle.cy_trees.specs.TreeModels.{entry_of}
 use Rattle.cy_scope_kinds.specs.Sure.{is_sure}
 use Rattle.cy_scope.proofs.sureness.is_sure_map.Given as goal
 

@@ -1,7 +1,7 @@
 -- The parts that are left settle the answer.
 use Rattle.std.proofs.Common.{◌≡◌, drop, map}
 use Rattle.std.specs.List.{list_all}
-use Rattle.cy_trees.specs.Views.{step_of}
+use Rattle.cy_trees.specs.TreeModels.{step_of}
 use Rattle.cy_scope.specs.Views as spec
 use Rattle.cy_scope.proofs.sureness.is_sure_path.Given as goal
 

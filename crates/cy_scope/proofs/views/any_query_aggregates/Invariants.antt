@@ -1,7 +1,7 @@
 -- The queries that are left settle the answer.
 use Rattle.std.proofs.Common.{◌≡◌, drop, map}
 use Rattle.std.specs.List.{list_any}
-use Rattle.cy_trees.specs.Views.{query_of}
+use Rattle.cy_trees.specs.TreeModels.{query_of}
 use Rattle.cy_scope.specs.Views as spec
 use Rattle.cy_scope.proofs.views.any_query_aggregates.Given as goal
 

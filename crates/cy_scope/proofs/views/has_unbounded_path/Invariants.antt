@@ -1,7 +1,7 @@
 -- The parts that are left settle the answer.
 use Rattle.std.proofs.Common.{◌≡◌, drop, map}
 use Rattle.std.specs.List.{list_any}
-use Rattle.cy_trees.specs.Views.{path_of}
+use Rattle.cy_trees.specs.TreeModels.{path_of}
 use Rattle.cy_scope.specs.Views as spec
 use Rattle.cy_scope.proofs.views.has_unbounded_path.Given as goal
 

@@ -1,6 +1,6 @@
 -- The parts that are left settle the answer.
 use Rattle.std.proofs.Common.{◌≡◌, drop, map}
-use Rattle.cy_trees.specs.Views.{path_test_of}
+use Rattle.cy_trees.specs.TreeModels.{path_test_of}
 use Rattle.cy_scope.specs.Views as spec
 use Rattle.cy_scope.proofs.views.has_unbounded_test.Given as goal
 

@@ -1,7 +1,7 @@
 -- The parts that are left settle the answer.
 use Rattle.std.proofs.Common.{◌≡◌, drop, map}
 use Rattle.std.specs.List.{list_any}
-use Rattle.cy_trees.specs.Views.{item_of}
+use Rattle.cy_trees.specs.TreeModels.{item_of}
 use Rattle.cy_scope_kinds.specs.Aggregates as spec
 use Rattle.cy_scope_kinds.proofs.aggregates.has_aggregates.Given as goal
 

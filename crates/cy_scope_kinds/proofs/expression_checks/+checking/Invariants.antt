@@ -1,6 +1,6 @@
 -- The parts that are left settle the answer.
 use Rattle.std.proofs.Common.{◌≡◌, ◌++◌, ◌&&◌, drop, map}
-use Rattle.cy_trees.specs.Views.{expression_of, expressions_from, links_from, link_of, arms_from, arm_of}
+use Rattle.cy_trees.specs.TreeModels.{expression_of, expressions_from, links_from, link_of, arms_from, arm_of}
 use Rattle.cy_scope_kinds.specs.ExpressionKinds.{are_flags, gives_flags}
 use Rattle.cy_scope_kinds.specs.ExpressionFaults as spec
 use Rattle.cy_scope_kinds.proofs.expression_checks.+checking.Given as goal

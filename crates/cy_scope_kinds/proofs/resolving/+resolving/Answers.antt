@@ -3,8 +3,8 @@ use Rattle.std.proofs.Common.{◌≡◌, ◌++◌, map, length, take, drop, ap, 
 use Rattle.std.proofs.lemmas.Grind.{common_steps}
 use Rattle.cy_trees.specs.declared.expressions.Expr.{Case}
 use Rattle.cy_trees.specs.Trees.{Expression, Arms, case, otherwise}
-use Rattle.cy_trees.specs.Views.{expression_of, expressions_from, links_from, link_of, arms_from, arm_of, arms_of}
-use Rattle.cy_trees.proofs.ViewsLemmas.{case_otherwise}
+use Rattle.cy_trees.specs.TreeModels.{expression_of, expressions_from, links_from, link_of, arms_from, arm_of, arms_of}
+use Rattle.cy_trees.proofs.TreeModelsLemmas.{case_otherwise}
 use Rattle.cy_scope_kinds.specs.ResolvedExpressions.{resolved, resolved_arms}
 use Rattle.cy_scope_kinds.specs.internal.ExpressionTrees.{resolved_link, resolved_arm}
 use Rattle.cy_scope_kinds.proofs.ResolvedLemmas.{resolved_list, resolved_links_list, resolved_arms_list}

@@ -1,6 +1,6 @@
 -- What is done, and what the others are to become.
 use Rattle.std.proofs.Common.{◌≡◌, ◌++◌, map}
-use Rattle.cy_trees.specs.Views.{expression_of, link_of, arm_of}
+use Rattle.cy_trees.specs.TreeModels.{expression_of, link_of, arm_of}
 use Rattle.cy_scope_kinds.specs.ResolvedExpressions.{resolved}
 use Rattle.cy_scope_kinds.specs.internal.ExpressionTrees.{resolved_link, resolved_arm}
 use Rattle.cy_scope_kinds.proofs.ResolvedLemmas.{mixed}

@@ -1,6 +1,6 @@
 -- What is left of both settles the answer.
 use Rattle.std.proofs.Common.{◌≡◌, drop, map}
-use Rattle.cy_trees.specs.Views.{expression_of, expressions_from, links_from, link_of, arms_from, arm_of}
+use Rattle.cy_trees.specs.TreeModels.{expression_of, expressions_from, links_from, link_of, arms_from, arm_of}
 use Rattle.cy_scope_kinds.specs.Same as spec
 use Rattle.cy_scope_kinds.proofs.sameness.+same.Given as goal
 

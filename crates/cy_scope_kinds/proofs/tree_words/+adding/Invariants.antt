@@ -1,6 +1,6 @@
 -- The parts that are left settle the words.
 use Rattle.std.proofs.Common.{◌≡◌, drop, map}
-use Rattle.cy_trees.specs.Views.{expression_of, expressions_from, links_from, link_of, arms_from, arm_of}
+use Rattle.cy_trees.specs.TreeModels.{expression_of, expressions_from, links_from, link_of, arms_from, arm_of}
 use Rattle.cy_scope_kinds.specs.internal.TreeWords as spec
 use Rattle.cy_scope_kinds.proofs.tree_words.+adding.Given as goal
 

@@ -1,7 +1,7 @@
 -- The queries that are left settle the answer.
 use Rattle.std.proofs.Common.{◌≡◌, drop, map}
 use Rattle.std.specs.List.{list_any}
-use Rattle.cy_trees.specs.Views.{query_of}
+use Rattle.cy_trees.specs.TreeModels.{query_of}
 use Rattle.cy_scope.specs.Views.{is_update}
 use Rattle.cy_tests_statements.proofs.readings.any_updates.Given as goal
 

@@ -1,6 +1,6 @@
 -- The parts so far are copied.
 use Rattle.std.proofs.Common.{◌≡◌, map, take}
-use Rattle.cy_trees.specs.Views.{expression_of, link_of, arm_of}
+use Rattle.cy_trees.specs.TreeModels.{expression_of, link_of, arm_of}
 use Rattle.cy_trees.proofs.copying.+copying.Given as goal
 
 abbrev pub invariant-copy_arms-loop-arm : goal.invariant-copy_arms-loop-arm

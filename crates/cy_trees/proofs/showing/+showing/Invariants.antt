@@ -1,7 +1,7 @@
 -- What is written and what is left to write make what all of them give.
 use Rattle.std.proofs.Common.{◌≡◌, ◌++◌, string_bytes, drop, map}
 use Rattle.cy_trees.specs.Show.{pieces_text, further_pieces, elements_pieces, links_pieces, arms_pieces}
-use Rattle.cy_trees.specs.Views.{expression_of, expressions_from, links_from, link_of, arms_from, arm_of}
+use Rattle.cy_trees.specs.TreeModels.{expression_of, expressions_from, links_from, link_of, arms_from, arm_of}
 use Rattle.cy_trees.proofs.showing.+showing.Given as goal
 
 abbrev pub invariant-write_arms-loop-arm : goal.invariant-write_arms-loop-arm

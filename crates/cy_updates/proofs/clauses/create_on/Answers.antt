@@ -1,6 +1,6 @@
 use Rattle.std.proofs.Common.{map}
 use Rattle.std.proofs.lemmas.Result.{IfOk-at_ok, err_from_is_err_and}
-use Rattle.cy_trees.specs.Views.{path_of}
+use Rattle.cy_trees.specs.TreeModels.{path_of}
 use Rattle.cy_updates.proofs.ClauseSteps.{none_gone_grown}
 use Rattle.cy_updates_meaning.proofs.Created.{GoodTable, rows_good}
 use Rattle.cy_updates.proofs.clauses.create_on.Goals as goal

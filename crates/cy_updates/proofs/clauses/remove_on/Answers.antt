@@ -1,7 +1,7 @@
 use Rattle.std.proofs.Common.{sym, ap, map, subst, inl}
 use Rattle.std.specs.Prelude.{Ok}
 use Rattle.std.proofs.lemmas.Result.{err_from_is_err_and}
-use Rattle.cy_trees.specs.Views.{remove_item_of}
+use Rattle.cy_trees.specs.TreeModels.{remove_item_of}
 use Rattle.cy_updates_meaning.specs.internal.Answers.{graph_table}
 use Rattle.cy_updates.proofs.ClauseSteps.{none_gone_same}
 use Rattle.cy_updates_meaning.proofs.Graphs.{Kept}

@@ -1,7 +1,7 @@
 use Rattle.std.proofs.Common.{ap, map}
 use Rattle.std.specs.Prelude.{Ok}
 use Rattle.std.proofs.lemmas.Result.{IfOk-at_ok, err_from_is_err_and}
-use Rattle.cy_trees.specs.Views.{set_item_of}
+use Rattle.cy_trees.specs.TreeModels.{set_item_of}
 use Rattle.cy_updates_meaning.specs.Faults.{◌>>=◌}
 use Rattle.cy_updates_meaning.specs.internal.Answers.{graph_table}
 use Rattle.cy_updates.proofs.ClauseSteps.{none_gone_same}

@@ -2,7 +2,7 @@ use Rattle.std.proofs.Common.{List, sym, subst}
 use Rattle.std.specs.List.{AllByRecursion}
 use Rattle.cy_values.specs.declared.rows.Cell.{Cell}
 use Rattle.cy_values.specs.Order.{row_cmp}
-use Rattle.cy_trees.specs.Views.{clause_of}
+use Rattle.cy_trees.specs.TreeModels.{clause_of}
 use Rattle.cy_oneshot_meaning.specs.Reading.{AreInGraph, IsInGraph}
 use Rattle.cy_oneshot_meaning.proofs.Each.{each_in_order}
 use Rattle.cy_updates.specs.declared.clauses.Updated.{Updated}

@@ -1,7 +1,7 @@
 use Rattle.std.proofs.Common.{map, sym, ◌∙◌}
 use Rattle.std.proofs.lemmas.Bool.{false≢true}
 use Rattle.std.proofs.lemmas.Result.{err_from_is_err_and}
-use Rattle.cy_trees.specs.Views.{clause_of}
+use Rattle.cy_trees.specs.TreeModels.{clause_of}
 use Rattle.cy_updates.proofs.ClauseSteps.{none_gone, read_done, read_in_order, read_stopped, return_reads, update_next}
 use Rattle.cy_updates.proofs.queries.after_clause.Goals as goal
 

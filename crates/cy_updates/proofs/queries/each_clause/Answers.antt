@@ -1,7 +1,7 @@
 use Rattle.std.proofs.Common.{◌+◌, ◌≤◌, IsSome, List, Option, sym, ap, subst, ◌∙◌, drop, map, refl, arith}
 use Rattle.std.proofs.lemmas.Result.{err_from_is_err_and}
 use Rattle.cy_trees.specs.Trees.{Clause, Query}
-use Rattle.cy_trees.specs.Views.{clause_of}
+use Rattle.cy_trees.specs.TreeModels.{clause_of}
 use Rattle.cy_graph.specs.Graph.{State, number_end}
 use Rattle.cy_oneshot_meaning.proofs.ClauseLemmas.{same_clause, same_rows_of}
 use Rattle.cy_updates.specs.declared.clauses.Updated.{Updated}

@@ -1,6 +1,6 @@
 use Rattle.std.proofs.Common.{◌≡◌, IsSome, drop, map}
 use Rattle.cy_trees.specs.Trees.{Query}
-use Rattle.cy_trees.specs.Views.{clause_of}
+use Rattle.cy_trees.specs.TreeModels.{clause_of}
 use Rattle.cy_graph.specs.Graph.{IsGraph}
 use Rattle.cy_updates.specs.internal.Reached.{IsReached}
 use Rattle.cy_updates.proofs.queries.each_clause.Given as goal

@@ -2,7 +2,7 @@ use Rattle.std.proofs.Common.{List, [], map, cond, ap, subst, ◌∙◌}
 use Rattle.std.proofs.lemmas.Result.{err_from_is_err_and}
 use Rattle.cy_trees.specs.declared.clauses.Clause.{Clause}
 use Rattle.cy_trees.specs.Trees.{Query}
-use Rattle.cy_trees.specs.Views.{clause_of, query_of}
+use Rattle.cy_trees.specs.TreeModels.{clause_of, query_of}
 use Rattle.cy_scope.specs.Views.{ends_with_return}
 use Rattle.cy_updates.specs.internal.Reached.{IsReached}
 use Rattle.cy_updates_meaning.proofs.InTurn.{or_wants}

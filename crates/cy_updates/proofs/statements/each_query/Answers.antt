@@ -4,7 +4,7 @@ use Rattle.std.proofs.lemmas.List.Elements.{All-head, All-tail}
 use Rattle.std.proofs.lemmas.Result.{err_from_is_err_and}
 use Rattle.cy_trees.specs.declared.clauses.Query as coded
 use Rattle.cy_trees.specs.Trees.{Query}
-use Rattle.cy_trees.specs.Views.{query_of}
+use Rattle.cy_trees.specs.TreeModels.{query_of}
 use Rattle.cy_graph.specs.Graph.{State, number_end}
 use Rattle.cy_scope.specs.Checked.{IsChecked, single}
 use Rattle.cy_updates.specs.declared.clauses.Updated.{Updated}

@@ -1,7 +1,7 @@
 -- The queries that are left lead as far as all do from the beginning.
 use Rattle.std.proofs.Common.{◌≡◌, IsSome, drop, map}
 use Rattle.std.specs.List.{All}
-use Rattle.cy_trees.specs.Views.{query_of}
+use Rattle.cy_trees.specs.TreeModels.{query_of}
 use Rattle.cy_graph.specs.Graph.{IsGraph}
 use Rattle.cy_scope.specs.Checked.{IsChecked, single}
 use Rattle.cy_updates.specs.internal.Queries.{HaveCome}

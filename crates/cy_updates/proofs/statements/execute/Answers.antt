@@ -1,5 +1,5 @@
 use Rattle.std.proofs.Common.{IsSome, Option, ap, refl, sym, subst, ◌∙◌}
-use Rattle.cy_trees.specs.Views.{statement_of}
+use Rattle.cy_trees.specs.TreeModels.{statement_of}
 use Rattle.cy_graph.specs.Graph.{State}
 use Rattle.cy_index.specs.Index.{StoreState}
 use Rattle.cy_updates_meaning.specs.Statements.{statement_outcome}

@@ -3,7 +3,7 @@ use Rattle.std.specs.Prelude.{Ok}
 use Rattle.std.proofs.lemmas.Result.{err_from_is_err_and}
 use Rattle.cy_trees.specs.declared.clauses.Query as coded
 use Rattle.cy_trees.specs.Trees.{Statement}
-use Rattle.cy_trees.specs.Views.{query_of, statement_of}
+use Rattle.cy_trees.specs.TreeModels.{query_of, statement_of}
 use Rattle.cy_updates_meaning.specs.Faults.{◌>>=◌}
 use Rattle.cy_updates_meaning.specs.Statements.{outcome_of}
 use Rattle.cy_updates.specs.internal.Queries.{HaveCome}

@@ -1,6 +1,6 @@
 use Rattle.std.proofs.Common.{◌≡◌, [], IsSome, map}
 use Rattle.std.specs.Vec.Iter.{into_iter_items}
-use Rattle.cy_trees.specs.Views.{path_of}
+use Rattle.cy_trees.specs.TreeModels.{path_of}
 use Rattle.cy_oneshot_meaning.specs.Reading.{AreInGraph}
 use Rattle.cy_updates_meaning.specs.Faults.{each_in_turn}
 use Rattle.cy_updates_meaning.specs.Statements.{create_row}

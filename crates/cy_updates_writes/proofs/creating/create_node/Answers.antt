@@ -1,6 +1,6 @@
 use Rattle.std.proofs.Common.{Err, Some, refl, ap}
 use Rattle.std.proofs.lemmas.Result.{err_from_is_err_and}
-use Rattle.cy_trees.specs.Views.{node_of}
+use Rattle.cy_trees.specs.TreeModels.{node_of}
 use Rattle.cy_index.specs.Index.{StoreState}
 use Rattle.cy_updates_writes.specs.declared.creating.Made.{Made}
 use Rattle.cy_updates_writes.specs.internal.Creating.{creation}

@@ -1,7 +1,7 @@
 use Rattle.std.proofs.Common.{sym, subst}
 use Rattle.std.specs.Prelude.{Result}
 use Rattle.std.proofs.lemmas.Result.{err_from_is_err_and}
-use Rattle.cy_trees.specs.Views.{path_of}
+use Rattle.cy_trees.specs.TreeModels.{path_of}
 use Rattle.cy_oneshot_meaning.specs.Reading.{IsInGraph}
 use Rattle.cy_updates_meaning.specs.declared.faults.UpdateFault.{UpdateFault}
 use Rattle.cy_updates_meaning.specs.Creating.{Creation}

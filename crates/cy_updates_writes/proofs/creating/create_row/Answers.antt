@@ -2,7 +2,7 @@ use Rattle.std.proofs.Common.{◌+◌, ◌++◌, IsSome, List, Option, sym, ap, 
 use Rattle.std.specs.Prelude.{Ok}
 use Rattle.std.proofs.lemmas.Result.{err_from_is_err_and}
 use Rattle.cy_values.specs.declared.rows.Cell.{Cell}
-use Rattle.cy_trees.specs.Views.{path_of}
+use Rattle.cy_trees.specs.TreeModels.{path_of}
 use Rattle.cy_graph.specs.Graph.{State}
 use Rattle.cy_updates_meaning.specs.Creating.{with_path}
 use Rattle.cy_updates_meaning.specs.Faults.{◌>>=◌}

@@ -1,6 +1,6 @@
 use Rattle.std.proofs.Common.{◌≡◌, Err, Ok, ap, sym, ◌∙◌, inl}
 use Rattle.std.proofs.lemmas.Result.{err_from_is_err_and}
-use Rattle.cy_trees.specs.Views.{step_of}
+use Rattle.cy_trees.specs.TreeModels.{step_of}
 use Rattle.cy_graph.specs.Graph.{with_rel}
 use Rattle.cy_index.specs.Index.{StoreState}
 use Rattle.cy_oneshot_meaning.specs.Reading.{IsInGraph}

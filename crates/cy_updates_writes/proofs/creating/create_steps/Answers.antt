@@ -1,6 +1,6 @@
 use Rattle.std.proofs.Common.{◌+◌, IsSome, Option, sym, subst, ◌∙◌, drop, map}
 use Rattle.std.proofs.lemmas.Result.{err_from_is_err_and}
-use Rattle.cy_trees.specs.Views.{step_of}
+use Rattle.cy_trees.specs.TreeModels.{step_of}
 use Rattle.cy_graph.specs.Graph.{State}
 use Rattle.cy_updates_meaning.specs.Creating.{with_step}
 use Rattle.cy_updates_writes.specs.internal.Creating.{creation}

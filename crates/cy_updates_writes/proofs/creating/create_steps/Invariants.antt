@@ -1,5 +1,5 @@
 use Rattle.std.proofs.Common.{◌≡◌, IsSome, drop, map}
-use Rattle.cy_trees.specs.Views.{step_of}
+use Rattle.cy_trees.specs.TreeModels.{step_of}
 use Rattle.cy_updates_meaning.specs.Creating.{with_step}
 use Rattle.cy_updates_meaning.specs.Faults.{each_in_turn}
 use Rattle.cy_updates_writes.specs.internal.Creating.{IsCreation, creation}

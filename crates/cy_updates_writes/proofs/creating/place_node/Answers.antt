@@ -1,6 +1,6 @@
 use Rattle.std.proofs.Common.{sym, subst}
 use Rattle.std.specs.Prelude.{Result}
-use Rattle.cy_trees.specs.Views.{node_of}
+use Rattle.cy_trees.specs.TreeModels.{node_of}
 use Rattle.cy_updates_meaning.specs.declared.faults.UpdateFault.{UpdateFault}
 use Rattle.cy_updates_meaning.specs.Creating.{Creation}
 use Rattle.cy_updates_meaning.specs.internal.Answers.{IsAnswer}

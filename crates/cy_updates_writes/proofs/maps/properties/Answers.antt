@@ -2,7 +2,7 @@ use Rattle.std.proofs.Common.{◌+◌, List, Option, sym, ap, subst, ◌∙◌, 
 use Rattle.std.proofs.lemmas.Result.{err_from_is_err_and}
 use Rattle.cy_values.specs.declared.scalars.Value.{Value}
 use Rattle.cy_trees.specs.Trees.{Name}
-use Rattle.cy_trees.specs.Views.{entry_of}
+use Rattle.cy_trees.specs.TreeModels.{entry_of}
 use Rattle.cy_graph.specs.Graph.{set_or_removed}
 use Rattle.cy_updates_meaning.proofs.InTurn.{next_in, or_wants}
 use Rattle.cy_updates_writes.proofs.MapValues.{entry_next, entry_stops, set_from}

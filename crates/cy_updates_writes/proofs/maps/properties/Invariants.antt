@@ -2,7 +2,7 @@ use Rattle.std.proofs.Common.{◌≡◌, [], drop, map}
 use Rattle.std.specs.BTreeMap.{IsOrdered}
 use Rattle.std.specs.Prelude.{Ok}
 use Rattle.cy_graph.specs.Maps.{text_order}
-use Rattle.cy_trees.specs.Views.{entry_of}
+use Rattle.cy_trees.specs.TreeModels.{entry_of}
 use Rattle.cy_updates_meaning.specs.Faults.{◌>>=◌}
 use Rattle.cy_updates_meaning.specs.Values.{entry_values, set_all}
 use Rattle.cy_updates_meaning.proofs.StoredValues.{AreProperties}

@@ -1,7 +1,7 @@
 use Rattle.std.proofs.Common.{◌+◌, IsSome, Option, sym, subst, ◌∙◌, drop, map}
 use Rattle.std.proofs.lemmas.List.{drop_all}
 use Rattle.cy_graph.specs.Graph.{State}
-use Rattle.cy_trees.specs.Views.{remove_item_of}
+use Rattle.cy_trees.specs.TreeModels.{remove_item_of}
 use Rattle.cy_oneshot_meaning.specs.internal.Answers.{IsRowThere}
 use Rattle.cy_oneshot_patterns.proofs.SliceReads.{next_of}
 use Rattle.cy_updates_meaning.specs.Statements.{remove_row}

@@ -1,6 +1,6 @@
 use Rattle.std.proofs.Common.{◌≡◌, IsSome, drop, map}
 use Rattle.std.specs.Prelude.{fold}
-use Rattle.cy_trees.specs.Views.{remove_item_of}
+use Rattle.cy_trees.specs.TreeModels.{remove_item_of}
 use Rattle.cy_oneshot_meaning.specs.Reading.{AreInGraph}
 use Rattle.cy_updates_meaning.specs.Statements.{remove_row}
 use Rattle.cy_updates_writes.proofs.removing.remove.Given as goal

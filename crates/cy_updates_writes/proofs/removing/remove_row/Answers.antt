@@ -1,6 +1,6 @@
 use Rattle.std.proofs.Common.{◌+◌, IsSome, Option, sym, subst, ◌∙◌, drop, map}
 use Rattle.cy_graph.specs.Graph.{State}
-use Rattle.cy_trees.specs.Views.{remove_item_of}
+use Rattle.cy_trees.specs.TreeModels.{remove_item_of}
 use Rattle.cy_updates_meaning.specs.Setting.{removed_item}
 use Rattle.cy_updates_meaning.proofs.Graphs.{Kept, node_kept, rel_kept}
 use Rattle.cy_updates_meaning.proofs.Grown.{row_still}

@@ -2,7 +2,7 @@ use Rattle.std.proofs.Common.{◌+◌, IsSome, Option, sym, subst, ◌∙◌, dr
 use Rattle.std.proofs.lemmas.List.{drop_all}
 use Rattle.std.proofs.lemmas.Result.{IfOk-at_ok, err_from_is_err_and}
 use Rattle.cy_graph.specs.Graph.{State}
-use Rattle.cy_trees.specs.Views.{set_item_of}
+use Rattle.cy_trees.specs.TreeModels.{set_item_of}
 use Rattle.cy_oneshot_meaning.specs.internal.Answers.{IsRowThere}
 use Rattle.cy_oneshot_patterns.proofs.SliceReads.{next_of}
 use Rattle.cy_updates_meaning.specs.Statements.{set_row}

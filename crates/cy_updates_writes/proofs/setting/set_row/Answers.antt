@@ -1,7 +1,7 @@
 use Rattle.std.proofs.Common.{◌+◌, IsSome, Option, sym, subst, ◌∙◌, drop, map}
 use Rattle.std.proofs.lemmas.Result.{IfOk-at_ok, err_from_is_err_and}
 use Rattle.cy_graph.specs.Graph.{State}
-use Rattle.cy_trees.specs.Views.{set_item_of}
+use Rattle.cy_trees.specs.TreeModels.{set_item_of}
 use Rattle.cy_updates_meaning.specs.Setting.{set_item}
 use Rattle.cy_updates_meaning.proofs.Graphs.{Kept, node_kept, rel_kept}
 use Rattle.cy_updates_meaning.proofs.Grown.{row_still}

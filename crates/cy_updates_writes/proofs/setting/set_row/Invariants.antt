@@ -1,5 +1,5 @@
 use Rattle.std.proofs.Common.{◌≡◌, IsSome, drop, map}
-use Rattle.cy_trees.specs.Views.{set_item_of}
+use Rattle.cy_trees.specs.TreeModels.{set_item_of}
 use Rattle.cy_oneshot_meaning.specs.internal.Answers.{IsRowThere}
 use Rattle.cy_updates_meaning.specs.Faults.{each_in_turn}
 use Rattle.cy_updates_meaning.specs.Setting.{set_item}

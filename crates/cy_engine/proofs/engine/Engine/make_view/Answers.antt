@@ -2,7 +2,7 @@ use Rattle.std.proofs.Common.{◌≡◌, [], ◌<◌, ◌+◌, None, refl, sym, 
 use Rattle.std.proofs.lemmas.Bool.Decides.{nat_tests}
 use Rattle.std.proofs.lemmas.List.{length-map}
 use Rattle.std.proofs.lemmas.Result.{err_from_is_err_and}
-use Rattle.cy_trees.specs.Views.{statement_of}
+use Rattle.cy_trees.specs.TreeModels.{statement_of}
 use Rattle.cy_engine_views.specs.Upkeep.{held_in, view_of, views_in}
 use Rattle.cy_engine_views.specs.RegisteredViews.{view_limit}
 use Rattle.cy_engine.specs.Model.{state_of}

@@ -1,7 +1,7 @@
 use Rattle.std.proofs.lemmas.Result.{err_from_is_err_and}
 use Rattle.std.proofs.Common.{◌∙◌, Ok, Err, refl, sym, subst}
-use Rattle.cy_trees.specs.Views.{statement_of}
-use Rattle.cy_planner_algebra.specs.Views.{plan_of}
+use Rattle.cy_trees.specs.TreeModels.{statement_of}
+use Rattle.cy_planner_algebra.specs.PlanModels.{plan_of}
 use Rattle.cy_planner_algebra.specs.declared.operators.Operator.{Operator}
 use Rattle.cy_network_masks.specs.Masks.{Covers}
 use Rattle.cy_planner.specs.Serves.{Serves}

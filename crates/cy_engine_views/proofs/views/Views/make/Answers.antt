@@ -2,7 +2,7 @@ use Rattle.std.proofs.Common.{◌≡◌, ◌≤◌, ◌∷◌, [], ◌++◌, Lis
 use Rattle.std.specs.String.{string_eq}
 use Rattle.indexmap.proofs.CallerLemmas.{insert_entry-new}
 use Rattle.cy_trees.specs.declared.clauses.Statement as coded
-use Rattle.cy_trees.specs.Views.{statement_of}
+use Rattle.cy_trees.specs.TreeModels.{statement_of}
 use Rattle.cy_feeds.specs.Feeds.{Kept, latest}
 use Rattle.cy_planner.specs.Serves.{Serves}
 use Rattle.cy_engine_views.specs.declared.registered.Registered.{Registered}

@@ -1,5 +1,5 @@
 use Rattle.std.proofs.Common.{◌≡◌, ◌-◌, map}
-use Rattle.cy_trees.specs.Views.{clause_of}
+use Rattle.cy_trees.specs.TreeModels.{clause_of}
 use Rattle.cy_parser_grammar.specs.internal.Clauses.{clauses, clauses_from}
 use Rattle.cy_parser.proofs.source.Source.clauses.Given as goal
 

@@ -1,5 +1,5 @@
 use Rattle.std.proofs.Common.{◌≡◌, ◌-◌, map}
-use Rattle.cy_trees.specs.Views.{entry_of}
+use Rattle.cy_trees.specs.TreeModels.{entry_of}
 use Rattle.cy_parser_grammar.specs.internal.Clauses.{entries, entry, separated_from}
 use Rattle.cy_parser.proofs.source.Source.entries.Given as goal
 

@@ -1,6 +1,6 @@
 use Rattle.std.proofs.Common.{rules, arith, map}
 use Rattle.std.proofs.lemmas.Grind.{common_steps}
-use Rattle.cy_trees.specs.Views.{query_of}
+use Rattle.cy_trees.specs.TreeModels.{query_of}
 use Rattle.cy_parser_grammar.specs.internal.Clauses.{queries_from}
 use Rattle.cy_parser_grammar.specs.internal.Reader.{and_then}
 use Rattle.cy_parser.proofs.Turns.{turn, turned}

@@ -1,5 +1,5 @@
 use Rattle.std.proofs.Common.{◌≡◌, ◌-◌, map, length}
-use Rattle.cy_trees.specs.Views.{query_of}
+use Rattle.cy_trees.specs.TreeModels.{query_of}
 use Rattle.cy_parser_grammar.specs.internal.Clauses.{queries_from}
 use Rattle.cy_parser.proofs.source.Source.further.Given as goal
 

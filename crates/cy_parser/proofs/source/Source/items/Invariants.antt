@@ -1,5 +1,5 @@
 use Rattle.std.proofs.Common.{◌≡◌, ◌-◌, map}
-use Rattle.cy_trees.specs.Views.{item_of}
+use Rattle.cy_trees.specs.TreeModels.{item_of}
 use Rattle.cy_parser_grammar.specs.internal.Clauses.{item, items, separated_from}
 use Rattle.cy_parser.proofs.source.Source.items.Given as goal
 

@@ -1,5 +1,5 @@
 use Rattle.std.proofs.Common.{◌≡◌, ◌-◌, map}
-use Rattle.cy_trees.specs.Views.{key_of}
+use Rattle.cy_trees.specs.TreeModels.{key_of}
 use Rattle.cy_parser_grammar.specs.internal.Clauses.{key, keys, separated_from}
 use Rattle.cy_parser.proofs.source.Source.keys.Given as goal
 

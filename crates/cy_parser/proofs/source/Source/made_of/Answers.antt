@@ -1,7 +1,7 @@
 use Rattle.std.proofs.Common.{rules, arith, ◌≡◌, map, option_map, reverse, [], ◌∷◌, Some, sym, ap, ◌∙◌}
 use Rattle.std.proofs.lemmas.Grind.{common_steps}
 use Rattle.std.proofs.lemmas.List.{map-append}
-use Rattle.cy_trees.specs.Views.{path_test_of, filter_of}
+use Rattle.cy_trees.specs.TreeModels.{path_test_of, filter_of}
 use Rattle.cy_parser_grammar.specs.internal.Clauses.{where_from}
 use Rattle.cy_parser.specs.internal.Parts.{condition_of, part_of}
 use Rattle.cy_parser.proofs.PartsLemmas.{popped, joined, all_refused, path_added, no_parts}

@@ -1,5 +1,5 @@
 use Rattle.std.proofs.Common.{◌≡◌, map, reverse, vec_len, option_map}
-use Rattle.cy_trees.specs.Views.{path_test_of}
+use Rattle.cy_trees.specs.TreeModels.{path_test_of}
 use Rattle.cy_parser_grammar.specs.internal.Clauses.{where_from, no_where}
 use Rattle.cy_parser.specs.internal.Parts.{condition_of, part_of}
 use Rattle.cy_parser.proofs.source.Source.made_of.Given as goal

@@ -1,5 +1,5 @@
 use Rattle.std.proofs.Common.{◌≡◌, ◌-◌, map}
-use Rattle.cy_trees.specs.Views.{path_of}
+use Rattle.cy_trees.specs.TreeModels.{path_of}
 use Rattle.cy_parser_grammar.specs.internal.Clauses.{path, paths, separated_from}
 use Rattle.cy_parser.proofs.source.Source.paths.Given as goal
 

@@ -1,6 +1,6 @@
 use Rattle.std.proofs.Common.{rules, arith, map}
 use Rattle.std.proofs.lemmas.Grind.{common_steps}
-use Rattle.cy_trees.specs.Views.{remove_item_of}
+use Rattle.cy_trees.specs.TreeModels.{remove_item_of}
 use Rattle.cy_parser_grammar.specs.internal.Clauses.{remove_item, remove_items, separated_from}
 use Rattle.cy_parser_grammar.specs.internal.Reader.{and_then}
 use Rattle.cy_parser.proofs.Turns.{turn, turned}

@@ -1,5 +1,5 @@
 use Rattle.std.proofs.Common.{◌≡◌, ◌-◌, map}
-use Rattle.cy_trees.specs.Views.{remove_item_of}
+use Rattle.cy_trees.specs.TreeModels.{remove_item_of}
 use Rattle.cy_parser_grammar.specs.internal.Clauses.{remove_item, remove_items, separated_from}
 use Rattle.cy_parser.proofs.source.Source.remove_items.Given as goal
 

@@ -1,5 +1,5 @@
 use Rattle.std.proofs.Common.{◌≡◌, ◌-◌, map}
-use Rattle.cy_trees.specs.Views.{set_item_of}
+use Rattle.cy_trees.specs.TreeModels.{set_item_of}
 use Rattle.cy_parser_grammar.specs.internal.Clauses.{separated_from, set_item, set_items}
 use Rattle.cy_parser.proofs.source.Source.set_items.Given as goal
 

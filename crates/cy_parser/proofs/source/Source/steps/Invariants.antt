@@ -1,5 +1,5 @@
 use Rattle.std.proofs.Common.{◌≡◌, ◌-◌, map}
-use Rattle.cy_trees.specs.Views.{step_of}
+use Rattle.cy_trees.specs.TreeModels.{step_of}
 use Rattle.cy_parser_grammar.specs.internal.Clauses.{steps, steps_from}
 use Rattle.cy_parser.proofs.source.Source.steps.Given as goal
 

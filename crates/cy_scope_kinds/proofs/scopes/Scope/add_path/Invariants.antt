@@ -1,6 +1,6 @@
 -- The steps that are left give the rest of the scope.
 use Rattle.std.proofs.Common.{◌≡◌, drop, map}
-use Rattle.cy_trees.specs.Views.{path_of, step_of}
+use Rattle.cy_trees.specs.TreeModels.{path_of, step_of}
 use Rattle.cy_scope_kinds.specs.Scopes.{with_steps, with_path}
 use Rattle.cy_scope_kinds.proofs.scopes.Scope.add_path.Given as goal
 

@@ -1,6 +1,6 @@
 -- The paths that are left give the rest of the scope.
 use Rattle.std.proofs.Common.{◌≡◌, drop, map}
-use Rattle.cy_trees.specs.Views.{path_of}
+use Rattle.cy_trees.specs.TreeModels.{path_of}
 use Rattle.cy_scope_kinds.specs.Scopes.{with_paths}
 use Rattle.cy_scope_kinds.proofs.scopes.Scope.add_paths.Given as goal
 

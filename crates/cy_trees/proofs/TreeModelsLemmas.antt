@@ -4,7 +4,7 @@ use Rattle.std.specs.declared.boxed.Box.{Box}
 use Rattle.cy_trees.specs.declared.expressions.Expr.{Expr, Case, the_lemmas}
 use Rattle.cy_trees.specs.declared.expressions.Arm.{Arm}
 use Rattle.cy_trees.specs.Trees.{case, otherwise}
-use Rattle.cy_trees.specs.Views.{expression_of, arms_of, arm_of}
+use Rattle.cy_trees.specs.TreeModels.{expression_of, arms_of, arm_of}
 
 pub case_otherwise : (arms : Vec Arm Global) (e : Box Expr Global) → expression_of (Case arms (Some e)) ≡ case (arms_of arms) (otherwise (expression_of e.value))
 case_otherwise arms e = search (rules, the_lemmas)

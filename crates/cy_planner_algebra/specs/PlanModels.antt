@@ -1,6 +1,6 @@
 -- The plan that a value of the code stands for (own).
 use Rattle.std.specs.Prelude.{map}
-use Rattle.cy_trees.specs.Views.{expression_of}
+use Rattle.cy_trees.specs.TreeModels.{expression_of}
 use Rattle.cy_planner_algebra.specs.declared.operators.Output as coded_output
 use Rattle.cy_planner_algebra.specs.declared.operators.Output.TheVariants as output
 use Rattle.cy_planner_algebra.specs.declared.operators.Operator.{Operator, fold-Operator}

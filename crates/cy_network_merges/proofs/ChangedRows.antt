@@ -13,8 +13,8 @@ use Rattle.cy_planner_algebra.specs.Expressions.{projected}
 use Rattle.cy_network_memory.specs.declared.memory.RowDelta.{RowDelta}
 use Rattle.cy_network_operators.specs.Deltas.{IsBounded, IsDelta, counts}
 use Rattle.cy_network_operators.proofs.DeltaLemmas.{delta_alike}
-use Rattle.cy_network_merges.specs.Merges.{IsProjectChange, IsUnionChange, Sides}
-use Rattle.cy_network_merges.specs.internal.Sums.{lost, gained, image}
+use Rattle.cy_network_merges.specs.Merges.{IsProjectChange, IsUnionChange, Sides, image}
+use Rattle.cy_network_merges.specs.internal.Sums.{lost, gained}
 use Rattle.cy_network_merges.proofs.Totals.{taken_of_images, sum_of_images, taken_of_both, sum_of_both}
 
 -- the counts after some changes are staged

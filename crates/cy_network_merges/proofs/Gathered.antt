@@ -16,8 +16,8 @@ use Rattle.cy_network_memory.specs.declared.memory.RowDelta.{RowDelta}
 use Rattle.cy_network_operators.specs.Deltas.{IsDelta, counts, row_delta_between, deltas_of}
 use Rattle.cy_network_operators.proofs.Same.{is_row_if, row_itself, same_row}
 use Rattle.cy_network_operators.proofs.DeltaLemmas.{each_row_delta}
-use Rattle.cy_network_merges.specs.Merges.{IsOneToOneOn}
-use Rattle.cy_network_merges.specs.internal.Sums.{gained, greatest, image, lost, most_after, most_before}
+use Rattle.cy_network_merges.specs.Merges.{IsOneToOneOn, image}
+use Rattle.cy_network_merges.specs.internal.Sums.{gained, greatest, lost, most_after, most_before}
 use Rattle.cy_network_merges.proofs.OneToOne.{all_counted, both_same, count_alike, filter_alike, image_between, no_weight, none_between, deltas_of_images}
 use Rattle.cy_network_merges.proofs.GreatestCounts.{greatest_below, greatest_more}
 use Rattle.cy_network_merges.proofs.Totals.{adds, sum_of_images, takes}

@@ -12,3 +12,4 @@ pub mod ChangedRows
 pub mod OneToOne
 pub mod GreatestCounts
 pub mod Gathered
+pub mod ImageChanges

@@ -15,8 +15,8 @@ use Rattle.cy_network_memory.specs.declared.memory.RowDelta.{RowDelta}
 use Rattle.cy_network_operators.specs.Deltas.{AreWide, IsDelta, counts, row_delta_between, deltas_of}
 use Rattle.cy_network_operators.proofs.Same.{is_row_if, row_itself, same_row}
 use Rattle.cy_network_operators.proofs.DeltaLemmas.{row_delta_there}
-use Rattle.cy_network_merges.specs.Merges.{IsOneToOne}
-use Rattle.cy_network_merges.specs.internal.Sums.{gained, image, lost}
+use Rattle.cy_network_merges.specs.Merges.{IsOneToOne, image}
+use Rattle.cy_network_merges.specs.internal.Sums.{gained, lost}
 use Rattle.cy_network_merges.proofs.Bags.{weights}
 use Rattle.cy_network_merges.proofs.Totals.{adds, sum_of_images, takes}
 

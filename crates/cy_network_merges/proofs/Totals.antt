@@ -8,7 +8,8 @@ use Rattle.cy_network_memory.specs.Counts.{is_row}
 use Rattle.cy_planner_algebra.proofs.Counts.{count_append, count_map}
 use Rattle.cy_network_memory.specs.declared.memory.RowDelta.{RowDelta}
 use Rattle.cy_network_operators.specs.Deltas.{IsDelta, counts}
-use Rattle.cy_network_merges.specs.internal.Sums.{lost, gained, image, is_changed}
+use Rattle.cy_network_merges.specs.Merges.{image}
+use Rattle.cy_network_merges.specs.internal.Sums.{lost, gained, is_changed}
 use Rattle.cy_network_merges.proofs.Bags.{weights, within, balanced}
 
 -- what a row delta takes and what it adds

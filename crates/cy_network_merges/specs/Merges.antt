@@ -26,6 +26,16 @@ pub record IsProjectChange (outputs : List Output) (was : Counts) (deltas : List
   pub delta : IsDelta (counts before) (counts after) deltas
   pub held : was ≡ counts (map (projected outputs) before)
 
+-- the row delta of the row that a function makes of its row
+abbrev pub image : (List Cell → List Cell) → RowDelta → RowDelta
+image f s = record { row = f s.row; before = s.before; after = s.after }
+
+-- The images of row deltas that lead from some rows below a projection to others, and the rows that count are the images of the first.
+pub record IsImageChange (outputs : List Output) (was : Counts) (images : List RowDelta) (before after : List (List Cell)) : Type 0 where
+  pub deltas : List RowDelta
+  pub are : images ≡ map (image (projected outputs)) deltas
+  pub change : IsProjectChange outputs was deltas before after
+
 -- of two rows that are this wide and differ a projection makes rows that differ
 abbrev pub IsOneToOne : ℕ → List Output → Type 0
 IsOneToOne width outputs = (row other : List Cell) → length row ≡ width → length other ≡ width → projected outputs row ≡ projected outputs other → row ≡ other

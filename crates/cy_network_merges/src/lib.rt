@@ -8,6 +8,7 @@ mod distinct_rows;
 mod greatest;
 mod merges;
 mod numbers;
+mod passages;
 mod projections;
 mod semi_joins;
 pub mod semi_laws;
@@ -15,6 +16,7 @@ mod sends;
 mod stages;
 mod unions;
 
-pub use projections::{gather, project, rearrange};
+pub use passages::Images;
+pub use projections::{gather, images_of, project};
 pub use semi_joins::semi;
 pub use unions::union;

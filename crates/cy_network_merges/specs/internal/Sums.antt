@@ -24,10 +24,6 @@ gain row s = if is_row row s.row then s.after - s.before else 0
 abbrev pub gained : List Cell → List RowDelta → ℕ
 gained row deltas = sum_by (λ s. gain row s) deltas
 
--- a row delta with another row
-abbrev pub image : (List Cell → List Cell) → RowDelta → RowDelta
-image f s = record { row = f s.row; before = s.before; after = s.after }
-
 -- whether one of the row deltas is of the row
 abbrev pub is_changed : List Cell → List RowDelta → Bool
 is_changed row deltas = list_any (λ s. is_row row s.row) deltas

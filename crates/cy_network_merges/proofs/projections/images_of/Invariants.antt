@@ -1,7 +1,7 @@
 use Rattle.std.proofs.Common.{◌≡◌, map}
 use Rattle.cy_planner_algebra.specs.Expressions.{projected}
 use Rattle.cy_planner_algebra.specs.PlanModels.{output_of}
-use Rattle.cy_network_merges.specs.internal.Sums.{image}
+use Rattle.cy_network_merges.specs.Merges.{image}
 use Rattle.cy_network_merges.proofs.projections.images_of.Given as goal
 
 -- the images so far

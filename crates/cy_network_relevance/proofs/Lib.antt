@@ -1,6 +1,7 @@
 pub mod Bounds
 pub mod RowsApart
 pub mod Links
+pub mod RowKeys
 pub mod Told
 pub mod AnyOutput
 pub mod Rules

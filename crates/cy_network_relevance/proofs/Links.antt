@@ -47,10 +47,10 @@ not_tied : (k m : RelId) → m.0 < k.0 → eq_by_cmp rel_order k m ≡ false
 not_tied k m less = grind (arith, nat_tests)
 
 -- each stands under its own
-abbrev IsThere : List (RelId × Rel) → RelId × Rel → Type 0
+abbrev pub IsThere : List (RelId × Rel) → RelId × Rel → Type 0
 IsThere es e = entries.find rel_order e.0 es ≡ Some e.1
 
-each_there : (es : List (RelId × Rel)) → entries.is_sorted rel_order es ≡ true → All (IsThere es) es
+pub each_there : (es : List (RelId × Rel)) → entries.is_sorted rel_order es ≡ true → All (IsThere es) es
 each_there [] up = All-nil (IsThere [])
 each_there (e ∷ es) up =
     let split = and_parts (entries.below_all rel_order e.0 es) (entries.is_sorted rel_order es) up in
@@ -147,7 +147,7 @@ longer_link graph row more link = record {
     by (inl p) = inl (more_cells row more 1 (cell.Node link.rel.source) p.0 (no_node link.rel.source), more_cells row more 2 (cell.Node link.rel.target) p.1 (no_node link.rel.target))
     by (inr p) = inr (more_cells row more 1 (cell.Node link.rel.target) p.0 (no_node link.rel.target), more_cells row more 2 (cell.Node link.rel.source) p.1 (no_node link.rel.source))
 
-is_it : (m n : ℕ) → (m == n) ≡ true → m ≡ n
+pub is_it : (m n : ℕ) → (m == n) ≡ true → m ≡ n
 is_it m n is = grind (arith, nat_tests)
 
 alone_value : (row : List Cell) (column : ℕ) (found : Option ℕ) → option_map_or (λ other. other == column) found false ≡ true → column_value found row ≡ cell_at row column
@@ -177,7 +177,7 @@ made_cell : (outputs : List Output) (row : List Cell) (place : ℕ) (o : Output)
 made_cell outputs row place o found =
     get_or_from_slice_get (map (output_cell row) outputs) place (output_cell row o) expressions.null (slice_get-map (output_cell row) outputs place ∙ ap (option_map (output_cell row)) found)
 
-cell_there : (outputs : List Output) (row : List Cell) (place column : ℕ) → is_at outputs place column ≡ true → cell_at (projected outputs row) place ≡ cell_at row column
+pub cell_there : (outputs : List Output) (row : List Cell) (place column : ℕ) → is_at outputs place column ≡ true → cell_at (projected outputs row) place ≡ cell_at row column
 cell_there outputs row place column is = by (slice_get outputs place) refl is
   where
     by : (found : Option Output) → slice_get outputs place ≡ found → option_map_or (is_alone column) found false ≡ true → cell_at (projected outputs row) place ≡ cell_at row column

@@ -22,14 +22,14 @@ use Rattle.cy_planner_algebra.specs.Meaning.{paired, rows_of}
 use Rattle.cy_planner_algebra.specs.WellFormed.{IsWellFormed}
 use Rattle.cy_planner_algebra.proofs.Counts.{count_cons, count_passing, identity, same}
 use Rattle.cy_planner_algebra.proofs.Widths.{all_made, wide_rows}
-use Rattle.cy_network_relevance.specs.Trails.{TellsRowsApartOn, are_two, gathers_both, has_links, has_lists, is_alone, is_kept, is_key, is_paired, is_told, tells_apart, tells_joined, tells_trails}
+use Rattle.cy_network_relevance.specs.Trails.{TellsRowsApartOn, are_two, gathers_both, has_links, has_lists, is_alone, is_kept, is_key, is_paired, is_told, tells_joins, tells_joined, tells_trails}
 use Rattle.cy_network_relevance.proofs.AnyOutput.{one_fails}
 use Rattle.cy_network_relevance.proofs.Links.{HasEnds, IsLink, IsListed, alone_cell, links, lists, no_node, second_end, within}
 
 -- ---- rows that stand in a list
 
 -- what is so of each is so of one that counts
-of_counted : (P : List Cell → Type 0) (rows : List (List Cell)) → All P rows → (row : List Cell) → 0 < count_of row rows → P row
+pub of_counted : (P : List Cell → Type 0) (rows : List (List Cell)) → All P rows → (row : List Cell) → 0 < count_of row rows → P row
 of_counted P [] each row some = absurd (omega (arith, some))
 of_counted P (x ∷ xs) each row some = by (of_counted P xs (All-tail P x xs each) row) (same row x) refl
   where
@@ -66,7 +66,7 @@ same_image p (o ∷ os) row other any same_rows =
     by rest true is some = (o, (is, heads (output_cell row o) (output_cell other o) (projected os row) (projected os other) same_rows))
     by rest false is some = rest some
 
-same_kept : (outputs : List Output) (row other : List Cell) (column : ℕ) → is_kept outputs column ≡ true → projected outputs row ≡ projected outputs other → cell_at row column ≡ cell_at other column
+pub same_kept : (outputs : List Output) (row other : List Cell) (column : ℕ) → is_kept outputs column ≡ true → projected outputs row ≡ projected outputs other → cell_at row column ≡ cell_at other column
 same_kept outputs row other column kept same_rows =
     let found = same_image (is_alone column) outputs row other kept same_rows in
     sym (alone_cell row column found.0 found.1.0) ∙ found.1.1 ∙ alone_cell other column found.0 found.1.0
@@ -122,7 +122,7 @@ last_apart id other (i ∷ xs) (o ∷ os) is =
     (rest.0, ap (λ x. x ∷ xs) (heads i o (xs ++ id ∷ []) (os ++ other ∷ []) is) ∙ ap (λ ys. o ∷ ys) rest.1)
 
 -- each column passes
-each_told : (p : ℕ → Bool) (count : ℕ) → list_all p (range_with_len 0 count) ≡ true → (k : ℕ) → k < count → p k ≡ true
+pub each_told : (p : ℕ → Bool) (count : ℕ) → list_all p (range_with_len 0 count) ≡ true → (k : ℕ) → k < count → p k ≡ true
 each_told p count all k less = by (p k) refl
   where
     by : (b : Bool) → p k ≡ b → p k ≡ true
@@ -130,7 +130,7 @@ each_told p count all k less = by (p k) refl
     by false is = absurd (true≢false (sym all ∙ one_fails p count k less is))
 
 -- a column of the key
-same_in_key : (keys : List KeyColumns) (column : ℕ) (row other : List Cell) → is_key keys column ≡ true → right_key keys row ≡ right_key keys other → cell_at row column ≡ cell_at other column
+pub same_in_key : (keys : List KeyColumns) (column : ℕ) (row other : List Cell) → is_key keys column ≡ true → right_key keys row ≡ right_key keys other → cell_at row column ≡ cell_at other column
 same_in_key [] column row other is same_keys = absurd (false≢true is)
 same_in_key (k ∷ ks) column row other is same_keys =
     by (λ some. same_in_key ks column row other some (tails (cell_at row k.right) (cell_at other k.right) (right_key ks row) (right_key ks other) same_keys)) (k.right == column) refl is
@@ -297,10 +297,10 @@ record IsJoined (graph : Content) (wide others : ℕ) (keys : List KeyColumns) (
   is : row ≡ left ++ right
   trail : IsTrail graph wide others keys left right
 
-both : {A : Type 0} (P Q : A → Type 0) (xs : List A) → All P xs → All Q xs → All (λ x. P x × Q x) xs
+pub both : {A : Type 0} (P Q : A → Type 0) (xs : List A) → All P xs → All Q xs → All (λ x. P x × Q x) xs
 both P Q xs first second = λ k d less. (first k d less, second k d less)
 
-met_keys : (keys : List KeyColumns) (left right : List Cell) → meet keys left right ≡ true → left_key keys left ≡ right_key keys right
+pub met_keys : (keys : List KeyColumns) (left right : List Cell) → meet keys left right ≡ true → left_key keys left ≡ right_key keys right
 met_keys keys left right meets = identity (left_key keys left) (right_key keys right) ((and_parts (eq_by_cmp row_cmp (left_key keys left) (right_key keys right)) _ meets).0)
 
 module _ (graph : Content) (left right : Plan) (keys : List KeyColumns) (left_good : IsWellFormed left) (right_good : IsWellFormed right) (has_left : All (IsLink graph) (rows_of graph left))
@@ -442,14 +442,14 @@ told_joined graph is left right keys outputs left_good right_good tells =
 
 -- what is found of the parts of a join
 pub joins_told : (p left right lent_left lent_right : Plan) (keys lent_keys : List KeyColumns) (outputs : List Output) → p ≡ plan.join left right keys → lent_left ≡ left → lent_right ≡ right
-    → lent_keys ≡ keys → tells_joined lent_left lent_right lent_keys outputs ≡ tells_apart p outputs
+    → lent_keys ≡ keys → tells_joined lent_left lent_right lent_keys outputs ≡ tells_joins p outputs
 joins_told p left right lent_left lent_right keys lent_keys outputs is same_left same_right same_keys =
     ap (λ l. tells_joined l lent_right lent_keys outputs) same_left ∙ ap (λ r. tells_joined left r lent_keys outputs) same_right ∙ ap (λ ks. tells_joined left right ks outputs) same_keys
-    ∙ sym (ap (λ q. tells_apart q outputs) is)
+    ∙ sym (ap (λ q. tells_joins q outputs) is)
 
 -- ---- all plans
 
-pub told : (graph : State) → IsGraph graph → (p : Plan) (outputs : List Output) → IsWellFormed p → tells_apart p outputs ≡ true → TellsRowsApartOn graph p outputs
+pub told : (graph : State) → IsGraph graph → (p : Plan) (outputs : List Output) → IsWellFormed p → tells_joins p outputs ≡ true → TellsRowsApartOn graph p outputs
 told graph is plan.unit outputs good tells = absurd (false≢true tells)
 told graph is plan.nodes outputs good tells = absurd (false≢true tells)
 told graph is (plan.rels types orientation) outputs good tells = absurd (false≢true tells)

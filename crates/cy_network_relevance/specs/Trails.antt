@@ -1,13 +1,16 @@
 -- Projections that gather a relationship and those of a trail after it into one list. They leave out columns, but where they keep enough of the
 -- others, different rows give different ones on each graph: a relationship and one of its ends tell the other end. So do those that leave out only
--- columns of a join's right row in which the same stands as in its left row. (own)
-use Rattle.std.specs.Prelude.{◌≡◌, ℕ, ◌+◌, ◌-◌, ◌<◌, ◌==◌, Bool, false, true, ◌&&◌, ◌||◌, List, [], ◌∷◌, nat_le, slice_get}
+-- columns of a join's right row in which the same stands as in its left row, and those that keep the key of the rows below them: columns whose cells
+-- tell a row. (own)
+use Rattle.std.specs.Prelude.{◌≡◌, ℕ, ◌+◌, ◌-◌, ◌<◌, ◌==◌, Bool, false, true, not, ◌&&◌, ◌||◌, List, [], ◌∷◌, Option, if◌then◌else◌, nat_le, nat_lt, slice_get}
 use Rattle.std.specs.List.{list_all, list_any, range_with_len}
-use Rattle.std.specs.Option.{option_map_or}
+use Rattle.std.specs.Option.{option_and_then, option_map_or}
 use Rattle.cy_values.specs.declared.rows.Cell.{Cell}
 use Rattle.cy_values.specs.Bag.{count_of}
 use Rattle.cy_graph.specs.Graph.{IsGraph, State}
 use Rattle.cy_planner_algebra.specs.declared.operators.KeyColumns.{KeyColumns}
+use Rattle.cy_planner_algebra.specs.declared.operators.Orientation.{Orientation}
+use Rattle.cy_planner_algebra.specs.declared.operators.Orientation.TheVariants.{Directed, Either}
 use Rattle.cy_planner_algebra.specs.Expressions.{projected}
 use Rattle.cy_planner_algebra.specs.Meaning.{rows_of}
 use Rattle.cy_planner_algebra.specs.Plans as plan
@@ -27,6 +30,10 @@ is_kept outputs column = list_any (is_alone column) outputs
 -- it stands alone in the one at this place
 abbrev pub is_at : List Output → ℕ → ℕ → Bool
 is_at outputs place column = option_map_or (is_alone column) (slice_get outputs place) false
+
+-- the column that stands alone in the one at this place
+abbrev pub column_at : List Output → ℕ → Option ℕ
+column_at outputs place = option_and_then column_alone (slice_get outputs place)
 
 -- columns are these two
 abbrev pub are_two : ℕ → ℕ → List ℕ → Bool
@@ -106,20 +113,80 @@ is_paired wide keys outputs column = is_kept outputs column || (nat_le wide colu
 abbrev pub tells_joined : Plan → Plan → List KeyColumns → List Output → Bool
 tells_joined left right keys outputs = list_all (is_paired (width left) keys outputs) (range_with_len 0 (width left + width right)) || tells_trails left right keys outputs
 
+-- a projection tells apart the rows of a join below it
+abbrev pub tells_joins : Plan → List Output → Bool
+tells_joins plan.unit outputs = false
+tells_joins plan.nodes outputs = false
+tells_joins (plan.rels types orientation) outputs = false
+tells_joins (plan.join left right keys) outputs = tells_joined left right keys outputs
+tells_joins (plan.outer left right keys test) outputs = false
+tells_joins (plan.semi left right keys keeping) outputs = tells_joins left outputs
+tells_joins (plan.lookup p column attribute) outputs = false
+tells_joins (plan.filter p test) outputs = tells_joins p outputs
+tells_joins (plan.all_different p columns) outputs = tells_joins p outputs
+tells_joins (plan.project p others) outputs = false
+tells_joins (plan.distinct p) outputs = false
+tells_joins (plan.union left right) outputs = false
+
+-- ---- the key of a plan's rows
+
+-- a column of a relationship's row tells it, if need be together with others: the relationship, and in either direction the first end too
+abbrev pub tells_rel : Orientation → ℕ → Bool
+tells_rel Directed column = column == 0
+tells_rel Either column = nat_lt column 2
+
+-- a column of a plan's rows is one of their key: of pairs that of the left row, and of that of the right one what the join's key doesn't tell
+abbrev pub is_key_column : Plan → ℕ → Bool
+is_key_column plan.unit column = false
+is_key_column plan.nodes column = column == 0
+is_key_column (plan.rels types orientation) column = tells_rel orientation column
+is_key_column (plan.join left right keys) column =
+    if nat_lt column (width left) then is_key_column left column else not (is_key keys (column - width left)) && is_key_column right (column - width left)
+is_key_column (plan.outer left right keys test) column = false
+is_key_column (plan.semi left right keys keeping) column = is_key_column left column
+is_key_column (plan.lookup p c attribute) column = is_key_column p column
+is_key_column (plan.filter p test) column = is_key_column p column
+is_key_column (plan.all_different p columns) column = is_key_column p column
+is_key_column (plan.project p outputs) column = option_map_or (is_key_column p) (column_at outputs column) false
+is_key_column (plan.distinct p) column = false
+is_key_column (plan.union left right) column = false
+
+-- a projection keeps a column of a plan's rows, if it is one of their key
+abbrev pub is_kept_key : Plan → List Output → ℕ → Bool
+is_kept_key p outputs column = not (is_key_column p column) || is_kept outputs column
+
+-- it keeps the whole key
+abbrev pub keeps_key : Plan → List Output → Bool
+keeps_key p outputs = list_all (is_kept_key p outputs) (range_with_len 0 (width p))
+
+-- the greatest width of rows whose key is followed through a projection, so that a plan is gone through in few steps
+abbrev pub greatest_followed : ℕ
+greatest_followed = 32
+
+-- a projection of rows that aren't wider keeps their key
+abbrev pub follows_key : Plan → List Output → Bool
+follows_key p outputs = nat_le (width p) greatest_followed && keeps_key p outputs
+
+-- these columns tell the rows of a plan: nothing in it leaves out a key, or makes rows of another kind
+abbrev pub has_key : Plan → Bool
+has_key plan.unit = true
+has_key plan.nodes = true
+has_key (plan.rels types orientation) = true
+has_key (plan.join left right keys) = has_key left && has_key right
+has_key (plan.outer left right keys test) = false
+has_key (plan.semi left right keys keeping) = has_key left
+has_key (plan.lookup p column attribute) = has_key p
+has_key (plan.filter p test) = has_key p
+has_key (plan.all_different p columns) = has_key p
+has_key (plan.project p outputs) = follows_key p outputs && has_key p
+has_key (plan.distinct p) = false
+has_key (plan.union left right) = false
+
+-- ---- all of it together
+
 -- a projection tells apart the rows below it
 abbrev pub tells_apart : Plan → List Output → Bool
-tells_apart plan.unit outputs = false
-tells_apart plan.nodes outputs = false
-tells_apart (plan.rels types orientation) outputs = false
-tells_apart (plan.join left right keys) outputs = tells_joined left right keys outputs
-tells_apart (plan.outer left right keys test) outputs = false
-tells_apart (plan.semi left right keys keeping) outputs = tells_apart left outputs
-tells_apart (plan.lookup p column attribute) outputs = false
-tells_apart (plan.filter p test) outputs = tells_apart p outputs
-tells_apart (plan.all_different p columns) outputs = tells_apart p outputs
-tells_apart (plan.project p others) outputs = false
-tells_apart (plan.distinct p) outputs = false
-tells_apart (plan.union left right) outputs = false
+tells_apart p outputs = tells_joins p outputs || (follows_key p outputs && has_key p)
 
 -- of different rows of a plan on one graph it makes different ones
 abbrev pub TellsRowsApartOn : State → Plan → List Output → Type 0

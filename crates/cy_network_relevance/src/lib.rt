@@ -8,6 +8,7 @@ mod at_least;
 mod at_most;
 mod columns;
 mod entities;
+mod keys;
 mod parts;
 mod plans;
 mod reads;

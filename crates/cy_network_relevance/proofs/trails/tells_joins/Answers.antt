@@ -5,7 +5,7 @@ use Rattle.cy_planner_algebra.specs.Plans as plan
 use Rattle.cy_planner_algebra.specs.Plans.{Plan}
 use Rattle.cy_planner_algebra.specs.PlanModels.{output_of, plan_of, plan_step}
 use Rattle.cy_network_relevance.proofs.Told.{joins_told}
-use Rattle.cy_network_relevance.proofs.trails.is_told_apart.Goals as goal
+use Rattle.cy_network_relevance.proofs.trails.tells_joins.Goals as goal
 
 pub returns-in-Join : goal.returns-in-Join
 returns-in-Join c =

@@ -1,5 +1,6 @@
 -- What proofs alone need.
 pub mod Entries
+pub mod Hashing
 pub mod Indexed
 pub mod Numbers
 pub mod Postings

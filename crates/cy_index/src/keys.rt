@@ -1,14 +1,17 @@
 //! The keys under which a node stands in the indexes.
 
 ghost use Rattle.std.specs.Prelude.{◌≡◌, ◌||◌, OnOk, IfOk};
+ghost use Rattle.std.specs.List.{fold};
 ghost use Rattle.std.specs.Option.{option_copied};
 ghost use Rattle.cy_index.specs.declared.keys.Key.{Key};
 ghost use Rattle.cy_index.specs.Index.{is_pair};
+ghost use Rattle.cy_index.specs.internal.Hashing.{prop_input};
 ghost use Rattle.cy_index.specs.internal.Under.{among, by_label, by_value, is_here, is_same, is_key_of_label, is_key_of_value, is_key_of};
 
 use cy_graph::{Labels, Props};
 use cy_values::{Duplicate, Fault, Text, Value};
 use std::alloc::Global;
+use std::hash::{Hash, Hasher};
 
 /// A label and a key of properties for which there is an index.
 #[derive(Debug, Drop)]
@@ -27,12 +30,51 @@ impl Pair {
 }
 
 /// What a node is looked up by.
-#[derive(Debug, Drop, PartialEq, Eq, Hash)]
+#[derive(Debug, Drop, PartialEq, Eq)]
 pub(crate) enum Key {
     /// One of its labels.
     Label(Text),
     /// The value of its property, in the index with this place among the chosen ones.
     Prop(usize, Value),
+}
+
+// A key is hashed by what it holds alone, in few writes: most are labels and integers.
+impl Hash for Key {
+    ghost use Rattle.cy_index.specs.internal.Hashing.{key_input, keys_alike};
+
+    ghost hash_input = { key_input };
+
+    ghost respects_eq = { keys_alike };
+
+    fn hash<H: Hasher>(&self, state: &mut H) {
+        match self {
+            Key::Label(label) => label.hash(state),
+            Key::Prop(place, value) => hash_prop(*place, value, state),
+        }
+    }
+}
+
+// What sets a place apart from the numbers of 64 bits.
+const PLACES: u128 = 1 << 64;
+
+// Hashes the value in the index at a place.
+fn hash_prop<H: Hasher>(place: usize, value: &Value, state: &mut H)
+    ensures { state.new ≡ fold H.write state.old (prop_input place value.now) }
+{
+    match value {
+        Value::Int(number) => {
+            let both = (place as u128) * PLACES + number.cast_unsigned() as u128;
+            both.hash(state);
+        }
+        Value::Text(text) => {
+            place.hash(state);
+            text.hash(state);
+        }
+        Value::List(_) | Value::Bool(_) | Value::Null => {
+            place.hash(state);
+            value.hash(state);
+        }
+    }
 }
 
 /// Adds the keys under which a label stands, at a node with these properties: itself, and the values in the indexes of

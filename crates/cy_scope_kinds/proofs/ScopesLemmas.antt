@@ -3,18 +3,13 @@ use Rattle.std.proofs.Common.{arith, ◌<◌, suc, is_some, if◌then◌else◌,
 use Rattle.std.proofs.lemmas.List.{map-append, length-map}
 use Rattle.std.specs.List.{position_from}
 use Rattle.std.specs.Prelude.{slice_get}
-use Rattle.std.specs.BTreeMap.{BTreeMap, UpdatesBy, get_by_text}
 use Rattle.std.specs.Map.{lookup}
-use Rattle.std.specs.String.{string_cmp}
-use Rattle.std.specs.Cmp.Lexicographic.{nat_list_eq_equiv}
-use Rattle.std.proofs.lemmas.Map.Text.{btree_map_updates_text}
 use Rattle.std.specs.Option.{option_or, option_map, option_and_then}
-use Rattle.std.proofs.lemmas.Slice.Eq.{bytes_eq-Decides}
 use Rattle.std.proofs.lemmas.Option.{none-some, same_Some, slice_get-map}
 use Rattle.cy_scope_kinds.specs.declared.kinds.Kind.{Kind}
 use Rattle.std.specs.Str.{bytes_eq}
 use Rattle.cy_scope_kinds.specs.Scopes.{Scope, find_kind, find_column, is_bound, added_name}
-use Rattle.cy_scope_kinds.specs.internal.Maps.{variable_of, variables_of, AreColumns}
+use Rattle.cy_scope_kinds.specs.internal.Maps.{variable_of, variables_of}
 
 module _ {A : Type 0} (test : A → Bool) where
   -- a place in two lists, one after the other
@@ -96,29 +91,6 @@ column_unbound i (v ∷ scope) name =
 
 pub variables_count : (variables : Vec (String Global × Kind) Global) → vec_len variables ≡ length (variables_of variables.items)
 variables_count variables = variables.ok.0 ∙ sym (length-map variables.items variable_of)
-
--- a new variable's column is the next
-column_added : (scope : Scope) (kind : Kind) (name q : List ℕ) → find_column (scope ++ (name, kind) ∷ []) q ≡ option_or (find_column scope q) (cond (bytes_eq q name) (Some (length scope)) None)
-column_added scope kind name q =
-    position_both (λ (v : List ℕ × Kind). bytes_eq q v.0) 0 scope ((name, kind) ∷ [])
-    ∙ ap (λ (n : ℕ). option_or (find_column scope q) (cond (bytes_eq q name) (Some n) None)) (let e : 0 + length scope ≡ length scope = omega arith in e)
-
-either : (t : Bool) (n : ℕ) (o : Option ℕ) → (t ≡ true → o ≡ None) → cond t (Some n) o ≡ option_or o (cond t (Some n) None)
-either true n None h = refl
-either true n (Some m) h = absurd (none-some m (sym (h refl)))
-either false n None h = refl
-either false n (Some m) h = refl
-
--- with the next column at a new name, the map has the column of each
-pub columns_added : (before after : BTreeMap (String Global) ℕ) (scope : Scope) (kind : Kind) (name : List ℕ) (key : String Global) → string_bytes key ≡ name → AreColumns before scope → is_bound scope name ≡ false
-    → UpdatesBy string_cmp (string_cmp key) before after (Some (length scope)) → AreColumns after (scope ++ (name, kind) ∷ [])
-columns_added before after scope kind name key is are unbound updates q =
-    btree_map_updates_text (string_bytes key) before after (Some (length scope)) updates q
-    ∙ ap (λ (n : List ℕ). cond (bytes_eq n q) (Some (length scope)) (get_by_text before q)) is
-    ∙ ap (cond (bytes_eq name q) (Some (length scope))) (are q)
-    ∙ ap (λ t. cond t (Some (length scope)) (find_column scope q)) (nat_list_eq_equiv.symm name q)
-    ∙ either (bytes_eq q name) (length scope) (find_column scope q) (λ alike. ap (find_column scope) ((bytes_eq-Decides q name).0 alike) ∙ column_unbound 0 scope name unbound)
-    ∙ sym (column_added scope kind name q)
 
 -- a new variable goes last
 pub pushed : (es : List (String Global × Kind)) (key : String Global) (kind : Kind) (name : List ℕ) → string_bytes key ≡ name →

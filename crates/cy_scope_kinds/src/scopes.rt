@@ -1,9 +1,11 @@
 //! The variables that are bound at a place.
 
-ghost use Rattle.std.specs.Prelude.{◌≡◌, List, ℕ, [], ◌∷◌, ◌++◌, map, OnOk, IfSome, string_bytes, length, ◌<◌, ◌^◌};
+ghost use Rattle.std.specs.Prelude.{◌≡◌, List, ℕ, [], ◌∷◌, ◌++◌, map, take, OnOk, IfSome, string_bytes, length, ◌<◌, ◌≤◌, ◌^◌, false};
+ghost use Rattle.std.specs.List.{position};
+ghost use Rattle.std.specs.Str.{bytes_eq};
 ghost use Rattle.cy_scope_kinds.specs.declared.kinds.Kind.{Kind};
 ghost use Rattle.cy_scope_kinds.specs.Scopes as spec;
-ghost use Rattle.cy_scope_kinds.specs.internal.Maps.{variables_of, AreColumns};
+ghost use Rattle.cy_scope_kinds.specs.internal.Maps.{few, variables_of, AreColumns};
 ghost use Rattle.cy_trees.specs.TreeModels.{path_of, step_of};
 
 use crate::kinds::Kind;
@@ -12,11 +14,14 @@ use std::alloc::{AllocError, Global};
 use std::collections::BTreeMap;
 use std::marker::Model;
 
+// How many variables are found without the map of columns.
+const FEW: usize = 16;
+
 /// The variables that are bound at a place, each with its kind, in the order of their columns.
 #[derive(Drop)]
 pub struct Scope {
     variables: Vec<(String, Kind)>,
-    /// The column of each name. The map is ordered, since names can be chosen whose hashes collide.
+    /// The column of each name but the first few, which are searched one by one. The map is ordered, since names can be chosen whose hashes collide.
     columns: BTreeMap<String, usize>,
 }
 
@@ -53,9 +58,20 @@ impl Scope {
         ensures value { result ≡ spec.find_column self.now name.now }
         ensures small { IfSome result (λ column. column < 2 ^ 63) }
     {
-        let column = *self.columns.get(name)?;
+        let column = self.search(name)?;
         prove!(column < self.variables.len());
         Some(column)
+    }
+
+    // The column of the variable of the name: its place among the first few, or what the map has.
+    #[tactic(auto, using(crate::proofs::ScopeColumns::early_found, crate::proofs::ScopeColumns::late_found))]
+    fn search(&self, name: &str) -> Option<usize>
+        ensures { result ≡ spec.find_column self.now name.now }
+    {
+        match find_early(&self.variables, name) {
+            Some(column) => Some(column),
+            None => self.columns.get(name).copied(),
+        }
     }
 
     /// The number of variables.
@@ -80,13 +96,36 @@ impl Scope {
         if self.find_kind(name).is_some() {
             return Ok(());
         }
+        if self.len() < FEW {
+            self.add_early(kind, name)
+        } else {
+            self.add_late(kind, name)
+        }
+    }
+
+    // Adds a new variable among the first few.
+    fn add_early(&mut self, kind: Kind, name: &str) -> Result<(), AllocError>
+        requires { length self.old < few }
+        ensures { OnOk result (self.new ≡ self.old ++ (name.now, kind) ∷ []) }
+    {
+        let own_name = String::from_str(*self.variables.allocator(), name)?;
+        self.variables.push((own_name, kind))?;
+        Ok(())
+    }
+
+    // Adds a new variable after the first few.
+    fn add_late(&mut self, kind: Kind, name: &str) -> Result<(), AllocError>
+        requires unbound { spec.is_bound self.old name.now ≡ false }
+        requires late { few ≤ length self.old }
+        ensures { OnOk result (self.new ≡ self.old ++ (name.now, kind) ∷ []) }
+    {
         let alloc = *self.variables.allocator();
         let key = String::from_str(alloc, name)?;
-        let name = String::from_str(alloc, name)?;
+        let own_name = String::from_str(alloc, name)?;
         let column = self.variables.len();
         self.variables.reserve(1)?;
         self.columns.insert(key, column)?;
-        self.variables.push_reserved((name, kind));
+        self.variables.push_reserved((own_name, kind));
         Ok(())
     }
 
@@ -130,6 +169,22 @@ impl Scope {
         }
         Ok(())
     }
+}
+
+// The column of the variable of the name, if it is one of the first few.
+fn find_early(variables: &[(String, Kind)], name: &str) -> Option<usize>
+    ensures { result ≡ spec.find_column (variables_of (take few variables.now)) name.now }
+{
+    place_of(&variables[..FEW.min(variables.len())], name)
+}
+
+// The place of the first variable of the name.
+fn place_of(variables: &[(String, Kind)], name: &str) -> Option<usize>
+    ensures { result ≡ position (λ v. bytes_eq name.now (string_bytes v.0)) variables.now }
+{
+    variables
+        .iter()
+        .position(|variable| name == variable.0.as_str())
 }
 
 /// Whether variables have the same names, in the same order.

@@ -25,6 +25,10 @@ use cy_values::{Duplicate, Row, Scalar, Text, Value};
 use std::alloc::Global;
 use std::collections::BTreeMap;
 
+// How many entries of a map, or labels, are put one by one where they go. More of them are put into an ordered map, so that their time is
+// near to linear.
+const FEW: usize = 16;
+
 /// The value of an expression on a row and the graph as it stands.
 pub(crate) fn value_on(
     alloc: Global,
@@ -96,18 +100,73 @@ fn properties(
     ensures answer { IsAnswer result (λ props. props) (spec.map_properties store.now.graph.now row.now (Some (map entry_of entries.now))) }
     ensures storable { IfOk result (λ props. IsStorable props) }
 {
-    let mut props = BTreeMap::new(alloc);
+    if entries.len() <= FEW {
+        few_properties(alloc, store, row, entries)
+    } else {
+        many_properties(alloc, store, row, entries)
+    }
+}
+
+// The properties, of which each is put where it goes.
+fn few_properties(
+    alloc: Global,
+    store: &Store,
+    row: &Row,
+    entries: &[MapEntry],
+) -> Result<Props, UpdateFault>
+    requires { IsRowThere store.now.graph.now.content row.now }
+    ensures answer { IsAnswer result (λ props. props) (spec.map_properties store.now.graph.now row.now (Some (map entry_of entries.now))) }
+    ensures storable { IfOk result (λ props. IsStorable props) }
+{
+    let mut props = TextMap::with_capacity(alloc, entries.len())?;
     for entry in entries {
         let value = value_on(alloc, store, &entry.value, row)?;
         let kept = stored(value)?;
         set(alloc, &mut props, &entry.key, kept)?;
     }
-    Ok(TextMap::collected(alloc, props)?)
+    Ok(props)
 }
 
 // Sets a property, or removes it where there is no value.
-#[tactic(auto, using(cy_graph::proofs::Ordered::rises_in_order, cy_graph::proofs::Ordered::entry_added, cy_graph::proofs::Ordered::entry_removed))]
 fn set(
+    alloc: Global,
+    props: &mut Props,
+    key: &Text,
+    value: Option<Value>,
+) -> Result<(), UpdateFault>
+    ensures ok { OnOk result (props.new ≡ set_or_removed key.now value props.old) }
+    ensures memory { IfErr result (λ why. why ≡ NoMemory) }
+{
+    match value {
+        Some(value) => props.insert(key.copy(alloc)?, value)?,
+        None => props.remove(key.as_str()),
+    }
+    Ok(())
+}
+
+// The properties, which an ordered map puts in order.
+fn many_properties(
+    alloc: Global,
+    store: &Store,
+    row: &Row,
+    entries: &[MapEntry],
+) -> Result<Props, UpdateFault>
+    requires { IsRowThere store.now.graph.now.content row.now }
+    ensures answer { IsAnswer result (λ props. props) (spec.map_properties store.now.graph.now row.now (Some (map entry_of entries.now))) }
+    ensures storable { IfOk result (λ props. IsStorable props) }
+{
+    let mut props = BTreeMap::new(alloc);
+    for entry in entries {
+        let value = value_on(alloc, store, &entry.value, row)?;
+        let kept = stored(value)?;
+        set_ordered(alloc, &mut props, &entry.key, kept)?;
+    }
+    Ok(TextMap::collected(alloc, props)?)
+}
+
+// Sets a property in an ordered map, or removes it where there is no value.
+#[tactic(auto, using(cy_graph::proofs::Ordered::rises_in_order, cy_graph::proofs::Ordered::entry_added, cy_graph::proofs::Ordered::entry_removed))]
+fn set_ordered(
     alloc: Global,
     props: &mut BTreeMap<Text, Value>,
     key: &Text,
@@ -132,6 +191,31 @@ fn set(
 
 /// The set of these labels.
 pub(crate) fn label_set(alloc: Global, labels: &[Text]) -> Result<Labels, UpdateFault>
+    ensures set { IfOk result (λ set. set ≡ spec.label_set labels.now) }
+    ensures memory { IfErr result (λ why. why ≡ NoMemory) }
+{
+    if labels.len() <= FEW {
+        few_labels(alloc, labels)
+    } else {
+        many_labels(alloc, labels)
+    }
+}
+
+// The set of labels, of which each is put where it goes.
+fn few_labels(alloc: Global, labels: &[Text]) -> Result<Labels, UpdateFault>
+    ensures set { IfOk result (λ set. set ≡ spec.label_set labels.now) }
+    ensures memory { IfErr result (λ why. why ≡ NoMemory) }
+{
+    let mut set = TextMap::with_capacity(alloc, labels.len())?;
+    for label in labels {
+        let name = label.copy(alloc)?;
+        set.insert(name, ())?;
+    }
+    Ok(set)
+}
+
+// The set of labels, which an ordered map puts in order.
+fn many_labels(alloc: Global, labels: &[Text]) -> Result<Labels, UpdateFault>
     ensures set { IfOk result (λ set. set ≡ spec.label_set labels.now) }
     ensures memory { IfErr result (λ why. why ≡ NoMemory) }
 {

@@ -7,7 +7,7 @@ use Rattle.cy_graph.specs.Graph.{set_or_removed}
 use Rattle.cy_updates_meaning.proofs.InTurn.{next_in, or_wants}
 use Rattle.cy_updates_writes.proofs.MapValues.{entry_next, entry_stops, set_from}
 use Rattle.cy_updates_meaning.proofs.StoredValues.{AreProperties, set_properties}
-use Rattle.cy_updates_writes.proofs.maps.properties.Goals as goal
+use Rattle.cy_updates_writes.proofs.maps.many_properties.Goals as goal
 
 pub returns-in_err-value-clause-answer : goal.returns-in_err-value-clause-answer
 returns-in_err-value-clause-answer c =
@@ -28,11 +28,11 @@ loop-entry-preserved c =
     let entry = entry_of c.entry-item.result in
     let rest = map entry_of (drop (l.entry-index + 1) entries) in
     let kept = c.in_ok-kept.ensures in
-    let made = c.in_ok-set.ensures.ok ∙ ap (λ (o : Option Value). set_or_removed entry.key o l.props.entries) kept.1 in
+    let made = c.in_ok-set_ordered.ensures.ok ∙ ap (λ (o : Option Value). set_or_removed entry.key o l.props.entries) kept.1 in
     record {
       leads = ap (λ (p : List (Name × Value)). set_from graph row p rest) made
           ∙ entry_next graph row entry rest (map entry_of (drop l.entry-index entries)) (next_in entry_of entries l.entry-index c.entry-item.result c.loop-entry-test.true c.entry-item.is) l.props.entries _ l.invariant.leads
           c.in_ok-value.value c.in_ok-value.ensures kept.0;
-      good = subst AreProperties (sym c.in_ok-set.ensures.ok) (set_properties entry.key c.in_ok-kept.kept l.props.entries kept.2 l.invariant.good);
-      ordered = c.in_ok-set.ensures.ordered;
+      good = subst AreProperties (sym c.in_ok-set_ordered.ensures.ok) (set_properties entry.key c.in_ok-kept.kept l.props.entries kept.2 l.invariant.good);
+      ordered = c.in_ok-set_ordered.ensures.ordered;
     }

@@ -6,7 +6,7 @@ use Rattle.cy_trees.specs.TreeModels.{entry_of}
 use Rattle.cy_updates_meaning.specs.Faults.{◌>>=◌}
 use Rattle.cy_updates_meaning.specs.Values.{entry_values, set_all}
 use Rattle.cy_updates_meaning.proofs.StoredValues.{AreProperties}
-use Rattle.cy_updates_writes.proofs.maps.properties.Given as goal
+use Rattle.cy_updates_writes.proofs.maps.many_properties.Given as goal
 
 -- what is set so far, with the entries that are left, is what all of them make
 abbrev pub invariant-loop-entry : goal.invariant-loop-entry

@@ -5,7 +5,7 @@ use Rattle.cy_graph.specs.Maps.{with_value}
 use Rattle.cy_graph.proofs.Ordered.{entry_added}
 use Rattle.cy_oneshot_patterns.proofs.SliceReads.{next_of}
 use Rattle.cy_updates_meaning.proofs.InTurn.{next_folds}
-use Rattle.cy_updates_writes.proofs.maps.label_set.Goals as goal
+use Rattle.cy_updates_writes.proofs.maps.many_labels.Goals as goal
 
 pub loop-label-preserved : goal.loop-label-preserved
 loop-label-preserved c =

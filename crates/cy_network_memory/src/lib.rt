@@ -4,7 +4,6 @@
 mod buckets;
 mod equality;
 mod faults;
-mod few;
 mod keyed;
 mod keys;
 mod listed;
@@ -13,6 +12,7 @@ mod lists;
 mod memory;
 mod rows;
 mod tables;
+mod tallies;
 
 pub use equality::rows_equal;
 pub use faults::MemoryFault;

@@ -3,3 +3,5 @@ pub mod OwnSingles
 pub mod OwnPairs
 pub mod OwnOuter
 pub mod OwnSemi
+pub mod PassageLemmas
+pub mod KeptRows

@@ -1,14 +1,16 @@
 -- What the parts with one part below them are asked, and what they give.
-use Rattle.std.proofs.Common.{◌≡◌, ℕ, ◌≤◌, false, List, [], ◌∷◌, Option, Some, None, IfSome, filter, length, map, sym, ap, subst, ◌∙◌}
+use Rattle.std.proofs.Common.{◌≡◌, ℕ, ◌<◌, ◌+◌, ◌≤◌, Bool, true, false, cond, refl, arith, inl, inr, List, [], ◌∷◌, ◌++◌, Option, Some, None, IfSome, filter, length, map, sym, ap, subst, ◌∙◌}
+use Rattle.std.specs.Prelude.{flat_map}
 use Rattle.std.specs.List.{All}
 use Rattle.std.proofs.lemmas.List.Elements.{All-nil, All-tail}
 use Rattle.cy_values.specs.declared.rows.Cell.{Cell}
 use Rattle.cy_values.specs.Bag.{count_of}
 use Rattle.cy_trees.specs.Trees.{Expression}
-use Rattle.cy_graph.specs.Graph.{IsGraph, State}
+use Rattle.cy_graph.specs.Graph.{Content, IsGraph, State}
 use Rattle.cy_expr.specs.Graphs.{are_different}
+use Rattle.cy_expr.specs.Lookups.{IsNumbered}
 use Rattle.cy_network_memory.specs.Counts.{Counts, greatest_count}
-use Rattle.cy_network_merges.specs.Merges.{AreBounded, IsProjectChange, all_columns}
+use Rattle.cy_network_merges.specs.Merges.{AreBounded, IsProjectChange, all_columns, image}
 use Rattle.cy_planner_algebra.specs.declared.operators.Attribute.{Attribute}
 use Rattle.cy_planner_algebra.specs.Plans as plan
 use Rattle.cy_planner_algebra.specs.Plans.{Output, Plan}
@@ -22,7 +24,12 @@ use Rattle.cy_network_operators.proofs.PlanLemmas.{different_at, filter_at, look
 use Rattle.cy_network_touches.specs.Changes.{Touches}
 use Rattle.cy_network_parts.specs.Memories.{is_row_by_row, is_scan, none_where}
 use Rattle.cy_network_parts.specs.Upkeep.{IsDeltaOf, IsOwnBegun, IsOwnDone, IsStep, content_of, state_of}
-use Rattle.cy_network_part_deltas.proofs.Shifted.{after_is, held_delta, of_deltas}
+use Rattle.cy_network_operators.specs.Passing.{left_of, row_delta_if}
+use Rattle.cy_planner_algebra.proofs.Counts.{count_passing}
+use Rattle.cy_network_parts.specs.Parts.{first_below}
+use Rattle.cy_network_part_deltas.specs.Images.{AreTaken, keeps, kept}
+use Rattle.cy_network_part_deltas.proofs.PassageLemmas.{IsOver}
+use Rattle.cy_network_part_deltas.proofs.Shifted.{after_is, either, held_delta, numbered_at, of_counted, of_deltas}
 use Rattle.cy_network_parts.proofs.Slices.{same_at}
 use Rattle.cy_network_parts.proofs.Steps.{old_content, old_graph, own_within}
 
@@ -91,6 +98,58 @@ pub project_sure : (old : Option State) (now : State) (touches : Touches) (p : P
 project_sure old now touches p outputs deltas step part =
     of_deltas (HasCells outputs) (rows_at (content_of old) p) (rows_at (Some now.content) p) deltas part.delta
     (sure_project old (old_graph old now touches step.change) p outputs step.sure) (sure_project (Some now) step.change.graph_now p outputs step.sure)
+
+-- a row in whose columns no relationship stands twice counts as often among those that are kept
+count_kept : (graph : Option Content) (q : Plan) (columns : List ℕ) (row : List Cell) → keeps columns row ≡ true → count_of row (rows_at graph (plan.all_different q columns)) ≡ count_of row (rows_at graph q)
+count_kept graph q columns row keep =
+    ap (count_of row) (different_at graph q columns) ∙ count_passing (keeps columns) row (rows_at graph q) ∙ ap (λ b. cond b (count_of row (rows_at graph q)) 0) keep
+
+-- the rows below a projection have the cells that it makes
+pub images_taken : (old : Option State) (now : State) (touches : Touches) (p : Plan) (outputs : List Output) → IsStep old now touches (plan.project p outputs)
+    → AreTaken old now p (λ row. HasCells outputs row × All IsNumbered row)
+images_taken old now touches p outputs step row some =
+    let first = old_graph old now touches step.change in
+    let before = rows_at (content_of old) p in
+    let after = rows_at (Some now.content) p in
+    either (count_of row before) (count_of row after) some (HasCells outputs row × All IsNumbered row)
+    (λ here. (
+      of_counted (HasCells outputs) before (sure_project old first p outputs step.sure) row here,
+      of_counted (λ r. All IsNumbered r) before (numbered_at old first p) row here,
+    ))
+    (λ there. (
+      of_counted (HasCells outputs) after (sure_project (Some now) step.change.graph_now p outputs step.sure) row there,
+      of_counted (λ r. All IsNumbered r) after (numbered_at (Some now) step.change.graph_now p) row there,
+    ))
+
+-- and with a test in between
+over_taken_at : (old : Option State) (now : State) (touches : Touches) (q : Plan) (columns : List ℕ) (outputs : List Output) → IsStep old now touches (plan.project (plan.all_different q columns) outputs)
+    → AreTaken old now q (λ row. keeps columns row ≡ true → HasCells outputs row × All IsNumbered row)
+over_taken_at old now touches q columns outputs step row some keep =
+    let r : Plan = plan.all_different q columns in
+    let first = count_kept (content_of old) q columns row keep in
+    let second = count_kept (Some now.content) q columns row keep in
+    images_taken old now touches r outputs step row (omega (arith, some, first, second))
+
+pub over_taken : (old : Option State) (now : State) (touches : Touches) (q : Plan) (columns : List ℕ) (above : Plan) (outputs : List Output) → above ≡ plan.project (first_below above) outputs → IsOver above columns q
+    → IsStep old now touches above → AreTaken old now q (λ row. keeps columns row ≡ true → HasCells outputs row × All IsNumbered row)
+over_taken old now touches q columns above outputs is over step = elim over [
+  | inl right ↦ λ row some keep. images_taken old now touches q outputs (subst (IsStep old now touches) (is ∙ ap (λ p. plan.project p outputs) right.0) step) row some
+  | inr test ↦ over_taken_at old now touches q columns outputs (subst (IsStep old now touches) (is ∙ ap (λ p. plan.project p outputs) test) step)
+]
+
+-- what is left of row deltas are the images of those that are kept
+pub left_images : (columns : List ℕ) (outputs : List Output) (deltas : List RowDelta)
+    → flat_map (left_of (λ row. cond (keeps columns row) (Some (projected outputs row)) None)) deltas ≡ map (image (projected outputs)) (kept columns deltas)
+left_images columns outputs [] = refl
+left_images columns outputs (s ∷ deltas) = by (keeps columns s.row) (left_images columns outputs deltas)
+  where
+    rest : List RowDelta
+    rest = flat_map (left_of (λ row. cond (keeps columns row) (Some (projected outputs row)) None)) deltas
+
+    by : (b : Bool) → rest ≡ map (image (projected outputs)) (kept columns deltas)
+        → row_delta_if (cond b (Some (projected outputs s.row)) None) s.before s.after ++ rest ≡ map (image (projected outputs)) (cond b (s ∷ kept columns deltas) (kept columns deltas))
+    by true more = ap (λ xs. image (projected outputs) s ∷ xs) more
+    by false more = more
 
 module _ (old : Option State) (now : State) (touches : Touches) (p : Plan) (outputs : List Output) (deltas : List RowDelta) (key : List ℕ) (was staged : Counts)
     (kept : is_row_by_row p outputs ≡ false) (step : IsStep old now touches (plan.project p outputs)) (begun : IsOwnBegun old (plan.project p outputs) (key ∷ []) (was ∷ []) (staged ∷ []))

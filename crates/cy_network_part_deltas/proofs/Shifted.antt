@@ -22,7 +22,7 @@ use Rattle.cy_network_parts.specs.Upkeep.{IsDeltaOf, content_of, state_of}
 use Rattle.cy_network_parts.proofs.Steps.{old_graph}
 
 -- what holds of all rows holds of each that counts
-of_counted : (P : List Cell → Type 0) (rows : List (List Cell)) → All P rows → (row : List Cell) → 0 < count_of row rows → P row
+pub of_counted : (P : List Cell → Type 0) (rows : List (List Cell)) → All P rows → (row : List Cell) → 0 < count_of row rows → P row
 of_counted P [] all row some = absurd (omega (arith, some))
 of_counted P (x ∷ xs) all row some = step (is_row row x) refl (of_counted P xs (All-tail P x xs all) row)
   where
@@ -31,7 +31,7 @@ of_counted P (x ∷ xs) all row some = step (is_row row x) refl (of_counted P xs
     step false is rest =
         rest (subst (λ n. 0 < n) (count_cons row x xs ∙ ap (λ b. cond b 1 0 + count_of row xs) is ∙ (let e : 0 + count_of row xs ≡ count_of row xs = omega arith in e)) some)
 
-either : (m n : ℕ) → 0 < m + n → (P : Type 0) → (0 < m → P) → (0 < n → P) → P
+pub either : (m n : ℕ) → 0 < m + n → (P : Type 0) → (0 < m → P) → (0 < n → P) → P
 either zero n some P first second = second (omega (arith, some))
 either (suc m) n some P first second = first (omega arith)
 
@@ -53,7 +53,7 @@ held_delta was before after deltas is delta =
     (subst (λ a. IsDelta (counts before) a deltas) (sym (after_is was before after deltas is delta)) delta)
 
 -- what names entities in the rows of a part has numbers
-numbered_at : (old : Option State) → IfSome old IsGraph → (p : Plan) → All (λ row. All IsNumbered row) (rows_at (content_of old) p)
+pub numbered_at : (old : Option State) → IfSome old IsGraph → (p : Plan) → All (λ row. All IsNumbered row) (rows_at (content_of old) p)
 numbered_at None is p = All-nil (λ row. All IsNumbered row)
 numbered_at (Some s) is p = numbered_rows s is p
 

@@ -3,8 +3,10 @@
 
 mod leaves;
 mod pairs;
+mod passages;
 mod singles;
 
 pub use leaves::lowest_deltas;
-pub use pairs::pair_deltas;
-pub use singles::single_deltas;
+pub use pairs::{pair_deltas, pairs_through};
+pub use passages::passage_start;
+pub use singles::{image_deltas, single_deltas};

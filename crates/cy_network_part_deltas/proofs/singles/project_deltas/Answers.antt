@@ -6,22 +6,25 @@ use Rattle.std.proofs.lemmas.List.{length-map}
 use Rattle.cy_values.specs.declared.rows.Cell.{Cell}
 use Rattle.cy_graph.specs.Graph.{State}
 use Rattle.cy_network_memory.specs.Counts.{Counts, greatest_count}
-use Rattle.cy_network_merges.specs.Merges.{IsProjectChange, all_columns}
+use Rattle.cy_network_merges.specs.Merges.{IsImageChange, all_columns, image}
+use Rattle.cy_network_merges.proofs.ChangedRows.{images_bounded}
 use Rattle.cy_planner_algebra.specs.Plans as plan
 use Rattle.cy_planner_algebra.specs.Plans.{Output, Plan}
 use Rattle.cy_planner_algebra.specs.Expressions.{projected}
-use Rattle.cy_planner_algebra.specs.PlanModels.{output_of, plan_of}
+use Rattle.cy_planner_algebra.specs.PlanModels.{plan_of}
 use Rattle.cy_network_memory.specs.declared.memory.RowDelta.{RowDelta}
 use Rattle.cy_network_operators.specs.Deltas.{IsBounded, IsDelta, counts, rows_at}
 use Rattle.cy_network_touches.specs.Changes.{Touches}
 use Rattle.cy_network_parts.specs.Memories.{is_row_by_row, none_where, own_keys}
 use Rattle.cy_network_parts.specs.Parts.{first_below}
 use Rattle.cy_network_parts.specs.Upkeep.{HasTooMany, IsFed, IsOwnBegun, IsOwnDone, IsStep, content_of}
-use Rattle.cy_network_touches.specs.Work.{own_reads, own_steps}
+use Rattle.cy_network_touches.specs.Work.{own_steps}
+use Rattle.cy_network_part_deltas.specs.Images.{images_by, outputs_of}
 use Rattle.cy_network_parts.proofs.Lent.{begun_as, done_as, own_length, steps_of_one}
 use Rattle.cy_network_parts.proofs.Outcomes.{if_err_more, if_ok_from, if_ok_three}
-use Rattle.cy_network_part_deltas.proofs.OwnSingles.{project_change, project_done, project_keyed, project_settled, project_sure, project_within}
-use Rattle.cy_network_part_deltas.proofs.Shifted.{row_delta_numbers, deltas_long}
+use Rattle.cy_network_part_deltas.proofs.OwnSingles.{project_change, project_done, project_settled, project_within}
+use Rattle.cy_network_part_deltas.proofs.PassageLemmas.{project_is}
+use Rattle.cy_network_part_deltas.proofs.Shifted.{deltas_long}
 use Rattle.cy_network_parts.proofs.Slices.{one_only, set_one}
 use Rattle.cy_network_parts.proofs.Taken.{grown_of_one}
 use Rattle.cy_network_part_deltas.proofs.singles.project_deltas.Goals as goal
@@ -48,107 +51,84 @@ fed_project key_columns was staged d own p outputs old now touches deltas is kep
 pub offset_bounds-0 : goal.offset_bounds-0
 offset_bounds-0 g c =
     let own = c.args.own.now in
-    let long : length own ≡ 1 = one_kept g.M.Memory.key_columns own (plan_of c.args.part.now) (map output_of c.args.outputs.now) c.requires.is c.requires.kept c.requires.begun.1.own.keyed in
+    let long : length own ≡ 1 = one_kept g.M.Memory.key_columns own (plan_of c.args.part.now) (outputs_of (plan_of c.args.part.now)) (project_is (plan_of c.args.part.now) c.requires.project) c.requires.kept c.requires.begun.1.1.1.fed.own.keyed in
     omega (arith, long)
 
 pub bounds-own-0 : goal.bounds-own-0
 bounds-own-0 g c =
     let own = c.args.own.now in
-    let long : length own ≡ 1 = one_kept g.M.Memory.key_columns own (plan_of c.args.part.now) (map output_of c.args.outputs.now) c.requires.is c.requires.kept c.requires.begun.1.own.keyed in
+    let long : length own ≡ 1 = one_kept g.M.Memory.key_columns own (plan_of c.args.part.now) (outputs_of (plan_of c.args.part.now)) (project_is (plan_of c.args.part.now) c.requires.project) c.requires.kept c.requires.begun.1.1.1.fed.own.keyed in
     omega (arith, long)
 
-pub project-requires-clause-sure : goal.project-requires-clause-sure
-project-requires-clause-sure g c =
-    let p = plan_of c.args.part.now in
-    let old = c.requires.begun.0 in
-    let now = c.args.sight.now.graph.now in
-    let touches = c.args.change.now in
-    let outputs = map output_of c.args.outputs.now in
-    let fed = c.requires.begun.1 in
-    let d = c.index-own-0.result in
-    let m = get_or c.args.own.now 0 d in
-    let f = fed_project g.M.Memory.key_columns g.M.Memory.was g.M.Memory.staged d c.args.own.now p outputs old now touches c.args.deltas.items c.requires.is c.requires.kept fed in
-    project_sure old now touches (first_below p) outputs c.args.deltas.items f.1 fed.below
-
-pub project-requires-clause-numbered : goal.project-requires-clause-numbered
-project-requires-clause-numbered g c =
-    let p = plan_of c.args.part.now in
-    let old = c.requires.begun.0 in
-    let now = c.args.sight.now.graph.now in
-    let touches = c.args.change.now in
-    let outputs = map output_of c.args.outputs.now in
-    let fed = c.requires.begun.1 in
-    let d = c.index-own-0.result in
-    let m = get_or c.args.own.now 0 d in
-    let f = fed_project g.M.Memory.key_columns g.M.Memory.was g.M.Memory.staged d c.args.own.now p outputs old now touches c.args.deltas.items c.requires.is c.requires.kept fed in
-    row_delta_numbers old now touches (first_below p) c.args.deltas.items fed.step.change fed.below
-
 pub project-requires-clause-bounded : goal.project-requires-clause-bounded
-project-requires-clause-bounded g c = c.requires.begun.1.below.bounded
-
-pub project-requires-clause-columns : goal.project-requires-clause-columns
-project-requires-clause-columns g c =
-    let p = plan_of c.args.part.now in
-    let old = c.requires.begun.0 in
-    let now = c.args.sight.now.graph.now in
-    let touches = c.args.change.now in
-    let outputs = map output_of c.args.outputs.now in
-    let fed = c.requires.begun.1 in
-    let d = c.index-own-0.result in
-    let m = get_or c.args.own.now 0 d in
-    let f = fed_project g.M.Memory.key_columns g.M.Memory.was g.M.Memory.staged d c.args.own.now p outputs old now touches c.args.deltas.items c.requires.is c.requires.kept fed in
-    project_keyed old now touches (first_below p) outputs c.args.deltas.items (g.M.Memory.key_columns m) (g.M.Memory.was m) (g.M.Memory.staged m) c.requires.kept f.1 f.2 fed.below
-    ∙ ap all_columns (length-map c.args.outputs.now output_of)
+project-requires-clause-bounded g c =
+    let given = c.requires.begun.1.1.1 in
+    subst (All IsBounded) (sym given.are) (images_bounded (projected (outputs_of (plan_of c.args.part.now))) given.deltas given.fed.below.bounded)
 
 pub project-requires-clause-settled : goal.project-requires-clause-settled
 project-requires-clause-settled g c =
     let p = plan_of c.args.part.now in
     let old = c.requires.begun.0 in
-    let now = c.args.sight.now.graph.now in
-    let touches = c.args.change.now in
-    let outputs = map output_of c.args.outputs.now in
-    let fed = c.requires.begun.1 in
+    let now = c.requires.begun.1.0 in
+    let touches = c.requires.begun.1.1.0 in
+    let outputs = outputs_of (plan_of c.args.part.now) in
+    let given = c.requires.begun.1.1.1 in
+    let fed = given.fed in
     let d = c.index-own-0.result in
     let m = get_or c.args.own.now 0 d in
-    let f = fed_project g.M.Memory.key_columns g.M.Memory.was g.M.Memory.staged d c.args.own.now p outputs old now touches c.args.deltas.items c.requires.is c.requires.kept fed in
-    project_settled old now touches (first_below p) outputs c.args.deltas.items (g.M.Memory.key_columns m) (g.M.Memory.was m) (g.M.Memory.staged m) c.requires.kept f.1 f.2 fed.below
+    let f = fed_project g.M.Memory.key_columns g.M.Memory.was g.M.Memory.staged d c.args.own.now p outputs old now touches given.deltas (project_is (plan_of c.args.part.now) c.requires.project) c.requires.kept fed in
+    project_settled old now touches (first_below p) outputs given.deltas (g.M.Memory.key_columns m) (g.M.Memory.was m) (g.M.Memory.staged m) c.requires.kept f.1 f.2 fed.below
 
 pub project-requires-clause-counts : goal.project-requires-clause-counts
 project-requires-clause-counts g c =
     let p = plan_of c.args.part.now in
     let old = c.requires.begun.0 in
-    let now = c.args.sight.now.graph.now in
-    let touches = c.args.change.now in
-    let outputs = map output_of c.args.outputs.now in
-    let fed = c.requires.begun.1 in
+    let now = c.requires.begun.1.0 in
+    let touches = c.requires.begun.1.1.0 in
+    let outputs = outputs_of (plan_of c.args.part.now) in
+    let given = c.requires.begun.1.1.1 in
+    let fed = given.fed in
     let d = c.index-own-0.result in
     let m = get_or c.args.own.now 0 d in
-    let f = fed_project g.M.Memory.key_columns g.M.Memory.was g.M.Memory.staged d c.args.own.now p outputs old now touches c.args.deltas.items c.requires.is c.requires.kept fed in
-    project_within old now touches (first_below p) outputs c.args.deltas.items (g.M.Memory.key_columns m) (g.M.Memory.was m) (g.M.Memory.staged m) c.requires.kept f.1 f.2 fed.below
+    let f = fed_project g.M.Memory.key_columns g.M.Memory.was g.M.Memory.staged d c.args.own.now p outputs old now touches given.deltas (project_is (plan_of c.args.part.now) c.requires.project) c.requires.kept fed in
+    project_within old now touches (first_below p) outputs given.deltas (g.M.Memory.key_columns m) (g.M.Memory.was m) (g.M.Memory.staged m) c.requires.kept f.1 f.2 fed.below
 
 pub project-requires-clause-held : goal.project-requires-clause-held
 project-requires-clause-held g c =
     let p = plan_of c.args.part.now in
     let old = c.requires.begun.0 in
-    let now = c.args.sight.now.graph.now in
-    let touches = c.args.change.now in
-    let outputs = map output_of c.args.outputs.now in
-    let fed = c.requires.begun.1 in
+    let now = c.requires.begun.1.0 in
+    let touches = c.requires.begun.1.1.0 in
+    let outputs = outputs_of (plan_of c.args.part.now) in
+    let given = c.requires.begun.1.1.1 in
+    let fed = given.fed in
     let d = c.index-own-0.result in
     let m = get_or c.args.own.now 0 d in
-    let f = fed_project g.M.Memory.key_columns g.M.Memory.was g.M.Memory.staged d c.args.own.now p outputs old now touches c.args.deltas.items c.requires.is c.requires.kept fed in
-    (rows_at (content_of old) (first_below p), (rows_at (Some now.content) (first_below p), project_change old now touches (first_below p) outputs c.args.deltas.items (g.M.Memory.key_columns m) (g.M.Memory.was m) (g.M.Memory.staged m) c.requires.kept f.1 f.2 fed.below))
+    let f = fed_project g.M.Memory.key_columns g.M.Memory.was g.M.Memory.staged d c.args.own.now p outputs old now touches given.deltas (project_is (plan_of c.args.part.now) c.requires.project) c.requires.kept fed in (
+      outputs,
+      (
+        rows_at (content_of old) (first_below p),
+        (
+          rows_at (Some now.content) (first_below p),
+          record {
+            deltas = given.deltas;
+            are = given.are;
+            change = project_change old now touches (first_below p) outputs given.deltas (g.M.Memory.key_columns m) (g.M.Memory.was m) (g.M.Memory.staged m) c.requires.kept f.1 f.2 fed.below;
+          },
+        ),
+      ),
+    )
 
 -- what a projection gives, by the memories that the part has
-module _ {M : Type 0} (key_columns : M → List ℕ) (was staged : M → Counts) (step_count : M → ℕ) (d : M) (own : List M) (p : Plan) (outputs : List Output) (deltas : List RowDelta)
+module _ {M : Type 0} (key_columns : M → List ℕ) (was staged : M → Counts) (step_count : M → ℕ) (d : M) (own : List M) (p : Plan) (outputs : List Output) (deltas given : List RowDelta) (are : given ≡ images_by p deltas)
     (is : p ≡ plan.project (first_below p) outputs) (kept : is_row_by_row (first_below p) outputs ≡ false) (new : M) (old : Option State) (now : State) (touches : Touches)
     (fed : IsFed old now touches p (map key_columns own) (map was own) (map staged own) deltas) where
   abbrev memory : M
   memory = get_or own 0 d
 
-  abbrev given : (own ≡ memory ∷ []) × IsStep old now touches (plan.project (first_below p) outputs)
+  abbrev started : (own ≡ memory ∷ []) × IsStep old now touches (plan.project (first_below p) outputs)
       × IsOwnBegun old (plan.project (first_below p) outputs) (map key_columns (memory ∷ [])) (map was (memory ∷ [])) (map staged (memory ∷ []))
-  given = fed_project key_columns was staged d own p outputs old now touches deltas is kept fed
+  started = fed_project key_columns was staged d own p outputs old now touches deltas is kept fed
 
   long : length own ≡ 1
   long = one_kept key_columns own p outputs is kept fed.own.keyed
@@ -159,75 +139,64 @@ module _ {M : Type 0} (key_columns : M → List ℕ) (was staged : M → Counts)
   abbrev after : List (List Cell)
   after = rows_at (Some now.content) (first_below p)
 
-  change : IsProjectChange outputs (was memory) deltas before after
-  change = project_change old now touches (first_below p) outputs deltas (key_columns memory) (was memory) (staged memory) kept given.1 given.2 fed.below
+  change : IsImageChange outputs (was memory) given before after
+  change = record { deltas = deltas; are = are ∙ ap (λ (made : List Output). map (image (projected made)) deltas) (ap outputs_of is); change = project_change old now touches (first_below p) outputs deltas (key_columns memory) (was memory) (staged memory) kept started.1 started.2 fed.below }
 
-  ends : (made : List RowDelta)
-      → ((before after : List (List Cell)) → IsProjectChange outputs (was memory) deltas before after → IsDelta (counts (map (projected outputs) before)) (counts (map (projected outputs) after)) made)
-      → ((before after : List (List Cell)) → IsProjectChange outputs (was memory) deltas before after → staged new ≡ counts (map (projected outputs) after)) → All IsBounded made
-      → IsOwnDone old now p (map staged (set own 0 new)) made
-  ends made leads holds bounds =
-      done_as key_columns was staged old now p (plan.project (first_below p) outputs) (set own 0 new) (new ∷ []) made is (set_one new own long)
-      (project_done old now touches (first_below p) outputs deltas (key_columns memory) (was memory) (staged memory) kept given.1 given.2 fed.below made (staged new)
-      (leads before after change) (holds before after change) bounds)
+  ends : (to : List RowDelta)
+      → ((made : List Output) (before after : List (List Cell)) → IsImageChange made (was memory) given before after → IsDelta (counts (map (projected made) before)) (counts (map (projected made) after)) to)
+      → ((made : List Output) (before after : List (List Cell)) → IsImageChange made (was memory) given before after → staged new ≡ counts (map (projected made) after)) → All IsBounded to
+      → IsOwnDone old now p (map staged (set own 0 new)) to
+  ends to leads holds bounds =
+      done_as key_columns was staged old now p (plan.project (first_below p) outputs) (set own 0 new) (new ∷ []) to is (set_one new own long)
+      (project_done old now touches (first_below p) outputs deltas (key_columns memory) (was memory) (staged memory) kept started.1 started.2 fed.below to (staged new)
+      (leads outputs before after change) (holds outputs before after change) bounds)
 
-  too_many : ((before after : List (List Cell)) → IsProjectChange outputs (was memory) deltas before after → (row : List Cell) × (greatest_count < counts (map (projected outputs) after) row))
+  too_many : ((made : List Output) (before after : List (List Cell)) → IsImageChange made (was memory) given before after → (row : List Cell) × (greatest_count < counts (map (projected made) after) row))
       → HasTooMany now p
-  too_many found = let row = found before after change in subst (HasTooMany now) (sym is) (row.0, row.1)
+  too_many found = let row = found outputs before after change in subst (HasTooMany now) (sym is) (row.0, row.1)
 
-  steps : step_count new ≤ step_count memory + 2 * length deltas
+  steps : step_count new ≤ step_count memory + 2 * length given
       → sum_by step_count (set own 0 new) ≤ sum_by step_count own + own_steps (rows_at (content_of old)) (rows_at (Some now.content)) touches p
   steps most =
-      steps_of_one step_count own (set own 0 new) memory new (own_steps (rows_at (content_of old)) (rows_at (Some now.content)) touches p) given.0 (set_one new own long)
+      steps_of_one step_count own (set own 0 new) memory new (own_steps (rows_at (content_of old)) (rows_at (Some now.content)) touches p) started.0 (set_one new own long)
       (subst (λ n. step_count new ≤ step_count memory + n)
-      (ap (λ n. 2 * n) (deltas_long old now (first_below p) deltas fed.below) ∙ ap (own_steps (rows_at (content_of old)) (rows_at (Some now.content)) touches) (sym is)) most)
-
-no_less : (m n : ℕ) → m ≤ m + n
-no_less m n = omega arith
+      (ap (λ n. 2 * n) (ap length are ∙ length-map deltas (image (projected (outputs_of p))) ∙ deltas_long old now (first_below p) deltas fed.below) ∙ ap (own_steps (rows_at (content_of old)) (rows_at (Some now.content)) touches) (sym is)) most)
 
 pub returns-clause-done : goal.returns-clause-done
 returns-clause-done g c =
     if_ok_three _ _ _ _ c.project.result c.project.ensures.delta c.project.ensures.staged c.project.ensures.deltas
-    (λ made leads holds bounds old fed.
-    ends g.M.Memory.key_columns g.M.Memory.was g.M.Memory.staged g.M.Memory.step_count c.index-own-0.result c.args.own.now (plan_of c.args.part.now) (map output_of c.args.outputs.now) c.args.deltas.items c.requires.is c.requires.kept
-    c.project.new.memory old c.args.sight.now.graph.now c.args.change.now fed made.items leads holds bounds)
+    (λ made leads holds bounds old now touches given.
+    ends g.M.Memory.key_columns g.M.Memory.was g.M.Memory.staged g.M.Memory.step_count c.index-own-0.result c.args.own.now (plan_of c.args.part.now) (outputs_of (plan_of c.args.part.now)) given.deltas c.args.images.items given.are (project_is (plan_of c.args.part.now) c.requires.project) c.requires.kept
+    c.project.new.memory old now touches given.fed made.items leads holds bounds)
 
 pub returns-clause-too_many : goal.returns-clause-too_many
 returns-clause-too_many g c =
     if_err_more _ _ c.project.result c.project.ensures.too_many
-    (λ fault found is old fed.
-    too_many g.M.Memory.key_columns g.M.Memory.was g.M.Memory.staged g.M.Memory.step_count c.index-own-0.result c.args.own.now (plan_of c.args.part.now) (map output_of c.args.outputs.now) c.args.deltas.items c.requires.is c.requires.kept
-    c.project.new.memory old c.args.sight.now.graph.now c.args.change.now fed (found is))
+    (λ fault found is old now touches given.
+    too_many g.M.Memory.key_columns g.M.Memory.was g.M.Memory.staged g.M.Memory.step_count c.index-own-0.result c.args.own.now (plan_of c.args.part.now) (outputs_of (plan_of c.args.part.now)) given.deltas c.args.images.items given.are (project_is (plan_of c.args.part.now) c.requires.project) c.requires.kept
+    c.project.new.memory old now touches given.fed (found is))
 
 pub returns-clause-was : goal.returns-clause-was
 returns-clause-was g c =
     let own = c.args.own.now in
-    let long : length own ≡ 1 = one_kept g.M.Memory.key_columns own (plan_of c.args.part.now) (map output_of c.args.outputs.now) c.requires.is c.requires.kept c.requires.begun.1.own.keyed in
+    let long : length own ≡ 1 = one_kept g.M.Memory.key_columns own (plan_of c.args.part.now) (outputs_of (plan_of c.args.part.now)) (project_is (plan_of c.args.part.now) c.requires.project) c.requires.kept c.requires.begun.1.1.1.fed.own.keyed in
     ap (map g.M.Memory.was) (set_one c.project.new.memory own long) ∙ ap (λ n. n ∷ []) c.project.ensures.was ∙ sym (ap (map g.M.Memory.was) (one_only c.index-own-0.result own long))
 
 pub returns-clause-columns : goal.returns-clause-columns
 returns-clause-columns g c =
     let own = c.args.own.now in
-    let long : length own ≡ 1 = one_kept g.M.Memory.key_columns own (plan_of c.args.part.now) (map output_of c.args.outputs.now) c.requires.is c.requires.kept c.requires.begun.1.own.keyed in
+    let long : length own ≡ 1 = one_kept g.M.Memory.key_columns own (plan_of c.args.part.now) (outputs_of (plan_of c.args.part.now)) (project_is (plan_of c.args.part.now) c.requires.project) c.requires.kept c.requires.begun.1.1.1.fed.own.keyed in
     ap (map g.M.Memory.key_columns) (set_one c.project.new.memory own long) ∙ ap (λ n. n ∷ []) c.project.ensures.columns ∙ sym (ap (map g.M.Memory.key_columns) (one_only c.index-own-0.result own long))
 
 pub returns-clause-grows : goal.returns-clause-grows
 returns-clause-grows g c =
     let own = c.args.own.now in
-    let long : length own ≡ 1 = one_kept g.M.Memory.key_columns own (plan_of c.args.part.now) (map output_of c.args.outputs.now) c.requires.is c.requires.kept c.requires.begun.1.own.keyed in
+    let long : length own ≡ 1 = one_kept g.M.Memory.key_columns own (plan_of c.args.part.now) (outputs_of (plan_of c.args.part.now)) (project_is (plan_of c.args.part.now) c.requires.project) c.requires.kept c.requires.begun.1.1.1.fed.own.keyed in
     grown_of_one g.M.Memory.step_count own (set own 0 c.project.new.memory) (get_or own 0 c.index-own-0.result) c.project.new.memory (one_only c.index-own-0.result own long) (set_one c.project.new.memory own long) c.project.ensures.grows
-
-pub returns-clause-graph : goal.returns-clause-graph
-returns-clause-graph g c = refl
 
 pub returns-clause-steps : goal.returns-clause-steps
 returns-clause-steps g c =
     if_ok_from _ c.project.result
-    (λ made exact old fed.
-    steps g.M.Memory.key_columns g.M.Memory.was g.M.Memory.staged g.M.Memory.step_count c.index-own-0.result c.args.own.now (plan_of c.args.part.now) (map output_of c.args.outputs.now) c.args.deltas.items c.requires.is c.requires.kept
-    c.project.new.memory old c.args.sight.now.graph.now c.args.change.now fed (c.project.ensures.steps exact))
-
-pub returns-clause-reads : goal.returns-clause-reads
-returns-clause-reads g c =
-    if_ok_from _ c.project.result
-    (λ made old fed. no_less c.args.sight.now.reads (own_reads (rows_at (content_of old)) (rows_at (Some c.args.sight.now.graph.now.content)) c.args.change.now (plan_of c.args.part.now)))
+    (λ made exact old now touches given.
+    steps g.M.Memory.key_columns g.M.Memory.was g.M.Memory.staged g.M.Memory.step_count c.index-own-0.result c.args.own.now (plan_of c.args.part.now) (outputs_of (plan_of c.args.part.now)) given.deltas c.args.images.items given.are (project_is (plan_of c.args.part.now) c.requires.project) c.requires.kept
+    c.project.new.memory old now touches given.fed (c.project.ensures.steps exact))

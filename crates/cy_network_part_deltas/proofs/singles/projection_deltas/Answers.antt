@@ -1,31 +1,85 @@
-use Rattle.std.proofs.Common.{◌≡◌, List, [], Some, length, map, sym, ◌∙◌}
-use Rattle.cy_values.specs.declared.rows.Cell.{Cell}
-use Rattle.cy_planner_algebra.specs.Plans.{Plan}
+use Rattle.std.proofs.Common.{◌≡◌, ℕ, ◌+◌, ◌≤◌, List, Some, map, sym, ap, subst, arith, ◌∙◌}
+use Rattle.cy_planner_algebra.specs.Expressions.{projected}
+use Rattle.cy_planner_algebra.specs.Plans.{Output}
 use Rattle.cy_planner_algebra.specs.PlanModels.{output_of, plan_of}
 use Rattle.cy_network_operators.specs.Deltas.{rows_at}
-use Rattle.cy_network_parts.specs.Memories.{own_contents}
-use Rattle.cy_network_parts.specs.Upkeep.{content_of}
-use Rattle.cy_network_parts.proofs.Lent.{no_length, some_length}
-use Rattle.cy_network_parts.proofs.RowByRow.{with_memory, without_contents, without_memory}
+use Rattle.cy_network_merges.specs.Merges.{image}
+use Rattle.cy_network_touches.specs.Work.{own_reads}
+use Rattle.cy_network_parts.specs.Parts.{first_below}
+use Rattle.cy_network_parts.specs.Upkeep.{IsStep, content_of}
+use Rattle.cy_network_parts.proofs.Outcomes.{if_err_more, if_ok_from, if_ok_more}
+use Rattle.cy_network_parts.proofs.Taken.{grown_none}
+use Rattle.cy_network_part_deltas.specs.Images.{outputs_of}
+use Rattle.cy_network_part_deltas.proofs.OwnSingles.{project_sure}
+use Rattle.cy_network_part_deltas.proofs.Shifted.{row_delta_numbers}
 use Rattle.cy_network_part_deltas.proofs.singles.projection_deltas.Goals as goal
 
-pub row_by_row_deltas-requires-clause-told : goal.row_by_row_deltas-requires-clause-told
-row_by_row_deltas-requires-clause-told g c =
-    without_memory g.M.Memory.key_columns c.args.own.now (plan_of c.args.part.now) (map output_of c.args.outputs.now) c.requires.is c.requires.begun.1.own.keyed c.requires.unscanned
-    (no_length (length c.args.own.now) (sym c.is_empty.ensures ∙ c.if-is_empty.true))
+no_less : (m n : ℕ) → m ≤ m + n
+no_less m n = omega arith
 
-pub project_deltas-requires-clause-kept : goal.project_deltas-requires-clause-kept
-project_deltas-requires-clause-kept g c =
-    with_memory g.M.Memory.key_columns c.args.own.now (plan_of c.args.part.now) (map output_of c.args.outputs.now) c.requires.is c.requires.begun.1.own.keyed
-    (some_length (length c.args.own.now) (sym c.is_empty.ensures ∙ c.if-is_empty.false))
+pub images_of-requires-clause-sure : goal.images_of-requires-clause-sure
+images_of-requires-clause-sure g c =
+    let old = c.requires.begun.0 in
+    let now = c.args.sight.now.graph.now in
+    let touches = c.args.change.now in
+    let fed = c.requires.begun.1 in
+    project_sure old now touches (first_below (plan_of c.args.part.now)) (map output_of c.args.outputs.now) c.args.deltas.items (subst (IsStep old now touches) c.requires.is fed.step) fed.below
 
-pub returns-then-is_empty-clause-done : goal.returns-then-is_empty-clause-done
-returns-then-is_empty-clause-done g c old fed =
-    let p = plan_of c.args.part.now in
-    let none : (rows : Plan → List (List Cell)) → own_contents rows p ≡ [] =
-    without_contents g.M.Memory.key_columns c.args.own.now p (map output_of c.args.outputs.now) c.requires.is c.requires.begun.1.own.keyed c.requires.unscanned
-    (no_length (length c.args.own.now) (sym c.is_empty.ensures ∙ c.if-is_empty.true)) in
-    record {
-      change = c.in_ok-row_by_row_deltas.ensures old c.args.sight.now.graph.now c.args.change.now fed.step fed.below;
-      holds = fed.own.settled ∙ none (rows_at (content_of old)) ∙ sym (none (rows_at (Some c.args.sight.now.graph.now.content)));
-    }
+pub images_of-requires-clause-numbered : goal.images_of-requires-clause-numbered
+images_of-requires-clause-numbered g c =
+    let fed = c.requires.begun.1 in
+    row_delta_numbers c.requires.begun.0 c.args.sight.now.graph.now c.args.change.now (first_below (plan_of c.args.part.now)) c.args.deltas.items fed.step.change fed.below
+
+pub image_deltas-requires-clause-begun : goal.image_deltas-requires-clause-begun
+image_deltas-requires-clause-begun g c = (
+  c.requires.begun.0,
+  (
+    c.args.sight.now.graph.now,
+    (
+      c.args.change.now,
+      record {
+        deltas = c.args.deltas.items;
+        fed = c.requires.begun.1;
+        are = c.in_ok-images.ensures.images ∙ ap (λ (outputs : List Output). map (image (projected outputs)) c.args.deltas.items) (sym (ap outputs_of c.requires.is));
+      },
+    ),
+  ),
+)
+
+pub returns-in_err-images-clause-grows : goal.returns-in_err-images-clause-grows
+returns-in_err-images-clause-grows g c = grown_none g.M.Memory.step_count c.args.own.now
+
+pub returns-clause-done : goal.returns-clause-done
+returns-clause-done g c =
+    if_ok_more _ _ c.image_deltas.result c.image_deltas.ensures.done
+    (λ made done old fed. done old c.args.sight.now.graph.now c.args.change.now
+    (record {
+      deltas = c.args.deltas.items;
+      fed = fed;
+      are = c.in_ok-images.ensures.images ∙ ap (λ (outputs : List Output). map (image (projected outputs)) c.args.deltas.items) (sym (ap outputs_of c.requires.is));
+    }))
+
+pub returns-clause-too_many : goal.returns-clause-too_many
+returns-clause-too_many g c =
+    if_err_more _ _ c.image_deltas.result c.image_deltas.ensures.too_many
+    (λ fault found many old fed. found many old c.args.sight.now.graph.now c.args.change.now
+    (record {
+      deltas = c.args.deltas.items;
+      fed = fed;
+      are = c.in_ok-images.ensures.images ∙ ap (λ (outputs : List Output). map (image (projected outputs)) c.args.deltas.items) (sym (ap outputs_of c.requires.is));
+    }))
+
+pub returns-clause-steps : goal.returns-clause-steps
+returns-clause-steps g c =
+    if_ok_more _ _ c.image_deltas.result c.image_deltas.ensures.steps
+    (λ made most exact old fed. most exact old c.args.sight.now.graph.now c.args.change.now
+    (record {
+      deltas = c.args.deltas.items;
+      fed = fed;
+      are = c.in_ok-images.ensures.images ∙ ap (λ (outputs : List Output). map (image (projected outputs)) c.args.deltas.items) (sym (ap outputs_of c.requires.is));
+    }))
+
+pub returns-clause-reads : goal.returns-clause-reads
+returns-clause-reads g c =
+    if_ok_from _ c.image_deltas.result
+    (λ made old fed. no_less c.args.sight.now.reads (own_reads (rows_at (content_of old)) (rows_at (Some c.args.sight.now.graph.now.content)) c.args.change.now (plan_of c.args.part.now)))

@@ -1,0 +1,41 @@
+use Rattle.std.proofs.Common.{◌≡◌, List, [], Some, length, sym, ◌∙◌}
+use Rattle.cy_values.specs.declared.rows.Cell.{Cell}
+use Rattle.cy_planner_algebra.specs.Plans.{Plan}
+use Rattle.cy_planner_algebra.specs.PlanModels.{plan_of}
+use Rattle.cy_network_operators.specs.Deltas.{rows_at}
+use Rattle.cy_network_parts.specs.Memories.{own_contents}
+use Rattle.cy_network_parts.specs.Upkeep.{content_of}
+use Rattle.cy_network_parts.proofs.Lent.{no_length, some_length}
+use Rattle.cy_network_parts.proofs.RowByRow.{with_memory, without_contents, without_memory}
+use Rattle.cy_network_part_deltas.specs.Images.{outputs_of}
+use Rattle.cy_network_part_deltas.proofs.PassageLemmas.{project_is}
+use Rattle.cy_network_part_deltas.proofs.singles.image_deltas.Goals as goal
+
+pub row_by_row_deltas-requires-clause-told : goal.row_by_row_deltas-requires-clause-told
+row_by_row_deltas-requires-clause-told g c =
+    let p = plan_of c.args.part.now in
+    without_memory g.M.Memory.key_columns c.args.own.now p (outputs_of p) (project_is p c.requires.project) c.requires.begun.1.1.1.fed.own.keyed c.requires.unscanned
+    (no_length (length c.args.own.now) (sym c.is_empty.ensures ∙ c.if-is_empty.true))
+
+pub project_deltas-requires-clause-kept : goal.project_deltas-requires-clause-kept
+project_deltas-requires-clause-kept g c =
+    let p = plan_of c.args.part.now in
+    with_memory g.M.Memory.key_columns c.args.own.now p (outputs_of p) (project_is p c.requires.project) c.requires.begun.1.1.1.fed.own.keyed
+    (some_length (length c.args.own.now) (sym c.is_empty.ensures ∙ c.if-is_empty.false))
+
+pub row_by_row_deltas-requires-clause-begun : goal.row_by_row_deltas-requires-clause-begun
+row_by_row_deltas-requires-clause-begun g c =
+    let begun = c.requires.begun in
+    let given = begun.1.1.1 in
+    (begun.0, (begun.1.0, (begun.1.1.0, (given.deltas, (given.fed.step, (given.fed.below, given.are))))))
+
+pub returns-then-is_empty-clause-done : goal.returns-then-is_empty-clause-done
+returns-then-is_empty-clause-done g c old now touches given =
+    let p = plan_of c.args.part.now in
+    let none : (rows : Plan → List (List Cell)) → own_contents rows p ≡ [] =
+    without_contents g.M.Memory.key_columns c.args.own.now p (outputs_of p) (project_is p c.requires.project) c.requires.begun.1.1.1.fed.own.keyed c.requires.unscanned
+    (no_length (length c.args.own.now) (sym c.is_empty.ensures ∙ c.if-is_empty.true)) in
+    record {
+      change = c.in_ok-row_by_row_deltas.ensures old now touches given.deltas given.fed.step given.fed.below given.are;
+      holds = given.fed.own.settled ∙ none (rows_at (content_of old)) ∙ sym (none (rows_at (Some now.content)));
+    }

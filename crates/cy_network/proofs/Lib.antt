@@ -11,3 +11,4 @@ pub mod Climbs
 pub mod Irrelevant
 pub mod LastMemory
 pub mod Once
+pub mod Passages

@@ -1,2 +1,3 @@
 -- What proofs alone need.
 pub mod Roots
+pub mod Passages

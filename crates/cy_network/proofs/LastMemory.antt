@@ -1,15 +1,14 @@
 -- The last memory of a plan holds its rows, where they stand there.
-use Rattle.std.proofs.Common.{◌≡◌, ℕ, ◌+◌, ◌-◌, Bool, true, false, cond, List, [], ◌∷◌, ◌++◌, Option, Some, None, length, map, min, not, refl, sym, ap, ◌∙◌, arith}
+use Rattle.std.proofs.Common.{◌≡◌, ℕ, ◌+◌, ◌-◌, Bool, true, false, List, [], ◌∷◌, ◌++◌, Option, Some, None, length, map, min, not, refl, sym, ap, ◌∙◌, arith}
 use Rattle.std.specs.Prelude.{option_map, slice_get, unwrap_or}
 use Rattle.std.proofs.lemmas.List.{length-append, length-map}
-use Rattle.std.proofs.lemmas.Option.{slice_get-map}
+use Rattle.std.proofs.lemmas.Option.{slice_get-map, unwrap_or-slice_get}
+use Rattle.std.proofs.Math.Seq.{get_or-append_seam}
 use Rattle.cy_graph.specs.Graph.{Content}
 use Rattle.cy_values.specs.declared.rows.Cell.{Cell}
 use Rattle.cy_values.specs.Bag.{count_of}
 use Rattle.cy_network_relevance.specs.Lists.{are_apart}
 use Rattle.cy_network_memory.specs.Counts.{Counts, no_rows}
-use Rattle.cy_network_memory.proofs.Places.{put_last}
-use Rattle.cy_network_memory.proofs.Soundness.{number_itself}
 use Rattle.cy_network_operators.specs.Deltas.{counts, rows_at}
 use Rattle.cy_network_parts.specs.KeptRows.{keeps_rows}
 use Rattle.cy_network_parts.specs.Memories.{contents, is_row_by_row, none_where}
@@ -25,7 +24,7 @@ true_false e = cc
 last_pushed : (xs : List Counts) (x : Counts) → last_of (xs ++ x ∷ []) ≡ x
 last_pushed xs x =
     ap (λ n. unwrap_or (slice_get (xs ++ x ∷ []) n) no_rows) (let n = length-append xs (x ∷ []) in let place : length (xs ++ x ∷ []) - 1 ≡ length xs = omega (arith, n) in place)
-    ∙ ap (λ o. unwrap_or o no_rows) (put_last xs x (length xs) ∙ ap (λ b. cond b (Some x) (slice_get xs (length xs))) (number_itself (length xs)))
+    ∙ unwrap_or-slice_get (xs ++ x ∷ []) (length xs) no_rows ∙ get_or-append_seam xs x [] no_rows
 
 -- the last of those that are kept, if they are
 last_kept_where : (so : Bool) (xs : List Counts) (x : Counts) → not so ≡ true → last_of (xs ++ none_where so (x ∷ [])) ≡ x

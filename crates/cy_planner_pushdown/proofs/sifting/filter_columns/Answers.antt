@@ -1,4 +1,4 @@
-use Rattle.std.proofs.Common.{◌≡◌, ℕ, ◌+◌, ◌<◌, ◌≤◌, List, [], length, sym, ap, subst, ◌∙◌, arith, rules}
+use Rattle.std.proofs.Common.{◌≡◌, ℕ, ◌+◌, ◌<◌, ◌≤◌, List, [], length, sym, ap, subst, ◌∙◌, arith}
 use Rattle.std.specs.List.{All}
 use Rattle.std.proofs.lemmas.Grind.{common_steps}
 use Rattle.cy_trees.specs.Trees.{Expression}
@@ -28,26 +28,22 @@ pub with_lookups-requires-clause-columns : goal.with_lookups-requires-clause-col
 with_lookups-requires-clause-columns c =
     let below : Plan = plan_of c.args.below in
     let test : Expression = renumbered c.args.columns.now (expression_of c.args.test.now) in
-    let same : expression_of c.in_ok-condition.condition ≡ test = c.in_ok-condition.ensures in
-    let wants : c.as_slice.result.now ≡ with_tree [] (expression_of c.in_ok-condition.condition) = first_of (cc, grind (arith, common_steps)) in
+    let wants : c.as_slice.result.now ≡ with_tree [] test = first_of (cc, grind (arith, common_steps)) in
     let read : IsReadOver below test = read_over below c.args.columns.now (expression_of c.args.test.now) c.width-width.ensures.well_formed c.requires in
-    subst (λ (ws : List Wanted). All (λ w. w.column < width below) ws) (sym (wants ∙ ap (with_tree []) same ∙ tree_is [] test))
+    subst (λ (ws : List Wanted). All (λ w. w.column < width below) ws) (sym (wants ∙ tree_is [] test))
     (all_of_each (IsInside (width below)) (wanted_of test) (wanted_inside below test read))
 
 pub filter-requires : goal.filter-requires
 filter-requires c =
     let below : Plan = plan_of c.args.below in
     let test : Expression = renumbered c.args.columns.now (expression_of c.args.test.now) in
-    let same : expression_of c.in_ok-condition.condition ≡ test = c.in_ok-condition.ensures in
-    let wants : c.add_asked.new.wanted ≡ with_tree [] (expression_of c.in_ok-condition.condition) = first_of (cc, grind (arith, common_steps)) in
-    let wants_again : c.as_slice.result.now ≡ with_tree [] (expression_of c.in_ok-condition.condition) = first_of (cc, grind (arith, common_steps)) in
-    let first : c.add_asked.new.wanted ≡ wanted_of test = wants ∙ ap (with_tree []) same ∙ tree_is [] test in
-    let second : c.as_slice.result.now ≡ wanted_of test = wants_again ∙ ap (with_tree []) same ∙ tree_is [] test in
+    let wants : c.as_slice.result.now ≡ with_tree [] test = first_of (cc, grind (arith, common_steps)) in
+    let first : c.in_ok-asking.asking.wanted ≡ wanted_of test = c.in_ok-asking.ensures.wanted ∙ tree_is [] test in
     let read : IsReadOver below test = read_over below c.args.columns.now (expression_of c.args.test.now) c.width-width.ensures.well_formed c.requires in
-    let wide : plan_of c.in_ok-wide.wide ≡ over below (wanted_of test) = c.in_ok-wide.ensures ∙ ap (over below) second in
-    let condition : expression_of c.in_ok-lowered.lowered ≡ lowered (place (width below) (wanted_of test)) test =
-    c.in_ok-lowered.ensures ∙ (λ i. lowered (place (c.width-width.ensures.width i) (first i)) (same i)) in
-    subst (λ (p : Plan). IsOver (width p) (expression_of c.in_ok-lowered.lowered)) (sym wide)
+    let wide : plan_of c.in_ok-wide.wide ≡ over below (wanted_of test) = c.in_ok-wide.ensures ∙ ap (over below) (wants ∙ tree_is [] test) in
+    let condition : expression_of c.in_ok-asking.asking.condition ≡ lowered (place (width below) (wanted_of test)) test =
+    c.in_ok-asking.ensures.condition ∙ (λ i. lowered (place (c.width-width.ensures.width i) (first i)) test) in
+    subst (λ (p : Plan). IsOver (width p) (expression_of c.in_ok-asking.asking.condition)) (sym wide)
     (subst (λ (e : Expression). IsOver (width (over below (wanted_of test))) e) (sym condition)
     (lowered_over below (wanted_of test) test read (asked_among [] (asked test))))
 
@@ -66,20 +62,16 @@ returns c =
     let columns : List ℕ = c.args.columns.now in
     let tested : Expression = expression_of c.args.test.now in
     let test : Expression = renumbered columns tested in
-    let same : expression_of c.in_ok-condition.condition ≡ test = c.in_ok-condition.ensures in
-    let wants : c.add_asked.new.wanted ≡ with_tree [] (expression_of c.in_ok-condition.condition) = first_of (cc, grind (arith, common_steps)) in
-    let wants_again : c.as_slice.result.now ≡ with_tree [] (expression_of c.in_ok-condition.condition) = first_of (cc, grind (arith, common_steps)) in
-    let first : c.add_asked.new.wanted ≡ wanted_of test = wants ∙ ap (with_tree []) same ∙ tree_is [] test in
-    let second : c.as_slice.result.now ≡ wanted_of test = wants_again ∙ ap (with_tree []) same ∙ tree_is [] test in
+    let wants : c.as_slice.result.now ≡ with_tree [] test = first_of (cc, grind (arith, common_steps)) in
+    let first : c.in_ok-asking.asking.wanted ≡ wanted_of test = c.in_ok-asking.ensures.wanted ∙ tree_is [] test in
     let well = c.width-width.ensures.well_formed in
     let read : IsReadOver below test = read_over below columns tested well c.requires in
-    let room : c.width-width.result + length c.as_slice.result.now ≤ greatest_width = first_of (search rules, grind (arith, common_steps)) in
     let here : width below + length (wanted_of test) ≤ greatest_width =
-    subst (λ (ws : List Wanted). width below + length ws ≤ greatest_width) second
-    (let wide = c.width-width.ensures.width in omega (arith, room, wide)) in
-    let wide : plan_of c.in_ok-wide.wide ≡ over below (wanted_of test) = c.in_ok-wide.ensures ∙ ap (over below) second in
-    let condition : expression_of c.in_ok-lowered.lowered ≡ lowered (place (width below) (wanted_of test)) test =
-    c.in_ok-lowered.ensures ∙ (λ i. lowered (place (c.width-width.ensures.width i) (first i)) (same i)) in
+    subst (λ (ws : List Wanted). width below + length ws ≤ greatest_width) first
+    (let wide = c.width-width.ensures.width in let room = c.in_ok-asking.ensures.room in omega (arith, room, wide)) in
+    let wide : plan_of c.in_ok-wide.wide ≡ over below (wanted_of test) = c.in_ok-wide.ensures ∙ ap (over below) (wants ∙ tree_is [] test) in
+    let condition : expression_of c.in_ok-asking.asking.condition ≡ lowered (place (width below) (wanted_of test)) test =
+    c.in_ok-asking.ensures.condition ∙ (λ i. lowered (place (c.width-width.ensures.width i) (first i)) test) in
     let kept : plan_of c.in_ok-kept.kept ≡ plan.filter (over below (wanted_of test)) (lowered (place (width below) (wanted_of test)) test) =
     c.in_ok-kept.ensures ∙ (λ i. plan.filter (wide i) (condition i)) in
     if_ok_map (λ p. plan_of p ≡ narrowed c.width-width.result (plan_of c.in_ok-kept.kept)) (λ p. IsPushed below columns tested (plan_of p))

@@ -1,3 +1,4 @@
+pub mod CaseTrees
 pub mod RenumberedLists
 pub mod RenumberedLemmas
 pub mod Alike

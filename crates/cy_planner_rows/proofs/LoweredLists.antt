@@ -11,7 +11,9 @@ use Rattle.cy_trees.specs.TreeModels.{arm_of, expression_of, expressions_from, l
 use Rattle.cy_trees.proofs.TreeModelsLemmas.{case_otherwise}
 use Rattle.cy_scope_kinds.specs.declared.functions.Function.{Function}
 use Rattle.cy_planner_algebra.specs.declared.operators.Attribute.{Attribute}
-use Rattle.cy_planner_rows.specs.Lowered.{all_in, lowered, lowered_arm, lowered_arms, lowered_call, lowered_expressions, lowered_link, lowered_links, lowered_single, missing_arms, unless_null}
+use Rattle.cy_scope_kinds.specs.internal.ExpressionTrees.{otherwise_of}
+use Rattle.cy_planner_rows.specs.Lowered.{all_in, lowered, lowered_arm, lowered_arms, lowered_call, lowered_expressions, lowered_link, lowered_links, lowered_otherwise, lowered_single, missing_arms, unless_null}
+use Rattle.cy_planner_rows.proofs.CaseTrees.{case_is}
 
 pub lowered_list : (place : ℕ → Attribute → ℕ) (es : List Expression) → expressions_from (map (lowered place) es) ≡ lowered_expressions place (expressions_from es)
 lowered_list place [] = refl
@@ -66,14 +68,14 @@ all_in_by_arms labels asked arms e several made given =
 pub all_in_one : (labels : Expression) (asked : List Name) (l : Name) → asked ≡ l ∷ [] → all_in labels asked ≡ binary In (text l) labels
 all_in_one labels asked l is = ap (all_in labels) is
 
--- CASE with ELSE
-pub case_lowered : (place : ℕ → Attribute → ℕ) (arms twins : Vec Arm Global) (e f : Box Expr Global)
-    → arms_from (map arm_of twins.items) ≡ lowered_arms place (arms_from (map arm_of arms.items)) → expression_of f.value ≡ lowered place (expression_of e.value)
-    → expression_of (Case twins (Some f)) ≡ lowered place (expression_of (Case arms (Some e)))
+-- CASE
+pub case_lowered : (place : ℕ → Attribute → ℕ) (arms twins : Vec Arm Global) (e f : Option (Box Expr Global))
+    → arms_from (map arm_of twins.items) ≡ lowered_arms place (arms_from (map arm_of arms.items)) → otherwise_of f ≡ lowered_otherwise place (otherwise_of e)
+    → expression_of (Case twins f) ≡ lowered place (expression_of (Case arms e))
 case_lowered place arms twins e f same_arms same =
-    case_otherwise twins f
-    ∙ (λ i. case (same_arms i) (otherwise (same i)))
-    ∙ sym (ap (lowered place) (case_otherwise arms e))
+    case_is twins f
+    ∙ (λ i. case (same_arms i) (same i))
+    ∙ sym (ap (lowered place) (case_is arms e))
 
 -- a call with one argument, and with another number of them
 pub one_argument : (place : ℕ → Attribute → ℕ) (f : Option Function) (arguments : List Expr) (d : Expr) (asked : Expression) → length arguments ≡ 1

@@ -13,8 +13,9 @@ ghost use Rattle.cy_trees.specs.TreeModels.{arm_of, arms_from, expression_of, ex
 ghost use Rattle.cy_expr.specs.Evaluation.{cell_of};
 ghost use Rattle.cy_expr.specs.Lookups.{Lookups};
 ghost use Rattle.cy_scope_kinds.specs.Functions.{function_named};
+ghost use Rattle.cy_scope_kinds.specs.internal.ExpressionTrees.{otherwise_of};
 ghost use Rattle.cy_planner_algebra.specs.declared.operators.Attribute as declared;
-ghost use Rattle.cy_planner_algebra.specs.declared.operators.Attribute.TheVariants.{Property};
+ghost use Rattle.cy_planner_algebra.specs.declared.operators.Attribute.TheVariants.{Labels, Property};
 ghost use Rattle.cy_planner_algebra.specs.WellFormed.{greatest_width};
 ghost use Rattle.cy_planner_algebra.specs.Expressions.{no_graph};
 ghost use Rattle.cy_planner_rows.specs.Lowered as spec;
@@ -124,10 +125,39 @@ fn exists(
     requires { first + length wanted.now ≤ greatest_width }
     ensures { IfOk result (λ e. expression_of e ≡ spec.unless_null (expression_of owner.now) (unary IsNotNull (spec.looked_up (places.place first wanted.now) (expression_of owner.now) (Property key.now)))) }
 {
-    let attribute = Attribute::Property(key.copy(alloc)?);
-    let found = looked_up(alloc, owner, &attribute, first, wanted)?;
+    let found = lower_property(alloc, owner, key, first, wanted)?;
     let given = Expr::Unary(UnaryOperator::IsNotNull, Box::new(alloc, found)?);
     unless_null(alloc, owner.copy(alloc)?, given)
+}
+
+/// A property, as the column of its look-up.
+fn lower_property(
+    alloc: Global,
+    owner: &Expr,
+    key: &Text,
+    first: usize,
+    wanted: &WantedList,
+) -> Result<Expr, Fault>
+    requires { first + length wanted.now ≤ greatest_width }
+    ensures { IfOk result (λ e. expression_of e ≡ spec.looked_up (places.place first wanted.now) (expression_of owner.now) (Property key.now)) }
+{
+    let attribute = Attribute::Property(key.copy(alloc)?);
+    looked_up(alloc, owner, &attribute, first, wanted)
+}
+
+/// A test of labels, which are looked up.
+fn lower_labels(
+    alloc: Global,
+    owner: &Expr,
+    asked: &[Text],
+    first: usize,
+    wanted: &WantedList,
+) -> Result<Expr, Fault>
+    requires { first + length wanted.now ≤ greatest_width }
+    ensures { IfOk result (λ e. expression_of e ≡ spec.all_in (spec.looked_up (places.place first wanted.now) (expression_of owner.now) Labels) asked.now) }
+{
+    let labels = looked_up(alloc, owner, &Attribute::Labels, first, wanted)?;
+    all_in(alloc, &labels, asked)
 }
 
 #[cycle(lowering)]
@@ -183,6 +213,17 @@ fn lower_links(
 }
 
 #[cycle(lowering)]
+fn lower_arm(alloc: Global, arm: &Arm, first: usize, wanted: &WantedList) -> Result<Arm, Fault>
+    requires { first + length wanted.now ≤ greatest_width }
+    ensures { IfOk result (λ made. arm_of made ≡ spec.lowered_arm (places.place first wanted.now) (arm_of arm.now)) }
+{
+    Ok(Arm {
+        condition: lower(alloc, &arm.condition, first, wanted)?,
+        outcome: lower(alloc, &arm.outcome, first, wanted)?,
+    })
+}
+
+#[cycle(lowering)]
 #[tactic(auto, using(crate::proofs::LoweredLists::lowered_arms_list))]
 fn lower_arms(
     alloc: Global,
@@ -195,12 +236,26 @@ fn lower_arms(
 {
     let mut made = Vec::new(alloc);
     for arm in arms {
-        made.push(Arm {
-            condition: lower(alloc, &arm.condition, first, wanted)?,
-            outcome: lower(alloc, &arm.outcome, first, wanted)?,
-        })?;
+        made.push(lower_arm(alloc, arm, first, wanted)?)?;
     }
     Ok(made)
+}
+
+/// What stands after ELSE, if anything does.
+#[cycle(lowering)]
+fn lower_otherwise(
+    alloc: Global,
+    otherwise: &Option<Box<Expr>>,
+    first: usize,
+    wanted: &WantedList,
+) -> Result<Option<Box<Expr>>, Fault>
+    requires { first + length wanted.now ≤ greatest_width }
+    ensures { IfOk result (λ made. otherwise_of made ≡ spec.lowered_otherwise (places.place first wanted.now) (otherwise_of otherwise.now)) }
+{
+    match otherwise {
+        Some(otherwise) => Ok(Some(lower_box(alloc, otherwise, first, wanted)?)),
+        None => Ok(None),
+    }
 }
 
 /// A call with one argument, by its function: what is asked of another function stays as it is.
@@ -276,22 +331,14 @@ pub fn lower(
     ensures { IfOk result (λ e. expression_of e ≡ spec.lowered (places.place first wanted.now) (expression_of expression.now)) }
 {
     match expression {
-        Expr::Null => Ok(Expr::Null),
-        Expr::Boolean(truth) => Ok(Expr::Boolean(*truth)),
-        Expr::Integer(number) => Ok(Expr::Integer(*number)),
-        Expr::Text(text) => Ok(Expr::Text(text.copy(alloc)?)),
-        Expr::Variable(variable) => Ok(Expr::Variable(Variable {
-            name: variable.name.copy(alloc)?,
-            column: variable.column,
-        })),
-        Expr::Property(owner, key) => {
-            let attribute = Attribute::Property(key.copy(alloc)?);
-            looked_up(alloc, owner, &attribute, first, wanted)
-        }
-        Expr::HasLabels(owner, labels) => {
-            let column = looked_up(alloc, owner, &Attribute::Labels, first, wanted)?;
-            all_in(alloc, &column, labels)
-        }
+        Expr::Null
+        | Expr::Boolean(_)
+        | Expr::Integer(_)
+        | Expr::Text(_)
+        | Expr::Variable(_)
+        | Expr::CallStar(_) => expression.copy(alloc),
+        Expr::Property(owner, key) => lower_property(alloc, owner, key, first, wanted),
+        Expr::HasLabels(owner, labels) => lower_labels(alloc, owner, labels, first, wanted),
         Expr::Unary(operator, operand) => {
             Ok(Expr::Unary(*operator, lower_box(alloc, operand, first, wanted)?))
         }
@@ -306,16 +353,10 @@ pub fn lower(
         Expr::List(elements) => Ok(Expr::List(lower_elements(alloc, elements, first, wanted)?)),
         Expr::Case(arms, otherwise) => {
             let arms = lower_arms(alloc, arms, first, wanted)?;
-            match otherwise {
-                None => Ok(Expr::Case(arms, None)),
-                Some(otherwise) => {
-                    Ok(Expr::Case(arms, Some(lower_box(alloc, otherwise, first, wanted)?)))
-                }
-            }
+            Ok(Expr::Case(arms, lower_otherwise(alloc, otherwise, first, wanted)?))
         }
         Expr::Call(name, distinct, arguments) => {
             lower_call(alloc, name, *distinct, arguments, first, wanted)
         }
-        Expr::CallStar(name) => Ok(Expr::CallStar(name.copy(alloc)?)),
     }
 }

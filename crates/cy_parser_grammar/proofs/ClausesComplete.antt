@@ -103,26 +103,16 @@ allowed spells.ended c = refl
 pub leads : (c : Clause) → read.phase_after (opening_for c) ≡ phase_of (spells.phase_after c)
 leads («match» false ps f) = refl
 leads («match» true ps f) = refl
-leads (unwind e v) = refl
-leads («with» p f) = refl
-leads («return» p) = refl
-leads (create ps) = refl
-leads (set is) = refl
-leads (remove is) = refl
 leads (delete false vs) = refl
 leads (delete true vs) = refl
+leads _ = refl
 
 writes : (c : Clause) → read.updates (opening_for c) ≡ spells.updates c
 writes («match» false ps f) = refl
 writes («match» true ps f) = refl
-writes (unwind e v) = refl
-writes («with» p f) = refl
-writes («return» p) = refl
-writes (create ps) = refl
-writes (set is) = refl
-writes (remove is) = refl
 writes (delete false vs) = refl
 writes (delete true vs) = refl
+writes _ = refl
 
 pub ends_as : (s : spells.ClausePhase) → read.may_end (phase_of s) ≡ spells.may_end s
 ends_as spells.reading = refl

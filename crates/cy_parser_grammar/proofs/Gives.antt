@@ -52,19 +52,11 @@ pub record AteKeyword (k : Keyword) (ts : List Token) (found : Bool) (rest : Lis
 
 symbol_is : (s : Symbol) (k : TokenKind) → is_symbol s (Some k) ≡ true → k ≡ kind.Symbol s
 symbol_is s (kind.Symbol found) e = ap kind.Symbol (same_true symbol_type.the_type (search) found s e)
-symbol_is s kind.Name e = cc
-symbol_is s kind.QuotedName e = cc
-symbol_is s (kind.Keyword k) e = cc
-symbol_is s (kind.Number n) e = cc
-symbol_is s kind.Text e = cc
+symbol_is s _ e = cc
 
 keyword_is : (w : Keyword) (k : TokenKind) → is_keyword w (Some k) ≡ true → k ≡ kind.Keyword w
 keyword_is w (kind.Keyword found) e = ap kind.Keyword (same_true keyword_type.the_type (search) found w e)
-keyword_is w kind.Name e = cc
-keyword_is w kind.QuotedName e = cc
-keyword_is w (kind.Symbol s) e = cc
-keyword_is w (kind.Number n) e = cc
-keyword_is w kind.Text e = cc
+keyword_is w _ e = cc
 
 sees_symbol-true : (s : Symbol) (ts : List Token) → sees_symbol s ts ≡ true → (t : Token) × (ts ≡ t ∷ past ts) × IsSymbol s t
 unfolding sees_symbol

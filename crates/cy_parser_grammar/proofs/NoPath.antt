@@ -13,7 +13,7 @@ use Rattle.cy_trees.specs.declared.expressions.BinaryOperator.TheVariants as two
 use Rattle.cy_trees.specs.declared.expressions.Comparator.{Comparator}
 use Rattle.cy_trees.specs.declared.expressions.Comparator.TheVariants as comparator
 use Rattle.cy_trees.specs.declared.expressions.Variable.{Variable}
-use Rattle.cy_trees.specs.Trees.{Name, Expression, null, boolean, integer, text, variable, property, has_labels, unary, binary, comparison, list, case, call, call_star, no_links, link, NodePattern, Step, Path, PathTest}
+use Rattle.cy_trees.specs.Trees.{Name, Expression, boolean, integer, variable, property, has_labels, unary, binary, comparison, no_links, link, NodePattern, Step, Path, PathTest}
 use Rattle.cy_trees.specs.Show.{Piece, space, says, mark, named, bracketed, label_pieces, binary_pieces, comparator_symbol, is_literal_or_list, owner_pieces, expression_pieces, links_pieces}
 use Rattle.cy_trees.specs.internal.PieceWords.{words_of}
 use Rattle.cy_parser_grammar.specs.Words.{is_name}
@@ -99,22 +99,12 @@ is_labelled _ = false
 -- no node goes on with an expression, unless this is a variable and what follows may end its name
 opened : (e : Expression) (ps : List Piece) (ks : List TokenKind) → (is_variable e ≡ true → after_name (tells ps ks) ≡ false) →
     node_opens (tells (expression_pieces e ++ ps) ks) ≡ false
-opened null ps ks h = refl
 opened (boolean true) ps ks h = refl
 opened (boolean false) ps ks h = refl
 opened (integer (pos n)) ps ks h = refl
 opened (integer (negsuc n)) ps ks h = refl
-opened (text t) ps ks h = refl
 opened (variable v) ps ks h = h refl
-opened (property e key) ps ks h = refl
-opened (has_labels e labels) ps ks h = refl
-opened (unary operator e) ps ks h = refl
-opened (binary operator a b) ps ks h = refl
-opened (comparison e links) ps ks h = refl
-opened (list es) ps ks h = refl
-opened (case arms e) ps ks h = refl
-opened (call function distinct es) ps ks h = refl
-opened (call_star function) ps ks h = refl
+opened _ ps ks h = refl
 
 -- an expression and pieces in brackets
 inside : (e : Expression) (ps qs : List Piece) (ks : List TokenKind) → (is_variable e ≡ true → after_name (tells (ps ++ qs) ks) ≡ false) →
@@ -128,34 +118,17 @@ owned false e ps qs ks h = inside e ps qs ks h
 
 operator_follows : (o : BinaryOperator) (ps qs : List Piece) (ks : List TokenKind) → after_name (tells ((space ∷ (binary_pieces o ++ ps)) ++ qs) ks) ≡ false
 operator_follows two.Or ps qs ks = refl
-operator_follows two.Xor ps qs ks = refl
-operator_follows two.And ps qs ks = refl
-operator_follows two.In ps qs ks = refl
-operator_follows two.Contains ps qs ks = refl
-operator_follows two.StartsWith ps qs ks = refl
-operator_follows two.EndsWith ps qs ks = refl
-operator_follows two.Add ps qs ks = refl
-operator_follows two.Subtract ps qs ks = refl
-operator_follows two.Multiply ps qs ks = refl
-operator_follows two.Divide ps qs ks = refl
-operator_follows two.Remainder ps qs ks = refl
+operator_follows _ ps qs ks = refl
 
 comparator_follows : (c : Comparator) (ps qs : List Piece) (ks : List TokenKind) → after_name (tells ((space ∷ mark (comparator_symbol c) ∷ ps) ++ qs) ks) ≡ false
 comparator_follows comparator.Equal ps qs ks = refl
-comparator_follows comparator.NotEqual ps qs ks = refl
-comparator_follows comparator.Less ps qs ks = refl
-comparator_follows comparator.LessOrEqual ps qs ks = refl
-comparator_follows comparator.Greater ps qs ks = refl
-comparator_follows comparator.GreaterOrEqual ps qs ks = refl
+comparator_follows _ ps qs ks = refl
 
 opens_none : (e : Expression) → IsWellFormed e → is_labelled e ≡ false → (ks : List TokenKind) → path_opens (tells (expression_pieces e) ks) ≡ false
-opens_none null w h ks = refl
 opens_none (boolean true) w h ks = refl
 opens_none (boolean false) w h ks = refl
 opens_none (integer (pos n)) w h ks = refl
 opens_none (integer (negsuc n)) w h ks = refl
-opens_none (text t) w h ks = refl
-opens_none (variable v) w h ks = refl
 opens_none (property e key) w h ks = owned (is_literal_or_list e) e (mark sign.Dot ∷ named key ∷ []) (mark sign.RightParenthesis ∷ []) ks (λ is. refl)
 opens_none (has_labels e labels) w h ks = owned (is_literal_or_list e) e (label_pieces labels) (mark sign.RightParenthesis ∷ []) ks (λ is. (let no : true ≡ false = sym is ∙ h in absurd cc))
 opens_none (unary one.Not e) w h ks = refl
@@ -169,10 +142,7 @@ opens_none (binary o a b) w h ks =
 opens_none (comparison e no_links) w h ks = absurd w
 opens_none (comparison e (link c x ls)) w h ks =
     inside e (links_pieces (link c x ls)) (mark sign.RightParenthesis ∷ []) ks (λ is. comparator_follows c (space ∷ (expression_pieces x ++ links_pieces ls)) (mark sign.RightParenthesis ∷ []) ks)
-opens_none (list es) w h ks = refl
-opens_none (case arms e) w h ks = refl
-opens_none (call function distinct es) w h ks = refl
-opens_none (call_star function) w h ks = refl
+opens_none _ w h ks = refl
 
 every_name : (ns : List Name) → Several IsNamed ns → Every IsNamed ns
 every_name [] are = absurd are

@@ -213,11 +213,7 @@ bounds_read _ _ rest (between m n t dots u _ is is_dots is_second ordered small)
 
 bounds_shorten : (l : Length) (ts rest : List Token) → SpellsLength l ts rest → length rest ≤ length ts
 bounds_shorten _ _ rest (any_length _) = omega arith
-bounds_shorten _ _ rest (exactly n t _ is small) = omega arith
-bounds_shorten _ _ rest (unbounded dots _ is) = omega arith
-bounds_shorten _ _ rest (at_least m t dots _ is is_dots small) = omega arith
-bounds_shorten _ _ rest (at_most n dots t _ is_dots is ordered small) = omega arith
-bounds_shorten _ _ rest (between m n t dots u _ is is_dots is_second ordered small) = omega arith
+bounds_shorten _ _ rest _ = omega arith
 
 length_begins : (test : Option TokenKind → Bool) (b : Bool) → test (Some (kind.Symbol sign.Star)) ≡ b →
     (l : Option Length) (ts rest : List Token) → SpellsLengthIfAny l ts rest → test (kind_ahead rest) ≡ b → test (kind_ahead ts) ≡ b

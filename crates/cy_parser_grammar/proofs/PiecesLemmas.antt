@@ -112,16 +112,13 @@ is_end (words.symbol s) = is_quiet s
 is_end w = true
 
 end_touches : (w v : Word) → is_end w ≡ true → touches ended v ≡ true → may_touch w v ≡ true
-end_touches w (words.keyword k) end touch = absurd cc
-end_touches w (words.name cs) end touch = absurd cc
-end_touches w (words.text cs) end touch = absurd cc
-end_touches w (words.number n) end touch = absurd cc
 end_touches w (words.symbol sign.Dot) end touch = absurd cc
 end_touches (words.keyword k) (words.symbol s) end touch = refl
 end_touches (words.name cs) (words.symbol s) end touch = refl
 end_touches (words.text cs) (words.symbol s) end touch = refl
 end_touches (words.number n) (words.symbol s) end touch = refl
 end_touches (words.symbol t) (words.symbol s) end touch = quiet_touches t (words.symbol s) end
+end_touches w _ end touch = absurd cc
 
 end_allows : (w : Word) → is_end w ≡ true → (qs : List Piece) → stands ended qs ≡ true → stands (after w) qs ≡ true
 end_allows w end [] h = refl
@@ -139,15 +136,12 @@ is_owner (words.symbol s) = is_quiet s
 is_owner w = false
 
 owner_touches : (w v : Word) → is_owner w ≡ true → touches owned v ≡ true → may_touch w v ≡ true
-owner_touches w (words.keyword k) end touch = absurd cc
-owner_touches w (words.name cs) end touch = absurd cc
-owner_touches w (words.text cs) end touch = absurd cc
-owner_touches w (words.number n) end touch = absurd cc
 owner_touches (words.keyword k) (words.symbol s) end touch = absurd cc
 owner_touches (words.name cs) (words.symbol s) end touch = refl
 owner_touches (words.text cs) (words.symbol s) end touch = absurd cc
 owner_touches (words.number n) (words.symbol s) end touch = absurd cc
 owner_touches (words.symbol t) (words.symbol s) end touch = quiet_touches t (words.symbol s) end
+owner_touches w _ end touch = absurd cc
 
 owner_allows : (w : Word) → is_owner w ≡ true → (qs : List Piece) → stands owned qs ≡ true → stands (after w) qs ≡ true
 owner_allows w end [] h = refl
@@ -160,11 +154,8 @@ pub after_owner : (w : Word) → is_owner w ≡ true → Allows owned (after w)
 after_owner w end = record { allows = owner_allows w end }
 
 ended_touches : (w : Word) → touches ended w ≡ true → touches owned w ≡ true
-ended_touches (words.keyword k) touch = absurd cc
-ended_touches (words.name cs) touch = absurd cc
-ended_touches (words.text cs) touch = absurd cc
-ended_touches (words.number n) touch = absurd cc
 ended_touches (words.symbol s) touch = refl
+ended_touches _ touch = absurd cc
 
 ended_allows : (qs : List Piece) → stands ended qs ≡ true → stands owned qs ≡ true
 ended_allows [] h = refl

@@ -121,11 +121,7 @@ module _ (line : List ℕ) where
 
   comparator_read : (c : Comparator) (t : Token) → IsSymbol (comparator_symbol c) t → comparator_of t.kind ≡ Some c
   comparator_read comparator.Equal t is = ap comparator_of is
-  comparator_read comparator.NotEqual t is = ap comparator_of is
-  comparator_read comparator.Less t is = ap comparator_of is
-  comparator_read comparator.LessOrEqual t is = ap comparator_of is
-  comparator_read comparator.Greater t is = ap comparator_of is
-  comparator_read comparator.GreaterOrEqual t is = ap comparator_of is
+  comparator_read _ t is = ap comparator_of is
 
   -- ---- labels
 

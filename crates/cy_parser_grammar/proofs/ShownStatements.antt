@@ -17,13 +17,7 @@ use Rattle.cy_parser_grammar.proofs.Stands.{at_end}
 -- columns after AS change nothing in the order of clauses
 named_phase : (c : Clause) → phase_after (named_clause c) ≡ phase_after c
 named_phase («match» optional paths f) = refl
-named_phase (unwind e v) = refl
-named_phase («with» p f) = refl
-named_phase («return» p) = refl
-named_phase (create paths) = refl
-named_phase (set is) = refl
-named_phase (remove is) = refl
-named_phase (delete detach vs) = refl
+named_phase _ = refl
 
 named_follow : (s : ClausePhase) (c : Clause) → may_follow s (named_clause c) ≡ may_follow s c
 named_follow reading c = refl
@@ -39,13 +33,7 @@ named_follow updating (delete detach vs) = refl
 
 named_updates : (c : Clause) → updates (named_clause c) ≡ updates c
 named_updates («match» optional paths f) = refl
-named_updates (unwind e v) = refl
-named_updates («with» p f) = refl
-named_updates («return» p) = refl
-named_updates (create paths) = refl
-named_updates (set is) = refl
-named_updates (remove is) = refl
-named_updates (delete detach vs) = refl
+named_updates _ = refl
 
 named_reads : (cs : List Clause) → reads_alone (map named_clause cs) ≡ reads_alone cs
 named_reads [] = refl

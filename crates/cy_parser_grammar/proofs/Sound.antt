@@ -404,11 +404,7 @@ module _ (line : List ℕ) (n : ℕ) (inner : Nested → Reader Expression)
           }))
       number-at false h = refused _
   minus-at t ts None is e = signed_operand t ts is (no_number ts None e refl)
-  minus-at t ts (Some kind.Name) is e = signed_operand t ts is (no_number ts _ e refl)
-  minus-at t ts (Some kind.QuotedName) is e = signed_operand t ts is (no_number ts _ e refl)
-  minus-at t ts (Some (kind.Keyword w)) is e = signed_operand t ts is (no_number ts _ e refl)
-  minus-at t ts (Some kind.Text) is e = signed_operand t ts is (no_number ts _ e refl)
-  minus-at t ts (Some (kind.Symbol s)) is e = signed_operand t ts is (no_number ts _ e refl)
+  minus-at t ts (Some _) is e = signed_operand t ts is (no_number ts _ e refl)
 
   minus-sound : (t : Token) (ts : List Token) → IsSymbol sign.Minus t → Gives (minus_read line inner ts) (Spelt line (suc n) signed (t ∷ ts))
   unfolding minus_read

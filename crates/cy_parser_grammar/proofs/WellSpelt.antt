@@ -141,11 +141,7 @@ negated_well (suc m) small = omega (arith, small)
 
 no_text_word : (k : TokenKind) → is_word k ≡ true → k ≡ kind.Text → ⊥
 no_text_word kind.Text is same = absurd (let x : false ≡ true = is in cc)
-no_text_word kind.Name is same = absurd cc
-no_text_word kind.QuotedName is same = absurd cc
-no_text_word (kind.Keyword w) is same = absurd cc
-no_text_word (kind.Number n) is same = absurd cc
-no_text_word (kind.Symbol s) is same = absurd cc
+no_text_word _ is same = absurd cc
 
 pub name_is_word : (k : TokenKind) → is_name k ≡ true → is_word k ≡ true
 name_is_word kind.Name is = refl

@@ -1,10 +1,7 @@
 -- Paths as conditions, their tokens and what is read of them, computed.
 use Rattle.std.proofs.Common.{◌≡◌, ℕ, suc, ◌+◌, List, [], ◌∷◌, Some, None, false, true, refl}
 use Rattle.cy_lexer.specs.declared.tokens.Token.{Token}
-use Rattle.cy_lexer.specs.declared.tokens.TokenKind.{TokenKind}
-use Rattle.cy_lexer.specs.declared.tokens.TokenKind.TheVariants as kind
 use Rattle.cy_lexer.specs.declared.keywords.Keyword.TheVariants as word
-use Rattle.cy_lexer.specs.declared.symbols.Symbol.{Symbol}
 use Rattle.cy_lexer.specs.declared.symbols.Symbol.TheVariants as sign
 use Rattle.cy_trees.specs.declared.clauses.Direction.{Direction}
 use Rattle.cy_trees.specs.declared.clauses.Direction.TheVariants as direction
@@ -13,15 +10,7 @@ use Rattle.cy_parser_grammar.specs.Words.{denotes}
 use Rattle.cy_parser_grammar.specs.internal.Reader.{or_else, and_then, sees_keyword, sees_symbol, expect_symbol, denoting}
 use Rattle.cy_parser_grammar.specs.internal.Clauses as read
 use Rattle.cy_parser_grammar.specs.internal.Clauses.{where_from, sees_two_brackets, length_if_any, condition_read, conjuncts, parts, parts_from, part, path_part, path_test, denied_path, bracketed_path, stepped, path, node, variable_if_any, labels_if_any, map_if_any, steps, steps_from, step, relationship, relationship_if_any, relationship_body, types_if_any, types, types_from}
-
-abbrev token : TokenKind → ℕ → ℕ → Token
-token k start end = record { kind = k; start = start; end = end }
-
-abbrev symbol : Symbol → ℕ → Token
-symbol s at = token (kind.Symbol s) at (suc at)
-
-abbrev name : ℕ → Token
-name at = token kind.Name at (suc at)
+use Rattle.cy_parser_grammar.proofs.WorkedTokens.{keyword, symbol, name}
 
 abbrev named_node : Name → NodePattern
 named_node n = record { variable = Some (record { name = n; column = None }); labels = []; properties = None }
@@ -37,7 +26,7 @@ one_step from towards types to = record {
 
 -- what comes after the WHERE
 abbrev from_return : List Token
-from_return = token (kind.Keyword word.Return) 50 56 ∷ name 57 ∷ []
+from_return = keyword word.Return 50 56 ∷ name 57 ∷ []
 
 module _ (line : List ℕ) where
   -- `(a)-[:T]->()`, from a place on
@@ -50,7 +39,7 @@ module _ (line : List ℕ) where
   outgoing_path at = one_step (named_node (denotes line (name (suc at)))) direction.Right (denotes line (name (at + 6)) ∷ []) (record { variable = None; labels = []; properties = None })
 
   abbrev denied_row : List Token
-  denied_row = token (kind.Keyword word.Not) 18 21 ∷ outgoing 22 from_return
+  denied_row = keyword word.Not 18 21 ∷ outgoing 22 from_return
 
   -- `WHERE NOT (a)-[:T]->()`
   denied_is_read : read.condition_read line denied_row ≡ Some (record { test = None; paths = record { denied = true; path = outgoing_path 22 } ∷ [] }, from_return)
@@ -59,7 +48,7 @@ module _ (line : List ℕ) where
 
   -- `WHERE NOT ((a)-[:T]->())`
   abbrev bracketed_row : List Token
-  bracketed_row = token (kind.Keyword word.Not) 18 21 ∷ symbol sign.LeftParenthesis 22 ∷ outgoing 23 (symbol sign.RightParenthesis 35 ∷ from_return)
+  bracketed_row = keyword word.Not 18 21 ∷ symbol sign.LeftParenthesis 22 ∷ outgoing 23 (symbol sign.RightParenthesis 35 ∷ from_return)
 
   bracketed_is_read : read.condition_read line bracketed_row ≡ Some (record { test = None; paths = record { denied = true; path = outgoing_path 23 } ∷ [] }, from_return)
   unfolding or_else and_then sees_keyword sees_symbol expect_symbol denoting where_from sees_two_brackets length_if_any condition_read conjuncts parts parts_from part path_part path_test denied_path bracketed_path stepped path node variable_if_any labels_if_any map_if_any steps steps_from step relationship relationship_if_any relationship_body types_if_any types types_from

@@ -33,6 +33,7 @@ pub mod PiecesLemmas
 pub mod WordsSpans
 pub mod ShownWords
 pub mod ShownAgain
+pub mod WorkedTokens
 pub mod Rows
 pub mod ChainRow
 pub mod LengthRow

@@ -4,7 +4,6 @@ use Rattle.std.specs.Prelude.{codes, encode_utf8_all}
 use Rattle.std.proofs.lemmas.Str.{chars-encodes}
 use lib.Utf8.{encode}
 use Rattle.cy_lexer.specs.declared.tokens.Token.{Token}
-use Rattle.cy_lexer.specs.declared.tokens.TokenKind.{TokenKind}
 use Rattle.cy_lexer.specs.declared.tokens.TokenKind.TheVariants as kind
 use Rattle.cy_lexer.specs.declared.keywords.Keyword.TheVariants as word
 use Rattle.cy_trees.specs.Trees.{Name, Expression, integer, null, Query, Statement, «return»}
@@ -14,35 +13,33 @@ use Rattle.cy_parser_grammar.specs.Spells.{Spells, postfix, is_postfix, number, 
 use Rattle.cy_parser_grammar.specs.SpellsClauses.{SpellsStatement, SpellsReading, most_levels, reading, ended, next_clause, no_more_clauses, nothing_more, union_all, further, no_further, union_of, return_, projection, not_distinct, last, item_as, no_order, no_count}
 use Rattle.cy_parser_grammar.specs.internal.Clauses as read
 use Rattle.cy_parser_grammar.proofs.ShownTokens.{denotes_within}
+use Rattle.cy_parser_grammar.proofs.WorkedTokens.{keyword, name, digit}
 use Rattle.cy_parser_grammar.proofs.ShownExpressions.{as_whole}
 use Rattle.cy_parser_grammar.proofs.StatementsComplete.{statement-complete}
 
 line : List ℕ
 line = codes "RETURN 1 AS x UNION ALL RETURN null AS x"
 
-abbrev token : TokenKind → ℕ → ℕ → Token
-token k start end = record { kind = k; start = start; end = end }
-
 abbrev first_name : Token
-first_name = token kind.Name 12 13
+first_name = name 12
 
 abbrev second_name : Token
-second_name = token kind.Name 39 40
+second_name = name 39
 
 abbrev one : Token
-one = token (kind.Number 1) 7 8
+one = digit 1 7
 
 abbrev nil : Token
-nil = token (kind.Keyword word.Null) 31 35
+nil = keyword word.Null 31 35
 
 abbrev first_query : List Token → List Token
-first_query rest = token (kind.Keyword word.Return) 0 6 ∷ one ∷ token (kind.Keyword word.As) 9 11 ∷ first_name ∷ rest
+first_query rest = keyword word.Return 0 6 ∷ one ∷ keyword word.As 9 11 ∷ first_name ∷ rest
 
 abbrev second_query : List Token
-second_query = token (kind.Keyword word.Return) 24 30 ∷ nil ∷ token (kind.Keyword word.As) 36 38 ∷ second_name ∷ []
+second_query = keyword word.Return 24 30 ∷ nil ∷ keyword word.As 36 38 ∷ second_name ∷ []
 
 abbrev from_union : List Token
-from_union = token (kind.Keyword word.Union) 14 19 ∷ token (kind.Keyword word.All) 20 23 ∷ second_query
+from_union = keyword word.Union 14 19 ∷ keyword word.All 20 23 ∷ second_query
 
 abbrev query : Expression → Name → Query
 query e column = record {

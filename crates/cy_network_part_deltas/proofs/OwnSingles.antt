@@ -1,5 +1,5 @@
 -- What the parts with one part below them are asked, and what they give.
-use Rattle.std.proofs.Common.{◌≡◌, ℕ, ◌<◌, ◌+◌, ◌≤◌, Bool, true, false, cond, refl, arith, inl, inr, List, [], ◌∷◌, ◌++◌, Option, Some, None, IfSome, filter, length, map, sym, ap, subst, ◌∙◌}
+use Rattle.std.proofs.Common.{◌≡◌, ℕ, ◌+◌, ◌≤◌, Bool, true, false, cond, refl, arith, inl, inr, List, [], ◌∷◌, ◌++◌, Option, Some, None, IfSome, filter, length, map, sym, ap, subst, ◌∙◌}
 use Rattle.std.specs.Prelude.{flat_map}
 use Rattle.std.specs.List.{All}
 use Rattle.std.proofs.lemmas.List.Elements.{All-nil, All-tail}

@@ -1,4 +1,4 @@
-use Rattle.std.proofs.Common.{◌≡◌, map, sym, subst, ap, ◌∙◌}
+use Rattle.std.proofs.Common.{map, sym, subst, ap, ◌∙◌}
 use Rattle.std.specs.List.{All}
 use Rattle.cy_network_relevance.specs.Trails.{TellsRowsApart, tells_apart}
 use Rattle.cy_planner_algebra.specs.Expressions.{projected}

@@ -17,7 +17,7 @@ use Rattle.cy_trees.specs.declared.expressions.UnaryOperator.{UnaryOperator}
 use Rattle.cy_trees.specs.declared.expressions.UnaryOperator.TheVariants.{Not, Plus, Minus, IsNull, IsNotNull}
 use Rattle.cy_trees.specs.declared.expressions.BinaryOperator.{BinaryOperator}
 use Rattle.cy_trees.specs.declared.expressions.BinaryOperator.TheVariants.{Or, Xor, And, In, Contains, StartsWith, EndsWith, Add, Subtract, Multiply, Divide, Remainder}
-use Rattle.cy_trees.specs.Trees.{Name, Expression, null, boolean, integer, text, variable, property, has_labels, unary, binary, comparison, list, case, call, call_star, Expressions, no_more, more, Arms, no_arms, arm, Otherwise, nothing, otherwise}
+use Rattle.cy_trees.specs.Trees.{Name, Expression, variable, property, has_labels, unary, binary, comparison, list, case, call, call_star, Expressions, no_more, more, Arms, no_arms, arm, Otherwise, nothing, otherwise}
 use Rattle.cy_scope_kinds.specs.declared.functions.Function.{Function}
 use Rattle.cy_scope_kinds.specs.declared.functions.Function.TheVariants as function
 use Rattle.cy_scope_kinds.specs.declared.kinds.Kind.{Kind}
@@ -130,10 +130,8 @@ entity-flags f (cell.Value v) = tt
 
 node-flags : (f : NodeId → Bool) (c : Cell) → Flags (on_node (λ n. value.Bool (f n)) c)
 node-flags f (cell.Node n) = refl
-node-flags f (cell.Rel r) = tt
-node-flags f (cell.Rels rs) = tt
 node-flags f (cell.Value value.Null) = refl
-node-flags f (cell.Value v) = tt
+node-flags f _ = tt
 
 unary-holds : (operator : UnaryOperator) (r : Result Cell EvalFault) → IfOk (as_cell (on_one (unary_value operator) r)) (λ c. is_cell_of (unary_kind operator) c ≡ true)
 unary-holds Plus r = value-holds (on_one (unary_value Plus) r)
@@ -147,9 +145,7 @@ unary-holds IsNotNull r = flag-holds (on_one (unary_value IsNotNull) r) (one-fla
 membership-flags : (x y : Value) → Flags (membership x y)
 membership-flags x (value.List es) = truth-flags (equals_one x es)
 membership-flags x value.Null = refl
-membership-flags x (value.Text t) = tt
-membership-flags x (value.Bool b) = tt
-membership-flags x (value.Int n) = tt
+membership-flags x _ = tt
 
 binary-holds : (operator : BinaryOperator) (r s : Result Value EvalFault)
     → IfOk (as_cell (on_two (binary_value operator) r s)) (λ c. is_cell_of (binary_kind operator) c ≡ true)
@@ -211,10 +207,6 @@ module _ (graph : Lookups) (scope : Scope) (row : List Cell) (fit : row_fits sco
 
   mutual
     pub kind-holds : (e : Expression) → IfOk (cell_of graph row (resolved scope e)) (λ c. is_cell_of (kind_of scope e) c ≡ true)
-    kind-holds null = refl
-    kind-holds (boolean b) = refl
-    kind-holds (integer n) = refl
-    kind-holds (text t) = refl
     kind-holds (variable v) = column-kind scope row v.name fit
     kind-holds (property e key) = value-holds (on_one (property_value graph key) (cell_of graph row (resolved scope e)))
     kind-holds (has_labels e labels) =
@@ -235,6 +227,7 @@ module _ (graph : Lookups) (scope : Scope) (row : List Cell) (fit : row_fits sco
         call-holds graph (function_named name) (are_flags scope es) (cells_of graph row (resolved_expressions scope es)) (outcomes_of graph row (resolved_expressions scope es))
         (property_exists graph row (resolved_expressions scope es)) (outcomes-flags es) (asked-flags (resolved_expressions scope es))
     kind-holds (call_star name) = tt
+    kind-holds _ = refl
 
     outcomes-flags : (es : Expressions) → are_flags scope es ≡ true → Flags (coalesce (outcomes_of graph row (resolved_expressions scope es)))
     outcomes-flags no_more are = refl

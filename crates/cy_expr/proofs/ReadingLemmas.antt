@@ -55,21 +55,15 @@ existence-alike one other key (cell.Value v) agree = refl
 labels_test-alike : (one other : Lookups) (labels : List Name) (c : Cell) → AgreeAt one other c → labels_test one labels c ≡ labels_test other labels c
 labels_test-alike one other labels (cell.Node n) agree =
     ap (λ (ls : List Name). Ok (value.Bool (list_all (λ l. list_any (bytes_eq l) ls) labels))) agree.1
-labels_test-alike one other labels (cell.Rel r) agree = refl
-labels_test-alike one other labels (cell.Rels rs) agree = refl
-labels_test-alike one other labels (cell.Value v) agree = refl
+labels_test-alike one other labels _ agree = refl
 
 labels_value-alike : (one other : Lookups) (c : Cell) → AgreeAt one other c → labels_value one c ≡ labels_value other c
 labels_value-alike one other (cell.Node n) agree = rw agree.1 refl
-labels_value-alike one other (cell.Rel r) agree = refl
-labels_value-alike one other (cell.Rels rs) agree = refl
-labels_value-alike one other (cell.Value v) agree = refl
+labels_value-alike one other _ agree = refl
 
 type-alike : (one other : Lookups) (c : Cell) → AgreeAt one other c → type_value one c ≡ type_value other c
-type-alike one other (cell.Node n) agree = refl
 type-alike one other (cell.Rel r) agree = rw agree.1 refl
-type-alike one other (cell.Rels rs) agree = refl
-type-alike one other (cell.Value v) agree = refl
+type-alike one other _ agree = refl
 
 function-alike : (one other : Lookups) (f : Function) (c : Cell) → AgreeAt one other c → function_value one f c ≡ function_value other f c
 function-alike one other function.Type c agree = type-alike one other c agree
@@ -214,10 +208,6 @@ module _ (one other : Lookups) (row beside : List Cell) (width : ℕ)
   -- so an expression gives the same on both
   mutual
     pub cell-alike : (e : Expression) → BothAlike (reads_columns e) (reads_below width e) → cell_of one row e ≡ cell_of other beside e
-    cell-alike null h = refl
-    cell-alike (boolean b) h = refl
-    cell-alike (integer n) h = refl
-    cell-alike (text t) h = refl
     cell-alike (variable v) h = ap (λ (c : Cell). Ok c) (column-alike v.column h.1)
     cell-alike (property e key) h =
         let agree = read one other row h.0 in
@@ -250,7 +240,7 @@ module _ (one other : Lookups) (row beside : List Cell) (width : ℕ)
         ∙ ap (λ (r : Result (List Cell) EvalFault). call_value other (function_named name) r (outcomes_of one row es) (property_exists one row es)) (cells-alike es arguments)
         ∙ ap (λ (os : List (Result Value EvalFault)). call_value other (function_named name) (cells_of other beside es) os (property_exists one row es)) (outcomes-alike es arguments)
         ∙ ap (λ (o : Result Value EvalFault). call_value other (function_named name) (cells_of other beside es) (outcomes_of other beside es) o) (asked-alike es arguments))
-    cell-alike (call_star name) h = refl
+    cell-alike _ h = refl
 
     cells-alike : (es : Expressions) → BothAlike (all_read_columns es) (all_read_below width es) → cells_of one row es ≡ cells_of other beside es
     cells-alike no_more h = refl

@@ -33,7 +33,7 @@ use Rattle.cy_expr.specs.internal.Arms.{chosen}
 use Rattle.cy_expr.specs.internal.Lent.{GivesOrWants}
 use Rattle.cy_expr.specs.Evaluation.{as_cell, call_value, called, cell_of, cells_of, chain, outcomes_of_arms, property_exists, values_of}
 use Rattle.std.specs.declared.boxed.Box.{Box}
-use Rattle.cy_trees.specs.Trees.{Name, Expression, null, boolean, integer, text, variable, property, has_labels, unary, binary, comparison, list, case, call, call_star, Expressions, no_more, more, nothing, otherwise}
+use Rattle.cy_trees.specs.Trees.{Name, Expression, null, property, list, case, call, Expressions, no_more, more, nothing, otherwise}
 use Rattle.cy_trees.specs.TreeModels.{arms_of, expression_of, expressions_from, link_of, links_from}
 use Rattle.cy_trees.specs.declared.expressions.Arm.{Arm}
 use Rattle.cy_trees.specs.declared.expressions.Link.{Link}
@@ -394,19 +394,9 @@ pub ruleset case_steps = (case_nothing, case_otherwise, case_chosen, case_fault)
 -- exists asks for one property
 two_asked : (graph : Lookups) (row : List Cell) (e f : Expression) (es : Expressions) → property_exists graph row (more e (more f es)) ≡ Err WrongType
 two_asked graph row null f es = refl
-two_asked graph row (boolean b) f es = refl
-two_asked graph row (integer n) f es = refl
-two_asked graph row (text t) f es = refl
-two_asked graph row (variable v) f es = refl
-two_asked graph row (property e key) f es = refl
-two_asked graph row (has_labels e labels) f es = refl
-two_asked graph row (unary operator e) f es = refl
-two_asked graph row (binary operator a b) f es = refl
-two_asked graph row (comparison e links) f es = refl
 two_asked graph row (list es) f gs = refl
-two_asked graph row (case arms e) f es = refl
 two_asked graph row (call g distinct es) f gs = refl
-two_asked graph row (call_star g) f es = refl
+two_asked graph row _ f es = refl
 
 pub others_asked : (graph : Lookups) (row : List Cell) (es : List Expr) → length es ≢ 1 → property_exists graph row (expressions_from (map expression_of es)) ≡ Err WrongType
 others_asked graph row [] others = refl

@@ -20,7 +20,7 @@ use Rattle.cy_values.specs.declared.rows.Cell.TheVariants as cell
 use Rattle.cy_trees.specs.declared.expressions.UnaryOperator.{UnaryOperator}
 use Rattle.cy_trees.specs.declared.expressions.UnaryOperator.TheVariants.{Not, Plus, Minus, IsNull, IsNotNull}
 use Rattle.cy_trees.specs.declared.expressions.BinaryOperator.{BinaryOperator}
-use Rattle.cy_trees.specs.declared.expressions.BinaryOperator.TheVariants.{Or, Xor, And, In, Contains, StartsWith, EndsWith, Add, Subtract, Multiply, Divide, Remainder}
+use Rattle.cy_trees.specs.declared.expressions.BinaryOperator.TheVariants.{Or, Xor, And, In, Contains, StartsWith, EndsWith}
 use Rattle.cy_trees.specs.declared.expressions.Comparator.{Comparator}
 use Rattle.cy_trees.specs.declared.expressions.Comparator.TheVariants.{Equal, NotEqual, Less, LessOrEqual, Greater, GreaterOrEqual}
 use Rattle.cy_trees.specs.Trees.{Expression, null, boolean, integer, text, variable, property, has_labels, unary, binary, comparison, list, case, call, call_star, Expressions, no_more, more, Links, no_links, link, Arms, no_arms, arm, Otherwise, nothing, otherwise}
@@ -153,9 +153,7 @@ flag-gives k is c has = absurd (false≢true is)
 truth-gives : (v : Value) → IsFlag v → Gives Any (truth_of v)
 truth-gives (value.Bool b) is = tt
 truth-gives value.Null is = tt
-truth-gives (value.Int n) is = false≢true is
-truth-gives (value.Text t) is = false≢true is
-truth-gives (value.List es) is = false≢true is
+truth-gives _ is = false≢true is
 
 -- ---- operators
 
@@ -179,9 +177,7 @@ IsList v = is_list_or_null v ≡ true
 membership-ok : (x y : Value) → IsList y → IsOk (membership x y)
 membership-ok x (value.List es) is = refl
 membership-ok x value.Null is = refl
-membership-ok x (value.Text t) is = is
-membership-ok x (value.Bool b) is = is
-membership-ok x (value.Int n) is = is
+membership-ok x _ is = is
 
 flags-ok : (f : Truth → Truth → Truth) (x y : Value) → IsFlag x → IsFlag y → IsOk (on_two (λ a b. Ok (value_of (f a b))) (truth_of x) (truth_of y))
 flags-ok f x y p q = two-ok Any Any (λ a b. Ok (value_of (f a b))) (λ a b p q. refl) (truth_of x) (truth_of y) (truth-gives x p) (truth-gives y q)
@@ -217,11 +213,7 @@ binary-ok StartsWith j k known is left right r s p q lists =
     two-ok Any Any (binary_value StartsWith) (λ x y p q. refl) (on_one value_in_cell r) (on_one value_in_cell s) (values-give j left r p) (values-give k right s q)
 binary-ok EndsWith j k known is left right r s p q lists =
     two-ok Any Any (binary_value EndsWith) (λ x y p q. refl) (on_one value_in_cell r) (on_one value_in_cell s) (values-give j left r p) (values-give k right s q)
-binary-ok Add j k known is left right r s p q lists = absurd (false≢true is)
-binary-ok Subtract j k known is left right r s p q lists = absurd (false≢true is)
-binary-ok Multiply j k known is left right r s p q lists = absurd (false≢true is)
-binary-ok Divide j k known is left right r s p q lists = absurd (false≢true is)
-binary-ok Remainder j k known is left right r s p q lists = absurd (false≢true is)
+binary-ok _ j k known is left right r s p q lists = absurd (false≢true is)
 
 values-compared : (f : Value → Value → Truth) (j k : Kind) → (is_value j && is_value k) ≡ true → (c d : Cell) → OfKind j c → OfKind k d
     → IsOk (on_two (λ x y. Ok (f x y)) (value_in_cell c) (value_in_cell d))
@@ -243,11 +235,8 @@ abbrev IsElement : Value → Type 0
 IsElement v = IsOk (element v)
 
 flag-element : (v : Value) → IsFlag v → IsElement v
-flag-element (value.Bool b) is = refl
-flag-element value.Null is = refl
-flag-element (value.Int n) is = refl
-flag-element (value.Text t) is = refl
 flag-element (value.List es) is = is
+flag-element _ is = refl
 
 or-either : (a b : Bool) → (a || b) ≡ true → (a ≡ true) ⊎ (b ≡ true)
 or-either true b is = inl refl
@@ -315,10 +304,8 @@ list-given (Err fault) = tt
 
 labels-list : (graph : Lookups) (c : Cell) → IfOk (labels_value graph c) IsList
 labels-list graph (cell.Node n) = refl
-labels-list graph (cell.Rel r) = tt
-labels-list graph (cell.Rels rs) = tt
 labels-list graph (cell.Value value.Null) = refl
-labels-list graph (cell.Value v) = tt
+labels-list graph _ = tt
 
 call-list : (graph : Lookups) (f : Option Function) (cells : Result (List Cell) EvalFault) (outcomes : List (Result Value EvalFault)) (there : Result Value EvalFault)
     → gives_labels f ≡ true → IfOk (call_value graph f cells outcomes there) IsList
@@ -447,11 +434,6 @@ module _ (graph : Lookups) (scope : Scope) (row : List Cell) (fit_row : row_fits
 
   mutual
     pub sure-ok : (e : Expression) → expression_fault scope e ≡ None → is_sure scope e ≡ true → IsOk (of e)
-    sure-ok null checked sure = refl
-    sure-ok (boolean b) checked sure = refl
-    sure-ok (integer n) checked sure = refl
-    sure-ok (text t) checked sure = refl
-    sure-ok (variable v) checked sure = refl
     sure-ok (property e key) checked sure =
         let part = no-first (expression_fault scope e) (unless (is_entity (kind_of scope e)) WrongKind) checked in
         let rule = kept (is_entity (kind_of scope e)) WrongKind (no-later (expression_fault scope e) (unless (is_entity (kind_of scope e)) WrongKind) checked) in
@@ -512,6 +494,7 @@ module _ (graph : Lookups) (scope : Scope) (row : List Cell) (fit_row : row_fits
         (and-right (are_sure scope es) (is_sure_call (function_named name) (have_size scope es)) sure)
         (λ one. only-ok es one arguments are) (λ taken. outcomes-ok es arguments are taken) (λ property. asked-ok es property arguments are))
     sure-ok (call_star name) checked sure = absurd (false≢true sure)
+    sure-ok _ checked sure = refl
 
     chain-ok : (links : Links) → links_fault scope links ≡ None → are_sure_links scope links ≡ true → (k : Kind) (c : Cell) → OfKind k c → are_compared scope k links ≡ true
         → IsOk (chain graph row c (resolved_links scope links))

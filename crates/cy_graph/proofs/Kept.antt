@@ -70,19 +70,6 @@ module _ (end : Rel → ℕ) where
     was = joined.was;
   }
 
-  -- when a change begins nothing was done
-  pub joined_begun : (rels : SeriesVersions Rel) (adjacency : Adjacency) → IsNone rels.was → IsJoined end rels adjacency → IsJoined end (record rels { was = Some rels.now }) adjacency
-  joined_begun rels adjacency none joined =
-      let nothing = joined.closed none in
-      record {
-        now = joined.now;
-        closed = λ never_none. nothing;
-        was = λ before is m.
-            let same : rels.now ≡ before = cc in
-            let ids = ap (λ (steps : List Step). undone (reverse steps) (λ n. ids_at n adjacency.lists) m) nothing in
-            subst (λ b. IsListOf end m b (undone (reverse adjacency.steps.items) (λ n. ids_at n adjacency.lists) m)) same (subst (IsListOf end m rels.now) (sym ids) (joined.now m));
-      }
-
   -- once a change is over the lists are as it left them, or compacted
   pub joined_closed : (rels : SeriesVersions Rel) (old new : Adjacency) → IsJoined end rels old → ((m : ℕ) → IsCompacted rels.now.entries (ids_at m old.lists) (ids_at m new.lists)) → new.steps.items ≡ []
       → IsJoined end (record rels { was = None }) new

@@ -8,7 +8,6 @@ pub mod Joining
 pub mod Kept
 pub mod Least
 pub mod Listing
-pub mod Opening
 pub mod Ordered
 pub mod Places
 pub mod RelContents

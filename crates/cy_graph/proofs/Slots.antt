@@ -101,10 +101,6 @@ module _ {V : Type 0} where
   sorted low high [] r = refl
   sorted low high (e ∷ es) r = and_from _ _ (below_from e.0 (e.0 + 1) high es (omega arith) r.2) (sorted (e.0 + 1) high es r.2)
 
-  pub numbered : (low high : ℕ) (es : List (ℕ × V)) → 1 ≤ low → RiseFrom low high es → AllByRecursion (λ (e : ℕ × V). (1 ≤ e.0) × (e.0 < high)) es
-  numbered low high [] le r = tt
-  numbered low high (e ∷ es) le r = ((omega (arith, r.0), r.1), numbered (e.0 + 1) high es (omega arith) r.2)
-
   -- a smaller number is not found
   pub find_smaller : (id : ℕ) (low high : ℕ) (es : List (ℕ × V)) → id < low → RiseFrom low high es → entries.find nat_cmp id es ≡ None
   find_smaller id low high [] lt r = refl
@@ -116,13 +112,7 @@ module _ {V : Type 0} where
   same_look_up id [] = refl
   same_look_up id (e ∷ es) = λ i. cond (same_tests id e.0 i) (Some e.1) (same_look_up id es i)
 
-  -- a write past the end, and one within the first
-  pub take_set-past : (k i : ℕ) (es : List (ℕ × V)) (w : V) → k ≤ i → take k (set_value_at es i w) ≡ take k es
-  take_set-past zero i es w le = refl
-  take_set-past (suc k) i [] w le = refl
-  take_set-past (suc k) zero (e ∷ es) w le = absurd (omega arith)
-  take_set-past (suc k) (suc i) (e ∷ es) w le = ap (λ l. e ∷ l) (take_set-past k i es w (omega arith))
-
+  -- a write within the first
   pub take_set : (k i : ℕ) (es : List (ℕ × V)) (w : V) → take k (set_value_at es i w) ≡ set_value_at (take k es) i w
   take_set zero i es w = refl
   take_set (suc k) i [] w = refl
@@ -322,16 +312,6 @@ module _ {V : Type 0} where
   set_back (e ∷ es) zero id v is = let same : v ≡ e.1 = cc in ap (λ w. (e.0, w) ∷ es) same
   set_back (e ∷ es) (suc i) id v is = ap (λ l. e ∷ l) (set_back es i id v is)
 
-  -- what holds of each value that stands holds of the one in a slot
-  pub all_at : (P : ℕ × V → Type 0) (es : List (ℕ × Option V)) (i : ℕ) (id : ℕ) (n : V) → AllByRecursion P (live es) → slice_get es i ≡ Some (id, Some n) → P (id, n)
-  all_at P [] i id n all is = cc
-  all_at P (e ∷ es) zero id n all is =
-      let same : e ≡ (id, Some n) = cc in
-      let here = subst (λ (x : ℕ × Option V). AllByRecursion P (with_slot x.0 x.1 (live es))) same all in
-      here.0
-  all_at P (e ∷ es) (suc i) id n all is =
-      elim e.1 as (λ s. AllByRecursion P (with_slot e.0 s (live es)) → P (id, n)) [ None ↦ λ a. all_at P es i id n a is | Some m ↦ λ a. all_at P es i id n a.1 is ] all
-
   module _ (Q : V → Type 0) where
     -- and of each value of an edited graph
     pub all_put : (id : ℕ) (n : V) (es : List (ℕ × V)) → AllByRecursion (λ (e : ℕ × V). Q e.1) es → Q n → AllByRecursion (λ (e : ℕ × V). Q e.1) (entries.put nat_cmp id n es)
@@ -373,13 +353,6 @@ module _ {V : Type 0} where
   value_read [] i id v w is read = cc
   value_read (e ∷ es) zero id v w is read = cc
   value_read (e ∷ es) (suc i) id v w is read = value_read es i id v w is read
-
-  -- a value that is there stands in its slot
-  pub not_empty : (high : ℕ) (id : ℕ) (es : List (ℕ × Option V)) (found : Option (Option V)) → RiseFrom 1 high es → IsSome (value_under id (live es)) → found ≡ lookup (λ (k : ℕ). eqb id k) es → option_flatten found ≡ None → ⊥
-  not_empty high id es found r there is none =
-      let gone : value_under id (live es) ≡ None = sym (value_found high id es found r is) ∙ none in
-      let no : false ≡ true = sym (ap is_some gone) ∙ there in
-      cc
 
   -- a value that is kept was kept before, or is the last
   pub kept_push : (q k : ℕ) (v : V) (kept : List (ℕ × V)) → IsSome (value_under q (kept ++ (k, v) ∷ [])) → IsSome (value_under q kept) ⊎ (q ≡ k)

@@ -83,10 +83,6 @@ module _ {V : Type 0} where
             };
       }
 
-  -- the end of a change that stays
-  pub is_kept_committed : (slots : List (ℕ × Option V)) (next : ℕ) (change : Option (Start V)) → IsKept slots next change → IsKept slots next None
-  is_kept_committed slots next change kept = record { rising = kept.rising; range = kept.range; was = λ start is. cc }
-
   -- without its empty slots the series is the same
   pub is_kept_compacted : (slots : List (ℕ × Option V)) (next : ℕ) (change : Option (Start V)) → IsKept slots next change → IsKept (filter (λ e. is_some e.1) slots) next None
   is_kept_compacted slots next change kept = record {

@@ -62,10 +62,6 @@ node_filled place pair id node value v w is puts k n = puts k n ∙ turned (same
     same (key.Label label) = refl
     same (key.Prop q other) = ap (λ o. nat_eq q place && is_same other o) (sym is)
 
-pub node_left_out : (place : ℕ) (pair : Pair) (node : Node) (k : Key) → value_of pair node ≡ None → is_in_index place pair node k ≡ false
-node_left_out place pair node (key.Label label) none = refl
-node_left_out place pair node (key.Prop q value) none = ap (λ o. nat_eq q place && is_same value o) none ∙ elim (nat_eq q place) as (λ b. (b && false) ≡ false) [ true ↦ refl | false ↦ refl ]
-
 -- one node more, of those that are left
 pub entry_filled : (place : ℕ) (pair : Pair) (id : NodeId) (node : Node) (value : Value) (v w : Version Key) (left rest : Nodes) → value_of pair node ≡ Some value → Puts same_key (key.Prop place value ∷ []) id.0 true v w → left ≡ (id, node) ∷ rest
     → (k : Key) (n : ℕ) → (stands same_key k n w || is_listed place pair k n rest) ≡ (stands same_key k n v || is_listed place pair k n left)

@@ -12,7 +12,7 @@ use Rattle.std.proofs.lemmas.Option.{slice_get-get_or}
 use Rattle.cy_values.specs.declared.numbers.NodeId.{NodeId}
 use Rattle.cy_values.specs.declared.scalars.Value.{Value}
 use Rattle.cy_graph.specs.declared.nodes.Node.{Node}
-use Rattle.cy_graph.specs.Graph.{Content, State, IsGraph, node_order, node_at, has_label}
+use Rattle.cy_graph.specs.Graph.{State, IsGraph, node_order, node_at, has_label}
 use Rattle.cy_graph.specs.Maps.{value_at}
 use Rattle.cy_graph.specs.Stored.{IsStorable}
 use Rattle.cy_index.specs.Index.{has_value, nodes_where, labelled_nodes, found_nodes, is_pair, has_pair}
@@ -23,10 +23,6 @@ use Rattle.cy_index.proofs.Equal.{stored_value}
 use Rattle.cy_index.proofs.Listed.{Nodes, above}
 use Rattle.cy_index.proofs.Numbers.{itself, other_back, same_tests}
 
-or_none : (b : Bool) → (b || false) ≡ b
-or_none true = refl
-or_none false = refl
-
 -- tests that agree on each node
 where_same : (p q : Node → Bool) (nodes : Nodes) → AllByRecursion (λ (e : NodeId × Node). p e.1 ≡ q e.1) nodes → filter (λ (e : NodeId × Node). p e.1) nodes ≡ filter (λ (e : NodeId × Node). q e.1) nodes
 where_same p q [] all = refl
@@ -35,15 +31,6 @@ where_same p q (e ∷ es) all = let rest = where_same p q es all.1 in λ i. cond
 each : (P Q : Node → Type 0) → ((node : Node) → P node → Q node) → (nodes : Nodes) → AllByRecursion (λ (e : NodeId × Node). P e.1) nodes → AllByRecursion (λ (e : NodeId × Node). Q e.1) nodes
 each P Q then [] all = tt
 each P Q then (e ∷ es) all = (then e.1 all.0, each P Q then es all.1)
-
-any : (P : Node → Type 0) → ((node : Node) → P node) → (nodes : Nodes) → AllByRecursion (λ (e : NodeId × Node). P e.1) nodes
-any P all [] = tt
-any P all (e ∷ es) = (all e.1, any P all es)
-
--- the nodes under the key of a label have it
-pub labelled_are : (chosen : List Pair) (label : List ℕ) (content : Content) → nodes_where (λ node. is_key_of chosen node.labels node.props (key.Label label)) content ≡ labelled_nodes label content
-labelled_are chosen label content =
-    ap (map (λ e. e.0)) (where_same (λ node. is_key_of chosen node.labels node.props (key.Label label)) (has_label label) content.nodes (any (λ node. is_key_of chosen node.labels node.props (key.Label label) ≡ has_label label node) (λ node. or_none (has_label label node)) content.nodes))
 
 -- where the pair stands
 pub pair_at : (label at : List ℕ) (chosen : List Pair) (place : ℕ) → position (is_pair label at) chosen ≡ Some place → (pair : Pair) × (slice_get chosen place ≡ Some pair) × (pair.label ≡ label) × (pair.key ≡ at)

@@ -1,18 +1,17 @@
 -- The keys of a node are those of its labels, one after the other.
-use Rattle.std.proofs.Common.{◌≡◌, ℕ, ◌+◌, ◌<◌, Bool, true, false, cond, ◌&&◌, ◌||◌, List, [], ◌∷◌, ◌++◌, length, get_or, take, Option, None, Some, is_some, refl, sym, ap, ◌∙◌}
+use Rattle.std.proofs.Common.{◌≡◌, ℕ, ◌+◌, ◌<◌, Bool, true, false, cond, ◌&&◌, ◌||◌, List, [], ◌∷◌, ◌++◌, Option, None, Some, is_some, refl, sym, ap, ◌∙◌}
 use Rattle.std.specs.Prelude.{slice_get}
 use Rattle.std.specs.List.{list_any}
 use Rattle.std.specs.Option.{option_map_or}
 use Rattle.std.specs.Ordering.{eq_by_cmp}
 use Rattle.std.specs.Str.{bytes_eq}
 use Rattle.std.specs.Cmp.Lexicographic.{texts_ties}
-use Rattle.std.proofs.lemmas.List.{take_more}
 use Rattle.cy_values.specs.declared.scalars.Value.{Value}
 use Rattle.cy_graph.specs.Maps.{text_order, value_at}
 use Rattle.cy_index.specs.declared.keys.Key.{Key}
 use Rattle.cy_index.specs.declared.keys.Key.TheVariants as key
 use Rattle.cy_index.specs.declared.keys.Pair.{Pair}
-use Rattle.cy_index.specs.internal.Under.{among, is_value, by_label, by_node, is_key_of_label, is_key_of}
+use Rattle.cy_index.specs.internal.Under.{is_value, by_label, by_node, is_key_of_label, is_key_of}
 
 abbrev pub Labels : Type 0
 Labels = List (List ℕ × Unit {0})
@@ -21,10 +20,6 @@ Labels = List (List ℕ × Unit {0})
 any_same : {X : Type 0} (f g : X → Bool) → ((x : X) → f x ≡ g x) → (xs : List X) → list_any f xs ≡ list_any g xs
 any_same f g same [] = refl
 any_same f g same (x ∷ xs) = λ i. same x i || any_same f g same xs i
-
-any_push : {X : Type 0} (f : X → Bool) (xs : List X) (x : X) → list_any f (xs ++ x ∷ []) ≡ (list_any f xs || f x)
-any_push f [] x = elim (f x) as (λ b. (b || false) ≡ (false || b)) [ true ↦ refl | false ↦ refl ]
-any_push f (y ∷ xs) x = ap (λ b. f y || b) (any_push f xs x) ∙ elim (f y) as (λ a. (a || (list_any f xs || f x)) ≡ ((a || list_any f xs) || f x)) [ true ↦ refl | false ↦ refl ]
 
 any_none : {X : Type 0} (xs : List X) → list_any (λ (x : X). false) xs ≡ false
 any_none [] = refl
@@ -58,12 +53,3 @@ module _ (chosen : List Pair) (props : List (List ℕ × Value)) where
   pub labels_all : (labels : Labels) (k : Key) → list_any (λ e. is_key_of_label chosen e.0 props k) labels ≡ is_key_of chosen labels props k
   labels_all labels (key.Label other) = any_same (λ e. bytes_eq other e.0 || false) (λ e. bytes_eq other e.0) (λ e. or_none (bytes_eq other e.0)) labels ∙ has_any other labels ∙ sym (or_none (is_some (value_at other labels)))
   labels_all labels (key.Prop q value) = prop_any labels value (slice_get chosen q)
-
-  -- one label more
-  pub labels_next : (labels : Labels) (i : ℕ) (e : List ℕ × Unit {0}) (before after : List Key) → i < length labels → e ≡ get_or labels i e
-      → ((k : Key) → among k before ≡ list_any (λ e. is_key_of_label chosen e.0 props k) (take i labels)) → ((k : Key) → among k after ≡ (among k before || is_key_of_label chosen e.0 props k))
-      → (k : Key) → among k after ≡ list_any (λ e. is_key_of_label chosen e.0 props k) (take (i + 1) labels)
-  labels_next labels i e before after lt is first then k =
-      then k ∙ ap (λ b. b || is_key_of_label chosen e.0 props k) (first k)
-      ∙ sym (any_push (λ e. is_key_of_label chosen e.0 props k) (take i labels) e)
-      ∙ ap (list_any (λ e. is_key_of_label chosen e.0 props k)) (sym (take_more labels i e lt ∙ ap (λ x. take i labels ++ x ∷ []) (sym is)))

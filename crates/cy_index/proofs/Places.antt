@@ -6,7 +6,7 @@ use Rattle.cy_values.specs.declared.scalars.Value.{Value}
 use Rattle.cy_index.specs.declared.keys.Key.{Key}
 use Rattle.cy_index.specs.declared.keys.Key.TheVariants as key
 use Rattle.cy_index.specs.declared.keys.Pair.{Pair}
-use Rattle.cy_index.specs.internal.Under.{among, same_key, is_pair_at, is_prop, is_here}
+use Rattle.cy_index.specs.internal.Under.{among, is_pair_at, is_prop, is_here}
 use Rattle.cy_index.proofs.Numbers.{other, other_back}
 
 -- tests of truths
@@ -44,21 +44,6 @@ prop_more chosen test i p (key.Prop q value) lt is =
     ap (λ ps. is_pair_at ps q (test value)) (take_more chosen i p lt ∙ ap (λ x. take i chosen ++ x ∷ []) (sym is))
     ∙ pair_push (test value) (take i chosen) p q
     ∙ ap (λ n. is_pair_at (take i chosen) q (test value) || (nat_eq q n && test value p)) (length-take-le i chosen (omega arith))
-
--- no key is at no place
-pub prop_none : (test : Value → Pair → Bool) (k : Key) → is_prop [] test k ≡ false
-prop_none test (key.Label other) = refl
-prop_none test (key.Prop q value) = refl
-
--- nothing passes at the next place
-pub here_none : (place : ℕ) (test : Value → Bool) → ((value : Value) → test value ≡ false) → (k : Key) → is_here place test k ≡ false
-here_none place test off (key.Label other) = refl
-here_none place test off (key.Prop q value) = ap (λ b. nat_eq q place && b) (off value) ∙ elim (nat_eq q place) as (λ b. (b && false) ≡ false) [ true ↦ refl | false ↦ refl ]
-
--- among keys with one more at the end
-pub among_push : (k x : Key) (keys : List Key) → among k (keys ++ x ∷ []) ≡ (among k keys || same_key k x)
-among_push k x [] = sym (or_none (same_key k x))
-among_push k x (y ∷ keys) = ap (λ b. same_key k y || b) (among_push k x keys) ∙ sym (or_assoc (same_key k y) (among k keys) (same_key k x))
 
 -- one place after the other
 pub places_next : (chosen : List Pair) (test : Value → Pair → Bool) (i : ℕ) (p : Pair) (start before after : List Key) → i < length chosen → p ≡ get_or chosen i p

@@ -8,12 +8,8 @@ use Rattle.std.specs.Option.{option_map_or}
 use Rattle.std.proofs.lemmas.Map.{NonePasses, none_passes_from_lookup, lookup-none}
 use Rattle.cy_index.specs.internal.Entries.{Entries, present}
 use Rattle.cy_index.specs.internal.Numbers.{is_among, is_nonempty, with_number, without_number}
-use Rattle.cy_index.specs.internal.Postings.{Version, version_of, list_at, with_list, numbers_at, stands, IsSlotOf, IsNew, Puts, Replaces}
+use Rattle.cy_index.specs.internal.Postings.{Version, version_of, list_at, with_list, numbers_at, stands, IsSlotOf, IsNew, Puts}
 use Rattle.cy_index.proofs.Numbers.{among_with, among_without}
-
-or_none : (b : Bool) → (b || false) ≡ b
-or_none true = refl
-or_none false = refl
 
 module _ {K : Type 0} (eq : K → K → Bool) where
   -- what a search for a key finds
@@ -60,11 +56,6 @@ module _ {K : Type 0} (eq : K → K → Bool) where
   numbers_slot key slot [] is = absurd is
   numbers_slot key zero (e ∷ es) is = ap (λ b. cond b e.1 (numbers_at eq key es)) is
   numbers_slot key (suc slot) (e ∷ es) is = ap (λ b. cond b e.1 (numbers_at eq key es)) is.0 ∙ numbers_slot key slot es is.1
-
-  pub slot_within : (key : K) (slot : ℕ) (v : Version K) → IsSlotOf eq key slot v → slot < length v
-  slot_within key slot [] is = absurd is
-  slot_within key zero (e ∷ es) is = omega arith
-  slot_within key (suc slot) (e ∷ es) is = omega (arith, slot_within key slot es is.1)
 
   -- a new key has none
   pub numbers_new : (key : K) (v : Version K) → IsNew eq key v → numbers_at eq key v ≡ []
@@ -162,12 +153,6 @@ module _ {K : Type 0} (eq : K → K → Bool) where
       next k m ∙ ap (λ s. cond ((eq k key || false) && nat_eq m n) here s) (before k m)
       ∙ twice (list_any (eq k) keys) (eq k key || false) (nat_eq m n) here (stands eq k m u)
       ∙ ap (λ b. cond (b && nat_eq m n) here (stands eq k m u)) (sym (any_last k key keys))
-
-  pub puts_none : (n : ℕ) (here : Bool) (v : Version K) → Puts eq [] n here v v
-  puts_none n here v k m = refl
-
-  pub replaces : (leaving coming : List K) (n : ℕ) (u v w : Version K) → Puts eq leaving n false u v → Puts eq coming n true v w → Replaces eq leaving coming n u w
-  replaces leaving coming n u v w less more k m = more k m ∙ ap (λ s. cond (list_any (eq k) coming && nat_eq m n) true s) (less k m)
 
   pub puts_before : (keys : List K) (key : K) (n : ℕ) (here : Bool) (u v w : Version K) → Puts eq keys n here u v → Puts eq (key ∷ []) n here v w → Puts eq (key ∷ keys) n here u w
   puts_before keys key n here u v w before next k m =

@@ -28,23 +28,9 @@ gone : (b : Bool) → false ≡ (not b && b)
 gone true = refl
 gone false = refl
 
--- no node leaves no key
-pub none_turns : (chosen : List Pair) (change : Node → Node) (o : Option Node) (leaving coming : List Key) → o ≡ None → leaving ≡ [] → coming ≡ [] → Turns chosen o (option_map change o) leaving coming
-none_turns chosen change o leaving coming none no_leaving no_coming k =
-    ap (λ x. stands_by chosen k (option_map change x)) none
-    ∙ sym (ap (λ x. among k coming || (not (among k leaving) && stands_by chosen k x)) none ∙ ap (λ ks. among k ks || (not (among k leaving) && false)) no_coming ∙ ap (λ ks. not (among k ks) && false) no_leaving)
-
-pub none_removed : (chosen : List Pair) (o : Option Node) (keys : List Key) → o ≡ None → keys ≡ [] → Turns chosen o None keys []
-none_removed chosen o keys none no_keys k = sym (ap (λ x. not (among k keys) && stands_by chosen k x) none ∙ ap (λ ks. not (among k ks) && false) no_keys)
-
 -- a new node comes under its keys
 pub node_comes : (chosen : List Pair) (node : Node) (keys : List Key) → ((k : Key) → among k keys ≡ is_key_of chosen node.labels node.props k) → Turns chosen None (Some node) [] keys
 node_comes chosen node keys are k = sym (are k) ∙ or_none (among k keys)
-
--- a node that goes leaves them
-pub node_goes : (chosen : List Pair) (o : Option Node) (node : Node) (keys : List Key) → o ≡ Some node → ((k : Key) → among k keys ≡ is_key_of chosen node.labels node.props k) → Turns chosen o None keys []
-node_goes chosen o node keys is are k =
-    gone (is_key_of chosen node.labels node.props k) ∙ sym (ap (λ x. not (among k keys) && stands_by chosen k x) is ∙ ap (λ b. not b && is_key_of chosen node.labels node.props k) (are k))
 
 -- a label comes, and goes
 pub label_turns : (chosen : List Pair) (label : List ℕ) (o : Option Node) (node : Node) (keys : List Key) → o ≡ Some node → ((k : Key) → among k keys ≡ is_key_of_label chosen label node.props k)

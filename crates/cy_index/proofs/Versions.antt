@@ -106,10 +106,6 @@ module _ {K : Type 0} where
   pub stepped : (steps : List Step) (s : Step) (old new : List (K × Entries)) → undone s new ≡ old → versions (reverse (steps ++ s ∷ [])) new ≡ version_of new ∷ versions (reverse steps) old
   stepped steps s old new back = ap (λ ss. versions ss new) (reverse-append steps (s ∷ [])) ∙ ap (λ es. version_of new ∷ versions (reverse steps) es) back
 
-  -- and one step less to the version before
-  pub popped : (steps rest : List Step) (s : Step) (es : List (K × Entries)) → steps ≡ rest ++ s ∷ [] → versions (reverse steps) es ≡ version_of es ∷ versions (reverse rest) (undone s es)
-  popped steps rest s es is = ap (λ ss. versions ss es) (ap reverse is ∙ reverse-append rest (s ∷ []))
-
   -- a write, as the versions show it
   pub writes : (now view : List (Version K)) (old new : List (K × Entries)) (slot : ℕ) (f : List ℕ → List ℕ) → latest now ≡ version_of old → view ≡ version_of new ∷ now → version_of new ≡ with_list slot (f (list_at slot (version_of old))) (version_of old) → Writes slot (f (list_at slot (latest now))) now view
   writes now view old new slot f last shown written =

@@ -28,7 +28,7 @@ use Rattle.cy_lexer.specs.Keywords.{keyword_of}
 use Rattle.cy_lexer.specs.Line.{longest_line}
 use Rattle.cy_lexer.specs.Numbers.{number_of, greatest_number, is_bad_number}
 use Rattle.cy_lexer.specs.Quoted.{quoted_len}
-use Rattle.cy_lexer.specs.Spans.{IsSpanOf, slice_of, AreSpansOf}
+use Rattle.cy_lexer.specs.Spans.{slice_of, AreSpansOf}
 use Rattle.cy_lexer.specs.Symbols.{symbol}
 use Rattle.cy_lexer.specs.Tokens.{Piece, ◌>>=◌, block_len, closes_at_once, number_piece, quoted_name, opens_comment, token_piece, piece, with_token, tokens_from, tokens_of, denoted}
 
@@ -67,25 +67,10 @@ pub record IsLexed (line : List ℕ) (t : Token) : Type 0 where
   pub stretch : IsStretch line t.start t.end
   pub meant : IsMeant t.kind (denoted t.kind (chars (slice_of line t)))
 
-HasCharacters-scalars : (cs : List ℕ) → HasCharacters cs → all_scalars cs ≡ true
-HasCharacters-scalars cs has = subst (λ (x : List ℕ). all_scalars x ≡ true) (sym has.2) has.3
-
--- what a token stands for has characters of Unicode alone, and where it is no text, one at least
-pub IsMeant-scalars : (k : TokenKind) (cs : List ℕ) → IsMeant k cs → all_scalars cs ≡ true
-IsMeant-scalars kind.Text cs meant = meant
-IsMeant-scalars kind.Name cs meant = HasCharacters-scalars cs meant
-IsMeant-scalars kind.QuotedName cs meant = HasCharacters-scalars cs meant
-IsMeant-scalars (kind.Keyword k) cs meant = HasCharacters-scalars cs meant
-IsMeant-scalars (kind.Number n) cs meant = HasCharacters-scalars cs meant
-IsMeant-scalars (kind.Symbol s) cs meant = HasCharacters-scalars cs meant
-
+-- where a token is no text, what it stands for has one character at least
 pub IsMeant-some : (k : TokenKind) (cs : List ℕ) → (k ≡ kind.Text → ⊥) → IsMeant k cs → HasCharacters cs
 IsMeant-some kind.Text cs other meant = absurd (other refl)
-IsMeant-some kind.Name cs other meant = meant
-IsMeant-some kind.QuotedName cs other meant = meant
-IsMeant-some (kind.Keyword k) cs other meant = meant
-IsMeant-some (kind.Number n) cs other meant = meant
-IsMeant-some (kind.Symbol s) cs other meant = meant
+IsMeant-some _ cs other meant = meant
 
 -- ---- characters of Unicode
 
@@ -101,15 +86,6 @@ all_scalars-take n cs are =
     (all_scalars-parts (take n cs) (drop n cs) (subst (λ (x : List ℕ). all_scalars x ≡ true) (sym (take-append-drop n cs)) are)).0
 
 -- ---- pieces
-
--- characters that are as they are written
-meant_whole : (k : TokenKind) (c : ℕ) (cs : List ℕ) → all_scalars (c ∷ cs) ≡ true → IsMeant k (c ∷ cs)
-meant_whole kind.Text c cs are = are
-meant_whole kind.Name c cs are = (c, cs, refl, are)
-meant_whole kind.QuotedName c cs are = (c, cs, refl, are)
-meant_whole (kind.Keyword k) c cs are = (c, cs, refl, are)
-meant_whole (kind.Number n) c cs are = (c, cs, refl, are)
-meant_whole (kind.Symbol s) c cs are = (c, cs, refl, are)
 
 -- a piece that begins with the character c and goes on with cs: where it is a token, what that stands for
 abbrev IsMeantIf : Option TokenKind → List ℕ → Type 0
@@ -342,36 +318,13 @@ tokens_of-spans line ts u e = placed_spans line (chars line) 0 ts (encodes-chars
 -- ---- from one token to another
 
 -- what holds for all tokens holds for some of them
-pub Every-front : (P : Token → Type 0) (front back : List Token) → Every P (front ++ back) → Every P front
-Every-front P [] back all = tt
-Every-front P (t ∷ ts) back all = (all.0, Every-front P ts back all.1)
-
 pub Every-back : (P : Token → Type 0) (front back : List Token) → Every P (front ++ back) → Every P back
 Every-back P [] back all = all
 Every-back P (t ∷ ts) back all = Every-back P ts back all.1
 
-pub Every-get : (P : Token → Type 0) (ts : List Token) (i : ℕ) (t : Token) → Every P ts → slice_get ts i ≡ Some t → P t
-Every-get P [] i t all e = absurd cc
-Every-get P (x ∷ ts) zero t all e = subst P (some_is x t e) all.0
-Every-get P (x ∷ ts) (suc i) t all e = Every-get P ts i t all.1 e
-
 pub AreSpansOf-back : (line : List ℕ) (from to : ℕ) (front back : List Token) → AreSpansOf line from (front ++ back) to → (at : ℕ) × AreSpansOf line at back to
 AreSpansOf-back line from to [] back spans = (from, spans)
 AreSpansOf-back line from to (t ∷ ts) back spans = AreSpansOf-back line t.end to ts back spans.2
-
--- the token u stands after a place
-spans_later : (line : List ℕ) (from to : ℕ) (mid after : List Token) (u : Token) → AreSpansOf line from (mid ++ (u ∷ after)) to → (from ≤ u.start) × IsSpanOf line u
-spans_later line from to [] after u spans = (spans.0, spans.1)
-spans_later line from to (x ∷ mid) after u spans =
-    let more = spans_later line x.end to mid after u spans.2 in
-    (omega (arith, spans.0, spans.1.0, more.0), more.1)
-
--- from a token to a later one
-pub tokens_of-stretch : (line : List ℕ) (before mid after : List Token) (t u : Token) → IsUtf8 line → tokens_of line ≡ Ok (before ++ (t ∷ (mid ++ (u ∷ after)))) → IsStretch line t.start u.end
-tokens_of-stretch line before mid after t u utf8 e =
-    let spans = (AreSpansOf-back line 0 (length line) before (t ∷ (mid ++ (u ∷ after))) (tokens_of-spans line _ utf8 e)).1 in
-    let later = spans_later line t.end (length line) mid after u spans.2 in
-    stretch line t.start u.end utf8 (omega (arith, spans.1.0, later.0, later.1.0)) spans.1.1 later.1.2
 
 -- from the first of some tokens to the last one
 spans_last : (line : List ℕ) (from to : ℕ) (x : Token) (own after : List Token) (u : Token) → AreSpansOf line from (x ∷ (own ++ after)) to → slice_get (x ∷ own) (length own) ≡ Some u → (from < u.end) × IsCharBoundary line u.end

@@ -48,9 +48,6 @@ piece-token total c cs w l b = rw (w, ← l, ← b) refl
 
 -- a token that is neither a quoted name nor a text is as it is written
 pub denoted-plain : (k : TokenKind) (cs : List ℕ) → (k ≡ kind.QuotedName → ⊥) → (k ≡ kind.Text → ⊥) → denoted k cs ≡ cs
-denoted-plain kind.Name cs q t = refl
 denoted-plain kind.QuotedName cs q t = absurd (q refl)
-denoted-plain (kind.Keyword k) cs q t = refl
-denoted-plain (kind.Number n) cs q t = refl
 denoted-plain kind.Text cs q t = absurd (t refl)
-denoted-plain (kind.Symbol s) cs q t = refl
+denoted-plain _ cs q t = refl

@@ -1,5 +1,5 @@
 -- Lemmas on texts that are made of words: their tokens are those of the words, one for each, in order.
-use Rattle.std.proofs.Common.{◌≡◌, ℕ, ◌+◌, ◌-◌, ◌≤◌, Bool, true, false, not, ◌&&◌, ◌||◌, ◌==◌, List, [], ◌∷◌, ◌++◌, drop, take, length, map, Some, Result, Ok, Err, refl, sym, ap, ◌∙◌, append_assoc, arith, length-append}
+use Rattle.std.proofs.Common.{◌≡◌, ℕ, ◌+◌, ◌-◌, ◌≤◌, Bool, true, false, not, ◌&&◌, ◌||◌, ◌==◌, List, [], ◌∷◌, ◌++◌, drop, take, length, Some, Result, Ok, Err, refl, sym, ap, ◌∙◌, append_assoc, arith, length-append}
 use lib.Utf8.{scalar}
 use Rattle.std.specs.Char.{is_ascii_digit, is_ascii_alphabetic, is_ascii_alphanumeric, encode_utf8}
 use Rattle.std.specs.Fmt.{decimal}
@@ -25,7 +25,7 @@ use Rattle.cy_lexer.specs.Spans.{slice_of}
 use Rattle.cy_lexer.specs.declared.faults.LexFault.{LexFault}
 use Rattle.cy_lexer.specs.Tokens.{◌>>=◌, piece, tokens_from, tokens_of, denoted}
 use Rattle.cy_lexer.specs.Words.{Word, doubled, escaped, signs}
-use Rattle.cy_lexer.specs.internal.SpacedWords.{is_word, join, may_touch, space, written, may_touch_next, are_words, may_follow_last, may_follow, bytes_of, tokens_at, IsTokenOf, AreTokensOf, kind_of, characters, meant}
+use Rattle.cy_lexer.specs.internal.SpacedWords.{is_word, join, may_touch, space, written, may_touch_next, are_words, bytes_of, tokens_at, IsTokenOf, AreTokensOf, kind_of, characters, meant}
 use Rattle.cy_lexer.specs.Words as word
 use Rattle.cy_lexer.proofs.CharactersLemmas.{size_of}
 use Rattle.cy_lexer.proofs.QuotedLemmas.{not_is}
@@ -51,21 +51,13 @@ piece-word (word.symbol s) rest is stands = piece-symbol s rest (not_is _ stands
 
 -- nothing, and a space
 precedes-nothing : (w : Word) → may_precede w [] ≡ true
-precedes-nothing (word.keyword k) = refl
-precedes-nothing (word.name cs) = refl
-precedes-nothing (word.text cs) = refl
-precedes-nothing (word.number n) = refl
 precedes-nothing (word.symbol sign.Dot) = refl
-precedes-nothing (word.symbol s) = refl
+precedes-nothing _ = refl
 
 precedes-space : (w : Word) (rest : List ℕ) → may_precede w (32 ∷ rest) ≡ true
 unfolding unicode_ident
-precedes-space (word.keyword k) rest = refl
-precedes-space (word.name cs) rest = refl
-precedes-space (word.text cs) rest = refl
-precedes-space (word.number n) rest = refl
 precedes-space (word.symbol sign.Dot) rest = refl
-precedes-space (word.symbol s) rest = refl
+precedes-space _ rest = refl
 
 -- a character that no symbol begins with, or goes on with
 abbrev IsPlain : ℕ → Type 0
@@ -335,34 +327,11 @@ AreTokensOf-from line front at (w ∷ ws) e split =
 pub AreTokensOf-words : (ws : List (Word × Bool)) → AreTokensOf (encode_utf8_all (written ws)) (tokens_at 0 ws) ws
 AreTokensOf-words ws = AreTokensOf-from (encode_utf8_all (written ws)) [] 0 ws refl refl
 
--- the law in one: a text of words, where it isn't too long, has tokens, which are those of the words
-pub written-is_read : (ws : List (Word × Bool)) → are_words ws ≡ true → length (encode_utf8_all (written ws)) ≤ longest_line → (ts : List Token) × (tokens_of (encode_utf8_all (written ws)) ≡ Ok ts) × AreTokensOf (encode_utf8_all (written ws)) ts ws
-written-is_read ws are short = (tokens_at 0 ws, tokens_of-words ws are short, AreTokensOf-words ws)
-
--- all kinds and all slices at once
-pub AreTokensOf-kinds : (line : List ℕ) (ts : List Token) (ws : List (Word × Bool)) → AreTokensOf line ts ws → map (λ t. t.kind) ts ≡ map (λ w. kind_of w.0) ws
-AreTokensOf-kinds line [] [] are = refl
-AreTokensOf-kinds line [] (w ∷ ws) are = absurd are
-AreTokensOf-kinds line (t ∷ ts) [] are = absurd are
-AreTokensOf-kinds line (t ∷ ts) (w ∷ ws) are =
-    ap (λ (k : TokenKind). k ∷ map (λ x. x.kind) ts) are.0.0
-    ∙ ap (λ (ks : List TokenKind). kind_of w.0 ∷ ks) (AreTokensOf-kinds line ts ws are.1)
-
-pub AreTokensOf-slices : (line : List ℕ) (ts : List Token) (ws : List (Word × Bool)) → AreTokensOf line ts ws → map (slice_of line) ts ≡ map (λ w. bytes_of w.0) ws
-AreTokensOf-slices line [] [] are = refl
-AreTokensOf-slices line [] (w ∷ ws) are = absurd are
-AreTokensOf-slices line (t ∷ ts) [] are = absurd are
-AreTokensOf-slices line (t ∷ ts) (w ∷ ws) are =
-    ap (λ (x : List ℕ). x ∷ map (slice_of line) ts) are.0.1
-    ∙ ap (λ (xs : List (List ℕ)). bytes_of w.0 ∷ xs) (AreTokensOf-slices line ts ws are.1)
-
 -- what they denote is what the words mean
 pub denoted-characters : (w : Word) → denoted (kind_of w) (characters w) ≡ meant w
-denoted-characters (word.keyword k) = refl
 denoted-characters (word.name cs) = unquoted-doubled cs
 denoted-characters (word.text cs) = unquoted-escaped cs
-denoted-characters (word.number n) = refl
-denoted-characters (word.symbol s) = refl
+denoted-characters _ = refl
 
 pub denoted-word : (w : Word) → is_word w ≡ true → denoted (kind_of w) (chars (bytes_of w)) ≡ meant w
 denoted-word w is = ap (λ (x : List ℕ). denoted (kind_of w) x) (chars-encodes (characters w) (all_scalars-word w is)) ∙ denoted-characters w
@@ -372,39 +341,3 @@ denoted-token line t w is token =
     ap (λ (k : TokenKind). denoted k (chars (slice_of line t))) token.0
     ∙ ap (λ (x : List ℕ). denoted (kind_of w) (chars x)) token.1
     ∙ denoted-word w is
-
--- ---- words after words
-
-pub written-append : (ws vs : List (Word × Bool)) → written (ws ++ vs) ≡ written ws ++ written vs
-written-append [] vs = refl
-written-append (w ∷ ws) vs =
-    ap (λ (x : List ℕ). characters w.0 ++ (space w.1 ++ x)) (written-append ws vs)
-    ∙ ap (λ (x : List ℕ). characters w.0 ++ x) (sym (append_assoc (space w.1) (written ws) (written vs)))
-    ∙ sym (append_assoc (characters w.0) (space w.1 ++ written ws) (written vs))
-
-are_words-after : (w : Word × Bool) (ws vs : List (Word × Bool)) → are_words (w ∷ ws) ≡ true → are_words vs ≡ true → may_follow_last w ws vs ≡ true → are_words (w ∷ (ws ++ vs)) ≡ true
-are_words-after w [] vs are others follow =
-    let is = (and_parts (is_word w.0) ((w.1 || may_touch_next w.0 []) && true) are).0 in
-    and_from (is_word w.0) ((w.1 || may_touch_next w.0 vs) && are_words vs) is (and_from (w.1 || may_touch_next w.0 vs) (are_words vs) follow others)
-are_words-after w (u ∷ us) vs are others follow =
-    let both = and_parts (is_word w.0) ((w.1 || may_touch w.0 u.0) && are_words (u ∷ us)) are in
-    let more = and_parts (w.1 || may_touch w.0 u.0) (are_words (u ∷ us)) both.1 in
-    and_from (is_word w.0) ((w.1 || may_touch w.0 u.0) && are_words (u ∷ (us ++ vs))) both.0
-    (and_from (w.1 || may_touch w.0 u.0) (are_words (u ∷ (us ++ vs))) more.0 (are_words-after u us vs more.1 others follow))
-
-pub are_words-append : (ws vs : List (Word × Bool)) → are_words ws ≡ true → are_words vs ≡ true → may_follow ws vs ≡ true → are_words (ws ++ vs) ≡ true
-are_words-append [] vs are others follow = others
-are_words-append (w ∷ ws) vs are others follow = are_words-after w ws vs are others follow
-
-pub AreTokensOf-append : (line : List ℕ) (ts us : List Token) (ws vs : List (Word × Bool)) → AreTokensOf line ts ws → AreTokensOf line us vs → AreTokensOf line (ts ++ us) (ws ++ vs)
-AreTokensOf-append line [] us [] vs are others = others
-AreTokensOf-append line [] us (w ∷ ws) vs are others = absurd are
-AreTokensOf-append line (t ∷ ts) us [] vs are others = absurd are
-AreTokensOf-append line (t ∷ ts) us (w ∷ ws) vs are others = (are.0, AreTokensOf-append line ts us ws vs are.1 others)
-
-pub AreTokensOf-split : (line : List ℕ) (ts : List Token) (ws vs : List (Word × Bool)) → AreTokensOf line ts (ws ++ vs) → (front : List Token) × (back : List Token) × (ts ≡ front ++ back) × AreTokensOf line front ws × AreTokensOf line back vs
-AreTokensOf-split line ts [] vs are = ([], ts, refl, tt, are)
-AreTokensOf-split line [] (w ∷ ws) vs are = absurd are
-AreTokensOf-split line (t ∷ ts) (w ∷ ws) vs are =
-    let more = AreTokensOf-split line ts ws vs are.1 in
-    (t ∷ more.0, more.1, ap (λ (x : List Token). t ∷ x) more.2, (are.0, more.3), more.4)

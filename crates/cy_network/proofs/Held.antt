@@ -1,20 +1,16 @@
 -- What the memories of a plan hold, and the counts of its rows, once a change went through it.
-use Rattle.std.proofs.Common.{◌≡◌, ℕ, ◌+◌, ◌-◌, ◌*◌, ◌≤◌, List, [], ◌∷◌, ◌++◌, Option, Some, None, map, min, sym, ap, subst, ◌∙◌, arith}
-use Rattle.std.specs.List.{All}
-use Rattle.std.proofs.lemmas.List.Elements.{All-cons, All-nil}
+use Rattle.std.proofs.Common.{◌≡◌, ℕ, ◌+◌, ◌-◌, ◌*◌, ◌≤◌, List, [], ◌∷◌, ◌++◌, Option, Some, map, min, sym, subst, ◌∙◌, arith}
 use Rattle.cy_graph.specs.Graph.{Content, State}
 use Rattle.cy_network_memory.specs.Counts.{Counts}
 use Rattle.cy_planner_algebra.specs.Plans.{Plan}
-use Rattle.cy_planner_algebra.specs.Parts.{parts}
 use Rattle.cy_planner_algebra.specs.Meaning.{rows_of}
 use Rattle.cy_network_memory.specs.declared.memory.RowDelta.{RowDelta}
-use Rattle.cy_network_operators.specs.Deltas.{IsDelta, counts, rows_at}
+use Rattle.cy_network_operators.specs.Deltas.{IsDelta}
 use Rattle.cy_network_operators.proofs.Staging.{after_delta}
-use Rattle.cy_network_merges.specs.Merges.{AreBounded}
 use Rattle.cy_network_touches.specs.Changes.{IsChange, Touches}
 use Rattle.cy_network_touches.specs.Costs.{cost}
 use Rattle.cy_network_parts.specs.Counted.{written}
-use Rattle.cy_network_parts.specs.Memories.{AreHeld, contents, keys}
+use Rattle.cy_network_parts.specs.Memories.{AreHeld, keys}
 use Rattle.cy_network_parts.specs.internal.Upkeep.{IsDone, IsUpkeep}
 use Rattle.cy_network_touches.specs.Work.{all_reads, all_steps, asked_reads}
 use Rattle.cy_network.proofs.Excess.{written_deltas}
@@ -23,24 +19,6 @@ use Rattle.cy_network.proofs.Excess.{written_deltas}
 pub held_now : (old : Option State) (now : State) (p : Plan) (columns : List (List ℕ)) (staged : List Counts) (deltas : List RowDelta) → columns ≡ keys p → IsDone old now p staged deltas
     → AreHeld (Some now.content) p columns staged staged
 held_now old now p columns staged deltas keyed done = record { keyed = keyed; held = done.holds; settled = done.holds; within = done.within }
-
-none_within : (ps : List Plan) → All (λ part. AreBounded (counts (rows_at None part))) ps
-none_within [] = All-nil (λ (part : Plan). AreBounded (counts (rows_at None part)))
-none_within (p ∷ ps) = All-cons (λ (part : Plan). AreBounded (counts (rows_at None part))) p ps (λ row. omega arith) (none_within ps)
-
--- memories without rows hold what a plan means where there is no graph yet
-pub held_none : (p : Plan) (columns : List (List ℕ)) (was staged : List Counts) → columns ≡ keys p → was ≡ contents (rows_at None) p → staged ≡ contents (rows_at None) p → AreHeld None p columns was staged
-held_none p columns was staged keyed held settled = record { keyed = keyed; held = held; settled = settled; within = none_within (parts p) }
-
--- so do the memories that were added for its parts, where there were none before
-pub held_new : {M : Type 0} (key_columns : M → List ℕ) (was staged : M → Counts) (p q : Plan) (old new : List M) → old ≡ [] → q ≡ p → map key_columns new ≡ map key_columns old ++ keys q
-    → map was new ≡ map was old ++ contents (rows_at None) q → map staged new ≡ map staged old ++ contents (rows_at None) q
-    → AreHeld None p (map key_columns new) (map was new) (map staged new)
-held_new key_columns was staged p q old new none same columns before after =
-    held_none p (map key_columns new) (map was new) (map staged new)
-    (columns ∙ ap (λ xs. map key_columns xs ++ keys q) none ∙ ap keys same)
-    (before ∙ ap (λ xs. map was xs ++ contents (rows_at None) q) none ∙ ap (contents (rows_at None)) same)
-    (after ∙ ap (λ xs. map staged xs ++ contents (rows_at None) q) none ∙ ap (contents (rows_at None)) same)
 
 -- the counts after a delta, written over those before it
 pub written_delta : (deltas : List RowDelta) (before after : Counts) → IsDelta before after deltas → written (map (λ s. (s.row, s.after)) deltas) before ≡ after

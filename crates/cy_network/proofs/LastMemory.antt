@@ -33,31 +33,13 @@ last_kept_where false xs x kept = last_pushed xs x
 
 -- a part that keeps its rows has them in its last memory
 last_kept : (rows : Plan → List (List Cell)) (p : Plan) → keeps_rows p ≡ true → last_of (contents rows p) ≡ counts (rows p)
-last_kept rows plan.unit kept = absurd (true_false (sym kept))
-last_kept rows plan.nodes kept = absurd (true_false (sym kept))
-last_kept rows (plan.rels types orientation) kept = absurd (true_false (sym kept))
-last_kept rows (plan.join left right keys) kept = absurd (true_false (sym kept))
-last_kept rows (plan.outer left right keys test) kept = absurd (true_false (sym kept))
-last_kept rows (plan.semi left right keys keeping) kept = absurd (true_false (sym kept))
-last_kept rows (plan.lookup p column attribute) kept = absurd (true_false (sym kept))
-last_kept rows (plan.filter p test) kept = absurd (true_false (sym kept))
-last_kept rows (plan.all_different p columns) kept = absurd (true_false (sym kept))
 last_kept rows (plan.project p outputs) kept = last_kept_where (is_row_by_row p outputs) (contents rows p) (counts (rows (plan.project p outputs))) kept
-last_kept rows (plan.distinct p) kept = absurd (true_false (sym kept))
 last_kept rows (plan.union left right) kept = last_kept_where (are_apart left right) (contents rows left ++ contents rows right) (counts (rows (plan.union left right))) kept
+last_kept rows _ kept = absurd (true_false (sym kept))
 
 -- The rows of a plan stand at its place, where the memories hold what its parts mean and the table, if they stand there, holds them.
 pub rows_kept : (graph : Content) (p : Plan) (table : Counts) → (place_of p ≡ in_table → table ≡ counts (rows_of graph p))
     → rows_by (place_of p) table (contents (rows_at (Some graph)) p) ≡ counts (rows_of graph p)
-rows_kept graph plan.unit table held = held refl
-rows_kept graph plan.nodes table held = held refl
-rows_kept graph (plan.rels types orientation) table held = held refl
-rows_kept graph (plan.join left right keys) table held = held refl
-rows_kept graph (plan.outer left right keys test) table held = held refl
-rows_kept graph (plan.semi left right keys keeping) table held = held refl
-rows_kept graph (plan.lookup p column attribute) table held = held refl
-rows_kept graph (plan.filter p test) table held = held refl
-rows_kept graph (plan.all_different p columns) table held = held refl
 rows_kept graph (plan.project p outputs) table held = by (keeps_rows (plan.project p outputs)) refl held
   where
     by : (b : Bool) → keeps_rows (plan.project p outputs) ≡ b → (place_where b in_memory ≡ in_table → table ≡ counts (rows_of graph (plan.project p outputs)))
@@ -79,6 +61,7 @@ rows_kept graph (plan.union left right) table held = by (keeps_rows (plan.union 
         → rows_by (place_where b in_memory) table (contents (rows_at (Some graph)) (plan.union left right)) ≡ counts (rows_of graph (plan.union left right))
     by true is there = last_kept (rows_at (Some graph)) (plan.union left right) is
     by false is there = there refl
+rows_kept graph _ table held = held refl
 
 -- the memory that is found last counts so
 pub last_found : {M : Type 0} (was : M → Counts) (memories : List M) (found : Option M) → found ≡ slice_get memories (length memories - 1) → last_of (map was memories) ≡ unwrap_or (option_map was found) no_rows

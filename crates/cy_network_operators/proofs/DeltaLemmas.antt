@@ -1,8 +1,8 @@
 -- The row deltas of a row, among those that are made of others.
-use Rattle.std.proofs.Common.{◌≡◌, ℕ, ◌+◌, ◌<◌, ◌≤◌, ◌==◌, Bool, true, false, cond, List, [], ◌∷◌, ◌++◌, refl, sym, ap, subst, ◌∙◌, filter, length, take, get_or, arith}
+use Rattle.std.proofs.Common.{◌≡◌, ℕ, ◌+◌, ◌<◌, ◌≤◌, ◌==◌, Bool, true, false, cond, List, [], ◌∷◌, ◌++◌, refl, sym, ap, subst, ◌∙◌, filter, arith}
 use Rattle.std.specs.Prelude.{flat_map}
 use Rattle.std.specs.List.{All}
-use Rattle.std.proofs.lemmas.List.{append-nil, append_assoc, flat_map_more, take_more}
+use Rattle.std.proofs.lemmas.List.{append-nil}
 use Rattle.std.proofs.lemmas.List.Elements.{All-append, All-cons, All-filter, All-head, All-nil, All-tail, filter-append}
 use Rattle.std.proofs.lemmas.List.Concat.{flat_map-append}
 use Rattle.std.proofs.lemmas.Bool.Decides.{nat_tests}
@@ -82,12 +82,6 @@ kept_more p xs s fails =
     ∙ ap (λ b. flat_map (recounted (λ row n. cond (p row) n 0)) xs ++ row_delta_between s.row (cond b s.before 0) (cond b s.after 0)) fails
     ∙ append-nil (flat_map (recounted (λ row n. cond (p row) n 0)) xs)
 
-pub kept_one_more : (p : List Cell → Bool) (xs : List RowDelta) (s : RowDelta) → p s.row ≡ true
-    → flat_map (recounted (λ row n. cond (p row) n 0)) (xs ++ s ∷ []) ≡ flat_map (recounted (λ row n. cond (p row) n 0)) xs ++ row_delta_between s.row s.before s.after
-kept_one_more p xs s passes =
-    made_more (recounted (λ row n. cond (p row) n 0)) xs s
-    ∙ ap (λ b. flat_map (recounted (λ row n. cond (p row) n 0)) xs ++ row_delta_between s.row (cond b s.before 0) (cond b s.after 0)) passes
-
 -- two counts of which each row has the same have the same deltas
 pub delta_alike : (before after other_before other_after : Counts) (deltas : List RowDelta) → ((row : List Cell) → before row ≡ other_before row) → ((row : List Cell) → after row ≡ other_after row)
     → IsDelta before after deltas → IsDelta other_before other_after deltas
@@ -130,21 +124,6 @@ pub made_alike : {X Y : Type 0} (P : X → Type 0) (f g : X → List Y) → ((x 
 made_alike P f g alike [] each = refl
 made_alike P f g alike (x ∷ xs) each =
     ap (λ made. made ++ flat_map f xs) (alike x (All-head P x xs each)) ∙ ap (λ rest. g x ++ rest) (made_alike P f g alike xs (All-tail P x xs each))
-
--- what the row deltas so far made of a row, and one more
-pub pairs_next : (row : List Cell) (h : RowDelta → List RowDelta) (deltas : List RowDelta) (s : RowDelta) (start so_far new : List RowDelta)
-    → deltas_of row so_far ≡ deltas_of row start ++ flat_map h deltas → deltas_of row new ≡ deltas_of row so_far ++ h s
-    → deltas_of row new ≡ deltas_of row start ++ flat_map h (deltas ++ s ∷ [])
-pairs_next row h deltas s start so_far new before made = made ∙ ap (λ l. l ++ h s) before ∙ flat_map_more h (deltas_of row start) deltas s
-
-pub pairs_more : (row : List Cell) (h : RowDelta → List RowDelta) (deltas : List RowDelta) (i : ℕ) (s : RowDelta) (start so_far new : List RowDelta) → i < length deltas → s ≡ get_or deltas i s
-    → deltas_of row so_far ≡ deltas_of row start ++ flat_map h (take i deltas) → deltas_of row new ≡ deltas_of row so_far ++ h s
-    → deltas_of row new ≡ deltas_of row start ++ flat_map h (take (i + 1) deltas)
-pairs_more row h deltas i s start so_far new below is before made =
-    made
-    ∙ ap (λ l. l ++ h s) before
-    ∙ append_assoc (deltas_of row start) (flat_map h (take i deltas)) (h s)
-    ∙ ap (λ l. deltas_of row start ++ l) (sym (ap (flat_map h) (take_more deltas i s below ∙ ap (λ t. take i deltas ++ t ∷ []) (sym is)) ∙ made_more h (take i deltas) s))
 
 -- where no row counts too often before or after, no row delta does
 pub deltas_bounded : (before after : Counts) (deltas : List RowDelta) → IsDelta before after deltas → ((row : List Cell) → before row ≤ greatest_count) → ((row : List Cell) → after row ≤ greatest_count)

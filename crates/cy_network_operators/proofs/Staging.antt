@@ -93,13 +93,6 @@ staged_next was staged new deltas i s below is so_far made =
     ∙ sym (after_more (take i deltas) s was)
     ∙ ap (λ xs. counts_after xs was) (ap (λ t. take i deltas ++ t ∷ []) is ∙ sym (take_more deltas i s below))
 
-pub staged_more : (was after staged new : Counts) (deltas : List RowDelta) (i : ℕ) (s : RowDelta) (change : ℤ) → IsDelta was after deltas → i < length deltas → s ≡ get_or deltas i s
-    → staged ≡ counts_after (take i deltas) was → (pos s.before +ℤ change) ≡ pos s.after
-    → new ≡ with_count s.row (changed change (staged s.row)) staged → new ≡ counts_after (take (i + 1) deltas) was
-staged_more was after staged new deltas i s change delta below is so_far makes made =
-    staged_next was staged new deltas i s below is so_far
-    (made ∙ ap (λ n. with_count s.row n staged) (change_makes (staged s.row) s.before s.after change (held_now was after staged deltas i s delta below is so_far) makes))
-
 pub on_ok : {T E P : Type 0} (r : Result T E) → is_err r ≡ false → OnOk r P → P
 on_ok (Ok x) is holds = holds
 on_ok (Err e) is holds = absurd (false≢true (sym is))

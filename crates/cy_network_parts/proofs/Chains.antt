@@ -13,48 +13,30 @@ use Rattle.cy_network_parts.proofs.Steps.{too_many_one}
 
 -- a part has one part below it, or it hasn't
 pub single_or_not : (p : Plan) → (below_count p ≡ 1) ⊎ (below_count p ≢ 1)
-single_or_not plan.unit = inr (λ is. absurd (omega (arith, is)))
-single_or_not plan.nodes = inr (λ is. absurd (omega (arith, is)))
-single_or_not (plan.rels types orientation) = inr (λ is. absurd (omega (arith, is)))
-single_or_not (plan.join left right ks) = inr (λ is. absurd (omega (arith, is)))
-single_or_not (plan.outer left right ks test) = inr (λ is. absurd (omega (arith, is)))
-single_or_not (plan.semi left right ks keeping) = inr (λ is. absurd (omega (arith, is)))
 single_or_not (plan.lookup p column attribute) = inl refl
 single_or_not (plan.filter p test) = inl refl
 single_or_not (plan.all_different p columns) = inl refl
 single_or_not (plan.project p outputs) = inl refl
 single_or_not (plan.distinct p) = inl refl
-single_or_not (plan.union left right) = inr (λ is. absurd (omega (arith, is)))
+single_or_not _ = inr (λ is. absurd (omega (arith, is)))
 
 -- a chain goes on with that of the one part below
 pub chain_more : (p : Plan) → below_count p ≡ 1 → chain p ≡ p ∷ chain (first_below p)
-chain_more plan.unit one = absurd (omega (arith, one))
-chain_more plan.nodes one = absurd (omega (arith, one))
-chain_more (plan.rels types orientation) one = absurd (omega (arith, one))
-chain_more (plan.join left right ks) one = absurd (omega (arith, one))
-chain_more (plan.outer left right ks test) one = absurd (omega (arith, one))
-chain_more (plan.semi left right ks keeping) one = absurd (omega (arith, one))
 chain_more (plan.lookup p column attribute) one = refl
 chain_more (plan.filter p test) one = refl
 chain_more (plan.all_different p columns) one = refl
 chain_more (plan.project p outputs) one = refl
 chain_more (plan.distinct p) one = refl
-chain_more (plan.union left right) one = absurd (omega (arith, one))
+chain_more _ one = absurd (omega (arith, one))
 
 -- or ends
 pub chain_ends : (p : Plan) → below_count p ≢ 1 → chain p ≡ p ∷ []
-chain_ends plan.unit other = refl
-chain_ends plan.nodes other = refl
-chain_ends (plan.rels types orientation) other = refl
-chain_ends (plan.join left right ks) other = refl
-chain_ends (plan.outer left right ks test) other = refl
-chain_ends (plan.semi left right ks keeping) other = refl
 chain_ends (plan.lookup p column attribute) other = absurd (other refl)
 chain_ends (plan.filter p test) other = absurd (other refl)
 chain_ends (plan.all_different p columns) other = absurd (other refl)
 chain_ends (plan.project p outputs) other = absurd (other refl)
 chain_ends (plan.distinct p) other = absurd (other refl)
-chain_ends (plan.union left right) other = refl
+chain_ends _ other = refl
 
 pub chain_first : (p : Plan) → (rest : List Plan) × (chain p ≡ p ∷ rest)
 chain_first p = elim (single_or_not p) [ inl one ↦ (chain (first_below p), chain_more p one) | inr other ↦ ([], chain_ends p other) ]

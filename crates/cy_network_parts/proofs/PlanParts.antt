@@ -24,13 +24,6 @@ pub record IsOverOne (p : Plan) : Type 0 where
   pub sums : (own : Plan → ℕ) → in_all own p ≡ in_all own (first_below p) + own p
 
 pub over_one : (p : Plan) → below_count p ≡ 1 → IsOverOne p
-over_one plan.unit h = absurd (omega (arith, h))
-over_one plan.nodes h = absurd (omega (arith, h))
-over_one (plan.rels types orientation) h = absurd (omega (arith, h))
-over_one (plan.join left right ks) h = absurd (omega (arith, h))
-over_one (plan.outer left right ks test) h = absurd (omega (arith, h))
-over_one (plan.semi left right ks keeping) h = absurd (omega (arith, h))
-over_one (plan.union left right) h = absurd (omega (arith, h))
 over_one (plan.lookup p column attribute) h =
     record { of_keys = refl; of_contents = λ rows. refl; of_parts = refl; well_formed = λ good. good.0; sure = λ sure graph is. sure graph is; sums = λ own. refl }
 over_one (plan.filter p test) h =
@@ -41,6 +34,7 @@ over_one (plan.project p outputs) h =
     record { of_keys = refl; of_contents = λ rows. refl; of_parts = refl; well_formed = λ good. good.0; sure = λ sure graph is. (sure graph is).0; sums = λ own. refl }
 over_one (plan.distinct p) h =
     record { of_keys = sym (append-nil (keys p)); of_contents = λ rows. sym (append-nil (contents rows p)); of_parts = refl; well_formed = λ good. good; sure = λ sure graph is. sure graph is; sums = λ own. refl }
+over_one _ h = absurd (omega (arith, h))
 
 -- what a part with two parts below it is made of
 pub record IsOverTwo (p : Plan) : Type 0 where
@@ -54,14 +48,6 @@ pub record IsOverTwo (p : Plan) : Type 0 where
   pub sums : (own : Plan → ℕ) → in_all own p ≡ in_all own (first_below p) + in_all own (second_below p) + own p
 
 pub over_two : (p : Plan) → below_count p ≡ 2 → IsOverTwo p
-over_two plan.unit h = absurd (omega (arith, h))
-over_two plan.nodes h = absurd (omega (arith, h))
-over_two (plan.rels types orientation) h = absurd (omega (arith, h))
-over_two (plan.lookup p column attribute) h = absurd (omega (arith, h))
-over_two (plan.filter p test) h = absurd (omega (arith, h))
-over_two (plan.all_different p columns) h = absurd (omega (arith, h))
-over_two (plan.project p outputs) h = absurd (omega (arith, h))
-over_two (plan.distinct p) h = absurd (omega (arith, h))
 over_two (plan.join left right ks) h = record {
   of_keys = refl;
   of_contents = λ rows. refl;
@@ -102,6 +88,7 @@ over_two (plan.union left right) h = record {
   sure_second = λ sure graph is. (sure graph is).1;
   sums = λ own. refl;
 }
+over_two _ h = absurd (omega (arith, h))
 
 -- of two things none is there, or both are
 unless_long : {A B : Type 0} (so : Bool) (x : A) (y : B) → length (none_where so (x ∷ [])) ≡ length (none_where so (y ∷ []))
@@ -115,18 +102,10 @@ one_unless false x = refl
 
 -- a part has as many memories as they have key columns
 pub own_long : (rows : Plan → List (List Cell)) (p : Plan) → length (own_contents rows p) ≡ length (own_keys p)
-own_long rows plan.unit = refl
-own_long rows plan.nodes = refl
-own_long rows (plan.rels types orientation) = refl
-own_long rows (plan.join left right ks) = refl
-own_long rows (plan.outer left right ks test) = refl
-own_long rows (plan.semi left right ks keeping) = refl
 own_long rows (plan.lookup p column attribute) = unless_long (is_scan (plan.lookup p column attribute)) (counts (rows p)) (column ∷ [])
-own_long rows (plan.filter p test) = refl
-own_long rows (plan.all_different p columns) = refl
 own_long rows (plan.project p outputs) = unless_long (is_row_by_row p outputs) (counts (rows (plan.project p outputs))) (all_columns (length outputs))
-own_long rows (plan.distinct p) = refl
 own_long rows (plan.union left right) = unless_long (are_apart left right) (counts (rows (plan.union left right))) (all_columns (width left))
+own_long rows _ = refl
 
 one : {A B : Type 0} (xs ys : List A) (us vs : List B) → length xs ≡ length us → length ys ≡ length vs → length (xs ++ ys) ≡ length (us ++ vs)
 one xs ys us vs first second = length-append xs ys ∙ ap (λ n. n + length ys) first ∙ ap (λ n. length us + n) second ∙ sym (length-append us vs)
@@ -137,9 +116,6 @@ two xs ys zs us vs ws first second third = one (xs ++ ys) zs (us ++ vs) ws (one 
 
 -- and so has a plan
 pub all_long : (rows : Plan → List (List Cell)) (p : Plan) → length (contents rows p) ≡ length (keys p)
-all_long rows plan.unit = refl
-all_long rows plan.nodes = refl
-all_long rows (plan.rels types orientation) = refl
 all_long rows (plan.join left right ks) = two (contents rows left) (contents rows right) (own_contents rows (plan.join left right ks)) (keys left) (keys right) (own_keys (plan.join left right ks)) (all_long rows left) (all_long rows right) refl
 all_long rows (plan.outer left right ks test) = two (contents rows left) (contents rows right) (own_contents rows (plan.outer left right ks test)) (keys left) (keys right) (own_keys (plan.outer left right ks test)) (all_long rows left) (all_long rows right) refl
 all_long rows (plan.semi left right ks keeping) = two (contents rows left) (contents rows right) (own_contents rows (plan.semi left right ks keeping)) (keys left) (keys right) (own_keys (plan.semi left right ks keeping)) (all_long rows left) (all_long rows right) refl
@@ -149,30 +125,18 @@ all_long rows (plan.all_different p columns) = all_long rows p
 all_long rows (plan.project p outputs) = one (contents rows p) (own_contents rows (plan.project p outputs)) (keys p) (own_keys (plan.project p outputs)) (all_long rows p) (own_long rows (plan.project p outputs))
 all_long rows (plan.distinct p) = all_long rows p
 all_long rows (plan.union left right) = two (contents rows left) (contents rows right) (own_contents rows (plan.union left right)) (keys left) (keys right) (own_keys (plan.union left right)) (all_long rows left) (all_long rows right) (own_long rows (plan.union left right))
+all_long rows _ = refl
 
 -- a part has two parts below it at most
 pub few_below : (p : Plan) → below_count p ≤ 2
 few_below plan.unit = omega arith
-few_below plan.nodes = omega arith
-few_below (plan.rels types orientation) = omega arith
-few_below (plan.join left right ks) = omega arith
-few_below (plan.outer left right ks test) = omega arith
-few_below (plan.semi left right ks keeping) = omega arith
-few_below (plan.lookup p column attribute) = omega arith
-few_below (plan.filter p test) = omega arith
-few_below (plan.all_different p columns) = omega arith
-few_below (plan.project p outputs) = omega arith
-few_below (plan.distinct p) = omega arith
-few_below (plan.union left right) = omega arith
+few_below _ = omega arith
 
 one_more : {A : Type 0} (x : A) (xs : List A) → length (x ∷ xs) ≡ length xs + 1
 one_more x xs = omega arith
 
 -- the parts below a part are fewer than its own
 pub fewer_first : (p : Plan) → 0 < below_count p → length (parts (first_below p)) < length (parts p)
-fewer_first plan.unit h = absurd (omega (arith, h))
-fewer_first plan.nodes h = absurd (omega (arith, h))
-fewer_first (plan.rels types orientation) h = absurd (omega (arith, h))
 fewer_first (plan.join left right ks) h = let n = length-append (parts left) (parts right) in let m = one_more (plan.join left right ks) (parts left ++ parts right) in omega (arith, n, m)
 fewer_first (plan.outer left right ks test) h = let n = length-append (parts left) (parts right) in let m = one_more (plan.outer left right ks test) (parts left ++ parts right) in omega (arith, n, m)
 fewer_first (plan.semi left right ks keeping) h = let n = length-append (parts left) (parts right) in let m = one_more (plan.semi left right ks keeping) (parts left ++ parts right) in omega (arith, n, m)
@@ -182,29 +146,17 @@ fewer_first (plan.all_different p columns) h = let m = one_more (plan.all_differ
 fewer_first (plan.project p outputs) h = let m = one_more (plan.project p outputs) (parts p) in omega (arith, m)
 fewer_first (plan.distinct p) h = let m = one_more (plan.distinct p) (parts p) in omega (arith, m)
 fewer_first (plan.union left right) h = let n = length-append (parts left) (parts right) in let m = one_more (plan.union left right) (parts left ++ parts right) in omega (arith, n, m)
-
-pub fewer_second : (p : Plan) → 1 < below_count p → length (parts (second_below p)) < length (parts p)
-fewer_second p h =
-    let two = few_below p in
-    let facts = over_two p (omega (arith, h, two)) in
-    let n = ap length facts.of_parts ∙ one_more p (parts (first_below p) ++ parts (second_below p)) in
-    let m = length-append (parts (first_below p)) (parts (second_below p)) in
-    omega (arith, n, m)
+fewer_first _ h = absurd (omega (arith, h))
 
 -- a part's own memories are some of all
 pub own_few : (p : Plan) → length (own_keys p) ≤ length (keys p)
-own_few plan.unit = omega arith
-own_few plan.nodes = omega arith
-own_few (plan.rels types orientation) = omega arith
 own_few (plan.join left right ks) = let n = length-append (keys left ++ keys right) (own_keys (plan.join left right ks)) in omega (arith, n)
 own_few (plan.outer left right ks test) = let n = length-append (keys left ++ keys right) (own_keys (plan.outer left right ks test)) in omega (arith, n)
 own_few (plan.semi left right ks keeping) = let n = length-append (keys left ++ keys right) (own_keys (plan.semi left right ks keeping)) in omega (arith, n)
 own_few (plan.lookup p column attribute) = let n = length-append (keys p) (own_keys (plan.lookup p column attribute)) in omega (arith, n)
-own_few (plan.filter p test) = omega arith
-own_few (plan.all_different p columns) = omega arith
 own_few (plan.project p outputs) = let n = length-append (keys p) (own_keys (plan.project p outputs)) in omega (arith, n)
-own_few (plan.distinct p) = omega arith
 own_few (plan.union left right) = let n = length-append (keys left ++ keys right) (own_keys (plan.union left right)) in omega (arith, n)
+own_few _ = omega arith
 
 -- and those of the right one of two parts are some of the others
 pub second_few : (p : Plan) → below_count p ≡ 2 → length (keys (second_below p)) + length (own_keys p) ≤ length (keys p)
@@ -216,18 +168,11 @@ second_few p pair =
 
 -- a part with two parts below it has exactly two
 two_below : (p : Plan) → 1 < below_count p → below_count p ≡ 2
-two_below plan.unit h = absurd (omega (arith, h))
-two_below plan.nodes h = absurd (omega (arith, h))
-two_below (plan.rels types orientation) h = absurd (omega (arith, h))
 two_below (plan.join left right ks) h = refl
 two_below (plan.outer left right ks test) h = refl
 two_below (plan.semi left right ks keeping) h = refl
-two_below (plan.lookup p column attribute) h = absurd (omega (arith, h))
-two_below (plan.filter p test) h = absurd (omega (arith, h))
-two_below (plan.all_different p columns) h = absurd (omega (arith, h))
-two_below (plan.project p outputs) h = absurd (omega (arith, h))
-two_below (plan.distinct p) h = absurd (omega (arith, h))
 two_below (plan.union left right) h = refl
+two_below _ h = absurd (omega (arith, h))
 
 -- the second part below is well formed, and has fewer parts
 pub second_good : (p q : Plan) (n : ℕ) → n ≡ below_count p → 1 < n → q ≡ second_below p → IsWellFormed p → IsWellFormed q

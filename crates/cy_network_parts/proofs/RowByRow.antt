@@ -18,7 +18,7 @@ use Rattle.cy_graph.specs.Graph.{IsGraph, State}
 use Rattle.cy_network_operators.proofs.PlanLemmas.{parts_wide, project_at}
 use Rattle.cy_network_touches.specs.Changes.{Touches}
 use Rattle.cy_network_sources.specs.Scans.{kept_at}
-use Rattle.cy_network_parts.proofs.ScanFacts.{kept_cell}
+use Rattle.cy_network_sources.proofs.Through.{kept_cell}
 use Rattle.cy_network_parts.proofs.Steps.{old_graph}
 use Rattle.cy_network_parts.specs.Memories.{is_row_by_row, is_scan, keeps_all, own_contents, own_keys, tells_rows, none_where}
 use Rattle.cy_network_parts.specs.Parts.{first_below}

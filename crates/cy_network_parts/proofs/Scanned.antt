@@ -41,18 +41,12 @@ none_scan is = absurd (true≢false (sym is))
 
 -- the one part below a scan is a scan
 pub scan_below : (p : Plan) → below_count p ≡ 1 → is_scan p ≡ true → is_scan (first_below p) ≡ true
-scan_below plan.unit one is = absurd (omega (arith, one))
-scan_below plan.nodes one is = absurd (omega (arith, one))
-scan_below (plan.rels types orientation) one is = absurd (omega (arith, one))
-scan_below (plan.join left right ks) one is = absurd (omega (arith, one))
-scan_below (plan.outer left right ks test) one is = absurd (omega (arith, one))
-scan_below (plan.semi left right ks keeping) one is = absurd (omega (arith, one))
 scan_below (plan.lookup p column attribute) one is = this_some column (scan_column p) is
 scan_below (plan.filter p test) one is = is
 scan_below (plan.all_different p columns) one is = is
 scan_below (plan.project p outputs) one is = kept_some (scan_column p) outputs is
 scan_below (plan.distinct p) one is = none_scan is
-scan_below (plan.union left right) one is = absurd (omega (arith, one))
+scan_below _ one is = absurd (omega (arith, one))
 
 -- so nothing above what is no scan is one
 pub no_scan_above : (p : Plan) → below_count p ≡ 1 → is_scan (first_below p) ≡ false → is_scan p ≡ false
@@ -64,48 +58,31 @@ no_scan_above p one other = by (is_scan p) refl
 
 -- in which column a part's rows name their entity comes from that of the part below it
 pub column_above : (p : Plan) → below_count p ≡ 1 → scan_column p ≡ column_over p (scan_column (first_below p))
-column_above plan.unit one = absurd (omega (arith, one))
-column_above plan.nodes one = absurd (omega (arith, one))
-column_above (plan.rels types orientation) one = absurd (omega (arith, one))
-column_above (plan.join left right ks) one = absurd (omega (arith, one))
-column_above (plan.outer left right ks test) one = absurd (omega (arith, one))
-column_above (plan.semi left right ks keeping) one = absurd (omega (arith, one))
 column_above (plan.lookup p column attribute) one = refl
 column_above (plan.filter p test) one = refl
 column_above (plan.all_different p columns) one = refl
 column_above (plan.project p outputs) one = refl
 column_above (plan.distinct p) one = refl
-column_above (plan.union left right) one = absurd (omega (arith, one))
+column_above _ one = absurd (omega (arith, one))
 
 -- and of a part that hasn't one part below it, of itself
 pub column_alone : (p : Plan) (below : Option ℕ) → below_count p ≢ 1 → scan_column p ≡ column_over p below
-column_alone plan.unit below other = refl
-column_alone plan.nodes below other = refl
-column_alone (plan.rels types orientation) below other = refl
-column_alone (plan.join left right ks) below other = refl
-column_alone (plan.outer left right ks test) below other = refl
-column_alone (plan.semi left right ks keeping) below other = refl
 column_alone (plan.lookup p column attribute) below other = absurd (other refl)
 column_alone (plan.filter p test) below other = absurd (other refl)
 column_alone (plan.all_different p columns) below other = absurd (other refl)
 column_alone (plan.project p outputs) below other = absurd (other refl)
 column_alone (plan.distinct p) below other = absurd (other refl)
-column_alone (plan.union left right) below other = refl
+column_alone _ below other = refl
 
 -- the parts of a scan are its chain
 pub chain_scan : (p : Plan) → is_scan p ≡ true → chain p ≡ scan_parts p
-chain_scan plan.unit is = none_scan is
 chain_scan plan.nodes is = refl
 chain_scan (plan.rels types orientation) is = refl
-chain_scan (plan.join left right ks) is = none_scan is
-chain_scan (plan.outer left right ks test) is = none_scan is
-chain_scan (plan.semi left right ks keeping) is = none_scan is
 chain_scan (plan.lookup p column attribute) is = ap (λ ps. plan.lookup p column attribute ∷ ps) (chain_scan p (scan_below (plan.lookup p column attribute) refl is))
 chain_scan (plan.filter p test) is = ap (λ ps. plan.filter p test ∷ ps) (chain_scan p is)
 chain_scan (plan.all_different p columns) is = ap (λ ps. plan.all_different p columns ∷ ps) (chain_scan p is)
 chain_scan (plan.project p outputs) is = ap (λ ps. plan.project p outputs ∷ ps) (chain_scan p (scan_below (plan.project p outputs) refl is))
-chain_scan (plan.distinct p) is = none_scan is
-chain_scan (plan.union left right) is = none_scan is
+chain_scan _ is = none_scan is
 
 pub some_scan : (found : Option ℕ) → is_some found ≡ true → IsSome found
 some_scan found is = is
@@ -115,9 +92,6 @@ pub lowest_is : (p : Plan) → (is_scan p ≡ true) ⊎ (below_count p ≢ 1) �
 lowest_is plan.unit whole few = inr refl
 lowest_is plan.nodes whole few = inl refl
 lowest_is (plan.rels types orientation) whole few = inl refl
-lowest_is (plan.join left right ks) whole few = absurd (omega (arith, few))
-lowest_is (plan.outer left right ks test) whole few = absurd (omega (arith, few))
-lowest_is (plan.semi left right ks keeping) whole few = absurd (omega (arith, few))
 lowest_is (plan.lookup p column attribute) (inl is) few = inl is
 lowest_is (plan.lookup p column attribute) (inr other) few = absurd (other refl)
 lowest_is (plan.filter p test) (inl is) few = inl is
@@ -128,78 +102,54 @@ lowest_is (plan.project p outputs) (inl is) few = inl is
 lowest_is (plan.project p outputs) (inr other) few = absurd (other refl)
 lowest_is (plan.distinct p) (inl is) few = none_scan is
 lowest_is (plan.distinct p) (inr other) few = absurd (other refl)
-lowest_is (plan.union left right) whole few = absurd (omega (arith, few))
+lowest_is _ whole few = absurd (omega (arith, few))
 
 -- nor is one with two parts below it
 pub pair_unscanned : (p : Plan) → below_count p ≡ 2 → is_scan p ≡ false
-pair_unscanned plan.unit pair = absurd (omega (arith, pair))
-pair_unscanned plan.nodes pair = absurd (omega (arith, pair))
-pair_unscanned (plan.rels types orientation) pair = absurd (omega (arith, pair))
 pair_unscanned (plan.join left right ks) pair = refl
 pair_unscanned (plan.outer left right ks test) pair = refl
 pair_unscanned (plan.semi left right ks keeping) pair = refl
-pair_unscanned (plan.lookup p column attribute) pair = absurd (omega (arith, pair))
-pair_unscanned (plan.filter p test) pair = absurd (omega (arith, pair))
-pair_unscanned (plan.all_different p columns) pair = absurd (omega (arith, pair))
-pair_unscanned (plan.project p outputs) pair = absurd (omega (arith, pair))
-pair_unscanned (plan.distinct p) pair = absurd (omega (arith, pair))
 pair_unscanned (plan.union left right) pair = refl
+pair_unscanned _ pair = absurd (omega (arith, pair))
 
 -- ---- what a scan keeps
 
 -- a scan has no memories of its own
 pub scan_own_keys : (p : Plan) → is_scan p ≡ true → own_keys p ≡ []
-scan_own_keys plan.unit is = refl
-scan_own_keys plan.nodes is = refl
-scan_own_keys (plan.rels types orientation) is = refl
 scan_own_keys (plan.join left right ks) is = none_scan is
 scan_own_keys (plan.outer left right ks test) is = none_scan is
 scan_own_keys (plan.semi left right ks keeping) is = none_scan is
 scan_own_keys (plan.lookup p column attribute) is = ap (λ so. none_where so ((column ∷ []) ∷ [])) is
-scan_own_keys (plan.filter p test) is = refl
-scan_own_keys (plan.all_different p columns) is = refl
 scan_own_keys (plan.project p outputs) is = ap (λ so. none_where (so || tells_rows p outputs) (all_columns (length outputs) ∷ [])) is
-scan_own_keys (plan.distinct p) is = refl
 scan_own_keys (plan.union left right) is = none_scan is
+scan_own_keys _ is = refl
 
 pub scan_own_contents : (rows : Plan → List (List Cell)) (p : Plan) → is_scan p ≡ true → own_contents rows p ≡ []
-scan_own_contents rows plan.unit is = refl
-scan_own_contents rows plan.nodes is = refl
-scan_own_contents rows (plan.rels types orientation) is = refl
 scan_own_contents rows (plan.join left right ks) is = none_scan is
 scan_own_contents rows (plan.outer left right ks test) is = none_scan is
 scan_own_contents rows (plan.semi left right ks keeping) is = none_scan is
 scan_own_contents rows (plan.lookup p column attribute) is = ap (λ so. none_where so (counts (rows p) ∷ [])) is
-scan_own_contents rows (plan.filter p test) is = refl
-scan_own_contents rows (plan.all_different p columns) is = refl
 scan_own_contents rows (plan.project p outputs) is = ap (λ so. none_where (so || tells_rows p outputs) (counts (rows (plan.project p outputs)) ∷ [])) is
-scan_own_contents rows (plan.distinct p) is = refl
 scan_own_contents rows (plan.union left right) is = none_scan is
+scan_own_contents rows _ is = refl
 
 -- nor have the parts below it
 pub scan_keys : (p : Plan) → is_scan p ≡ true → keys p ≡ []
 scan_keys plan.unit is = refl
 scan_keys plan.nodes is = refl
 scan_keys (plan.rels types orientation) is = refl
-scan_keys (plan.join left right ks) is = none_scan is
-scan_keys (plan.outer left right ks test) is = none_scan is
-scan_keys (plan.semi left right ks keeping) is = none_scan is
 scan_keys (plan.lookup p column attribute) is =
     ap (λ ks. ks ++ own_keys (plan.lookup p column attribute)) (scan_keys p (scan_below (plan.lookup p column attribute) refl is)) ∙ scan_own_keys (plan.lookup p column attribute) is
 scan_keys (plan.filter p test) is = scan_keys p is
 scan_keys (plan.all_different p columns) is = scan_keys p is
 scan_keys (plan.project p outputs) is =
     ap (λ ks. ks ++ own_keys (plan.project p outputs)) (scan_keys p (scan_below (plan.project p outputs) refl is)) ∙ scan_own_keys (plan.project p outputs) is
-scan_keys (plan.distinct p) is = none_scan is
-scan_keys (plan.union left right) is = none_scan is
+scan_keys _ is = none_scan is
 
 pub scan_contents : (rows : Plan → List (List Cell)) (p : Plan) → is_scan p ≡ true → contents rows p ≡ []
 scan_contents rows plan.unit is = refl
 scan_contents rows plan.nodes is = refl
 scan_contents rows (plan.rels types orientation) is = refl
-scan_contents rows (plan.join left right ks) is = none_scan is
-scan_contents rows (plan.outer left right ks test) is = none_scan is
-scan_contents rows (plan.semi left right ks keeping) is = none_scan is
 scan_contents rows (plan.lookup p column attribute) is =
     ap (λ cs. cs ++ own_contents rows (plan.lookup p column attribute)) (scan_contents rows p (scan_below (plan.lookup p column attribute) refl is))
     ∙ scan_own_contents rows (plan.lookup p column attribute) is
@@ -208,26 +158,20 @@ scan_contents rows (plan.all_different p columns) is = scan_contents rows p is
 scan_contents rows (plan.project p outputs) is =
     ap (λ cs. cs ++ own_contents rows (plan.project p outputs)) (scan_contents rows p (scan_below (plan.project p outputs) refl is))
     ∙ scan_own_contents rows (plan.project p outputs) is
-scan_contents rows (plan.distinct p) is = none_scan is
-scan_contents rows (plan.union left right) is = none_scan is
+scan_contents rows _ is = none_scan is
 
 -- ---- its rows
 
 -- where there is no graph yet they are those of a graph without anything
 scan_at : (graph : Option Content) (p : Plan) → is_scan p ≡ true → rows_at graph p ≡ rows_of (content_at graph) p
-scan_at graph plan.unit is = none_scan is
 scan_at graph plan.nodes is = nodes_at graph
 scan_at graph (plan.rels types orientation) is = rels_at graph types orientation
-scan_at graph (plan.join left right ks) is = none_scan is
-scan_at graph (plan.outer left right ks test) is = none_scan is
-scan_at graph (plan.semi left right ks keeping) is = none_scan is
 scan_at graph (plan.lookup p column attribute) is =
     lookup_at graph p column attribute ∙ ap (map (with_attribute (content_at graph) column attribute)) (scan_at graph p (scan_below (plan.lookup p column attribute) refl is))
 scan_at graph (plan.filter p test) is = filter_at graph p test ∙ ap (filter (holds test)) (scan_at graph p is)
 scan_at graph (plan.all_different p columns) is = different_at graph p columns ∙ ap (filter (λ row. are_different (relationships_at columns row))) (scan_at graph p is)
 scan_at graph (plan.project p outputs) is = project_at graph p outputs ∙ ap (map (projected outputs)) (scan_at graph p (scan_below (plan.project p outputs) refl is))
-scan_at graph (plan.distinct p) is = none_scan is
-scan_at graph (plan.union left right) is = none_scan is
+scan_at graph _ is = none_scan is
 
 -- a part and those below it
 within_more : (graph : Option Content) (p below : Plan) → parts p ≡ p ∷ parts below → AreBounded (counts (rows_at graph p)) → AreWithin graph below → AreWithin graph p
@@ -244,36 +188,26 @@ module _ (now : State) (graph : IsGraph now) where
   few p is row = scan_few now p graph (some_scan (scan_column p) is) row
 
   pub scan_within : (p : Plan) → is_scan p ≡ true → AreWithin (Some now.content) p
-  scan_within plan.unit is = none_scan is
   scan_within plan.nodes is = within_alone (Some now.content) plan.nodes refl (few plan.nodes is)
   scan_within (plan.rels types orientation) is = within_alone (Some now.content) (plan.rels types orientation) refl (few (plan.rels types orientation) is)
-  scan_within (plan.join left right ks) is = none_scan is
-  scan_within (plan.outer left right ks test) is = none_scan is
-  scan_within (plan.semi left right ks keeping) is = none_scan is
   scan_within (plan.lookup p column attribute) is =
       within_more (Some now.content) (plan.lookup p column attribute) p refl (few (plan.lookup p column attribute) is) (scan_within p (scan_below (plan.lookup p column attribute) refl is))
   scan_within (plan.filter p test) is = within_more (Some now.content) (plan.filter p test) p refl (few (plan.filter p test) is) (scan_within p is)
   scan_within (plan.all_different p columns) is = within_more (Some now.content) (plan.all_different p columns) p refl (few (plan.all_different p columns) is) (scan_within p is)
   scan_within (plan.project p outputs) is = within_more (Some now.content) (plan.project p outputs) p refl (few (plan.project p outputs) is) (scan_within p (scan_below (plan.project p outputs) refl is))
-  scan_within (plan.distinct p) is = none_scan is
-  scan_within (plan.union left right) is = none_scan is
+  scan_within _ is = none_scan is
 
 -- it reads each touched entity of its kind once
 pub reads_within : (rows rows_now : Plan → List (List Cell)) (touches : Touches) (p : Plan) → is_scan p ≡ true → scan_reads touches p ≤ all_reads rows rows_now touches p
-reads_within rows rows_now touches plan.unit is = none_scan is
 reads_within rows rows_now touches plan.nodes is = omega arith
 reads_within rows rows_now touches (plan.rels types orientation) is = omega arith
-reads_within rows rows_now touches (plan.join left right ks) is = none_scan is
-reads_within rows rows_now touches (plan.outer left right ks test) is = none_scan is
-reads_within rows rows_now touches (plan.semi left right ks keeping) is = none_scan is
 reads_within rows rows_now touches (plan.lookup p column attribute) is =
     let rest = reads_within rows rows_now touches p (scan_below (plan.lookup p column attribute) refl is) in omega (arith, rest)
 reads_within rows rows_now touches (plan.filter p test) is = let rest = reads_within rows rows_now touches p is in omega (arith, rest)
 reads_within rows rows_now touches (plan.all_different p columns) is = let rest = reads_within rows rows_now touches p is in omega (arith, rest)
 reads_within rows rows_now touches (plan.project p outputs) is =
     let rest = reads_within rows rows_now touches p (scan_below (plan.project p outputs) refl is) in omega (arith, rest)
-reads_within rows rows_now touches (plan.distinct p) is = none_scan is
-reads_within rows rows_now touches (plan.union left right) is = none_scan is
+reads_within rows rows_now touches _ is = none_scan is
 
 -- ---- a change of the graph
 

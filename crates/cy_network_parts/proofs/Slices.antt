@@ -50,19 +50,6 @@ one_only d [] long = absurd (omega (arith, long))
 one_only d (x ∷ []) long = refl
 one_only d (x ∷ y ∷ xs) long = absurd (omega (arith, long))
 
-pub two_only : {A : Type 0} (d : A) (xs : List A) → length xs ≡ 2 → xs ≡ get_or xs 0 d ∷ get_or xs 1 d ∷ []
-two_only d [] long = absurd (omega (arith, long))
-two_only d (x ∷ []) long = absurd (omega (arith, long))
-two_only d (x ∷ y ∷ []) long = refl
-two_only d (x ∷ y ∷ z ∷ xs) long = absurd (omega (arith, long))
-
-pub three_only : {A : Type 0} (d : A) (xs : List A) → length xs ≡ 3 → xs ≡ get_or xs 0 d ∷ get_or xs 1 d ∷ get_or xs 2 d ∷ []
-three_only d [] long = absurd (omega (arith, long))
-three_only d (x ∷ []) long = absurd (omega (arith, long))
-three_only d (x ∷ y ∷ []) long = absurd (omega (arith, long))
-three_only d (x ∷ y ∷ z ∷ []) long = refl
-three_only d (x ∷ y ∷ z ∷ w ∷ xs) long = absurd (omega (arith, long))
-
 -- one thing in the place of another one
 pub set_one : {A : Type 0} (y : A) (xs : List A) → length xs ≡ 1 → set xs 0 y ≡ y ∷ []
 set_one y [] long = absurd (omega (arith, long))
@@ -72,10 +59,6 @@ set_one y (x ∷ z ∷ xs) long = absurd (omega (arith, long))
 -- what stands at a place of two lists that are the same
 pub same_at : {A : Type 0} (d : A) (xs ys : List A) (i : ℕ) → xs ≡ ys → get_or xs i d ≡ get_or ys i d
 same_at d xs ys i same = ap (λ zs. get_or zs i d) same
-
--- a list that gives one thing is one element
-pub one_long : {A B : Type 0} (f : A → B) (xs : List A) (b : B) → map f xs ≡ b ∷ [] → length xs ≡ 1
-one_long f xs b same = sym (length-map xs f) ∙ ap length same
 
 -- a list of two that is cut after the first one
 pub one_long_back : {A : Type 0} (own ys : List A) → length own ≡ 2 → length ys + 1 ≡ length own → length ys ≡ 1

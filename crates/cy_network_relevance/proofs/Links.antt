@@ -218,13 +218,9 @@ module _ (graph : Content) (outputs : List Output) (row : List Cell) (link : IsL
 -- ---- plans
 
 pub links : (graph : State) → IsGraph graph → (p : Plan) → has_links p ≡ true → All (IsLink graph.content) (rows_of graph.content p)
-links graph is plan.unit has = absurd (false≢true has)
-links graph is plan.nodes has = absurd (false≢true has)
 links graph is (plan.rels types orientation) has =
     all_made (IsThere graph.content.rels) (IsLink graph.content) (rows_of_rel types orientation) (λ e there. link_rel graph.content e there types orientation) graph.content.rels
     (each_there graph.content.rels is.rels_rising)
-links graph is (plan.join left right keys) has = absurd (false≢true has)
-links graph is (plan.outer left right keys test) has = absurd (false≢true has)
 links graph is (plan.semi left right keys keeping) has = All-filter _ (IsLink graph.content) (rows_of graph.content left) (links graph is left has)
 links graph is (plan.lookup p column attribute) has =
     All-map (IsLink graph.content) (with_attribute graph.content column attribute) (rows_of graph.content p)
@@ -236,8 +232,7 @@ links graph is (plan.project p outputs) has =
     let both = and_parts (has_links p) (keeps_links outputs) has in
     All-map (IsLink graph.content) (projected outputs) (rows_of graph.content p)
     (All-weaker (IsLink graph.content) (λ row. IsLink graph.content (projected outputs row)) (λ row link. made_link graph.content outputs row link both.1) (rows_of graph.content p) (links graph is p both.0))
-links graph is (plan.distinct p) has = absurd (false≢true has)
-links graph is (plan.union left right) has = absurd (false≢true has)
+links graph is _ has = absurd (false≢true has)
 
 -- the first cell of a row is a list
 pub record IsListed (row : List Cell) : Type 0 where
@@ -253,11 +248,6 @@ listed_made outputs row is = by (slice_get outputs 0) refl is
     by (Some (gathered columns)) found at = record { ids = relationships_at columns row; first = made_cell outputs row 0 (gathered columns) found }
 
 pub lists : (graph : Content) (p : Plan) → has_lists p ≡ true → All IsListed (rows_of graph p)
-lists graph plan.unit has = absurd (false≢true has)
-lists graph plan.nodes has = absurd (false≢true has)
-lists graph (plan.rels types orientation) has = absurd (false≢true has)
-lists graph (plan.join left right keys) has = absurd (false≢true has)
-lists graph (plan.outer left right keys test) has = absurd (false≢true has)
 lists graph (plan.semi left right keys keeping) has = All-filter _ IsListed (rows_of graph left) (lists graph left has)
 lists graph (plan.lookup p column attribute) has =
     All-map IsListed (with_attribute graph column attribute) (rows_of graph p)
@@ -266,7 +256,7 @@ lists graph (plan.lookup p column attribute) has =
 lists graph (plan.filter p test) has = All-filter _ IsListed (rows_of graph p) (lists graph p has)
 lists graph (plan.all_different p columns) has = All-filter _ IsListed (rows_of graph p) (lists graph p has)
 lists graph (plan.project p outputs) has = all_mapped IsListed (projected outputs) (λ row. listed_made outputs row has) (rows_of graph p)
-lists graph (plan.distinct p) has = absurd (false≢true has)
 lists graph (plan.union left right) has =
     let both = and_parts (has_lists left) (has_lists right) has in
     All-append IsListed (rows_of graph left) (rows_of graph right) (lists graph left both.0) (lists graph right both.1)
+lists graph _ has = absurd (false≢true has)

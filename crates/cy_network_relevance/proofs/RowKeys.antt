@@ -328,7 +328,6 @@ all_told graph is (plan.rels types orientation) good has =
 all_told graph is (plan.join left right keys) good has =
     let parts = and_parts (has_key left) (has_key right) has in
     pairs_told left right keys graph.content good.0 (all_told graph is left good.0 parts.0) (all_told graph is right good.1 parts.1)
-all_told graph is (plan.outer left right keys test) good has = absurd (false≢true has)
 all_told graph is (plan.semi left right keys keeping) good has = two_filtered (IsTold left) _ (rows_of graph.content left) (all_told graph is left good.0 has)
 all_told graph is (plan.lookup p column attribute) good has =
     two_mapped (λ row other. ((length row ≡ width p) × (length other ≡ width p)) × IsTold p row other) (IsTold (plan.lookup p column attribute)) (with_attribute graph.content column attribute)
@@ -339,8 +338,7 @@ all_told graph is (plan.all_different p columns) good has = two_filtered (IsTold
 all_told graph is (plan.project p outputs) good has =
     let parts = and_parts (follows_key p outputs) (has_key p) has in
     two_mapped (IsTold p) (IsTold (plan.project p outputs)) (projected outputs) (rows_of graph.content p) (made_told p outputs (followed p outputs parts.0)) (all_told graph is p good.0 parts.1)
-all_told graph is (plan.distinct p) good has = absurd (false≢true has)
-all_told graph is (plan.union left right) good has = absurd (false≢true has)
+all_told graph is _ good has = absurd (false≢true has)
 
 -- a join whose right part has no key has none
 pub no_right_key : (p left right lent : Plan) (keys : List KeyColumns) → p ≡ plan.join left right keys → lent ≡ right → has_key lent ≡ false → has_key p ≡ false

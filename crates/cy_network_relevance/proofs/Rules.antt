@@ -1,10 +1,8 @@
 -- What is known of a part by what is known of the parts below it.
-use Rattle.std.proofs.Common.{◌≡◌, ℕ, suc, ◌+◌, ◌-◌, ◌^◌, ◌≤◌, min, arith, Bool, true, false, cond, List, [], ◌∷◌, ◌++◌, Option, None, Some, refl, sym, ap, subst, ◌∙◌, map, filter, is_some, not, inl, inr}
+use Rattle.std.proofs.Common.{◌≡◌, ℕ, suc, ◌+◌, ◌-◌, ◌^◌, ◌≤◌, min, arith, Bool, true, false, cond, List, [], ◌∷◌, ◌++◌, Option, None, Some, refl, sym, ap, subst, ◌∙◌, map, filter, is_some, not, inl}
 use Rattle.std.specs.Prelude.{if◌then◌else◌, slice_get}
 use Rattle.std.specs.Option.{option_copied, option_map}
 use Rattle.std.proofs.lemmas.Bool.{false≢true}
-use Rattle.std.specs.List.{list_any}
-use Rattle.std.specs.Str.{bytes_eq}
 use Rattle.cy_values.specs.declared.rows.Cell.TheVariants as cell
 use Rattle.cy_trees.specs.Trees.{Expression, Name, null, boolean, integer, text, variable, property, has_labels, unary, binary, comparison, list, case, call, call_star}
 use Rattle.cy_trees.specs.declared.expressions.BinaryOperator.TheVariants.{In}
@@ -29,7 +27,7 @@ use Rattle.cy_network_sources.proofs.NeededLabels.{tests_label}
 use Rattle.cy_network_sources.proofs.SameEnds.{rows_alike}
 use Rattle.cy_network_relevance.specs.declared.entities.Entity.{Entity}
 use Rattle.cy_network_relevance.specs.declared.entities.Entity.TheVariants as entity
-use Rattle.cy_network_relevance.specs.internal.Kept.{IsAbsent, IsUnchanged, KeepsRows, KeepsValue, NoRows, NodeKept, RelKept}
+use Rattle.cy_network_relevance.specs.internal.Kept.{IsAbsent, IsUnchanged, KeepsRows, NoRows, NodeKept, RelKept}
 
 -- ---- what a part over a scan makes of the rows of one entity
 
@@ -170,12 +168,6 @@ unchanged_absent_lookup e p column attribute first absent =
 pub unchanged_absent_filter : (e : Entity) (p : Plan) (test : Expression) → IsAbsent e (plan.filter p test) → IsUnchanged e (plan.filter p test)
 unchanged_absent_filter e p test absent = inl (ap is_some absent.0, none_kept e (plan.filter p test) absent.1)
 
-pub unchanged_lookup : (e : Entity) (p : Plan) (column : ℕ) (attribute : Attribute) → IsUnchanged e p → KeepsValue e attribute → IsUnchanged e (plan.lookup p column attribute)
-unchanged_lookup e p column attribute unchanged same = inr (unchanged, same)
-
-pub unchanged_filter : (e : Entity) (p : Plan) (test : Expression) → IsUnchanged e p → IsUnchanged e (plan.filter p test)
-unchanged_filter e p test unchanged = inr unchanged
-
 -- ---- the columns that a projection makes
 
 -- one that a projection makes is a column alone where this one stands alone in it
@@ -211,10 +203,7 @@ no_rels types orientation is = cc is
 pub no_nodes : {X : Type 0} (types : List Name) (orientation : Orientation) → plan.rels types orientation ≡ plan.nodes → X
 no_nodes types orientation is = cc is
 
--- a node with a value before and after, and a relationship with the same ends
-pub both_nodes : (old new : Node) → NodeKept (Some old) (Some new) plan.nodes
-both_nodes old new leaf number = refl
-
+-- a relationship with the same ends before and after
 pub both_rels : (old new : Rel) → HaveSameEnds old new → (types : List Name) (orientation : Orientation) → RelKept (Some old) (Some new) (plan.rels types orientation)
 both_rels old new same types orientation other_types other_orientation leaf number = rows_alike old new same other_types other_orientation number
 
@@ -230,12 +219,6 @@ none_of_types types None none orientation other_types other_orientation leaf num
 none_of_types types (Some rel) none orientation other_types other_orientation leaf number =
     let same : types ≡ other_types = cc leaf in
     subst (λ (ts : List Name). rel_rows ts other_orientation number (Some rel) ≡ []) same (none other_orientation number)
-
--- a node without a label
-pub without_label : (label : Name) (node : Node) (b : Bool) → b ≡ list_any (bytes_eq label) (map (λ l. l.0) node.labels) → not b ≡ true → (ps : List Plan) (number : ℕ) → IsNeeded label ps
-    → node_made ps number (Some node) ≡ []
-without_label label node true is without ps number needed = absurd (false≢true without)
-without_label label node false is without ps number needed = needed number node (sym is)
 
 -- ---- the label of a filter
 

@@ -62,18 +62,9 @@ module _ (before now : State) (graph_before : IsGraph before) (graph_now : IsGra
       named = some_of (scan_column p) scans
 
       by : (leaf : Plan) → leaf_of p ≡ leaf → reads_graph leaf ≡ true → rows_of before.content p ≡ rows_of now.content p
-      by plan.unit over reads = none_some reads
       by plan.nodes over reads = same_nodes p named.0 over named.1 nodes
       by (plan.rels types orientation) over reads = same_rels types orientation p named.0 over named.1 rels
-      by (plan.join left right keys) over reads = none_some reads
-      by (plan.outer left right keys test) over reads = none_some reads
-      by (plan.semi left right keys keeping) over reads = none_some reads
-      by (plan.lookup q column attribute) over reads = none_some reads
-      by (plan.filter q test) over reads = none_some reads
-      by (plan.all_different q columns) over reads = none_some reads
-      by (plan.project q outputs) over reads = none_some reads
-      by (plan.distinct q) over reads = none_some reads
-      by (plan.union left right) over reads = none_some reads
+      by _ over reads = none_some reads
 
 -- ---- what is known of the parts of a scan is known of the scan
 
@@ -83,17 +74,12 @@ module _ (Rows : Plan → Type 0) (Value : Attribute → Type 0)
     (over_different : (p : Plan) (columns : List ℕ) → Rows p → Rows (plan.all_different p columns))
     (over_project : (p : Plan) (outputs : List Output) → Rows p → Rows (plan.project p outputs)) where
   pub kept_scan : (p : Plan) → is_some (scan_column p) ≡ true → AreKept Rows Value p → Rows p
-  kept_scan plan.unit scans kept = none_some scans
   kept_scan plan.nodes scans kept = kept
   kept_scan (plan.rels types orientation) scans kept = kept
-  kept_scan (plan.join left right keys) scans kept = none_some scans
-  kept_scan (plan.outer left right keys test) scans kept = none_some scans
-  kept_scan (plan.semi left right keys keeping) scans kept = none_some scans
   kept_scan (plan.lookup p column attribute) scans (inl whole) = whole.1
   kept_scan (plan.lookup p column attribute) scans (inr kept) = over_lookup p column attribute (kept_scan p (lookup_below p column attribute scans) kept.0) kept.1
   kept_scan (plan.filter p test) scans (inl whole) = whole.1
   kept_scan (plan.filter p test) scans (inr kept) = over_filter p test (kept_scan p scans kept)
   kept_scan (plan.all_different p columns) scans kept = over_different p columns (kept_scan p scans kept)
   kept_scan (plan.project p outputs) scans kept = over_project p outputs (kept_scan p (project_below p outputs scans) kept)
-  kept_scan (plan.distinct p) scans kept = none_some scans
-  kept_scan (plan.union left right) scans kept = none_some scans
+  kept_scan _ scans kept = none_some scans

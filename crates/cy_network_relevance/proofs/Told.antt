@@ -450,18 +450,11 @@ joins_told p left right lent_left lent_right keys lent_keys outputs is same_left
 -- ---- all plans
 
 pub told : (graph : State) → IsGraph graph → (p : Plan) (outputs : List Output) → IsWellFormed p → tells_joins p outputs ≡ true → TellsRowsApartOn graph p outputs
-told graph is plan.unit outputs good tells = absurd (false≢true tells)
-told graph is plan.nodes outputs good tells = absurd (false≢true tells)
-told graph is (plan.rels types orientation) outputs good tells = absurd (false≢true tells)
 told graph is (plan.join left right keys) outputs good tells = told_joined graph is left right keys outputs good.0 good.1 tells
-told graph is (plan.outer left right keys test) outputs good tells = absurd (false≢true tells)
 told graph is (plan.semi left right keys keeping) outputs good tells =
     λ row other here there same_rows. told graph is left outputs good.0 tells row other (counts_below _ (rows_of graph.content left) row here) (counts_below _ (rows_of graph.content left) other there) same_rows
-told graph is (plan.lookup p column attribute) outputs good tells = absurd (false≢true tells)
 told graph is (plan.filter p test) outputs good tells =
     λ row other here there same_rows. told graph is p outputs good.0 tells row other (counts_below _ (rows_of graph.content p) row here) (counts_below _ (rows_of graph.content p) other there) same_rows
 told graph is (plan.all_different p columns) outputs good tells =
     λ row other here there same_rows. told graph is p outputs good.0 tells row other (counts_below _ (rows_of graph.content p) row here) (counts_below _ (rows_of graph.content p) other there) same_rows
-told graph is (plan.project p others) outputs good tells = absurd (false≢true tells)
-told graph is (plan.distinct p) outputs good tells = absurd (false≢true tells)
-told graph is (plan.union left right) outputs good tells = absurd (false≢true tells)
+told graph is _ outputs good tells = absurd (false≢true tells)

@@ -39,13 +39,10 @@ same_rows before now (plan.outer left right keys test) untouched =
     let lefts = same_rows before now left untouched.0 in let rights = same_rows before now right untouched.1 in λ i. outer_joined keys test (width right) (lefts i) (rights i)
 same_rows before now (plan.semi left right keys keeping) untouched =
     let lefts = same_rows before now left untouched.0 in let rights = same_rows before now right untouched.1 in λ i. semi_joined keys keeping (lefts i) (rights i)
-same_rows before now (plan.lookup p column attribute) untouched = untouched.0
-same_rows before now (plan.filter p test) untouched = untouched.0
-same_rows before now (plan.all_different p columns) untouched = untouched.0
-same_rows before now (plan.project p outputs) untouched = untouched.0
 same_rows before now (plan.distinct p) untouched = ap each_once (same_rows before now p untouched)
 same_rows before now (plan.union left right) untouched =
     let lefts = same_rows before now left untouched.0 in let rights = same_rows before now right untouched.1 in λ i. lefts i ++ rights i
+same_rows before now _ untouched = untouched.0
 
 -- what an entity with one value keeps
 module _ (Rows : Plan → Type 0) (Value : Attribute → Type 0) (rows : (p : Plan) → Rows p) (value : (a : Attribute) → Value a) where

@@ -55,7 +55,7 @@ module _ (row : List Cell) (labels : Expression) (column : is_column 1 (computed
       ∙ ap (λ t. Ok (cell.Value (value_of t))) (label_among l ls)
       ∙ ap (λ v. Ok (cell.Value v)) (known_value (list_any (bytes_eq l) ls))
 
-  passes : holds (binary In (text l) labels) row ≡ list_any (bytes_eq l) ls
+  pub passes : holds (binary In (text l) labels) row ≡ list_any (bytes_eq l) ls
   passes = ap (λ r. is_true (on_one truth_of (on_one value_in_cell r))) one_in ∙ by (list_any (bytes_eq l) ls)
     where
       by : (b : Bool) → is_true (on_one truth_of (on_one value_in_cell (Ok (cell.Value (value.Bool b))))) ≡ b

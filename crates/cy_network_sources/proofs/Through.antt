@@ -12,7 +12,7 @@ use Rattle.std.proofs.lemmas.Map.Keys.{IsDistinct-head, IsDistinct-tail}
 use Rattle.cy_values.specs.declared.scalars.Value.{Value}
 use Rattle.cy_values.specs.declared.rows.Cell.{Cell}
 use Rattle.cy_values.specs.declared.rows.Cell.TheVariants as cell
-use Rattle.cy_trees.specs.Trees.{Expression, null, boolean, integer, text, variable, property, has_labels, unary, binary, comparison, list, case, call, call_star}
+use Rattle.cy_trees.specs.Trees.{Expression, variable}
 use Rattle.cy_graph.specs.Graph.{Content}
 use Rattle.cy_expr.specs.Evaluation.{column_value}
 use Rattle.cy_expr.specs.Lookups.{IsNumbered}
@@ -149,19 +149,7 @@ this_column column (Some other) row is = ap (cell_at row) (same_numbers other co
 -- the cell of an expression that is a column alone
 pub column_is : (e : Expression) (column : ℕ) (row : List Cell) → is_column column (computed e) ≡ true → cell_of row e ≡ Ok (cell_at row column)
 column_is (variable v) column row is = ap Ok (this_column column v.column row is)
-column_is null column row is = absurd (false≢true is)
-column_is (boolean b) column row is = absurd (false≢true is)
-column_is (integer n) column row is = absurd (false≢true is)
-column_is (text t) column row is = absurd (false≢true is)
-column_is (property e key) column row is = absurd (false≢true is)
-column_is (has_labels e labels) column row is = absurd (false≢true is)
-column_is (unary operator e) column row is = absurd (false≢true is)
-column_is (binary operator a b) column row is = absurd (false≢true is)
-column_is (comparison e links) column row is = absurd (false≢true is)
-column_is (list es) column row is = absurd (false≢true is)
-column_is (case arms e) column row is = absurd (false≢true is)
-column_is (call name distinct es) column row is = absurd (false≢true is)
-column_is (call_star name) column row is = absurd (false≢true is)
+column_is _ column row is = absurd (false≢true is)
 
 pub column_cell : (o : Output) (column : ℕ) (row : List Cell) → is_column column o ≡ true → output_cell row o ≡ cell_at row column
 column_cell (gathered columns) column row is = absurd (false≢true is)
@@ -202,12 +190,8 @@ module _ {X : Type 0} (own : X → Cell) (value_of : X → Attribute → Value) 
 
   -- each names its own
   pub named : (p : Plan) (c : ℕ) → scan_column p ≡ Some c → (e : X) → AllByRecursion (λ row. cell_at row c ≡ own e) (made p e)
-  named plan.unit c is e = none_some c is
   named plan.nodes c is e = subst (λ k. AllByRecursion (λ row. cell_at row k ≡ own e) (leaf e)) (some_same 0 c is) (first e)
   named (plan.rels types orientation) c is e = subst (λ k. AllByRecursion (λ row. cell_at row k ≡ own e) (leaf e)) (some_same 0 c is) (first e)
-  named (plan.join left right keys) c is e = none_some c is
-  named (plan.outer left right keys test) c is e = none_some c is
-  named (plan.semi left right keys keeping) c is e = none_some c is
   named (plan.lookup p column attribute) c is e =
       each_mapped (λ row. cell_at row c ≡ own e) (λ row. row ++ cell.Value (value_of e attribute) ∷ []) (made p e)
       (each_weaker (λ row. cell_at row c ≡ own e) (λ row. cell_at (row ++ cell.Value (value_of e attribute) ∷ []) c ≡ own e)
@@ -220,8 +204,7 @@ module _ {X : Type 0} (own : X → Cell) (value_of : X → Attribute → Value) 
       each_mapped (λ row. cell_at row c ≡ own e) (projected outputs) (made p e)
       (each_weaker (λ row. cell_at row at.0 ≡ own e) (λ row. cell_at (projected outputs row) c ≡ own e)
       (λ row named_there. kept_cell outputs at.0 c row at.1.1 ∙ named_there) (made p e) (named p at.0 at.1.0 e))
-  named (plan.distinct p) c is e = none_some c is
-  named (plan.union left right) c is e = none_some c is
+  named _ c is e = none_some c is
 
   module _ (graph : Content) (es : List X) (L : Plan) (known : AllByRecursion (λ e. (a : Attribute) → attribute_of graph a (own e) ≡ value_of e a) es)
       (read : rows_of graph L ≡ flat_map leaf es) where
@@ -237,12 +220,8 @@ module _ {X : Type 0} (own : X → Cell) (value_of : X → Attribute → Value) 
         (made p e) (named p c is e))) es known)
 
     pub rows_by_entity : (p : Plan) (c : ℕ) → leaf_of p ≡ L → scan_column p ≡ Some c → rows_of graph p ≡ flat_map (made p) es
-    rows_by_entity plan.unit c over is = none_some c is
     rows_by_entity plan.nodes c over is = ap (rows_of graph) over ∙ read
     rows_by_entity (plan.rels types orientation) c over is = ap (rows_of graph) over ∙ read
-    rows_by_entity (plan.join left right keys) c over is = none_some c is
-    rows_by_entity (plan.outer left right keys test) c over is = none_some c is
-    rows_by_entity (plan.semi left right keys keeping) c over is = none_some c is
     rows_by_entity (plan.lookup p column a) c over is =
         let below = if_this_is column (scan_column p) c is in
         ap (map (with_attribute graph column a)) (rows_by_entity p c over below.0)
@@ -255,8 +234,7 @@ module _ {X : Type 0} (own : X → Cell) (value_of : X → Attribute → Value) 
     rows_by_entity (plan.project p outputs) c over is =
         let at = kept_is (scan_column p) outputs c is in
         ap (map (projected outputs)) (rows_by_entity p at.0 over at.1.0) ∙ map_made (projected outputs) (made p) es
-    rows_by_entity (plan.distinct p) c over is = none_some c is
-    rows_by_entity (plan.union left right) c over is = none_some c is
+    rows_by_entity _ c over is = none_some c is
 
     -- ---- its expressions have no fault on them
 
@@ -265,12 +243,8 @@ module _ {X : Type 0} (own : X → Cell) (value_of : X → Attribute → Value) 
 
     pub fit_entities : ((q : Plan) → All (All IsNumbered) (rows_of graph q)) → (p : Plan) (c : ℕ) → leaf_of p ≡ L → scan_column p ≡ Some c → IsSureOn graph p
         → AllByRecursion (λ e. AreFit (value_of e) (scan_parts p) (leaf e)) es
-    fit_entities numbered plan.unit c over is sure = none_some c is
     fit_entities numbered plan.nodes c over is sure = each_one (λ e. AreFit (value_of e) (plan.nodes ∷ []) (leaf e)) (λ e. (tt, tt)) es
     fit_entities numbered (plan.rels types orientation) c over is sure = each_one (λ e. AreFit (value_of e) (plan.rels types orientation ∷ []) (leaf e)) (λ e. (tt, tt)) es
-    fit_entities numbered (plan.join left right keys) c over is sure = none_some c is
-    fit_entities numbered (plan.outer left right keys test) c over is sure = none_some c is
-    fit_entities numbered (plan.semi left right keys keeping) c over is sure = none_some c is
     fit_entities numbered (plan.lookup p column a) c over is sure =
         each_weaker (λ e. AreFit (value_of e) (scan_parts p) (leaf e)) (λ e. AreFit (value_of e) (plan.lookup p column a ∷ scan_parts p) (leaf e)) (λ e fit. (tt, fit)) es
         (fit_entities numbered p c over (if_this_is column (scan_column p) c is).0 sure)
@@ -288,5 +262,4 @@ module _ {X : Type 0} (own : X → Cell) (value_of : X → Attribute → Value) 
         (each_both (λ e. All (HasCells outputs) (made p e)) (λ e. All (All IsNumbered) (made p e)) es
         (all_here (HasCells outputs) p at.0 over at.1.0 sure.1) (all_here (All IsNumbered) p at.0 over at.1.0 (numbered p)))
         (fit_entities numbered p at.0 over at.1.0 sure.0)
-    fit_entities numbered (plan.distinct p) c over is sure = none_some c is
-    fit_entities numbered (plan.union left right) c over is sure = none_some c is
+    fit_entities numbered _ c over is sure = none_some c is

@@ -33,17 +33,7 @@ module _ (value_of : Attribute → Value) where
   -- no rows make none
   none_made : (p : Plan) → made_by value_of p [] ≡ []
   none_made plan.unit = refl
-  none_made plan.nodes = refl
-  none_made (plan.rels types orientation) = refl
-  none_made (plan.join left right keys) = refl
-  none_made (plan.outer left right keys test) = refl
-  none_made (plan.semi left right keys keeping) = refl
-  none_made (plan.lookup p column attribute) = refl
-  none_made (plan.filter p test) = refl
-  none_made (plan.all_different p columns) = refl
-  none_made (plan.project p outputs) = refl
-  none_made (plan.distinct p) = refl
-  none_made (plan.union left right) = refl
+  none_made _ = refl
 
   pub none_through : (ps : List Plan) → through value_of ps [] ≡ []
   none_through [] = refl
@@ -83,18 +73,11 @@ module _ (value_of : Attribute → Value) where
 
   -- rows make what each of them makes
   more_made : (p : Plan) (xs ys : List (List Cell)) → made_by value_of p (xs ++ ys) ≡ made_by value_of p xs ++ made_by value_of p ys
-  more_made plan.unit xs ys = refl
-  more_made plan.nodes xs ys = refl
-  more_made (plan.rels types orientation) xs ys = refl
-  more_made (plan.join left right keys) xs ys = refl
-  more_made (plan.outer left right keys test) xs ys = refl
-  more_made (plan.semi left right keys keeping) xs ys = refl
   more_made (plan.lookup p column attribute) xs ys = map-append (λ row. row ++ cell.Value (value_of attribute) ∷ []) xs ys
   more_made (plan.filter p test) xs ys = filter-append (holds test) xs ys
   more_made (plan.all_different p columns) xs ys = filter-append (λ row. are_different (relationships_at columns row)) xs ys
   more_made (plan.project p outputs) xs ys = map-append (projected outputs) xs ys
-  more_made (plan.distinct p) xs ys = refl
-  more_made (plan.union left right) xs ys = refl
+  more_made _ xs ys = refl
 
   pub more_through : (ps : List Plan) (xs ys : List (List Cell)) → through value_of ps (xs ++ ys) ≡ through value_of ps xs ++ through value_of ps ys
   more_through [] xs ys = refl
@@ -105,24 +88,15 @@ module _ (value_of : Attribute → Value) where
       (subst (All P) (take_at xs ys (length xs) refl) (All-take P (length xs) (xs ++ ys) all), subst (All P) (drop_at xs ys (length xs) refl) (All-drop P (length xs) (xs ++ ys) all))
 
   both_fit : (p : Plan) (xs ys : List (List Cell)) → IsFit p (xs ++ ys) → IsFit p xs × IsFit p ys
-  both_fit plan.unit xs ys fit = (tt, tt)
-  both_fit plan.nodes xs ys fit = (tt, tt)
-  both_fit (plan.rels types orientation) xs ys fit = (tt, tt)
-  both_fit (plan.join left right keys) xs ys fit = (tt, tt)
-  both_fit (plan.outer left right keys test) xs ys fit = (tt, tt)
-  both_fit (plan.semi left right keys keeping) xs ys fit = (tt, tt)
-  both_fit (plan.lookup p column attribute) xs ys fit = (tt, tt)
   both_fit (plan.filter p test) xs ys fit =
       let sure = both_of (HasTruth test) xs ys fit.0 in
       let numbered = both_of (All IsNumbered) xs ys fit.1 in
       ((sure.0, numbered.0), (sure.1, numbered.1))
-  both_fit (plan.all_different p columns) xs ys fit = (tt, tt)
   both_fit (plan.project p outputs) xs ys fit =
       let sure = both_of (HasCells outputs) xs ys fit.0 in
       let numbered = both_of (All IsNumbered) xs ys fit.1 in
       ((sure.0, numbered.0), (sure.1, numbered.1))
-  both_fit (plan.distinct p) xs ys fit = (tt, tt)
-  both_fit (plan.union left right) xs ys fit = (tt, tt)
+  both_fit _ xs ys fit = (tt, tt)
 
   both_are_fit : (ps : List Plan) (xs ys : List (List Cell)) → AreFit value_of ps (xs ++ ys) → AreFit value_of ps xs × AreFit value_of ps ys
   both_are_fit [] xs ys fit = (tt, tt)
@@ -148,18 +122,11 @@ module _ (value_of : Attribute → Value) where
   itself_few rows = omega arith
 
   few_made : (p : Plan) (rows : List (List Cell)) → length (made_by value_of p rows) ≤ length rows
-  few_made plan.unit rows = itself_few rows
-  few_made plan.nodes rows = itself_few rows
-  few_made (plan.rels types orientation) rows = itself_few rows
-  few_made (plan.join left right keys) rows = itself_few rows
-  few_made (plan.outer left right keys test) rows = itself_few rows
-  few_made (plan.semi left right keys keeping) rows = itself_few rows
   few_made (plan.lookup p column attribute) rows = map_few (λ row. row ++ cell.Value (value_of attribute) ∷ []) rows
   few_made (plan.filter p test) rows = filter_few (holds test) rows
   few_made (plan.all_different p columns) rows = filter_few (λ row. are_different (relationships_at columns row)) rows
   few_made (plan.project p outputs) rows = map_few (projected outputs) rows
-  few_made (plan.distinct p) rows = itself_few rows
-  few_made (plan.union left right) rows = itself_few rows
+  few_made _ rows = itself_few rows
 
   few_through : (ps : List Plan) (rows : List (List Cell)) → length (through value_of ps rows) ≤ length rows
   few_through [] rows = itself_few rows
@@ -201,17 +168,7 @@ rel_few types orientation ps n (Some rel) =
 
 pub parts_some : (p : Plan) → 1 ≤ length (scan_parts p)
 parts_some plan.unit = omega arith
-parts_some plan.nodes = omega arith
-parts_some (plan.rels types orientation) = omega arith
-parts_some (plan.join left right keys) = omega arith
-parts_some (plan.outer left right keys test) = omega arith
-parts_some (plan.semi left right keys keeping) = omega arith
-parts_some (plan.lookup p column attribute) = omega arith
-parts_some (plan.filter p test) = omega arith
-parts_some (plan.all_different p columns) = omega arith
-parts_some (plan.project p outputs) = omega arith
-parts_some (plan.distinct p) = omega arith
-parts_some (plan.union left right) = omega arith
+parts_some _ = omega arith
 
 -- the last of a list that has more before it
 last_more : (x d : Plan) (xs : List Plan) → 1 ≤ length xs → get_or (x ∷ xs) (length (x ∷ xs) - 1) d ≡ get_or xs (length xs - 1) d
@@ -219,18 +176,11 @@ last_more x d [] some = absurd (omega (arith, some))
 last_more x d (y ∷ ys) some = let one_more : length (x ∷ y ∷ ys) - 1 ≡ suc (length (y ∷ ys) - 1) = omega arith in ap (λ n. get_or (x ∷ y ∷ ys) n d) one_more
 
 pub last_is : (p d : Plan) → get_or (scan_parts p) (length (scan_parts p) - 1) d ≡ leaf_of p
-last_is plan.unit d = refl
-last_is plan.nodes d = refl
-last_is (plan.rels types orientation) d = refl
-last_is (plan.join left right keys) d = refl
-last_is (plan.outer left right keys test) d = refl
-last_is (plan.semi left right keys keeping) d = refl
 last_is (plan.lookup p column attribute) d = last_more (plan.lookup p column attribute) d (scan_parts p) (parts_some p) ∙ last_is p d
 last_is (plan.filter p test) d = last_more (plan.filter p test) d (scan_parts p) (parts_some p) ∙ last_is p d
 last_is (plan.all_different p columns) d = last_more (plan.all_different p columns) d (scan_parts p) (parts_some p) ∙ last_is p d
 last_is (plan.project p outputs) d = last_more (plan.project p outputs) d (scan_parts p) (parts_some p) ∙ last_is p d
-last_is (plan.distinct p) d = refl
-last_is (plan.union left right) d = refl
+last_is _ d = refl
 
 this_some : (column : ℕ) (found : Option ℕ) → IsSome (if_this column found) → IsSome found
 this_some column None there = there
@@ -242,18 +192,13 @@ kept_some (Some column) outputs there = refl
 
 -- the last part of a scan reads the graph
 pub leaf_reads : (p : Plan) → IsSome (scan_column p) → reads_graph (leaf_of p) ≡ true
-leaf_reads plan.unit there = absurd (false≢true there)
 leaf_reads plan.nodes there = refl
 leaf_reads (plan.rels types orientation) there = refl
-leaf_reads (plan.join left right keys) there = absurd (false≢true there)
-leaf_reads (plan.outer left right keys test) there = absurd (false≢true there)
-leaf_reads (plan.semi left right keys keeping) there = absurd (false≢true there)
 leaf_reads (plan.lookup p column attribute) there = leaf_reads p (this_some column (scan_column p) there)
 leaf_reads (plan.filter p test) there = leaf_reads p there
 leaf_reads (plan.all_different p columns) there = leaf_reads p there
 leaf_reads (plan.project p outputs) there = leaf_reads p (kept_some (scan_column p) outputs there)
-leaf_reads (plan.distinct p) there = absurd (false≢true there)
-leaf_reads (plan.union left right) there = absurd (false≢true there)
+leaf_reads _ there = absurd (false≢true there)
 
 pub some_of : {A : Type 0} (found : Option A) → IsSome found → (x : A) × (found ≡ Some x)
 some_of None there = absurd (false≢true there)
@@ -261,15 +206,8 @@ some_of (Some x) there = (x, refl)
 
 -- how many entities it reads
 pub leaf_count : (touches : Touches) (p : Plan) → scan_reads touches p ≡ scan_reads touches (leaf_of p)
-leaf_count touches plan.unit = refl
-leaf_count touches plan.nodes = refl
-leaf_count touches (plan.rels types orientation) = refl
-leaf_count touches (plan.join left right keys) = refl
-leaf_count touches (plan.outer left right keys test) = refl
-leaf_count touches (plan.semi left right keys keeping) = refl
 leaf_count touches (plan.lookup p column attribute) = leaf_count touches p
 leaf_count touches (plan.filter p test) = leaf_count touches p
 leaf_count touches (plan.all_different p columns) = leaf_count touches p
 leaf_count touches (plan.project p outputs) = leaf_count touches p
-leaf_count touches (plan.distinct p) = refl
-leaf_count touches (plan.union left right) = refl
+leaf_count touches _ = refl

@@ -28,7 +28,6 @@ use Rattle.cy_network_operators.proofs.DeltaLemmas.{deltas_between, deltas_made}
 use Rattle.cy_network_touches.specs.declared.attributes.Attributes.{Attributes}
 use Rattle.cy_network_touches.specs.internal.Attributes.{AreAttributes, front, reattributed, row_delta_at, still_deltas, valued, valued_record}
 use Rattle.cy_network_touches.specs.Attributes.{node_attribute, rel_attribute}
-use Rattle.cy_network_touches.proofs.Owners.{none_between}
 
 -- ---- a row with one cell more
 
@@ -130,20 +129,6 @@ still_made columns was staged key values records answer row =
         ∙ valued_none values.was values.value first in
         sym (ap (λ found. cond same (deltas_of row found) []) nothing ∙ nothing_if same)
 
--- where nothing differs they are none
-pub still_none : (columns : List ℕ) (was staged : Counts) (key : List Cell) (values : Attributes) (row : List Cell) → values.was ≡ None → still_deltas columns was staged key values row ≡ []
-still_none columns was staged key values row is = cases (is_row key (key_cells columns (front row))) (was (front row) == staged (front row)) refl
-  where
-    equal : (m n : ℕ) → (m == n) ≡ true → m ≡ n
-    equal m n h = grind (arith, nat_tests)
-
-    cases : (k e : Bool) → (was (front row) == staged (front row)) ≡ e → cond (k && e) (deltas_of row (valued values (row_delta_at was staged (front row)))) [] ≡ []
-    cases false e same = refl
-    cases true false same = refl
-    cases true true same =
-        ap (λ (o : Option Value). deltas_of row (valued_by o values.value (row_delta_at was staged (front row)))) is
-        ∙ ap (deltas_of row) (none_between (front row ++ cell.Value values.value ∷ []) (was (front row)) (staged (front row)) (equal _ _ same))
-
 -- ---- attributes in a graph
 
 pub at_node : (state : State) (attribute : Attribute) (id : NodeId) → attribute_of state.content attribute (cell.Node id) ≡ node_attribute attribute (node_at id state)
@@ -164,10 +149,6 @@ at_rels graph Labels ids = refl
 
 pub at_value : (graph : Content) (attribute : Attribute) (v : Value) → attribute_of graph attribute (cell.Value v) ≡ value.Null
 at_value graph (Property key) (value.List xs) = refl
-at_value graph (Property key) (value.Text t) = refl
-at_value graph (Property key) (value.Bool b) = refl
-at_value graph (Property key) (value.Int n) = refl
-at_value graph (Property key) value.Null = refl
 at_value graph RelType (value.List xs) = refl
 at_value graph RelType (value.Text t) = refl
 at_value graph RelType (value.Bool b) = refl
@@ -178,6 +159,7 @@ at_value graph Labels (value.Text t) = refl
 at_value graph Labels (value.Bool b) = refl
 at_value graph Labels (value.Int n) = refl
 at_value graph Labels value.Null = refl
+at_value graph (Property key) _ = refl
 
 -- the values that differ make rows that differ
 rows_apart : (row : List Cell) (a b : Value) (t : Bool) → is_row (row ++ cell.Value a ∷ []) (row ++ cell.Value b ∷ []) ≡ t → a ≢ b → t ≡ false
@@ -225,9 +207,6 @@ module _ (old new : Content) (column : ℕ) (attribute : Attribute) where
       by false = two_others row s.row (cell.Value (was_value s.row)) (cell.Value (now_value s.row)) s.before 0 0 s.after apart
 
   -- ---- how often rows with the attribute count
-
-  zero_more : (n : ℕ) → 0 + n ≡ n
-  zero_more n = omega arith
 
   pub count_with : (graph : Content) (row : List Cell) (rows : List (List Cell))
       → count_of row (map (with_attribute graph column attribute) rows) ≡ cond (is_row row (with_attribute graph column attribute (front row))) (count_of (front row) rows) 0

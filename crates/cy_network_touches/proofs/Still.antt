@@ -37,23 +37,15 @@ module _ (before after : State) (touches others : Touches) (first : IsChange bef
       omega (arith, nodes, rels)
 
   part_alike : (p : Plan) → part_cost touches before.content after.content p ≡ part_cost others before.content after.content p
-  part_alike plan.unit = refl
   part_alike plan.nodes = as_many
   part_alike (plan.rels types orientation) = as_many
-  part_alike (plan.join left right keys) = refl
-  part_alike (plan.outer left right keys test) = refl
-  part_alike (plan.semi left right keys keeping) = refl
   part_alike (plan.lookup p column attribute) =
       let named : naming_rows touches column (rows_of before.content p) (rows_of after.content p) ≡ naming_rows others column (rows_of before.content p) (rows_of after.content p) =
       same_naming before after touches others first second column (rows_of before.content p) (rows_of after.content p) in
       let many = as_many in
       ap (λ n. n + changed before.content after.content p + naming_rows touches column (rows_of before.content p) (rows_of after.content p)) many
       ∙ ap (λ n. touched_entities others + changed before.content after.content p + n) named
-  part_alike (plan.filter p test) = refl
-  part_alike (plan.all_different p columns) = refl
-  part_alike (plan.project p outputs) = refl
-  part_alike (plan.distinct p) = refl
-  part_alike (plan.union left right) = refl
+  part_alike _ = refl
 
   cost_alike : (p : Plan) → cost touches before.content after.content p ≡ cost others before.content after.content p
   cost_alike p =

@@ -5,7 +5,7 @@ use Rattle.std.specs.Cmp.{IsTotalOrder}
 use Rattle.cy_values.specs.declared.rows.Cell.{Cell}
 use Rattle.cy_values.specs.Bag.{IsSameBag}
 use Rattle.cy_values.specs.Order.{row_cmp}
-use Rattle.cy_trees.specs.Trees.{Clause, «match», unwind, «with», «return», create, set, remove, delete, Projection}
+use Rattle.cy_trees.specs.Trees.{Clause, «match», unwind, «with», «return», Projection}
 use Rattle.cy_graph.specs.Graph.{Content}
 use Rattle.cy_expr.specs.declared.faults.EvalFault.{EvalFault}
 use Rattle.cy_expr.specs.Faults.{on_one}
@@ -29,10 +29,7 @@ module _ (total : IsTotalOrder row_cmp) (graph : Content) (rows others : List (L
       subst (λ r. IsSameOutcome (rows_after graph («with» p w) rows) (on_one (λ made. joined (map (kept graph w) made)) r)) (same_rows_of p)
       (same_itself (rows_after graph («with» p w) rows))
   same_clause («return» p) = subst (λ r. IsSameOutcome (projection_rows graph p rows) r) (same_rows_of p) (same_itself (projection_rows graph p rows))
-  same_clause (create paths) = same
-  same_clause (set items) = same
-  same_clause (remove items) = same
-  same_clause (delete detach variables) = same
+  same_clause _ = same
 
 -- what comes after outcomes that are the same
 same_after_both : (f : List (List Cell) → Result (List (List Cell)) EvalFault) → ((rows others : List (List Cell)) → IsSameBag rows others → IsSameOutcome (f rows) (f others))

@@ -8,7 +8,7 @@ use Rattle.cy_values.specs.declared.scalars.Value.TheVariants as value
 use Rattle.cy_values.specs.declared.rows.Cell.{Cell}
 use Rattle.cy_values.specs.Order.{cell_order, row_cmp}
 use Rattle.cy_values.proofs.Identity.{same_cells}
-use Rattle.cy_trees.specs.Trees.{Expression, null, boolean, integer, text, variable, property, has_labels, unary, binary, comparison, list, case, call, call_star, no_more, more, Item}
+use Rattle.cy_trees.specs.Trees.{Expression, call, call_star, no_more, more, Item}
 use Rattle.cy_graph.specs.Graph.{Content}
 use Rattle.cy_scope_kinds.specs.Aggregates.{is_aggregate_call}
 use Rattle.cy_scope_kinds.specs.Functions.{function_named}
@@ -78,18 +78,7 @@ module _ (total : IsTotalOrder row_cmp) where
   same_over graph (call f distinct (more e (more e' es))) p = refl
   same_over graph (call f distinct no_more) p = refl
   same_over graph (call_star f) p = ap (λ n. Ok (value.Int (pos n))) (same_length p)
-  same_over graph null p = refl
-  same_over graph (boolean b) p = refl
-  same_over graph (integer n) p = refl
-  same_over graph (text t) p = refl
-  same_over graph (variable v) p = refl
-  same_over graph (property e key) p = refl
-  same_over graph (has_labels e labels) p = refl
-  same_over graph (unary operator e) p = refl
-  same_over graph (binary operator a b) p = refl
-  same_over graph (comparison e links) p = refl
-  same_over graph (list es) p = refl
-  same_over graph (case arms e) p = refl
+  same_over graph _ p = refl
 
   -- the cells that a group makes
   same_cells_of_group : (graph : Content) (items : List Item) (key : List Cell) {rows others : List (List Cell)} → Permuted rows others

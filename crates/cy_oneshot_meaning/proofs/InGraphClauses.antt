@@ -4,7 +4,7 @@ use Rattle.std.specs.Prelude.{Ok, IfOk}
 use Rattle.std.specs.List.{AllByRecursion}
 use Rattle.cy_values.specs.declared.rows.Cell.{Cell}
 use Rattle.cy_values.specs.Order.{row_cmp}
-use Rattle.cy_trees.specs.Trees.{Item, Projection, Clause, «match», unwind, «with», «return», create, set, remove, delete}
+use Rattle.cy_trees.specs.Trees.{Item, Projection, Clause, «match», unwind, «with», «return»}
 use Rattle.cy_graph.specs.Graph.{Content}
 use Rattle.cy_scope_kinds.specs.Aggregates.{is_aggregate_call}
 use Rattle.cy_expr.specs.Evaluation.{as_cell, cell_of}
@@ -85,7 +85,4 @@ module _ (graph : Content) where
   clause_there («with» p w) rows there =
       if_ok_then RowsThere RowsThere (λ made. joined (map (kept graph w) made)) (all_kept_each graph RowThere w) (projection_rows graph p rows) (projection_there p rows there)
   clause_there («return» p) rows there = projection_there p rows there
-  clause_there (create paths) rows there = there
-  clause_there (set items) rows there = there
-  clause_there (remove items) rows there = there
-  clause_there (delete detach variables) rows there = there
+  clause_there _ rows there = there

@@ -16,7 +16,7 @@ use Rattle.cy_values.specs.declared.scalars.Value.{Value}
 use Rattle.cy_values.specs.declared.scalars.Value.TheVariants as value
 use Rattle.cy_values.specs.declared.rows.Cell.{Cell}
 use Rattle.cy_values.specs.declared.rows.Cell.TheVariants as cell
-use Rattle.cy_trees.specs.Trees.{Expression, null, boolean, integer, text, variable, property, has_labels, unary, binary, comparison, list, case, call, call_star, Path}
+use Rattle.cy_trees.specs.Trees.{Expression, variable, property, has_labels, unary, binary, comparison, list, case, call, Path}
 use Rattle.cy_graph.specs.Graph.{Content, IsGraph, State, node_order, number_end, rel_order, node_in, relationship_in}
 use Rattle.cy_graph.specs.declared.nodes.Rel.{Rel}
 use Rattle.cy_scope_kinds.specs.Functions.{function_named}
@@ -139,10 +139,6 @@ module _ (graph : Content) where
   column_there (Some n) row there = at_there row n there
 
   pub cell_there : (row : List Cell) → RowThere row → (e : Expression) → IfOk (cell_of (lookups graph) row e) There
-  cell_there row there null = tt
-  cell_there row there (boolean b) = tt
-  cell_there row there (integer n) = tt
-  cell_there row there (text t) = tt
   cell_there row there (variable v) = column_there v.column row there
   cell_there row there (property e key) = value_there (on_one (property_value (lookups graph) key) (cell_of (lookups graph) row e))
   cell_there row there (has_labels e labels) = value_there (on_one (labels_test (lookups graph) labels) (cell_of (lookups graph) row e))
@@ -155,7 +151,7 @@ module _ (graph : Content) where
   cell_there row there (case arms e) = value_there (choice (outcomes_of_arms (lookups graph) row arms) (outcome_of_else (lookups graph) row e))
   cell_there row there (call name distinct es) =
       value_there (call_value (lookups graph) (function_named name) (cells_of (lookups graph) row es) (outcomes_of (lookups graph) row es) (property_exists (lookups graph) row es))
-  cell_there row there (call_star name) = tt
+  cell_there row there _ = tt
 
 -- ---- numbers
 

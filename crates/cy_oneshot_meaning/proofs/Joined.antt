@@ -18,11 +18,7 @@ fault_of code =
 fault_of_code : (f : EvalFault) → fault_of (code_of f) ≡ f
 unfolding fault_of
 fault_of_code NotBoolean = refl
-fault_of_code WrongType = refl
-fault_of_code Overflow = refl
-fault_of_code DivisionByZero = refl
-fault_of_code NestedList = refl
-fault_of_code NoMemory = refl
+fault_of_code _ = refl
 
 pub same_fault : (f g : EvalFault) → code_of f ≡ code_of g → f ≡ g
 same_fault f g e = sym (fault_of_code f) ∙ ap fault_of e ∙ fault_of_code g

@@ -47,9 +47,6 @@ filters_exchanged p q (x ∷ xs) = filters_front p q x (filter q xs) (filter p x
 
 module _ {A : Type 0} (order : A → A → Ordering) (identity : (x y : A) → eq_by_cmp order x y ≡ true → x ≡ y)
     (symmetric : (x y : A) → eq_by_cmp order x y ≡ eq_by_cmp order y x) where
-  differs : A → A → Bool
-  differs x y = not (eq_by_cmp order x y)
-
   once_exchanged : (x y : A) (xs : List A) → Permuted (each_once order (x ∷ y ∷ xs)) (each_once order (y ∷ x ∷ xs))
   once_exchanged x y xs =
       elim (eq_by_cmp order x y) as (λ b. eq_by_cmp order x y ≡ b → Permuted (each_once order (x ∷ y ∷ xs)) (each_once order (y ∷ x ∷ xs))) [

@@ -7,7 +7,7 @@ use Rattle.std.specs.Cmp.{IsTotalOrder}
 use Rattle.std.proofs.lemmas.Bool.{false≢true}
 use Rattle.cy_values.specs.declared.rows.Cell.{Cell}
 use Rattle.cy_values.specs.Order.{row_cmp}
-use Rattle.cy_trees.specs.Trees.{Clause, «match», unwind, «with», «return», create, set, remove, delete}
+use Rattle.cy_trees.specs.Trees.{Clause, «return»}
 use Rattle.cy_scope.specs.Views.{ends_with_return, is_return}
 use Rattle.cy_graph.specs.Graph.{Content}
 use Rattle.cy_expr.specs.declared.faults.EvalFault.{EvalFault}
@@ -38,13 +38,7 @@ after_both f same (Err g) (Ok ys) p = absurd p
 module _ (total : IsTotalOrder row_cmp) (graph : Content) where
   return_same : (c : Clause) → is_return c ≡ true → (xs ys : List (List Cell)) → IsSameBag xs ys → rows_after graph c xs ≡ rows_after graph c ys
   return_same («return» p) is xs ys same = same_rows_of total graph xs ys same p
-  return_same («match» optional paths test) is xs ys same = absurd (false≢true is)
-  return_same (unwind e v) is xs ys same = absurd (false≢true is)
-  return_same («with» p test) is xs ys same = absurd (false≢true is)
-  return_same (create paths) is xs ys same = absurd (false≢true is)
-  return_same (set items) is xs ys same = absurd (false≢true is)
-  return_same (remove items) is xs ys same = absurd (false≢true is)
-  return_same (delete detach variables) is xs ys same = absurd (false≢true is)
+  return_same _ is xs ys same = absurd (false≢true is)
 
   -- what ends with RETURN gives the rows in their order
   pub ends_same : (cs : List Clause) → ends_with_return cs ≡ true → (xs ys : List (List Cell)) → IsSameBag xs ys → rows_after_all graph cs xs ≡ rows_after_all graph cs ys

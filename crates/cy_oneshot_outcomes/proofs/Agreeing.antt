@@ -5,7 +5,7 @@ use Rattle.cy_values.specs.declared.scalars.Value.{Value}
 use Rattle.cy_values.specs.declared.truth.Truth.{Truth}
 use Rattle.cy_values.specs.declared.rows.Cell.{Cell}
 use Rattle.cy_values.specs.Truth.{both}
-use Rattle.cy_trees.specs.Trees.{Expression, null, boolean, integer, text, variable, property, has_labels, unary, binary, comparison, list, case, call, call_star, Expressions, no_more, more, Links, no_links, link, Arms, no_arms, arm, Otherwise, nothing, otherwise}
+use Rattle.cy_trees.specs.Trees.{Expression, variable, property, has_labels, unary, binary, comparison, list, case, call, Expressions, no_more, more, Links, no_links, link, Arms, no_arms, arm, Otherwise, nothing, otherwise}
 use Rattle.cy_scope_kinds.specs.Functions.{function_named}
 use Rattle.cy_expr.specs.declared.faults.EvalFault.{EvalFault}
 use Rattle.cy_expr.specs.Faults.{on_one, on_two}
@@ -43,10 +43,6 @@ module _ (graph : Lookups) (row other : List Cell) where
 
   mutual
     pub cell-same : (e : Expression) → AgreeOn (columns_read e) row other → cell_of graph row e ≡ cell_of graph other e
-    cell-same null h = refl
-    cell-same (boolean b) h = refl
-    cell-same (integer n) h = refl
-    cell-same (text t) h = refl
     cell-same (variable v) h = ap (λ (c : Cell). Ok c) (column-same v.column h)
     cell-same (property e key) h = ap (λ (r : Result Cell EvalFault). as_cell (on_one (property_value graph key) r)) (cell-same e h)
     cell-same (has_labels e labels) h = ap (λ (r : Result Cell EvalFault). as_cell (on_one (labels_test graph labels) r)) (cell-same e h)
@@ -66,7 +62,7 @@ module _ (graph : Lookups) (row other : List Cell) where
         ap as_cell (ap (λ (r : Result (List Cell) EvalFault). call_value graph (function_named name) r (outcomes_of graph row es) (property_exists graph row es)) (cells-same es h)
         ∙ ap (λ (os : List (Result Value EvalFault)). call_value graph (function_named name) (cells_of graph other es) os (property_exists graph row es)) (outcomes-same es h)
         ∙ ap (λ (o : Result Value EvalFault). call_value graph (function_named name) (cells_of graph other es) (outcomes_of graph other es) o) (asked-same es h))
-    cell-same (call_star name) h = refl
+    cell-same _ h = refl
 
     cells-same : (es : Expressions) → AgreeOn (columns_of_elements es) row other → cells_of graph row es ≡ cells_of graph other es
     cells-same no_more h = refl

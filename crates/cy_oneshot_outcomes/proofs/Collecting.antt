@@ -1,7 +1,7 @@
 -- What is collected from left to right are the columns that are read.
 use Rattle.std.proofs.Common.{◌≡◌, ℕ, List, [], ◌∷◌, ◌++◌, Option, refl, sym, ap, ◌∙◌, append_assoc}
 use Rattle.std.proofs.lemmas.List.{append-nil}
-use Rattle.cy_trees.specs.Trees.{Expression, null, boolean, integer, text, variable, property, has_labels, unary, binary, comparison, list, case, call, call_star, Expressions, no_more, more, Links, no_links, link, Arms, no_arms, arm, Otherwise, nothing, otherwise}
+use Rattle.cy_trees.specs.Trees.{Expression, variable, property, has_labels, unary, binary, comparison, list, case, call, Expressions, no_more, more, Links, no_links, link, Arms, no_arms, arm, Otherwise, nothing, otherwise}
 use Rattle.cy_oneshot_outcomes.specs.Columns.{column_list, columns_read, columns_of_arms, columns_of_elements, columns_of_links, columns_of_otherwise}
 use Rattle.cy_oneshot_outcomes.specs.internal.Collected.{with_arms, with_column, with_columns, with_elements, with_links, with_otherwise}
 
@@ -18,10 +18,6 @@ none columns = sym (append-nil columns)
 
 mutual
   pub collected : (columns : List ℕ) (e : Expression) → with_columns columns e ≡ columns ++ columns_read e
-  collected columns null = none columns
-  collected columns (boolean b) = none columns
-  collected columns (integer n) = none columns
-  collected columns (text t) = none columns
   collected columns (variable v) = one_more columns v.column
   collected columns (property e key) = collected columns e
   collected columns (has_labels e labels) = collected columns e
@@ -31,7 +27,7 @@ mutual
   collected columns (list es) = of_elements columns es
   collected columns (case arms e) = both columns (columns_of_arms arms) (columns_of_otherwise e) _ _ (of_arms columns arms) (of_otherwise (with_arms columns arms) e)
   collected columns (call name distinct es) = of_elements columns es
-  collected columns (call_star name) = none columns
+  collected columns _ = none columns
 
   of_elements : (columns : List ℕ) (es : Expressions) → with_elements columns es ≡ columns ++ columns_of_elements es
   of_elements columns no_more = none columns

@@ -9,7 +9,3 @@ pub fault_of_part : {A B : Type 0} (f : A → Result B EvalFault) (part : Result
     → whole ≡ on_one f part → (part ≡ Err fault) ⊎ (fault ≡ NoMemory) → (whole ≡ Err fault) ⊎ (fault ≡ NoMemory)
 fault_of_part f part whole fault is (inl wrong) = inl (is ∙ ap (on_one f) wrong)
 fault_of_part f part whole fault is (inr none) = inr none
-
-pub same_fault_of : {A : Type 0} (part whole : Result A EvalFault) (fault : EvalFault) → whole ≡ part → (part ≡ Err fault) ⊎ (fault ≡ NoMemory) → (whole ≡ Err fault) ⊎ (fault ≡ NoMemory)
-same_fault_of part whole fault is (inl wrong) = inl (is ∙ wrong)
-same_fault_of part whole fault is (inr none) = inr none

@@ -13,13 +13,12 @@ use Rattle.cy_trees.specs.Trees.{Expression, Item}
 use Rattle.cy_scope_kinds.specs.Aggregates.{is_aggregate_call}
 use Rattle.cy_graph.specs.Graph.{Content}
 use Rattle.cy_expr.specs.declared.faults.EvalFault.{EvalFault}
-use Rattle.cy_expr.specs.declared.faults.EvalFault.TheVariants.{NotBoolean, WrongType, Overflow, DivisionByZero, NestedList, NoMemory}
+use Rattle.cy_expr.specs.declared.faults.EvalFault.TheVariants.{NoMemory}
 use Rattle.cy_expr.specs.Evaluation.{as_cell}
-use Rattle.cy_expr.specs.Faults.{on_one}
-use Rattle.cy_oneshot_meaning.specs.Groups.{Grouped, argument_of, arguments, group_cells, group_rows, grouping, looked_at_with, over_rows}
+use Rattle.cy_oneshot_meaning.specs.Groups.{Grouped, argument_of, arguments, group_cells, group_rows, grouping, over_rows}
 use Rattle.cy_oneshot_patterns.specs.Outcomes.{gathered, together}
 use Rattle.cy_oneshot_meaning.specs.internal.Answers.{IsAnswer, sifted, with_fault}
-use Rattle.cy_oneshot_projections.specs.internal.Grouping.{AreGroupsOf, Gathering, grouped_by, item_cell, kept_of, smaller_of}
+use Rattle.cy_oneshot_projections.specs.internal.Grouping.{AreGroupsOf, Gathering, grouped_by, item_cell, kept_of}
 use Rattle.cy_oneshot_meaning.specs.internal.Permuted.{Alike, IsAlikeAnswer}
 use Rattle.cy_oneshot_projections.proofs.Aggregated.{many_alike, one_alike, row_of}
 use Rattle.cy_oneshot_meaning.proofs.SeenRows.{expressions}
@@ -85,22 +84,6 @@ arguments_more so_far next whole i is left are step before =
     ∙ before
 
 -- ---- a row whose grouping items fault
-
-module _ {X : Type 0} (view : X → List Cell) (fault : EvalFault) (others : Result (List Cell) EvalFault) where
-  after_fault : (other : Result X EvalFault) → IsAnswer other view others
-      → (looked_at_with {A = List Cell} (Err fault) others ≡ Err (smaller_of (on_one (λ x. Ok (view x)) other) fault)) ⊎ (smaller_of (on_one (λ x. Ok (view x)) other) fault ≡ NoMemory)
-  after_fault (Ok x) is = inl (ap (looked_at_with (Err fault)) is)
-  after_fault (Err NoMemory) is = inr refl
-  after_fault (Err NotBoolean) (inl is) = inl (ap (looked_at_with (Err fault)) is)
-  after_fault (Err WrongType) (inl is) = inl (ap (looked_at_with (Err fault)) is)
-  after_fault (Err Overflow) (inl is) = inl (ap (looked_at_with (Err fault)) is)
-  after_fault (Err DivisionByZero) (inl is) = inl (ap (looked_at_with (Err fault)) is)
-  after_fault (Err NestedList) (inl is) = inl (ap (looked_at_with (Err fault)) is)
-  after_fault (Err NotBoolean) (inr is) = absurd (cc is)
-  after_fault (Err WrongType) (inr is) = absurd (cc is)
-  after_fault (Err Overflow) (inr is) = absurd (cc is)
-  after_fault (Err DivisionByZero) (inr is) = absurd (cc is)
-  after_fault (Err NestedList) (inr is) = absurd (cc is)
 
 -- there are as many keys as items without an aggregate
 pub no_grouping : {X : Type 0} (f : X → Expression) (keys : List X) (items : List Item) → map f keys ≡ expressions items → keys ≡ [] → items ≡ []

@@ -88,15 +88,6 @@ not_none : (n : ℕ) (rest : Option ℕ) (b : Bool) → cond b (Some n) rest ≡
 not_none n rest true none = absurd (none-some n (sym none))
 not_none n rest false none = (refl, none)
 
--- a place is no less than where the places begin
-no_less : {A : Type 0} (t : A → Bool) (xs : List A) (from p : ℕ) → position_from t from xs ≡ Some p → from ≤ p
-no_less t [] from p found = absurd (none-some p found)
-no_less t (x ∷ xs) from p found =
-    elim (t x) as (λ b. cond b (Some from) (position_from t (from + 1) xs) ≡ Some p → from ≤ p) [
-      | true ↦ λ h. let e : from ≡ p = same_Some from p h in omega (arith, e)
-      | false ↦ λ h. let least : from + 1 ≤ p = no_less t xs (from + 1) p h in omega (arith, least)
-    ] found
-
 module _ {A : Type 0} (t s : A → Bool) (weaker : (x : A) → s x ≡ true → t x ≡ true) where
   fails : (x : A) → t x ≡ false → s x ≡ false
   fails x h = elim (s x) as (λ b. s x ≡ b → b ≡ false) [ true ↦ λ k. absurd (false≢true (sym h ∙ weaker x k)) | false ↦ λ k. refl ] refl

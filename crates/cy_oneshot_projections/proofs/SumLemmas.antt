@@ -38,9 +38,7 @@ integer_is (cell.Value (value.Text t)) n is = cc is
 integer_is (cell.Value (value.Bool b)) n is = cc is
 integer_is (cell.Value value.Null) n is = cc is
 integer_is (cell.Value (value.List es)) n is = cc is
-integer_is (cell.Node id) n is = cc is
-integer_is (cell.Rel id) n is = cc is
-integer_is (cell.Rels ids) n is = cc is
+integer_is _ n is = cc is
 
 no_integer : (c : Cell) → integer_in c ≡ None → IsNoInteger c
 no_integer (cell.Value (value.Int m)) is = cc is
@@ -48,9 +46,7 @@ no_integer (cell.Value (value.Text t)) is = tt
 no_integer (cell.Value (value.Bool b)) is = tt
 no_integer (cell.Value value.Null) is = tt
 no_integer (cell.Value (value.List es)) is = tt
-no_integer (cell.Node id) is = tt
-no_integer (cell.Rel id) is = tt
-no_integer (cell.Rels ids) is = tt
+no_integer _ is = tt
 
 pub next_total : (t n : ℤ) (c : Cell) (cells left : List Cell) (whole : Result ℤ EvalFault) → left ≡ c ∷ cells → integer_in c ≡ Some n → with_total t (total_in left) ≡ whole
     → with_total (t +ℤ n) (total_in cells) ≡ whole

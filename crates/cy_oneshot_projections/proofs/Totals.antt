@@ -63,6 +63,4 @@ none_total o h = ap (on_one total) (none_more o h)
 
 pub refused : (c : Cell) (cells : List Cell) → IsNoInteger c → total_in (c ∷ cells) ≡ Err WrongType
 refused (cell.Value v) cells other = no_total v (values_in cells) other (values_or_not cells)
-refused (cell.Node n) cells other = none_total (values_in cells) (values_or_not cells)
-refused (cell.Rel r) cells other = none_total (values_in cells) (values_or_not cells)
-refused (cell.Rels rs) cells other = none_total (values_in cells) (values_or_not cells)
+refused _ cells other = none_total (values_in cells) (values_or_not cells)

@@ -6,7 +6,7 @@ use Rattle.std.proofs.lemmas.List.{length-append, map-append, take_more}
 use Rattle.cy_values.specs.declared.scalars.Value.TheVariants as value
 use Rattle.cy_values.specs.declared.rows.Cell.{Cell}
 use Rattle.cy_values.specs.declared.rows.Cell.TheVariants as cell
-use Rattle.cy_trees.specs.Trees.{Clause, «match», unwind, «with», «return», create, set, remove, delete}
+use Rattle.cy_trees.specs.Trees.{Clause, unwind}
 use Rattle.cy_graph.specs.Graph.{Content}
 use Rattle.cy_expr.specs.declared.faults.EvalFault.{EvalFault}
 use Rattle.cy_oneshot_patterns.specs.Outcomes.{joined, together}
@@ -16,10 +16,7 @@ use Rattle.cy_oneshot_unwinding.specs.Carried.{AreNeeded, carried, carried_by, c
 
 -- ---- one row
 
--- where nothing is known all is needed
-all_needed : (place : ℕ) → is_needed [] place ≡ true
-all_needed place = refl
-
+-- where nothing is known all is carried
 pub row_whole : (place : ℕ) (row : List Cell) → carried_from [] place row ≡ row
 row_whole place [] = refl
 row_whole place (c ∷ row) = ap (λ (cs : List Cell). c ∷ cs) (row_whole (place + 1) row)
@@ -165,13 +162,7 @@ carried_fault needed (Err other) fault is = is
 -- what holds of all rows of a clause, and of what is carried of them
 pub carried_either : (P : Result (List (List Cell)) EvalFault → Type 0) (c : Clause) (needed : List Bool) (o : Result (List (List Cell)) EvalFault) → P (carried needed o) → P o → P (carried_by c needed o)
 carried_either P (unwind e v) needed o some all = some
-carried_either P («match» optional paths test) needed o some all = all
-carried_either P («with» p test) needed o some all = all
-carried_either P («return» p) needed o some all = all
-carried_either P (create paths) needed o some all = all
-carried_either P (set items) needed o some all = all
-carried_either P (remove items) needed o some all = all
-carried_either P (delete detach variables) needed o some all = all
+carried_either P _ needed o some all = all
 
 -- where all is needed all is carried along
 pub all_by : (c : Clause) (o : Result (List (List Cell)) EvalFault) → carried_by c [] o ≡ o

@@ -12,7 +12,7 @@ use Rattle.cy_values.specs.declared.rows.Cell.{Cell}
 use Rattle.cy_values.specs.declared.rows.Cell.TheVariants as cell
 use Rattle.cy_values.specs.Order.{cell_order}
 use Rattle.cy_values.specs.Truth.{is_yes}
-use Rattle.cy_trees.specs.Trees.{Clause, Expression, MapEntry, Path, PathTest, Where, «match», unwind, «with», «return», create, set, remove, delete}
+use Rattle.cy_trees.specs.Trees.{Clause, Expression, MapEntry, Path, PathTest, Where, «match», unwind, «with», «return»}
 use Rattle.cy_scope.specs.Views.{is_update}
 use Rattle.cy_graph.specs.Graph.{Content}
 use Rattle.cy_graph.specs.Maps.{value_at}
@@ -241,10 +241,7 @@ module _ (graph : Content) (needed : List Bool) where
   reading_less (unwind e v) reads keeps read rows long = rows_less (unwound graph e) (unwound_less e read) rows long
   reading_less («with» p test) reads keeps read rows long = absurd (let e : true ≡ false = keeps in cc)
   reading_less («return» p) reads keeps read rows long = absurd (let e : true ≡ false = keeps in cc)
-  reading_less (create paths) reads keeps read rows long = absurd (let e : true ≡ false = reads in cc)
-  reading_less (set items) reads keeps read rows long = absurd (let e : true ≡ false = reads in cc)
-  reading_less (remove items) reads keeps read rows long = absurd (let e : true ≡ false = reads in cc)
-  reading_less (delete detach variables) reads keeps read rows long = absurd (let e : true ≡ false = reads in cc)
+  reading_less _ reads keeps read rows long = absurd (let e : true ≡ false = reads in cc)
 
 -- ---- what holds of each row that a clause makes of a row of which it holds
 
@@ -294,10 +291,7 @@ module _ (graph : Content) (P : List Cell → Type 0) (more : (row : List Cell) 
   reading_grown (unwind e v) reads keeps rows each = each_row (unwound graph e) (unwound_grown e) rows each
   reading_grown («with» p test) reads keeps rows each = absurd (let e : true ≡ false = keeps in cc)
   reading_grown («return» p) reads keeps rows each = absurd (let e : true ≡ false = keeps in cc)
-  reading_grown (create paths) reads keeps rows each = absurd (let e : true ≡ false = reads in cc)
-  reading_grown (set items) reads keeps rows each = absurd (let e : true ≡ false = reads in cc)
-  reading_grown (remove items) reads keeps rows each = absurd (let e : true ≡ false = reads in cc)
-  reading_grown (delete detach variables) reads keeps rows each = absurd (let e : true ≡ false = reads in cc)
+  reading_grown _ reads keeps rows each = absurd (let e : true ≡ false = reads in cc)
 
 -- rows stay long
 pub long_grown : (graph : Content) (needed : List Bool) (c : Clause) → is_update c ≡ false → is_projection c ≡ false → (rows : List (List Cell)) → AreLong needed rows → IfOk (rows_after graph c rows) (AreLong needed)

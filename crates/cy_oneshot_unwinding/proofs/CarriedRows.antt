@@ -10,7 +10,7 @@ use Rattle.cy_values.specs.declared.scalars.Value.TheVariants as value
 use Rattle.cy_values.specs.declared.rows.Cell.{Cell}
 use Rattle.cy_values.specs.declared.rows.Cell.TheVariants as cell
 use Rattle.cy_values.specs.Order.{row_cmp}
-use Rattle.cy_trees.specs.Trees.{Expression, null, boolean, integer, text, variable, property, has_labels, unary, binary, comparison, list, case, call, call_star, no_more, more, Item, Key, Projection, Clause, «match», unwind, «with», «return», create, set, remove, delete}
+use Rattle.cy_trees.specs.Trees.{Expression, call, call_star, no_more, more, Item, Key, Projection, Clause, unwind, «with», «return»}
 use Rattle.cy_graph.specs.Graph.{Content}
 use Rattle.cy_scope_kinds.specs.Aggregates.{has_aggregates, is_aggregate_call}
 use Rattle.cy_scope_kinds.specs.Functions.{function_named}
@@ -83,18 +83,7 @@ module _ (graph : Content) (needed : List Bool) where
   over_less (call_star f) rows read = ap (λ n. Ok (value.Int (pos n))) (length-map rows less)
   over_less (call f distinct no_more) rows read = refl
   over_less (call f distinct (more e (more d es))) rows read = refl
-  over_less null rows read = refl
-  over_less (boolean b) rows read = refl
-  over_less (integer n) rows read = refl
-  over_less (text t) rows read = refl
-  over_less (variable v) rows read = refl
-  over_less (property e key) rows read = refl
-  over_less (has_labels e labels) rows read = refl
-  over_less (unary operator e) rows read = refl
-  over_less (binary operator a b) rows read = refl
-  over_less (comparison e links) rows read = refl
-  over_less (list es) rows read = refl
-  over_less (case arms e) rows read = refl
+  over_less _ rows read = refl
 
   group_less : (items : List Item) (key : List Cell) (rows : List (List Cell)) → AreRead needed items → group_cells graph items key (map less rows) ≡ group_cells graph items key rows
   group_less [] key rows read = refl
@@ -138,21 +127,9 @@ module _ (graph : Content) (needed : List Bool) where
   -- the arguments of the aggregates
   argument_less : (e : Expression) (row : List Cell) → AreNeeded needed (columns_read e) → map (λ a. cell_of (lookups graph) (less row) a) (argument_of e) ≡ map (λ a. cell_of (lookups graph) row a) (argument_of e)
   argument_less (call f distinct (more e no_more)) row read = ap (λ o. o ∷ []) (cell_less graph needed e row (first_read (columns_read e) read))
-  argument_less (call_star f) row read = refl
   argument_less (call f distinct no_more) row read = refl
   argument_less (call f distinct (more e (more d es))) row read = refl
-  argument_less null row read = refl
-  argument_less (boolean b) row read = refl
-  argument_less (integer n) row read = refl
-  argument_less (text t) row read = refl
-  argument_less (variable v) row read = refl
-  argument_less (property e key) row read = refl
-  argument_less (has_labels e labels) row read = refl
-  argument_less (unary operator e) row read = refl
-  argument_less (binary operator a b) row read = refl
-  argument_less (comparison e links) row read = refl
-  argument_less (list es) row read = refl
-  argument_less (case arms e) row read = refl
+  argument_less _ row read = refl
 
   arguments_less : (items : List Item) (row : List Cell) → AreRead needed items → map (λ a. cell_of (lookups graph) (less row) a) (arguments items) ≡ map (λ a. cell_of (lookups graph) row a) (arguments items)
   arguments_less [] row read = refl
@@ -338,12 +315,8 @@ module _ (graph : Content) (needed : List Bool) where
   pub projecting_less : (c : Clause) → is_projection c ≡ true → IsClauseRead needed c → (rows : List (List Cell)) → rows_after graph c (map less rows) ≡ rows_after graph c rows
   projecting_less («with» p w) is read rows = ap (on_one (λ made. joined (map (kept graph w) made))) (projection_less p rows read)
   projecting_less («return» p) is read rows = projection_less p rows read
-  projecting_less («match» optional paths test) is read rows = absurd (let e : false ≡ true = is in cc)
   projecting_less (unwind e v) is read rows = absurd (let e : false ≡ true = is in cc)
-  projecting_less (create paths) is read rows = absurd (let e : false ≡ true = is in cc)
-  projecting_less (set items) is read rows = absurd (let e : false ≡ true = is in cc)
-  projecting_less (remove items) is read rows = absurd (let e : false ≡ true = is in cc)
-  projecting_less (delete detach variables) is read rows = absurd (let e : false ≡ true = is in cc)
+  projecting_less _ is read rows = absurd (let e : false ≡ true = is in cc)
 
   pub not_last : (c : Clause) (cs : List Clause) → is_projection c ≡ false → is_update c ≡ false → is_last c cs ≡ false
   not_last c [] keeps reads = λ j. keeps j || reads j

@@ -166,14 +166,11 @@ enough_then flags alike needed c cs may enough (Err fault) read still = tt
 
 -- a clause that updates is no projection
 update_projects : (c : Clause) → is_update c ≡ true → is_projection c ≡ false
-update_projects («match» optional paths test) updates = absurd (false≢true updates)
-update_projects (unwind e v) updates = absurd (false≢true updates)
-update_projects («with» p test) updates = absurd (false≢true updates)
-update_projects («return» p) updates = absurd (false≢true updates)
 update_projects (create paths) updates = refl
 update_projects (trees.set items) updates = refl
 update_projects (remove items) updates = refl
 update_projects (delete detach variables) updates = refl
+update_projects _ updates = absurd (false≢true updates)
 
 -- a clause before which nothing is over is no projection
 before_last : (c : Clause) (cs : List Clause) → is_last c cs ≡ false → is_projection c ≡ false

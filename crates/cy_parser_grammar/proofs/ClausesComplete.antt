@@ -86,18 +86,13 @@ opening_for (remove is) = opening.Remove
 opening_for (delete false vs) = opening.Delete
 opening_for (delete true vs) = opening.Detach
 
-allowed : (s : spells.ClausePhase) (c : Clause) → read.allows (phase_of s) (opening_for c) ≡ spells.may_follow s c
+pub allowed : (s : spells.ClausePhase) (c : Clause) → read.allows (phase_of s) (opening_for c) ≡ spells.may_follow s c
 allowed spells.reading c = refl
 allowed spells.updating («match» false ps f) = refl
 allowed spells.updating («match» true ps f) = refl
-allowed spells.updating (unwind e v) = refl
-allowed spells.updating («with» p f) = refl
-allowed spells.updating («return» p) = refl
-allowed spells.updating (create ps) = refl
-allowed spells.updating (set is) = refl
-allowed spells.updating (remove is) = refl
 allowed spells.updating (delete false vs) = refl
 allowed spells.updating (delete true vs) = refl
+allowed spells.updating _ = refl
 allowed spells.ended c = refl
 
 pub leads : (c : Clause) → read.phase_after (opening_for c) ≡ phase_of (spells.phase_after c)

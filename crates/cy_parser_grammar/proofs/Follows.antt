@@ -11,7 +11,7 @@ use Rattle.cy_parser_grammar.specs.internal.Reader.{at_kind, is_symbol, is_keywo
 use Rattle.cy_parser_grammar.specs.internal.Clauses.{opening_of, begins_step, descends}
 use Rattle.cy_parser_grammar.specs.Spells.{IsKeyword}
 use Rattle.cy_parser_grammar.specs.SpellsClauses.{is_after_where}
-use Rattle.cy_parser_grammar.proofs.Stops.{ends_whole}
+use Rattle.cy_parser_grammar.proofs.Stops.{ends_whole, not_symbol, not_keyword}
 
 -- what holds of a keyword holds of the token that is it
 pub at_keyword : (test : Option TokenKind → Bool) (w : Keyword) (b : Bool) (t : Token) → IsKeyword w t → test (Some (kind.Keyword w)) ≡ b → test (Some t.kind) ≡ b
@@ -68,32 +68,25 @@ clause_ends_item k e = item_ends k (items_end k (order_ends k (skip_ends k (proj
 
 -- what doesn't come after them
 pub no_filter_after : (k : Option TokenKind) → ends_clause k ≡ true → is_keyword word.Where k ≡ false
-no_filter_after (Some (kind.Keyword word.Where)) e = cc
-no_filter_after _ e = refl
+no_filter_after = not_keyword ends_clause word.Where refl
 
 pub no_limit_after : (k : Option TokenKind) → ends_projection k ≡ true → is_keyword word.Limit k ≡ false
-no_limit_after (Some (kind.Keyword word.Limit)) e = cc
-no_limit_after _ e = refl
+no_limit_after = not_keyword ends_projection word.Limit refl
 
 pub no_skip_after : (k : Option TokenKind) → ends_skip k ≡ true → is_keyword word.Skip k ≡ false
-no_skip_after (Some (kind.Keyword word.Skip)) e = cc
-no_skip_after _ e = refl
+no_skip_after = not_keyword ends_skip word.Skip refl
 
 pub no_order_after : (k : Option TokenKind) → ends_order k ≡ true → is_keyword word.Order k ≡ false
-no_order_after (Some (kind.Keyword word.Order)) e = cc
-no_order_after _ e = refl
+no_order_after = not_keyword ends_order word.Order refl
 
 pub no_comma_after : (k : Option TokenKind) → ends_items k ≡ true → is_symbol sign.Comma k ≡ false
-no_comma_after (Some (kind.Symbol sign.Comma)) e = cc
-no_comma_after _ e = refl
+no_comma_after = not_symbol ends_items sign.Comma refl
 
 pub no_column_after : (k : Option TokenKind) → ends_item k ≡ true → is_keyword word.As k ≡ false
-no_column_after (Some (kind.Keyword word.As)) e = cc
-no_column_after _ e = refl
+no_column_after = not_keyword ends_item word.As refl
 
 pub no_colon_after : (k : Option TokenKind) → ends_item k ≡ true → is_symbol sign.Colon k ≡ false
-no_colon_after (Some (kind.Symbol sign.Colon)) e = cc
-no_colon_after _ e = refl
+no_colon_after = not_symbol ends_item sign.Colon refl
 
 pub no_step_after : (k : Option TokenKind) → ends_item k ≡ true → begins_step k ≡ false
 no_step_after (Some (kind.Symbol sign.Less)) e = cc

@@ -50,11 +50,11 @@ pub record AteKeyword (k : Keyword) (ts : List Token) (found : Bool) (rest : Lis
   pub there : found ≡ true → (t : Token) × (ts ≡ t ∷ rest) × IsKeyword k t
   pub absent : found ≡ false → rest ≡ ts
 
-symbol_is : (s : Symbol) (k : TokenKind) → is_symbol s (Some k) ≡ true → k ≡ kind.Symbol s
+pub symbol_is : (s : Symbol) (k : TokenKind) → is_symbol s (Some k) ≡ true → k ≡ kind.Symbol s
 symbol_is s (kind.Symbol found) e = ap kind.Symbol (same_true symbol_type.the_type (search) found s e)
 symbol_is s _ e = cc
 
-keyword_is : (w : Keyword) (k : TokenKind) → is_keyword w (Some k) ≡ true → k ≡ kind.Keyword w
+pub keyword_is : (w : Keyword) (k : TokenKind) → is_keyword w (Some k) ≡ true → k ≡ kind.Keyword w
 keyword_is w (kind.Keyword found) e = ap kind.Keyword (same_true keyword_type.the_type (search) found w e)
 keyword_is w _ e = cc
 

@@ -29,44 +29,55 @@ pub record Spelt (line : List ℕ) (n : ℕ) (level : Level) (ts : List Token) (
   pub spells : Spells line n level e ts rest
   pub shallow : depth e ≤ greatest_depth
 
--- what was found before, and what is spelt here
-pub record SpeltLabels (line : List ℕ) (found : List Name) (ts : List Token) (all : List Name) (rest : List Token) : Type 0 where
-  pub these : List Name
-  pub all_is : all ≡ found ++ these
-  pub spells : SpellsLabels line these ts rest
-
 -- a reader that answers what is found so far and more, of which less is found here
 pub later : {A : Type 0} {o : Option (A × List Token)} (first second : A → List Token → Type 0) →
     ((a : A) (rest : List Token) → first a rest → second a rest) → Gives o first → Gives o second
 later first second then_ g = record { given = λ a rest e. then_ a rest (g.given a rest e) }
 
-labels-sound-from : (line : List ℕ) (turns : ℕ) (found : List Name) (ts : List Token) → Gives (labels_from line turns found ts) (SpeltLabels line found ts)
+-- what was found before, and what is spelt here
+pub record Found {A : Type 0} (spells : List A → List Token → List Token → Type 0) (found : List A) (ts : List Token) (all : List A) (rest : List Token) : Type 0 where
+  pub these : List A
+  pub all_is : all ≡ found ++ these
+  pub spelt : spells these ts rest
+
+module _ {A : Type 0} (spells : List A → List Token → List Token → Type 0) (found : List A) where
+  -- nothing is found here
+  pub found_none : (ts : List Token) → spells [] ts ts → Gives (Some (found, ts)) (Found spells found ts)
+  found_none ts s = answer _ _ _ (record { these = []; all_is = sym (append-nil found); spelt = s })
+
+  -- the last one is found
+  pub found_last : (a : A) (ts rest : List Token) → spells (a ∷ []) ts rest → Gives (Some (found ++ a ∷ [], rest)) (Found spells found ts)
+  found_last a ts rest s = answer _ _ _ (record { these = a ∷ []; all_is = refl; spelt = s })
+
+  -- one is found, and then what comes after it
+  pub found_more : {o : Option (List A × List Token)} (a : A) (ts mid : List Token) →
+      ((these : List A) (rest : List Token) → spells these mid rest → spells (a ∷ these) ts rest) → Gives o (Found spells (found ++ a ∷ []) mid) → Gives o (Found spells found ts)
+  found_more a ts mid more g = later _ _ (λ all rest f. record { these = a ∷ f.these; all_is = f.all_is ∙ append_assoc found (a ∷ []) f.these; spelt = more f.these rest f.spelt }) g
+
+-- where nothing was found before, all is spelt here
+pub all_found : {A : Type 0} {o : Option (List A × List Token)} (spells : List A → List Token → List Token → Type 0) (ts : List Token) →
+    Gives o (Found spells [] ts) → Gives o (λ all rest. spells all ts rest)
+all_found spells ts g = later _ _ (λ all rest f. subst (λ z. spells z ts rest) (sym f.all_is) f.spelt) g
+
+labels-sound-from : (line : List ℕ) (turns : ℕ) (found : List Name) (ts : List Token) → Gives (labels_from line turns found ts) (Found (SpellsLabels line) found ts)
 unfolding labels_from
 labels-sound-from line zero found ts = refused _
 labels-sound-from line (suc turns) found ts =
     bind (denoting_there is_word line ts) (λ label mid w. bind (ate_symbol sign.Colon mid) (λ goes_on after c. by_test _ _ goes_on after _
-    (λ yes. later _ _ (λ all rest g. record {
-      these = label ∷ g.these;
-      all_is = g.all_is ∙ append_assoc found (label ∷ []) g.these;
-      spells =
-          let x = c.there yes in
-          subst (λ z. SpellsLabels line (label ∷ g.these) z rest) (sym w.1)
-          (subst (λ z. SpellsLabels line (label ∷ g.these) (w.0 ∷ z) rest) (sym x.1)
-          (subst (λ z. SpellsLabels line (z ∷ g.these) (w.0 ∷ x.0 ∷ after) rest) (sym w.3) (next_label g.these w.0 x.0 after rest w.2 x.2 g.spells)));
-    }) (labels-sound-from line turns (found ++ label ∷ []) after))
-    (λ stop. answer _ _ _ (record {
-      these = label ∷ [];
-      all_is = refl;
-      spells =
-          subst (λ z. SpellsLabels line (label ∷ []) z after) (sym w.1)
-          (subst (λ z. SpellsLabels line (label ∷ []) (w.0 ∷ z) after) (c.absent stop)
-          (subst (λ z. SpellsLabels line (z ∷ []) (w.0 ∷ after) after) (sym w.3) (last_label w.0 after w.2)));
-    }))))
+    (λ yes. found_more _ found label ts after (λ these rest s.
+    let x = c.there yes in
+    subst (λ z. SpellsLabels line (label ∷ these) z rest) (sym w.1)
+    (subst (λ z. SpellsLabels line (label ∷ these) (w.0 ∷ z) rest) (sym x.1)
+    (subst (λ z. SpellsLabels line (z ∷ these) (w.0 ∷ x.0 ∷ after) rest) (sym w.3) (next_label these w.0 x.0 after rest w.2 x.2 s))))
+    (labels-sound-from line turns (found ++ label ∷ []) after))
+    (λ stop. found_last _ found label ts after
+    (subst (λ z. SpellsLabels line (label ∷ []) z after) (sym w.1)
+    (subst (λ z. SpellsLabels line (label ∷ []) (w.0 ∷ z) after) (c.absent stop)
+    (subst (λ z. SpellsLabels line (z ∷ []) (w.0 ∷ after) after) (sym w.3) (last_label w.0 after w.2)))))))
 
 pub labels-sound : (line : List ℕ) (ts : List Token) → Gives (labels line ts) (λ ls rest. SpellsLabels line ls ts rest)
 unfolding labels
-labels-sound line ts =
-    later _ _ (λ all rest g. subst (λ ls. SpellsLabels line ls ts rest) (sym g.all_is) g.spells) (labels-sound-from line (length ts) [] ts)
+labels-sound line ts = all_found (SpellsLabels line) ts (labels-sound-from line (length ts) [] ts)
 
 opened-sound : (n : ℕ) (ts : List Token) → Gives (opened n ts) (λ _ rest. (rest ≡ ts) × (m : ℕ) × (n ≡ suc m))
 unfolding opened
@@ -75,33 +86,20 @@ opened-sound (suc m) ts = answer _ _ _ (refl, m, refl)
 
 module _ (line : List ℕ) (n : ℕ) (inner : Nested → Reader Expression)
     (whole-sound : (ts : List Token) → Gives (inner nested.Whole ts) (Spelt line n whole ts)) where
-  record SpeltElements (found : List Expression) (ts : List Token) (all : List Expression) (rest : List Token) : Type 0 where
-    pub these : List Expression
-    pub all_is : all ≡ found ++ these
-    pub spells : SpellsAll line n (expressions_from these) ts rest
-
-  elements-sound-from : (turns : ℕ) (found : List Expression) (ts : List Token) → Gives (elements_from line inner turns found ts) (SpeltElements found ts)
+  elements-sound-from : (turns : ℕ) (found : List Expression) (ts : List Token) → Gives (elements_from line inner turns found ts) (Found (λ es. SpellsAll line n (expressions_from es)) found ts)
   unfolding elements_from
   elements-sound-from zero found ts = refused _
   elements-sound-from (suc turns) found ts =
       bind (whole-sound ts) (λ e mid s. bind (ate_symbol sign.Comma mid) (λ goes_on after c. by_test _ _ goes_on after _
-      (λ yes. later _ _ (λ all rest g. record {
-        these = e ∷ g.these;
-        all_is = g.all_is ∙ append_assoc found (e ∷ []) g.these;
-        spells =
-            let x = c.there yes in
-            next_element n e (expressions_from g.these) x.0 ts after rest (subst (λ z. Spells line n whole e ts z) x.1 s.spells) x.2 g.spells;
-      }) (elements-sound-from turns (found ++ e ∷ []) after))
-      (λ stop. answer _ _ _ (record {
-        these = e ∷ [];
-        all_is = refl;
-        spells = last_element n e ts after (subst (λ z. Spells line n whole e ts z) (sym (c.absent stop)) s.spells);
-      }))))
+      (λ yes. found_more _ found e ts after (λ these rest others.
+      let x = c.there yes in
+      next_element n e (expressions_from these) x.0 ts after rest (subst (λ z. Spells line n whole e ts z) x.1 s.spells) x.2 others)
+      (elements-sound-from turns (found ++ e ∷ []) after))
+      (λ stop. found_last _ found e ts after (last_element n e ts after (subst (λ z. Spells line n whole e ts z) (sym (c.absent stop)) s.spells)))))
 
   elements-sound : (ts : List Token) → Gives (elements line inner ts) (λ es rest. SpellsAll line n (expressions_from es) ts rest)
   unfolding elements
-  elements-sound ts =
-      later _ _ (λ all rest g. subst (λ es. SpellsAll line n (expressions_from es) ts rest) (sym g.all_is) g.spells) (elements-sound-from (length ts) [] ts)
+  elements-sound ts = all_found (λ es. SpellsAll line n (expressions_from es)) ts (elements-sound-from (length ts) [] ts)
 
   bracketed-sound : (opening : Token) (ts : List Token) → IsSymbol sign.LeftParenthesis opening →
       Gives (bracketed line inner ts) (Spelt line (suc n) head (opening ∷ ts))
@@ -213,35 +211,22 @@ module _ (line : List ℕ) (n : ℕ) (inner : Nested → Reader Expression)
         shallow = omega arith;
       }))))
 
-  record SpeltArms (found : List (Expression × Expression)) (ts : List Token) (all : List (Expression × Expression)) (rest : List Token) : Type 0 where
-    pub these : List (Expression × Expression)
-    pub all_is : all ≡ found ++ these
-    pub spells : SpellsArms line n (arms_from these) ts rest
-
-  arms-sound-from : (turns : ℕ) (found : List (Expression × Expression)) (ts : List Token) → Gives (arms_read line inner turns found ts) (SpeltArms found ts)
+  arms-sound-from : (turns : ℕ) (found : List (Expression × Expression)) (ts : List Token) → Gives (arms_read line inner turns found ts) (Found (λ as1. SpellsArms line n (arms_from as1)) found ts)
   unfolding arms_read
   arms-sound-from zero found ts = refused _
   arms-sound-from (suc turns) found ts =
       bind (whole-sound ts) (λ a from s. bind (keyword_there word.Then from) (λ _ next x. bind (whole-sound next) (λ b mid u. bind (ate_keyword word.When mid) (λ goes_on after c. by_test _ _ goes_on after _
-      (λ yes. later _ _ (λ all rest g. record {
-        these = (a, b) ∷ g.these;
-        all_is = g.all_is ∙ append_assoc found ((a, b) ∷ []) g.these;
-        spells =
-            let w = c.there yes in
-            next_arm n a b (arms_from g.these) x.0 w.0 ts next after rest (subst (λ z. Spells line n whole a ts z) x.1 s.spells) x.2
-            (subst (λ z. Spells line n whole b next z) w.1 u.spells) w.2 g.spells;
-      }) (arms-sound-from turns (found ++ (a, b) ∷ []) after))
-      (λ stop. answer _ _ _ (record {
-        these = (a, b) ∷ [];
-        all_is = refl;
-        spells = last_arm n a b x.0 ts next after (subst (λ z. Spells line n whole a ts z) x.1 s.spells) x.2
-            (subst (λ z. Spells line n whole b next z) (sym (c.absent stop)) u.spells);
-      }))))))
+      (λ yes. found_more _ found (a, b) ts after (λ these rest others.
+      let w = c.there yes in
+      next_arm n a b (arms_from these) x.0 w.0 ts next after rest (subst (λ z. Spells line n whole a ts z) x.1 s.spells) x.2
+      (subst (λ z. Spells line n whole b next z) w.1 u.spells) w.2 others)
+      (arms-sound-from turns (found ++ (a, b) ∷ []) after))
+      (λ stop. found_last _ found (a, b) ts after (last_arm n a b x.0 ts next after (subst (λ z. Spells line n whole a ts z) x.1 s.spells) x.2
+      (subst (λ z. Spells line n whole b next z) (sym (c.absent stop)) u.spells)))))))
 
   arms-sound : (ts : List Token) → Gives (arms line inner ts) (λ as1 rest. SpellsArms line n (arms_from as1) ts rest)
   unfolding arms
-  arms-sound ts =
-      later _ _ (λ all rest g. subst (λ z. SpellsArms line n (arms_from z) ts rest) (sym g.all_is) g.spells) (arms-sound-from (length ts) [] ts)
+  arms-sound ts = all_found (λ as1. SpellsArms line n (arms_from as1)) ts (arms-sound-from (length ts) [] ts)
 
   else-sound : (ts : List Token) → Gives (else_read line inner ts) (λ e rest. SpellsOtherwise line n e ts rest)
   unfolding else_read
@@ -601,35 +586,25 @@ module _ (line : List ℕ) (n : ℕ) (inner : Nested → Reader Expression) (ins
   SpeltLinks [] ts rest = rest ≡ ts
   SpeltLinks (l ∷ ls) ts rest = SpellsLinks line (suc n) (links_from (l ∷ ls)) ts rest
 
-  record FoundLinks (found : List (Comparator × Expression)) (ts : List Token) (all : List (Comparator × Expression)) (rest : List Token) : Type 0 where
-    pub these : List (Comparator × Expression)
-    pub all_is : all ≡ found ++ these
-    pub spells : SpeltLinks these ts rest
-
   one_more_link : (by : Comparator) (e : Expression) (t : Token) (ts mid rest : List Token) (these : List (Comparator × Expression)) →
       comparator_of t.kind ≡ Some by → Spells line (suc n) predicate e ts mid → SpeltLinks these mid rest →
       SpellsLinks line (suc n) (links_from ((by, e) ∷ these)) (t ∷ ts) rest
   one_more_link by e t ts mid rest [] is s none = last_link (suc n) by e t ts rest is (subst (λ z. Spells line (suc n) predicate e ts z) (sym none) s)
   one_more_link by e t ts mid rest (l ∷ ls) is s further = next_link (suc n) by e (links_from (l ∷ ls)) t ts mid rest is s further
 
-  links-sound-from : (turns : ℕ) (found : List (Comparator × Expression)) (ts : List Token) → Gives (links_read line n inner turns found ts) (FoundLinks found ts)
+  links-sound-from : (turns : ℕ) (found : List (Comparator × Expression)) (ts : List Token) → Gives (links_read line n inner turns found ts) (Found SpeltLinks found ts)
   unfolding links_read
-  links-sound-from zero found ts = answer _ _ _ (record { these = []; all_is = sym (append-nil found); spells = refl })
+  links-sound-from zero found ts = found_none _ found ts refl
   links-sound-from (suc turns) found ts = bind_peek _ ts (by_option _ _ (at_kind comparator_of (kind_ahead ts)) ts _
-      (λ none. answer _ _ _ (record { these = []; all_is = sym (append-nil found); spells = refl }))
-      (λ by there. bind_skip _ ts (bind (predicate-sound (past ts)) (λ e mid s. later _ _ (λ all rest g. (
+      (λ none. found_none _ found ts refl)
+      (λ by there. bind_skip _ ts (bind (predicate-sound (past ts)) (λ e mid s. found_more _ found (by, e) ts mid (λ these rest others.
       let x = ahead_by comparator_of ts by there in
-      record {
-        these = (by, e) ∷ g.these;
-        all_is = g.all_is ∙ append_assoc found ((by, e) ∷ []) g.these;
-        spells = subst (λ z. SpellsLinks line (suc n) (links_from ((by, e) ∷ g.these)) z rest) (sym x.1)
-            (one_more_link by e x.0 (past ts) mid rest g.these x.2 s.spells g.spells);
-      })) (links-sound-from turns (found ++ (by, e) ∷ []) mid)))))
+      subst (λ z. SpellsLinks line (suc n) (links_from ((by, e) ∷ these)) z rest) (sym x.1) (one_more_link by e x.0 (past ts) mid rest these x.2 s.spells others))
+      (links-sound-from turns (found ++ (by, e) ∷ []) mid)))))
 
   links-sound : (ts : List Token) → Gives (links line n inner ts) (λ ls rest. SpeltLinks ls ts rest)
   unfolding links
-  links-sound ts =
-      later _ _ (λ all rest g. subst (λ z. SpeltLinks z ts rest) (sym g.all_is) g.spells) (links-sound-from (length ts) [] ts)
+  links-sound ts = all_found SpeltLinks ts (links-sound-from (length ts) [] ts)
 
   compared-sound : (first : Expression) (ls : List (Comparator × Expression)) (ts mid rest : List Token) →
       Spelt line (suc n) predicate ts first mid → SpeltLinks ls mid rest → Gives (compared line n inner first ls rest) (Spelt line (suc n) comparisons ts)

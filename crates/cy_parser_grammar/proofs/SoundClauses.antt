@@ -1,5 +1,6 @@
 -- What is read spells what is answered: projections, updates and clauses.
 use Rattle.std.proofs.Common.{◌≡◌, ℕ, ◌<◌, ◌-◌, inl, inr, Bool, true, false, IsTrue, List, [], ◌∷◌, length, take, Option, Some, None, refl, sym, ap, ◌∙◌, subst, arith, nat_lt, if◌then◌else◌}
+use Rattle.std.specs.Option.{option_map_or}
 use Rattle.std.proofs.lemmas.Bool.Decides.{nat_tests}
 use Rattle.cy_lexer.specs.declared.tokens.Token.{Token}
 use Rattle.cy_lexer.specs.declared.tokens.TokenKind.{TokenKind}
@@ -24,6 +25,7 @@ use Rattle.cy_parser_grammar.proofs.Gives.{AteKeyword, Gives, bind, answer, refu
 use Rattle.cy_parser_grammar.proofs.Sound.{later, labels-sound}
 use Rattle.cy_parser_grammar.proofs.SoundPatterns.{separated-sound, whole-sound, variable-sound, paths-sound}
 use Rattle.cy_parser_grammar.proofs.Conditions.{filter-sound}
+use Rattle.cy_parser_grammar.proofs.ClausesComplete.{opening_for, allowed}
 
 module _ (line : List ℕ) where
   column-sound : (e : Expression) (ts after : List Token) → SpellsExpression line e ts after → Gives (read.column line e ts after) (λ i rest. SpellsItem line i ts rest)
@@ -167,80 +169,30 @@ module _ (line : List ℕ) where
   first_word opening.Delete = word.Delete
   first_word opening.Detach = word.Detach
 
+  -- where a token opens a clause, it is the first word of that clause
+  first_words : (k : TokenKind) → option_map_or (λ o. kind.Keyword (first_word o)) (read.opening_of k) k ≡ k
+  first_words (kind.Keyword word.Match) = refl
+  first_words _ = refl
+
   opening_is : (k : TokenKind) (o : Opening) → read.opening_of k ≡ Some o → k ≡ kind.Keyword (first_word o)
-  opening_is (kind.Keyword word.Match) o e = let same : opening.Match ≡ o = cc in ap (λ x. kind.Keyword (first_word x)) same
-  opening_is (kind.Keyword word.Optional) o e = let same : opening.Optional ≡ o = cc in ap (λ x. kind.Keyword (first_word x)) same
-  opening_is (kind.Keyword word.Unwind) o e = let same : opening.Unwind ≡ o = cc in ap (λ x. kind.Keyword (first_word x)) same
-  opening_is (kind.Keyword word.With) o e = let same : opening.With ≡ o = cc in ap (λ x. kind.Keyword (first_word x)) same
-  opening_is (kind.Keyword word.Return) o e = let same : opening.Return ≡ o = cc in ap (λ x. kind.Keyword (first_word x)) same
-  opening_is (kind.Keyword word.Create) o e = let same : opening.Create ≡ o = cc in ap (λ x. kind.Keyword (first_word x)) same
-  opening_is (kind.Keyword word.Set) o e = let same : opening.Set ≡ o = cc in ap (λ x. kind.Keyword (first_word x)) same
-  opening_is (kind.Keyword word.Remove) o e = let same : opening.Remove ≡ o = cc in ap (λ x. kind.Keyword (first_word x)) same
-  opening_is (kind.Keyword word.Delete) o e = let same : opening.Delete ≡ o = cc in ap (λ x. kind.Keyword (first_word x)) same
-  opening_is (kind.Keyword word.Detach) o e = let same : opening.Detach ≡ o = cc in ap (λ x. kind.Keyword (first_word x)) same
-  opening_is _ o e = cc
+  opening_is k o e = sym (first_words k) ∙ ap (λ found. option_map_or (λ p. kind.Keyword (first_word p)) found k) e
 
-  reads : (s : ClausePhase) (b : Bool) (ps : List Path) (f : Where) → spells.may_follow (spelt_phase s) («match» b ps f) ≡ read.allows s opening.Match
-  reads phase.Reading b ps f = refl
-  reads phase.Updating b ps f = refl
-  reads phase.Ended b ps f = refl
-
-  reads_optional : (s : ClausePhase) (b : Bool) (ps : List Path) (f : Where) → spells.may_follow (spelt_phase s) («match» b ps f) ≡ read.allows s opening.Optional
-  reads_optional phase.Reading b ps f = refl
-  reads_optional phase.Updating b ps f = refl
-  reads_optional phase.Ended b ps f = refl
-
-  unwinds : (s : ClausePhase) (e : Expression) (v : Variable) → spells.may_follow (spelt_phase s) (unwind e v) ≡ read.allows s opening.Unwind
-  unwinds phase.Reading e v = refl
-  unwinds phase.Updating e v = refl
-  unwinds phase.Ended e v = refl
-
-  goes_on : (s : ClausePhase) (p : Projection) (f : Where) → spells.may_follow (spelt_phase s) («with» p f) ≡ read.allows s opening.With
-  goes_on phase.Reading p f = refl
-  goes_on phase.Updating p f = refl
-  goes_on phase.Ended p f = refl
-
-  returns : (s : ClausePhase) (p : Projection) → spells.may_follow (spelt_phase s) («return» p) ≡ read.allows s opening.Return
-  returns phase.Reading p = refl
-  returns phase.Updating p = refl
-  returns phase.Ended p = refl
-
-  creates : (s : ClausePhase) (ps : List Path) → spells.may_follow (spelt_phase s) (create ps) ≡ read.allows s opening.Create
-  creates phase.Reading ps = refl
-  creates phase.Updating ps = refl
-  creates phase.Ended ps = refl
-
-  sets : (s : ClausePhase) (is : List SetItem) → spells.may_follow (spelt_phase s) (set is) ≡ read.allows s opening.Set
-  sets phase.Reading is = refl
-  sets phase.Updating is = refl
-  sets phase.Ended is = refl
-
-  removes : (s : ClausePhase) (is : List RemoveItem) → spells.may_follow (spelt_phase s) (remove is) ≡ read.allows s opening.Remove
-  removes phase.Reading is = refl
-  removes phase.Updating is = refl
-  removes phase.Ended is = refl
-
-  deletes : (s : ClausePhase) (d : Bool) (vs : List Variable) → spells.may_follow (spelt_phase s) (delete d vs) ≡ read.allows s opening.Delete
-  deletes phase.Reading d vs = refl
-  deletes phase.Updating d vs = refl
-  deletes phase.Ended d vs = refl
-
-  detaches : (s : ClausePhase) (d : Bool) (vs : List Variable) → spells.may_follow (spelt_phase s) (delete d vs) ≡ read.allows s opening.Detach
-  detaches phase.Reading d vs = refl
-  detaches phase.Updating d vs = refl
-  detaches phase.Ended d vs = refl
+  follows : (s : ClausePhase) (c : Clause) → spells.may_follow (spelt_phase s) c ≡ read.allows s (opening_for c)
+  follows phase.Reading c = refl
+  follows phase.Updating c = sym (allowed spells.updating c)
+  follows phase.Ended c = refl
 
   open_by : (s : ClausePhase) (o : Opening) (t : Token) (ts : List Token) → t.kind ≡ kind.Keyword (first_word o) →
       Gives (read.clause_by line o ts) (IsClause s o (t ∷ ts))
   unfolding read.match_read read.unwind_read read.with_read read.delete_read
   open_by s opening.Match t ts is =
       bind (paths-sound line ts) (λ ps mid a. bind (filter-sound line mid) (λ f rest b. answer _ _ _
-      (record { spelt = spells.match_ ps f t ts mid rest is a b; follows = reads s false ps f; leads = refl; writes = refl })))
+      (record { spelt = spells.match_ ps f t ts mid rest is a b; follows = follows s («match» false ps f); leads = refl; writes = refl })))
   open_by s opening.Optional t ts is =
       bind (keyword_there word.Match ts) (λ _ from x. bind (paths-sound line from) (λ ps mid a. bind (filter-sound line mid) (λ f rest b. answer _ _ _
       (record {
         spelt = subst (λ z. SpellsClause line («match» true ps f) (t ∷ z) rest) (sym x.1) (spells.optional_match ps f t x.0 from mid rest is x.2 a b);
-        follows = reads_optional s true ps f;
+        follows = follows s («match» true ps f);
         leads = refl;
         writes = refl;
       }))))
@@ -248,28 +200,28 @@ module _ (line : List ℕ) where
       bind (whole-sound line ts) (λ e from a. bind (keyword_there word.As from) (λ _ mid x. bind (variable-sound line mid) (λ v rest b. answer _ _ _
       (record {
         spelt = spells.unwind_as e v t x.0 ts mid rest is (subst (λ z. SpellsExpression line e ts z) x.1 a) x.2 b;
-        follows = unwinds s e v;
+        follows = follows s (unwind e v);
         leads = refl;
         writes = refl;
       }))))
   open_by s opening.With t ts is =
       bind (projection-sound ts) (λ p mid a. bind (filter-sound line mid) (λ f rest b. answer _ _ _
-      (record { spelt = spells.with_ p f t ts mid rest is a b; follows = goes_on s p f; leads = refl; writes = refl })))
+      (record { spelt = spells.with_ p f t ts mid rest is a b; follows = follows s («with» p f); leads = refl; writes = refl })))
   open_by s opening.Return t ts is =
-      bind (projection-sound ts) (λ p rest a. answer _ _ _ (record { spelt = spells.return_ p t ts rest is a; follows = returns s p; leads = refl; writes = refl }))
+      bind (projection-sound ts) (λ p rest a. answer _ _ _ (record { spelt = spells.return_ p t ts rest is a; follows = follows s («return» p); leads = refl; writes = refl }))
   open_by s opening.Create t ts is =
-      bind (paths-sound line ts) (λ ps rest a. answer _ _ _ (record { spelt = spells.create_ ps t ts rest is a; follows = creates s ps; leads = refl; writes = refl }))
+      bind (paths-sound line ts) (λ ps rest a. answer _ _ _ (record { spelt = spells.create_ ps t ts rest is a; follows = follows s (create ps); leads = refl; writes = refl }))
   open_by s opening.Set t ts is =
-      bind (set_items-sound ts) (λ is1 rest a. answer _ _ _ (record { spelt = spells.set_ is1 t ts rest is a; follows = sets s is1; leads = refl; writes = refl }))
+      bind (set_items-sound ts) (λ is1 rest a. answer _ _ _ (record { spelt = spells.set_ is1 t ts rest is a; follows = follows s (set is1); leads = refl; writes = refl }))
   open_by s opening.Remove t ts is =
-      bind (remove_items-sound ts) (λ is1 rest a. answer _ _ _ (record { spelt = spells.remove_ is1 t ts rest is a; follows = removes s is1; leads = refl; writes = refl }))
+      bind (remove_items-sound ts) (λ is1 rest a. answer _ _ _ (record { spelt = spells.remove_ is1 t ts rest is a; follows = follows s (remove is1); leads = refl; writes = refl }))
   open_by s opening.Delete t ts is =
-      bind (variables-sound ts) (λ vs rest a. answer _ _ _ (record { spelt = spells.delete_ vs t ts rest is a; follows = deletes s false vs; leads = refl; writes = refl }))
+      bind (variables-sound ts) (λ vs rest a. answer _ _ _ (record { spelt = spells.delete_ vs t ts rest is a; follows = follows s (delete false vs); leads = refl; writes = refl }))
   open_by s opening.Detach t ts is =
       bind (keyword_there word.Delete ts) (λ _ from x. bind (variables-sound from) (λ vs rest a. answer _ _ _
       (record {
         spelt = subst (λ z. SpellsClause line (delete true vs) (t ∷ z) rest) (sym x.1) (spells.detach_delete vs t x.0 from rest is x.2 a);
-        follows = detaches s true vs;
+        follows = follows s (delete true vs);
         leads = refl;
         writes = refl;
       })))

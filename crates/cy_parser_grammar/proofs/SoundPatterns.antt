@@ -1,5 +1,5 @@
 -- What is read spells what is answered: patterns.
-use Rattle.std.proofs.Common.{◌≡◌, ℕ, zero, suc, ◌≤◌, Bool, true, false, IsTrue, List, [], ◌∷◌, ◌++◌, length, Option, Some, None, refl, sym, ap, ◌∙◌, subst, append_assoc, append-nil, arith, nat_lt, nat_le, if◌then◌else◌, ◌&&◌}
+use Rattle.std.proofs.Common.{◌≡◌, ℕ, zero, suc, ◌≤◌, Bool, true, false, IsTrue, List, [], ◌∷◌, ◌++◌, length, Option, Some, None, refl, sym, ap, ◌∙◌, subst, arith, nat_lt, nat_le, if◌then◌else◌, ◌&&◌}
 use Rattle.std.proofs.lemmas.Bool.Decides.{nat_tests}
 use Rattle.cy_lexer.specs.declared.tokens.Token.{Token}
 use Rattle.cy_lexer.specs.declared.tokens.TokenKind.{TokenKind}
@@ -18,32 +18,24 @@ use Rattle.cy_parser_grammar.specs.internal.Clauses as read
 use Rattle.cy_parser_grammar.specs.Spells.{IsSymbol}
 use Rattle.cy_parser_grammar.specs.SpellsClauses.{SpellsEach, last, next, SpellsExpression, SpellsVariable, variable, SpellsVariableIfAny, no_variable, a_variable, SpellsLabelsIfAny, no_labels, labels, SpellsEntry, entry, SpellsMapIfAny, no_map, empty_map, map_of, SpellsNode, node, SpellsTypes, last_type, next_type, next_type_with_colon, SpellsTypesIfAny, no_types, types, SpellsLength, any_length, exactly, unbounded, at_least, at_most, between, SpellsLengthIfAny, no_length, a_length, SpellsArrow, arrow, no_arrow, SpellsDetails, no_details, details, SpellsRelationship, relationship, SpellsSteps, no_steps, a_step, SpellsPath, path, greatest_bound}
 use Rattle.cy_parser_grammar.proofs.Gives.{AteSymbol, Gives, bind, answer, refused, symbol_there, ate_symbol, by_test, denoting_there, bind_peek, bind_skip, ahead}
-use Rattle.cy_parser_grammar.proofs.Sound.{later, labels-sound, expression-sound}
+use Rattle.cy_parser_grammar.proofs.Sound.{later, Found, found_none, found_last, found_more, all_found, labels-sound, expression-sound}
 
 -- one tree after another, each with a comma before it
 module _ {A : Type 0} (item : Reader A) (each : A → List Token → List Token → Type 0)
     (item-sound : (ts : List Token) → Gives (item ts) (λ a rest. each a ts rest)) where
-  record Found (found : List A) (ts : List Token) (all : List A) (rest : List Token) : Type 0 where
-    pub these : List A
-    pub all_is : all ≡ found ++ these
-    pub spells : SpellsEach each these ts rest
-
-  separated-sound-from : (turns : ℕ) (found : List A) (ts : List Token) → Gives (read.separated_from item turns found ts) (Found found ts)
+  separated-sound-from : (turns : ℕ) (found : List A) (ts : List Token) → Gives (read.separated_from item turns found ts) (Found (SpellsEach each) found ts)
   unfolding read.separated_from
   separated-sound-from zero found ts = refused _
   separated-sound-from (suc turns) found ts =
       bind (item-sound ts) (λ a mid s. bind (ate_symbol sign.Comma mid) (λ goes_on after c. by_test _ _ goes_on after _
-      (λ yes. later _ _ (λ all rest g. (
+      (λ yes. found_more _ found a ts after (λ these rest others.
       let x = c.there yes in
-      record {
-        these = a ∷ g.these;
-        all_is = g.all_is ∙ append_assoc found (a ∷ []) g.these;
-        spells = next a g.these x.0 ts after rest (subst (λ z. each a ts z) x.1 s) x.2 g.spells;
-      })) (separated-sound-from turns (found ++ a ∷ []) after))
-      (λ stop. answer _ _ _ (record { these = a ∷ []; all_is = refl; spells = last a ts after (subst (λ z. each a ts z) (sym (c.absent stop)) s) }))))
+      next a these x.0 ts after rest (subst (λ z. each a ts z) x.1 s) x.2 others)
+      (separated-sound-from turns (found ++ a ∷ []) after))
+      (λ stop. found_last _ found a ts after (last a ts after (subst (λ z. each a ts z) (sym (c.absent stop)) s)))))
 
   pub separated-sound : (ts : List Token) → Gives (read.separated item ts) (λ all rest. SpellsEach each all ts rest)
-  separated-sound ts = later _ _ (λ all rest g. subst (λ z. SpellsEach each z ts rest) (sym g.all_is) g.spells) (separated-sound-from (length ts) [] ts)
+  separated-sound ts = all_found (SpellsEach each) ts (separated-sound-from (length ts) [] ts)
 
 module _ (line : List ℕ) where
   pub whole-sound : (ts : List Token) → Gives (expression line ts) (λ e rest. SpellsExpression line e ts rest)
@@ -112,11 +104,6 @@ module _ (line : List ℕ) where
       subst (λ z. SpellsNode line (record { variable = v; labels = ls; properties = m }) z rest) (sym o.1)
       (node v ls m o.0 x.0 from next mid rest o.2 a b (subst (λ z. SpellsMapIfAny line m mid z) x.1 d) x.2)))))))
 
-  record FoundTypes (found : List Name) (ts : List Token) (all : List Name) (rest : List Token) : Type 0 where
-    pub these : List Name
-    pub all_is : all ≡ found ++ these
-    pub spells : SpellsTypes line these ts rest
-
   -- a type and a `|`, and a `:` that may follow
   type_more : (n : Name) (w bar : Token) (ns : List Name) (ts mid after left rest : List Token) (colon : Bool) → ts ≡ w ∷ mid → mid ≡ bar ∷ after →
       IsTrue (is_word w.kind) → n ≡ denotes line w → IsSymbol sign.Bar bar → AteSymbol sign.Colon after colon left →
@@ -131,30 +118,23 @@ module _ (line : List ℕ) where
       subst (λ z. SpellsTypes line (n ∷ ns) z rest) (sym begins)
       (subst (λ z. SpellsTypes line (z ∷ ns) (w ∷ bar ∷ left) rest) (sym is_n) (next_type ns w bar left rest is is_bar s))
 
-  types-sound-from : (turns : ℕ) (found : List Name) (ts : List Token) → Gives (read.types_from line turns found ts) (FoundTypes found ts)
+  types-sound-from : (turns : ℕ) (found : List Name) (ts : List Token) → Gives (read.types_from line turns found ts) (Found (SpellsTypes line) found ts)
   unfolding read.types_from
   types-sound-from zero found ts = refused _
   types-sound-from (suc turns) found ts =
       bind (denoting_there is_word line ts) (λ n mid w. bind (ate_symbol sign.Bar mid) (λ goes_on after b. by_test _ _ goes_on after _
-      (λ yes. bind (ate_symbol sign.Colon after) (λ colon next c. later _ _ (λ all rest g. (
+      (λ yes. bind (ate_symbol sign.Colon after) (λ colon next c. found_more _ found n ts next (λ these rest others.
       let x = b.there yes in
-      record {
-        these = n ∷ g.these;
-        all_is = g.all_is ∙ append_assoc found (n ∷ []) g.these;
-        spells = type_more n w.0 x.0 g.these ts mid after next rest colon w.1 x.1 w.2 w.3 x.2 c g.spells;
-      })) (types-sound-from turns (found ++ n ∷ []) next)))
-      (λ stop. answer _ _ _ (record {
-        these = n ∷ [];
-        all_is = refl;
-        spells =
-            subst (λ z. SpellsTypes line (n ∷ []) z after) (sym w.1)
-            (subst (λ z. SpellsTypes line (n ∷ []) (w.0 ∷ z) after) (b.absent stop)
-            (subst (λ z. SpellsTypes line (z ∷ []) (w.0 ∷ after) after) (sym w.3) (last_type w.0 after w.2)));
-      }))))
+      type_more n w.0 x.0 these ts mid after next rest colon w.1 x.1 w.2 w.3 x.2 c others)
+      (types-sound-from turns (found ++ n ∷ []) next)))
+      (λ stop. found_last _ found n ts after
+      (subst (λ z. SpellsTypes line (n ∷ []) z after) (sym w.1)
+      (subst (λ z. SpellsTypes line (n ∷ []) (w.0 ∷ z) after) (b.absent stop)
+      (subst (λ z. SpellsTypes line (z ∷ []) (w.0 ∷ after) after) (sym w.3) (last_type w.0 after w.2)))))))
 
   types-sound : (ts : List Token) → Gives (read.types line ts) (λ ns rest. SpellsTypes line ns ts rest)
   unfolding read.types
-  types-sound ts = later _ _ (λ all rest g. subst (λ z. SpellsTypes line z ts rest) (sym g.all_is) g.spells) (types-sound-from (length ts) [] ts)
+  types-sound ts = all_found (SpellsTypes line) ts (types-sound-from (length ts) [] ts)
 
   types_if_any-sound : (ts : List Token) → Gives (read.types_if_any line ts) (λ ns rest. SpellsTypesIfAny line ns ts rest)
   unfolding read.types_if_any
@@ -281,26 +261,18 @@ module _ (line : List ℕ) where
   unfolding read.step
   step-sound ts = bind (relationship-sound ts) (λ r mid a. bind (node-sound line mid) (λ n rest b. answer _ _ _ (mid, a, b)))
 
-  record FoundSteps (found : List Step) (ts : List Token) (all : List Step) (rest : List Token) : Type 0 where
-    pub these : List Step
-    pub all_is : all ≡ found ++ these
-    pub spells : SpellsSteps line these ts rest
-
-  steps-sound-from : (turns : ℕ) (found : List Step) (ts : List Token) → Gives (read.steps_from line turns found ts) (FoundSteps found ts)
+  steps-sound-from : (turns : ℕ) (found : List Step) (ts : List Token) → Gives (read.steps_from line turns found ts) (Found (SpellsSteps line) found ts)
   unfolding read.steps_from
-  steps-sound-from zero found ts = answer _ _ _ (record { these = []; all_is = sym (append-nil found); spells = no_steps ts })
+  steps-sound-from zero found ts = found_none _ found ts (no_steps ts)
   steps-sound-from (suc turns) found ts = bind_peek _ ts (by_test _ _ (read.begins_step (kind_ahead ts)) ts _
-      (λ yes. bind (step-sound ts) (λ s mid x. later _ _ (λ all rest g. record {
-        these = s ∷ g.these;
-        all_is = g.all_is ∙ append_assoc found (s ∷ []) g.these;
-        spells = a_step s.relationship s.node g.these ts x.0 mid rest x.1 x.2 g.spells;
-      }) (steps-sound-from turns (found ++ s ∷ []) mid)))
-      (λ none. answer _ _ _ (record { these = []; all_is = sym (append-nil found); spells = no_steps ts })))
+      (λ yes. bind (step-sound ts) (λ s mid x. found_more _ found s ts mid
+      (λ these rest others. a_step s.relationship s.node these ts x.0 mid rest x.1 x.2 others) (steps-sound-from turns (found ++ s ∷ []) mid)))
+      (λ none. found_none _ found ts (no_steps ts)))
 
   pub path-sound : (ts : List Token) → Gives (read.path line ts) (λ p rest. SpellsPath line p ts rest)
   unfolding read.path read.steps
-  path-sound ts = bind (node-sound line ts) (λ n mid a. bind (steps-sound-from (length mid) [] mid) (λ more rest g. answer _ _ _
-      (path n more ts mid rest a (subst (λ z. SpellsSteps line z mid rest) (sym g.all_is) g.spells))))
+  path-sound ts = bind (node-sound line ts) (λ n mid a. bind (all_found (SpellsSteps line) mid (steps-sound-from (length mid) [] mid)) (λ more rest s. answer _ _ _
+      (path n more ts mid rest a s)))
 
   pub paths-sound : (ts : List Token) → Gives (read.paths line ts) (λ ps rest. SpellsEach (SpellsPath line) ps ts rest)
   unfolding read.paths

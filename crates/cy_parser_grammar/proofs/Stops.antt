@@ -1,6 +1,8 @@
 -- Where an expression of a level ends, and how it begins, by the next token's kind.
-use Rattle.std.proofs.Common.{◌≡◌, Bool, true, false, not, ◌&&◌, Option, Some, None, refl, sym}
+use Rattle.std.proofs.Common.{◌≡◌, Bool, true, false, not, ◌&&◌, Option, Some, None, refl, sym, ap, ◌∙◌}
+use Rattle.cy_lexer.specs.declared.keywords.Keyword.{Keyword}
 use Rattle.cy_lexer.specs.declared.keywords.Keyword.TheVariants as word
+use Rattle.cy_lexer.specs.declared.symbols.Symbol.{Symbol}
 use Rattle.cy_lexer.specs.declared.symbols.Symbol.TheVariants as sign
 use Rattle.cy_lexer.specs.declared.tokens.TokenKind.{TokenKind}
 use Rattle.cy_lexer.specs.declared.tokens.TokenKind.TheVariants as kind
@@ -10,7 +12,7 @@ use Rattle.cy_parser_grammar.specs.Words.{comparator_of, sum_operator, product_o
 use Rattle.cy_parser_grammar.specs.internal.Chains.{disjunction_operator, exclusion_operator, conjunction_operator}
 use Rattle.cy_parser_grammar.specs.internal.Reader.{at_kind, is_symbol, is_keyword}
 use Rattle.cy_parser_grammar.specs.internal.Expressions.{begins_predicate}
-use Rattle.cy_parser_grammar.specs.Spells.{Level, whole, exclusion, conjunction, negation, comparisons, predicate, sum, product, signed, postfix, owner, head}
+use Rattle.cy_parser_grammar.proofs.Gives.{symbol_is, keyword_is}
 
 abbrev pub lacks : {A : Type 0} → Option A → Bool
 lacks None = true
@@ -64,20 +66,6 @@ abbrev pub begins_negation : Option TokenKind → Bool
 begins_negation (Some (kind.Keyword word.Not)) = true
 begins_negation k = begins_signed k
 
-abbrev pub begins : Level → Option TokenKind → Bool
-begins head k = begins_postfix k
-begins owner k = begins_postfix k
-begins postfix k = begins_postfix k
-begins signed k = begins_signed k
-begins product k = begins_signed k
-begins sum k = begins_signed k
-begins predicate k = begins_signed k
-begins comparisons k = begins_signed k
-begins negation k = begins_negation k
-begins conjunction k = begins_negation k
-begins exclusion k = begins_negation k
-begins whole k = begins_negation k
-
 pub lacking : {A : Type 0} (o : Option A) → lacks o ≡ true → o ≡ None
 lacking None e = refl
 lacking (Some a) e = cc
@@ -93,6 +81,23 @@ both_right false b e = cc
 pub not_true : (b : Bool) → not b ≡ true → b ≡ false
 not_true true e = sym e
 not_true false e = refl
+
+-- where a test holds of the next token and not of a symbol or a keyword, that one is not next
+pub not_symbol : (test : Option TokenKind → Bool) (s : Symbol) → test (Some (kind.Symbol s)) ≡ false → (k : Option TokenKind) → test k ≡ true → is_symbol s k ≡ false
+not_symbol test s other None met = refl
+not_symbol test s other (Some k) met = by (is_symbol s (Some k)) refl
+  where
+    by : (b : Bool) → is_symbol s (Some k) ≡ b → b ≡ false
+    by false is = refl
+    by true is = sym met ∙ ap (λ x. test (Some x)) (symbol_is s k is) ∙ other
+
+pub not_keyword : (test : Option TokenKind → Bool) (w : Keyword) → test (Some (kind.Keyword w)) ≡ false → (k : Option TokenKind) → test k ≡ true → is_keyword w k ≡ false
+not_keyword test w other None met = refl
+not_keyword test w other (Some k) met = by (is_keyword w (Some k)) refl
+  where
+    by : (b : Bool) → is_keyword w (Some k) ≡ b → b ≡ false
+    by false is = refl
+    by true is = sym met ∙ ap (λ x. test (Some x)) (keyword_is w k is) ∙ other
 
 -- each operator ends its operands
 pub product_ends : (k : TokenKind) (o : BinaryOperator) → product_operator k ≡ Some o → ends_postfix (Some k) ≡ true
@@ -129,21 +134,13 @@ disjunction_ends _ o e = cc
 
 -- how an expression doesn't begin
 pub no_plus : (k : Option TokenKind) → begins_postfix k ≡ true → is_symbol sign.Plus k ≡ false
-no_plus (Some (kind.Symbol sign.LeftParenthesis)) e = refl
-no_plus (Some (kind.Symbol sign.LeftBracket)) e = refl
-no_plus _ e = cc
+no_plus = not_symbol begins_postfix sign.Plus refl
 
 pub no_minus : (k : Option TokenKind) → begins_postfix k ≡ true → is_symbol sign.Minus k ≡ false
-no_minus (Some (kind.Symbol sign.LeftParenthesis)) e = refl
-no_minus (Some (kind.Symbol sign.LeftBracket)) e = refl
-no_minus _ e = cc
+no_minus = not_symbol begins_postfix sign.Minus refl
 
 pub no_not : (k : Option TokenKind) → begins_signed k ≡ true → is_keyword word.Not k ≡ false
-no_not (Some (kind.Keyword word.Case)) e = refl
-no_not (Some (kind.Keyword word.True)) e = refl
-no_not (Some (kind.Keyword word.False)) e = refl
-no_not (Some (kind.Keyword word.Null)) e = refl
-no_not _ e = cc
+no_not = not_keyword begins_signed word.Not refl
 
 pub signed_begins : (k : Option TokenKind) → begins_postfix k ≡ true → begins_signed k ≡ true
 signed_begins (Some (kind.Symbol sign.Minus)) e = refl
@@ -160,30 +157,13 @@ name_begins kind.QuotedName e = refl
 name_begins _ e = cc
 
 pub no_bracket_end : (k : Option TokenKind) → begins_negation k ≡ true → is_symbol sign.RightBracket k ≡ false
-no_bracket_end (Some (kind.Symbol sign.LeftParenthesis)) e = refl
-no_bracket_end (Some (kind.Symbol sign.LeftBracket)) e = refl
-no_bracket_end (Some (kind.Symbol sign.Minus)) e = refl
-no_bracket_end (Some (kind.Symbol sign.Plus)) e = refl
-no_bracket_end _ e = cc
+no_bracket_end = not_symbol begins_negation sign.RightBracket refl
 
 pub no_parenthesis_end : (k : Option TokenKind) → begins_negation k ≡ true → is_symbol sign.RightParenthesis k ≡ false
-no_parenthesis_end (Some (kind.Symbol sign.LeftParenthesis)) e = refl
-no_parenthesis_end (Some (kind.Symbol sign.LeftBracket)) e = refl
-no_parenthesis_end (Some (kind.Symbol sign.Minus)) e = refl
-no_parenthesis_end (Some (kind.Symbol sign.Plus)) e = refl
-no_parenthesis_end _ e = cc
+no_parenthesis_end = not_symbol begins_negation sign.RightParenthesis refl
 
 pub no_star : (k : Option TokenKind) → begins_negation k ≡ true → is_symbol sign.Star k ≡ false
-no_star (Some (kind.Symbol sign.LeftParenthesis)) e = refl
-no_star (Some (kind.Symbol sign.LeftBracket)) e = refl
-no_star (Some (kind.Symbol sign.Minus)) e = refl
-no_star (Some (kind.Symbol sign.Plus)) e = refl
-no_star _ e = cc
+no_star = not_symbol begins_negation sign.Star refl
 
 pub no_distinct : (k : Option TokenKind) → begins_negation k ≡ true → is_keyword word.Distinct k ≡ false
-no_distinct (Some (kind.Keyword word.Case)) e = refl
-no_distinct (Some (kind.Keyword word.True)) e = refl
-no_distinct (Some (kind.Keyword word.False)) e = refl
-no_distinct (Some (kind.Keyword word.Null)) e = refl
-no_distinct (Some (kind.Keyword word.Not)) e = refl
-no_distinct _ e = cc
+no_distinct = not_keyword begins_negation word.Distinct refl

@@ -7,7 +7,7 @@ use Rattle.std.proofs.lemmas.List.Elements.{All-cons, All-nil}
 use Rattle.cy_values.specs.declared.rows.Cell.{Cell}
 use Rattle.cy_values.specs.Bag.{count_of, IsSameBag}
 use Rattle.cy_values.specs.Order.{row_cmp}
-use Rattle.cy_trees.specs.Trees.{Clause, «match», unwind, «with», «return», create, set, remove, delete, Query}
+use Rattle.cy_trees.specs.Trees.{Clause, create, set, remove, delete, Query}
 use Rattle.cy_scope_kinds.specs.Scopes.{Scope}
 use Rattle.cy_scope.specs.ClauseScopes.{query_scope}
 use Rattle.cy_scope.specs.Views.{is_update}
@@ -125,14 +125,11 @@ ends query scope p stands last well = record {
 -- ---- one clause more
 
 unselected_reads : (c : Clause) → is_update c ≡ false → is_update (unselected c) ≡ false
-unselected_reads («match» optional paths w) reads = refl
-unselected_reads (unwind e v) reads = refl
-unselected_reads («with» p w) reads = refl
-unselected_reads («return» p) reads = refl
 unselected_reads (create paths) reads = reads
 unselected_reads (set items) reads = reads
 unselected_reads (remove items) reads = reads
 unselected_reads (delete detach variables) reads = reads
+unselected_reads _ reads = refl
 
 pub if_ok_value : (P : List (List Cell) → Type 0) (o : Outcome) (rows : List (List Cell)) → o ≡ Ok rows → IfOk o P → P rows
 if_ok_value P o rows is here = subst (λ (q : Outcome). IfOk q P) is here

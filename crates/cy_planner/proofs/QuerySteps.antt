@@ -1,28 +1,16 @@
 -- The plan of a query, over the clauses that are left of it.
-use Rattle.std.proofs.Common.{◌≡◌, ℕ, zero, suc, ◌+◌, ◌<◌, ◌≤◌, true, List, [], ◌∷◌, length, map, get_or, drop, sym, ap, subst, ◌∙◌, arith}
+use Rattle.std.proofs.Common.{◌≡◌, ℕ, zero, suc, ◌+◌, ◌<◌, ◌≤◌, List, [], ◌∷◌, length, map, get_or, drop, sym, ap, subst, ◌∙◌, arith}
 use Rattle.std.specs.List.{Contains}
-use Rattle.std.proofs.lemmas.Bool.{false≢true, true≢false}
 use Rattle.std.proofs.lemmas.List.{drop_all}
 use Rattle.std.proofs.lemmas.List.Elements.{All-contains}
 use Rattle.cy_trees.specs.declared.clauses.Clause as coded
 use Rattle.cy_trees.specs.declared.clauses.Query as coded_query
-use Rattle.cy_trees.specs.declared.expressions.Variable.{Variable}
-use Rattle.cy_trees.specs.Trees.{Clause, Expression, Query, unwind}
+use Rattle.cy_trees.specs.Trees.{Clause, Query}
 use Rattle.cy_trees.specs.TreeModels.{clause_of, query_of}
 use Rattle.cy_scope.specs.Checked.{IsViewQuery, single}
-use Rattle.cy_scope.specs.Views.{is_update}
-use Rattle.cy_planner_algebra.specs.Plans.{Plan}
 use Rattle.cy_planner_clauses.proofs.PlaceColumns.{next_of}
-use Rattle.cy_planner.specs.internal.ClausePlans.{CanBePlanned}
 use Rattle.cy_planner.specs.internal.QueryPlans.{AreViewQueries}
 use Rattle.cy_planner.proofs.GoingOn.{first_there, later_there}
-
--- no other clause stands in the query of a view
-pub never_unwound : (e : Expression) (v : Variable) (below : Plan) → CanBePlanned (unwind e v) below → ⊥
-never_unwound e v below (scope, view, has, ok) = absurd (false≢true view.sure_before)
-
-pub never_updated : (c : Clause) (below : Plan) → is_update c ≡ true → CanBePlanned c below → ⊥
-never_updated c below is (scope, view, has, ok) = absurd (true≢false (sym is ∙ view.reads))
 
 -- what is left begins with the clause at the index
 pub left_is : (cs : List coded.Clause) (i : ℕ) (c : coded.Clause) → i < length cs → c ≡ get_or cs i c → map clause_of (drop i cs) ≡ clause_of c ∷ map clause_of (drop (i + 1) cs)
@@ -36,9 +24,6 @@ none_left cs i end = ap (map clause_of) (drop_all i cs end)
 
 pub queries_left : (qs : List coded_query.Query) (i : ℕ) (q : coded_query.Query) → i < length qs → q ≡ get_or qs i q → map query_of (drop i qs) ≡ query_of q ∷ map query_of (drop (i + 1) qs)
 queries_left qs i q less is = ap (map query_of) (next_of qs i q less is)
-
-pub no_query_left : (qs : List coded_query.Query) (i : ℕ) → length qs ≤ i → map query_of (drop i qs) ≡ []
-no_query_left qs i end = ap (map query_of) (drop_all i qs end)
 
 query_at : (qs : List coded_query.Query) (i : ℕ) (q : coded_query.Query) → i < length qs → q ≡ get_or qs i q → Contains (map query_of qs) (query_of q)
 query_at [] i q less is = absurd (let none : ⊥ = omega (arith, less) in none)

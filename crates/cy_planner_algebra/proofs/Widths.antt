@@ -97,9 +97,6 @@ wide_rows graph (plan.union left right) good =
 
 -- no plan is wider than rows can be
 pub width_bounded : (p : plan.Plan) → IsWellFormed p → width p ≤ greatest_width
-width_bounded plan.unit good = omega arith
-width_bounded plan.nodes good = omega arith
-width_bounded (plan.rels types orientation) good = omega arith
 width_bounded (plan.join left right keys) good = good.3
 width_bounded (plan.outer left right keys test) good = good.3
 width_bounded (plan.semi left right keys keeping) good = width_bounded left good.0
@@ -109,3 +106,4 @@ width_bounded (plan.all_different p columns) good = width_bounded p good.0
 width_bounded (plan.project p outputs) good = good.2
 width_bounded (plan.distinct p) good = width_bounded p good
 width_bounded (plan.union left right) good = width_bounded left good.0
+width_bounded _ good = omega arith

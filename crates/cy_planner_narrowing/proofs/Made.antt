@@ -1,24 +1,18 @@
 -- What the parts of narrower plans are made of.
-use Rattle.std.proofs.Common.{◌≡◌, Global, ℕ, ◌+◌, ◌<◌, ◌≤◌, List, [], ◌∷◌, ◌++◌, Vec, length, map, refl, sym, ap, subst, ◌∙◌, arith}
+use Rattle.std.proofs.Common.{◌≡◌, ℕ, ◌+◌, ◌<◌, ◌≤◌, List, [], ◌∷◌, ◌++◌, length, map, refl, sym, ap, subst, ◌∙◌, arith}
 use Rattle.std.specs.Cmp.{IsTotalOrder}
 use Rattle.std.specs.List.{All, AllByRecursion}
-use Rattle.std.proofs.lemmas.List.{length-map}
 use Rattle.cy_values.specs.Order.{row_cmp}
 use Rattle.cy_trees.specs.Trees.{Expression}
 use Rattle.cy_planner_algebra.specs.declared.operators.Attribute.{Attribute}
 use Rattle.cy_planner_algebra.specs.declared.operators.KeyColumns.{KeyColumns}
-use Rattle.cy_planner_algebra.specs.declared.operators.Output.{Output}
 use Rattle.cy_planner_algebra.specs.Plans as plan
 use Rattle.cy_planner_algebra.specs.Plans.{Plan, width}
-use Rattle.cy_planner_algebra.specs.PlanModels.{output_of}
 use Rattle.cy_planner_algebra.specs.WellFormed.{IsColumn, IsKeyBetween, IsOutputOver, IsOver, IsWellFormed, greatest_width}
 use Rattle.cy_planner_rows.specs.Columns.{column_output}
 use Rattle.cy_planner_rows.specs.Renumbered.{new_column, renumbered}
 use Rattle.cy_planner_rows.proofs.Lists.{all_of_each, each_weaker}
 use Rattle.cy_planner_rows.proofs.OverRows.{columns_over}
-use Rattle.cy_planner_rewriting.specs.declared.layers.Layer.{Layer}
-use Rattle.cy_planner_rewriting.specs.declared.layers.Layer.TheVariants as layer
-use Rattle.cy_planner_rewriting.specs.internal.Layers.{layered}
 use Rattle.cy_planner_rewriting.specs.Rewritten.{IsRewritten}
 use Rattle.cy_planner_rewriting.proofs.Congruent.{over_join, over_lookup, rewritten_again}
 use Rattle.cy_planner_rewriting.proofs.Projections.{member_inside}
@@ -61,18 +55,8 @@ module _ (p : Plan) (columns kept places : List ℕ) (well : IsWellFormed (taken
   pub kept_over : All (IsOutputOver (width p)) (map column_output kept)
   kept_over = columns_over (width p) kept are.there
 
-  pub kept_room : length kept ≤ greatest_width
-  kept_room = let most : length columns ≤ greatest_width = subst (λ (n : ℕ). n ≤ greatest_width) (length-map columns column_output) well.2 in let few = are.few in omega (arith, most, few)
-
   pub settled_as : IsTotalOrder row_cmp → (q : Plan) → q ≡ taken kept p → IsRewritten (taken columns p) (taken places q)
   settled_as total q is = subst (λ (o : Plan). IsRewritten (taken columns p) (taken places o)) (sym is) (settled_plan total p columns kept places are.same are.inside are.there are.few)
-
-  pub settled_few : (q : Plan) → q ≡ taken kept p → width q ≤ length places
-  settled_few q is =
-      let wide : width q ≡ length kept = ap width is ∙ length-map kept column_output in
-      let long : length places ≡ length columns = sym (length-map places (new_column kept)) ∙ ap length are.same in
-      let few = are.few in
-      omega (arith, wide, long, few)
 
 -- ---- a join
 
@@ -111,11 +95,6 @@ module _ (left right p q : Plan) (cl cr : List ℕ) (keys : List KeyColumns) (we
       (subst (λ (cs : List ℕ). IsRewritten (plan.join left right keys) (taken cs (plan.join p q ks))) (sym (pairs ∙ ap (λ (l : List KeyColumns). paired_columns l (width p) cl cr) are))
       (rewritten_again (plan.join left right keys) (plan.join (taken cl p) (taken cr q) keys) (taken (paired_columns ks (width p) cl cr) (plan.join p q ks)) joined_is
       (narrowed_join p q cl cr keys joined_well join_room total)))
-
--- ---- a projection as a layer
-
-pub exact_as : (p : Plan) (columns : List ℕ) (layers : List Layer) (outputs : Vec Output Global) → layers ≡ layer.Project outputs ∷ [] → map output_of outputs.items ≡ map column_output columns → layered layers p ≡ taken columns p
-exact_as p columns layers outputs is are = ap (λ (ls : List Layer). layered ls p) is ∙ ap (plan.project p) are
 
 -- ---- a condition, and a test that relationships differ
 

@@ -28,9 +28,7 @@ together_alike joint.Union p q r s left right = over_union p q r s left right
 
 pub well_parts : (j : Joint) (p q : Plan) → IsWellFormed (together j p q) → IsWellFormed p × IsWellFormed q
 well_parts (joint.Join keys) p q well = (well.0, well.1)
-well_parts (joint.Outer keys test) p q well = (well.0, well.1)
-well_parts (joint.Semi keys keeping) p q well = (well.0, well.1)
-well_parts joint.Union p q well = (well.0, well.1)
+well_parts _ p q well = (well.0, well.1)
 
 -- ---- another plan in the place of the left one
 

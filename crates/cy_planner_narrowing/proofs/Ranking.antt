@@ -61,14 +61,3 @@ ranked_longer width columns kept places longer column place so_far is at few the
 
 pub none_ranked : (width : ℕ) → AreRanked width [] [] []
 none_ranked width = record { same = refl; inside = tt; there = tt; few = omega arith }
-
--- ---- no ranks
-
-pub none_more : (ranks : List (Option ℕ)) → ((c : ℕ) → slice_index_or ranks c None ≡ None) → (c : ℕ) → slice_index_or (ranks ++ None ∷ []) c None ≡ None
-none_more [] none zero = refl
-none_more [] none (suc c) = refl
-none_more (r ∷ ranks) none zero = none 0
-none_more (r ∷ ranks) none (suc c) = none_more ranks (λ d. none (suc d)) c
-
-pub no_places : (ranks : List (Option ℕ)) (kept : List ℕ) → ((c : ℕ) → slice_index_or ranks c None ≡ None) → AreRanks ranks kept
-no_places ranks kept none column place is = let e : None ≡ Some place = sym (none column) ∙ is in cc

@@ -3,17 +3,17 @@ use Rattle.std.proofs.Common.{◌≡◌, ℕ, zero, suc, ◌+◌, ◌<◌, ◌�
 use Rattle.std.specs.Prelude.{Option, None}
 use Rattle.std.specs.List.{range_with_len}
 use Rattle.std.proofs.Math.Seq.{drop-cons}
-use Rattle.std.proofs.lemmas.List.{drop_all, length-append, length-map}
+use Rattle.std.proofs.lemmas.List.{drop_all, length-append}
 use Rattle.std.proofs.lemmas.List.FromFn.{map-range_with_len_more}
 use Rattle.cy_trees.specs.Trees.{Expression}
 use Rattle.cy_oneshot_patterns.specs.Places.{Place}
 use Rattle.cy_planner_clauses.specs.Shared.{other_entries}
-use Rattle.cy_planner_optional.specs.Own.{common_count, common_counts, row_size}
+use Rattle.cy_planner_optional.specs.Own.{common_count, common_counts}
 use Rattle.cy_planner_rows.specs.Conditions.{or_true, with_test, with_tests}
 use Rattle.cy_planner_optional.specs.internal.Pairs.{all_of}
 use Rattle.cy_planner_optional.proofs.CodeLemmas.{tests_all, tests_append}
 use Rattle.cy_planner_optional_rows.specs.Columns.{reading_entries}
-use Rattle.cy_planner_pairs.specs.internal.Pairs.{empty_or_equal, empty_or_equal_from, equal_columns, equal_from, looked_count, looked_counts, path_tests, place_tests, places_tests}
+use Rattle.cy_planner_pairs.specs.internal.Pairs.{empty_or_equal, empty_or_equal_from, equal_columns, equal_from, looked_count, looked_counts, place_tests, places_tests}
 use Rattle.cy_planner_pairs.specs.internal.Told.{alike, all_there, is_not_null_at}
 
 -- ---- columns that follow one another
@@ -80,10 +80,6 @@ module _ {X : Type 0} (f : X → Place) (xs : List X) (i : ℕ) (x : X) (less : 
 
   pub count_next : length (drop i xs) ≡ 1 + length (drop (i + 1) xs)
   count_next = ap length cons ∙ (let e : suc (length (drop (i + 1) xs)) ≡ 1 + length (drop (i + 1) xs) = omega arith in e)
-
--- all of them
-pub path_tests_are : {X : Type 0} (f : X → Place) (xs : List X) (count wide size : ℕ) → size ≡ row_size (map f xs) → places_tests wide count (wide + size) (wide + length xs) (map f xs) ≡ path_tests count wide (map f xs)
-path_tests_are f xs count wide size is = λ i. places_tests wide count (wide + is i) (wide + sym (length-map xs f) i) (map f xs)
 
 pub tests_whole : (tests : List Expression) → or_true (with_tests None tests) ≡ all_of tests
 tests_whole tests = tests_all tests ∙ ap all_of (append-nil tests)

@@ -13,13 +13,6 @@ copied_over whole part below all parts a last so_far is = lowest_off all parts a
 
 -- what is below can be meant where the whole can
 pub well_under : (a : Above) (p : Plan) → IsWellFormed (placed a p) → IsWellFormed p
-well_under (above.Lookup column attribute) p well = well.0
-well_under (above.Filter test) p well = well.0
-well_under (above.AllDifferent columns) p well = well.0
-well_under (above.Project outputs) p well = well.0
 well_under above.Distinct p well = well
-well_under (above.JoinLeft right keys) p well = well.0
 well_under (above.JoinRight left keys) p well = well.1
-well_under (above.Outer right keys test) p well = well.0
-well_under (above.Semi right keys keeping) p well = well.0
-well_under (above.Union right) p well = well.0
+well_under _ p well = well.0

@@ -228,10 +228,7 @@ each_once_of P (row ∷ rows) each =
 -- each value is of the kind of values
 value_of_kind : (v : Value) → is_cell_of kind.Value (cell.Value v) ≡ true
 value_of_kind value.Null = refl
-value_of_kind (value.Bool b) = refl
-value_of_kind (value.Int n) = refl
-value_of_kind (value.Text t) = refl
-value_of_kind (value.List vs) = refl
+value_of_kind _ = refl
 
 null_at : (n column : ℕ) → cell_at (nulls n) column ≡ language.null
 null_at zero column = refl

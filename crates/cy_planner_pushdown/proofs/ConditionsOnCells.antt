@@ -1,18 +1,15 @@
 -- Conditions on the cells in some columns: they read these alone, and have a truth for whatever stands there, by the kinds.
-use Rattle.std.proofs.Common.{◌≡◌, ℕ, suc, ◌+◌, Bool, true, false, cond, ◌&&◌, List, [], ◌∷◌, ◌++◌, length, refl, sym, ap, subst, ◌∙◌, arith}
+use Rattle.std.proofs.Common.{◌≡◌, ℕ, ◌+◌, Bool, true, false, ◌&&◌, List, [], ◌∷◌, ◌++◌, length, refl, sym, ap, subst, ◌∙◌, arith}
 use Rattle.std.specs.Prelude.{IfOk, IsOk, Option, None, Some, Result, Ok, Err, nat_lt, option_map, slice_get}
-use Rattle.std.specs.List.{position_from}
-use Rattle.std.specs.Map.{lookup}
 use Rattle.std.specs.Option.{option_map_or}
 use Rattle.std.specs.Str.{bytes_eq}
 use Rattle.std.proofs.lemmas.Bool.{and_from, and_parts, eqb-true, false≢true, lt-ltb}
-use Rattle.std.proofs.lemmas.Option.{get_or_from_slice_get, none-some, same_Some}
-use Rattle.std.proofs.lemmas.Slice.Eq.{bytes_eq-Decides}
+use Rattle.std.proofs.lemmas.Option.{get_or_from_slice_get}
 use Rattle.cy_values.specs.declared.rows.Cell.{Cell}
 use Rattle.cy_values.specs.declared.rows.Cell.TheVariants as cell
 use Rattle.cy_values.specs.declared.scalars.Value.TheVariants as value
 use Rattle.cy_trees.specs.declared.expressions.Variable.{Variable}
-use Rattle.cy_trees.specs.Trees.{Name, Expression, null, boolean, integer, text, variable, property, has_labels, unary, binary, comparison, list, case, call, call_star, Expressions, no_more, more, Links, no_links, link, Arms, no_arms, arm, Otherwise, nothing, otherwise}
+use Rattle.cy_trees.specs.Trees.{Name, Expression, variable, property, has_labels, unary, binary, comparison, list, case, call, Expressions, no_more, more, Links, no_links, link, Arms, no_arms, arm, Otherwise, nothing, otherwise}
 use Rattle.cy_scope_kinds.specs.declared.kinds.Kind.{Kind}
 use Rattle.cy_scope_kinds.specs.declared.kinds.Kind.TheVariants as kind
 use Rattle.cy_scope_kinds.specs.ExpressionFaults.{expression_fault}
@@ -38,36 +35,9 @@ use Rattle.cy_planner_algebra.specs.Expressions.{is_true}
 use Rattle.cy_planner_rows.specs.Renumbered.{new_column, renumbered, renumbered_arms, renumbered_expressions, renumbered_links, renumbered_otherwise, renumbered_variable}
 use Rattle.cy_planner_rows.proofs.RenumberedLemmas.{same_cell}
 use Rattle.cy_planner_rows.specs.Rows.{condition_on, keeps}
+use Rattle.cy_scope.proofs.Columns.{found}
 use Rattle.cy_scope.proofs.KindedExpressions.{has_kind}
 use Rattle.cy_planner_pushdown.specs.internal.Conditions.{IsOnCells, IsTest, all_ask_of, arms_ask_of, asks_of, else_asks_of, is_that, links_ask_of, same_column}
-
--- the place of a name, counted from a number
-abbrev IsFound : Name → Scope → Kind → ℕ → Type 0
-IsFound name scope k i = (c : ℕ) × (position_from (λ v. bytes_eq name v.0) i scope ≡ Some (i + c)) × (slice_get scope c ≡ Some (name, k))
-
-found_here : (name : Name) (v : Name × Kind) (vs : Scope) (k : Kind) (i : ℕ) → bytes_eq name v.0 ≡ true → v.1 ≡ k → IsFound name (v ∷ vs) k i
-found_here name v vs k i is same =
-    let named : name ≡ v.0 = (bytes_eq-Decides name v.0).0 is in (
-      0,
-      ap (λ t. cond t (Some i) (position_from (λ w. bytes_eq name w.0) (i + 1) vs)) is ∙ ap (λ (n : ℕ). Some n) (omega arith),
-      ap (λ (n : Name). Some (n, v.1)) (sym named) ∙ ap (λ (l : Kind). Some (name, l)) same,
-    )
-
-found_later : (name : Name) (v : Name × Kind) (vs : Scope) (k : Kind) (i : ℕ) → bytes_eq name v.0 ≡ false → IsFound name vs k (i + 1) → IsFound name (v ∷ vs) k i
-found_later name v vs k i is (c, place, there) =
-    (suc c, ap (λ t. cond t (Some i) (position_from (λ w. bytes_eq name w.0) (i + 1) vs)) is ∙ place ∙ ap (λ (n : ℕ). Some n) (omega arith), there)
-
-found_in : (name : Name) (v : Name × Kind) (vs : Scope) (k : Kind) (i : ℕ) → (find_kind vs name ≡ Some k → IsFound name vs k (i + 1))
-    → find_kind (v ∷ vs) name ≡ Some k → IsFound name (v ∷ vs) k i
-found_in name v vs k i others is = cases (bytes_eq name v.0) refl
-  where
-    cases : (t : Bool) → bytes_eq name v.0 ≡ t → IsFound name (v ∷ vs) k i
-    cases true same = found_here name v vs k i same (same_Some v.1 k (sym (ap (λ t. cond t (Some v.1) (lookup (bytes_eq name) vs)) same) ∙ is))
-    cases false same = found_later name v vs k i same (others (sym (ap (λ t. cond t (Some v.1) (lookup (bytes_eq name) vs)) same) ∙ is))
-
-found : (name : Name) (scope : Scope) (k : Kind) (i : ℕ) → find_kind scope name ≡ Some k → IsFound name scope k i
-found name [] k i is = absurd (none-some k is)
-found name (v ∷ vs) k i is = found_in name v vs k i (found name vs k (i + 1)) is
 
 -- what is bound has a column and its kind there
 bound_columns : (scope : Scope) (name : Name) (k : Kind) → find_kind scope name ≡ Some k → (c : ℕ) × (find_column scope name ≡ Some c) × (slice_get scope c ≡ Some (name, k))
@@ -88,10 +58,6 @@ module _ (scope : Scope) where
 
   mutual
     reads_own : (e : Expression) → reads_below (length scope) (resolved scope e) ≡ true
-    reads_own null = refl
-    reads_own (boolean b) = refl
-    reads_own (integer n) = refl
-    reads_own (text t) = refl
     reads_own (variable v) = variable_reads v
     reads_own (property e key) = reads_own e
     reads_own (has_labels e labels) = reads_own e
@@ -102,7 +68,7 @@ module _ (scope : Scope) where
     reads_own (case arms e) =
         and_from (arms_read_below (length scope) (resolved_arms scope arms)) (else_reads_below (length scope) (resolved_otherwise scope e)) (arms_read_own arms) (else_reads_own e)
     reads_own (call f distinct es) = all_read_own es
-    reads_own (call_star f) = refl
+    reads_own _ = refl
 
     all_read_own : (es : Expressions) → all_read_below (length scope) (resolved_expressions scope es) ≡ true
     all_read_own no_more = refl
@@ -144,10 +110,6 @@ module _ (scope : Scope) where
 
     mutual
       back : (e : Expression) → asks_of scope columns e ≡ true → turned e ≡ e
-      back null asks = refl
-      back (boolean b) asks = refl
-      back (integer n) asks = refl
-      back (text t) asks = refl
       back (variable v) asks = ap variable (variable_back v asks)
       back (property e key) asks = λ i. property (back e asks i) key
       back (has_labels e labels) asks = λ i. has_labels (back e asks i) labels
@@ -163,7 +125,7 @@ module _ (scope : Scope) where
           let two = and_parts (arms_ask_of scope columns arms) (else_asks_of scope columns e) asks in
           λ i. case (arms_back arms two.0 i) (else_back e two.1 i)
       back (call f distinct es) asks = λ i. call f distinct (all_back es asks i)
-      back (call_star f) asks = refl
+      back _ asks = refl
 
       all_back : (es : Expressions) → all_ask_of scope columns es ≡ true → renumbered_expressions columns (resolved_expressions scope es) ≡ es
       all_back no_more asks = refl
@@ -201,15 +163,13 @@ module _ (scope : Scope) where
     both = and_parts (is_sure scope e) (is_flag (kind_of scope e)) sure
 
     cell_truth : (c : Cell) → is_cell_of kind.Flag c ≡ true → IsOk (on_one truth_of (value_in_cell c))
-    cell_truth (cell.Node n) is = absurd (false≢true is)
-    cell_truth (cell.Rel r) is = absurd (false≢true is)
-    cell_truth (cell.Rels rs) is = absurd (false≢true is)
     cell_truth (cell.Value value.Null) is = refl
     cell_truth (cell.Value (value.Bool true)) is = refl
     cell_truth (cell.Value (value.Bool false)) is = refl
     cell_truth (cell.Value (value.Int n)) is = absurd (false≢true is)
     cell_truth (cell.Value (value.Text t)) is = absurd (false≢true is)
     cell_truth (cell.Value (value.List vs)) is = absurd (false≢true is)
+    cell_truth _ is = absurd (false≢true is)
 
     flag_truth : (o : Result Cell EvalFault) → IsOk o → IfOk o (λ c. is_cell_of kind.Flag c ≡ true) → IsOk (on_one truth_of (on_one value_in_cell o))
     flag_truth (Ok c) is of = cell_truth c of
@@ -217,10 +177,7 @@ module _ (scope : Scope) where
 
     flag_is : (l : Kind) → is_flag l ≡ true → l ≡ kind.Flag
     flag_is kind.Flag is = refl
-    flag_is kind.Node is = absurd (false≢true is)
-    flag_is kind.Relationship is = absurd (false≢true is)
-    flag_is kind.Relationships is = absurd (false≢true is)
-    flag_is kind.Value is = absurd (false≢true is)
+    flag_is _ is = absurd (false≢true is)
 
     has_truth : (graph : Content) (row : List Cell) → row_fits scope row ≡ true → IsOk (condition_on graph (resolved scope e) row)
     has_truth graph row fits =

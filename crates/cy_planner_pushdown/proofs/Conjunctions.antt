@@ -18,10 +18,10 @@ use Rattle.cy_expr.specs.Faults.{on_one, on_two}
 use Rattle.cy_expr.specs.Graphs.{lookups}
 use Rattle.cy_expr.specs.Logic.{conjunction, truth_of, value_of}
 use Rattle.cy_expr.specs.Operators.{value_in_cell}
-use Rattle.cy_planner_algebra.specs.Plans.{Plan, width}
+use Rattle.cy_planner_algebra.specs.Plans.{Plan}
 use Rattle.cy_planner_algebra.specs.Expressions.{is_true}
 use Rattle.cy_planner_algebra.specs.Meaning.{rows_of}
-use Rattle.cy_planner_rows.specs.Rows.{FitsRows, IsFiltered, IsReadOver, condition_on, keeps}
+use Rattle.cy_planner_rows.specs.Rows.{FitsRows, IsFiltered, condition_on, keeps}
 use Rattle.cy_scope_kinds.specs.Kinded.{IsKinded}
 
 -- ---- AND
@@ -124,12 +124,6 @@ each_sifted P p (row ∷ rows) each =
 
 both_kinded : (scope : Scope) (a b : Expression) → IsKinded scope (binary And a b) → IsKinded scope a × IsKinded scope b
 both_kinded scope a b (k, is) = ((is.1, is.3), (is.2, is.4))
-
-pub left_read : (p : Plan) (a b : Expression) → IsReadOver p (binary And a b) → IsReadOver p a
-left_read p a b (scope, long, kinded) = (scope, long, (both_kinded scope a b kinded).0)
-
-pub right_read : (below p : Plan) (a b : Expression) → width p ≡ width below → IsReadOver below (binary And a b) → IsReadOver p b
-right_read below p a b wide (scope, long, kinded) = (scope, long ∙ sym wide, (both_kinded scope a b kinded).1)
 
 module _ (below p made : Plan) (a b : Expression) (first : IsFiltered below a p) (second : IsFiltered p b made) where
   module _ (graph : State) (scope : Scope) (good : IsGraph graph) (kinded : IsKinded scope (binary And a b)) (fits : FitsRows scope graph.content below) where

@@ -1,12 +1,12 @@
 -- Columns of a plan, and those of the parts below it in which there stands the same.
 use Rattle.std.proofs.Common.{◌≡◌, ℕ, zero, suc, ◌+◌, ◌-◌, ◌<◌, ◌≤◌, ◌==◌, Bool, true, false, cond, List, [], ◌∷◌, ◌++◌, length, map, drop, take, get_or, refl, sym, ap, subst, ◌∙◌, arith}
-use Rattle.std.specs.Prelude.{◌||◌, IfSome, Option, Some, None, is_some, nat_lt, slice_get}
+use Rattle.std.specs.Prelude.{◌||◌, IfSome, Option, Some, None, nat_lt, slice_get}
 use Rattle.std.specs.List.{AllByRecursion, Contains, IsDistinct, list_all}
 use Rattle.std.specs.declared.alloc.Global.{Global}
 use Rattle.std.specs.declared.vec.Vec.{Vec}
 use Rattle.std.specs.Option.{option_map_or}
 use Rattle.std.specs.Ordering.{eq_by_cmp}
-use Rattle.std.proofs.lemmas.Bool.{and_parts, false≢true, le-ltb, lt-ltb, ltb-true}
+use Rattle.std.proofs.lemmas.Bool.{and_parts, le-ltb, lt-ltb, ltb-true}
 use Rattle.std.proofs.lemmas.List.{get_or-append-add, get_or_append_left}
 use Rattle.std.proofs.Math.Seq.{take-suc}
 use Rattle.cy_values.specs.declared.rows.Cell.{Cell}
@@ -67,14 +67,6 @@ unfolding IsDistinct
 none_moved R columns = (tt, tt)
 
 -- ---- keys
-
--- columns that have an entity of one kind have the same kind
-pub same_entity : (a b : Option Kind) → is_some (common_kind a b) ≡ true → a ≡ b
-same_entity a b is = by (common_kind a b) refl is
-  where
-    by : (o : Option Kind) → common_kind a b ≡ o → is_some o ≡ true → a ≡ b
-    by (Some k) at is = let both = both_kinds a b k at in both.0 ∙ sym both.1
-    by None at is = absurd (false≢true is)
 
 -- what has the same key has the same cells
 module _ (l r : List Cell) where
@@ -218,15 +210,6 @@ module _ (test : Expression) where
       moved (plan.lookup below at attribute) below columns columns
       (below_alike (width below) (kind_at (plan.lookup below at attribute)) (kind_at below)
       (λ c less. ap (λ b. cond b (kind_at below c) (cond (c == width below) (Some kind.Value) None)) (lt-ltb c (width below) less)) columns all) can.1.1 can
-
-  pub can_filter : (below : Plan) (condition : Expression) (columns : List ℕ) → CanBePushed (plan.filter below condition) columns test → CanBePushed below columns test
-  can_filter below condition columns can = can
-
-  pub can_different : (below : Plan) (others columns : List ℕ) → CanBePushed (plan.all_different below others) columns test → CanBePushed below columns test
-  can_different below others columns can = can
-
-  pub can_distinct : (below : Plan) (columns : List ℕ) → CanBePushed (plan.distinct below) columns test → CanBePushed below columns test
-  can_distinct below columns can = can
 
   pub can_project : (below : Plan) (outputs : List Output) (columns others : List ℕ) → AreMoved (IsTakenOver outputs) columns others → CanBePushed (plan.project below outputs) columns test → CanBePushed below others test
   can_project below outputs columns others (each, distinct) can =

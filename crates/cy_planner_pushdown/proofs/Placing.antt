@@ -20,16 +20,9 @@ lowest_off all parts a p is = ap (λ (ps : List Above). placed_over ps p) is ∙
 
 -- what is below can be meant where the whole can
 well_below : (a : Above) (p : Plan) → IsWellFormed (placed a p) → IsWellFormed p
-well_below (above.Lookup column attribute) p well = well.0
-well_below (above.Filter test) p well = well.0
-well_below (above.AllDifferent columns) p well = well.0
-well_below (above.Project outputs) p well = well.0
 well_below above.Distinct p well = well
-well_below (above.JoinLeft right keys) p well = well.0
 well_below (above.JoinRight left keys) p well = well.1
-well_below (above.Outer right keys test) p well = well.0
-well_below (above.Semi right keys keeping) p well = well.0
-well_below (above.Union right) p well = well.0
+well_below _ p well = well.0
 
 well_under : (parts : List Above) (p : Plan) → IsWellFormed (placed_over parts p) → IsWellFormed p
 well_under [] p well = well

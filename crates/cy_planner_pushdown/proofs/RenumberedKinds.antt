@@ -2,7 +2,7 @@
 use Rattle.std.proofs.Common.{◌≡◌, ℕ, Bool, not, ◌&&◌, List, refl, ap, ◌∙◌}
 use Rattle.std.specs.Prelude.{◌||◌, Option, Some, option_map, slice_get}
 use Rattle.std.specs.List.{list_all}
-use Rattle.cy_trees.specs.Trees.{Name, Expression, null, boolean, integer, text, variable, property, has_labels, unary, binary, comparison, list, case, call, call_star, Expressions, no_more, more, Links, no_links, link, Arms, no_arms, arm, Otherwise, nothing, otherwise}
+use Rattle.cy_trees.specs.Trees.{Name, Expression, variable, property, has_labels, unary, binary, comparison, list, case, call, Expressions, no_more, more, Links, no_links, link, Arms, no_arms, arm, Otherwise, nothing, otherwise}
 use Rattle.cy_scope_kinds.specs.declared.functions.Function.{Function}
 use Rattle.cy_scope_kinds.specs.declared.functions.Function.TheVariants as function
 use Rattle.cy_scope_kinds.specs.declared.kinds.Kind.{Kind}
@@ -22,35 +22,13 @@ module _ (columns : List ℕ) where
 
   property_renumbered : (es : Expressions) → is_property (renumbered_expressions columns es) ≡ is_property es
   property_renumbered no_more = refl
-  property_renumbered (more null es) = refl
-  property_renumbered (more (boolean b) es) = refl
-  property_renumbered (more (integer n) es) = refl
-  property_renumbered (more (text t) es) = refl
-  property_renumbered (more (variable v) es) = refl
   property_renumbered (more (property e key) es) = none_renumbered es
-  property_renumbered (more (has_labels e labels) es) = refl
-  property_renumbered (more (unary operator e) es) = refl
-  property_renumbered (more (binary operator a b) es) = refl
-  property_renumbered (more (comparison e links) es) = refl
-  property_renumbered (more (list fs) es) = refl
-  property_renumbered (more (case arms e) es) = refl
-  property_renumbered (more (call name distinct fs) es) = refl
-  property_renumbered (more (call_star name) es) = refl
+  property_renumbered (more _ es) = refl
 
   fit_renumbered : (f : Function) (es : Expressions) → fit f (renumbered_expressions columns es) ≡ fit f es
-  fit_renumbered function.Id es = one_renumbered es
-  fit_renumbered function.Type es = one_renumbered es
-  fit_renumbered function.Labels es = one_renumbered es
-  fit_renumbered function.Size es = one_renumbered es
   fit_renumbered function.Coalesce es = ap not (none_renumbered es)
-  fit_renumbered function.Abs es = one_renumbered es
-  fit_renumbered function.ToString es = one_renumbered es
   fit_renumbered function.Exists es = property_renumbered es
-  fit_renumbered function.Count es = one_renumbered es
-  fit_renumbered function.Sum es = one_renumbered es
-  fit_renumbered function.Min es = one_renumbered es
-  fit_renumbered function.Max es = one_renumbered es
-  fit_renumbered function.Collect es = one_renumbered es
+  fit_renumbered _ es = one_renumbered es
 
   call_renumbered : (f : Function) (distinct : Bool) (es : Expressions) (kinds : List Kind) → is_call_of f distinct (renumbered_expressions columns es) kinds ≡ is_call_of f distinct es kinds
   call_renumbered f distinct es kinds = ap (λ (b : Bool). (b && (not distinct || is_aggregate f)) && list_all (takes f) kinds) (fit_renumbered f es)
@@ -58,10 +36,6 @@ module _ (columns : List ℕ) where
   module _ (scope after : Scope) (same : (c : ℕ) (v : Name × Kind) → slice_get scope c ≡ Some v → slice_get after (new_column columns c) ≡ Some v) where
     mutual
       pub kind_renumbered : (e : Expression) (k : Kind) → HasKind scope e k → HasKind after (renumbered columns e) k
-      kind_renumbered null k h = h
-      kind_renumbered (boolean b) k h = h
-      kind_renumbered (integer n) k h = h
-      kind_renumbered (text t) k h = h
       kind_renumbered (variable v) k h = (new_column columns h.0, ap (λ (c : Option ℕ). option_map (new_column columns) c) h.1, same h.0 (v.name, k) h.2)
       kind_renumbered (property e key) k h = (h.0, h.1, kind_renumbered e h.1 h.2, h.3)
       kind_renumbered (has_labels e labels) k h = (h.0, h.1, kind_renumbered e h.1 h.2, h.3)
@@ -71,7 +45,7 @@ module _ (columns : List ℕ) where
       kind_renumbered (list es) k h = (h.0, h.1, all_renumbered es h.1 h.2, h.3)
       kind_renumbered (case arms e) k h = (h.0, h.1, h.2, arms_renumbered arms h.0 h.1 h.3, else_renumbered e h.2 h.4, h.5, h.6, h.7)
       kind_renumbered (call name distinct es) k h = (h.0, h.1, h.2, h.3, all_renumbered es h.1 h.4, call_renumbered h.0 distinct es h.1 ∙ h.5, h.6)
-      kind_renumbered (call_star name) k h = h
+      kind_renumbered _ k h = h
 
       all_renumbered : (es : Expressions) (kinds : List Kind) → HaveKinds scope es kinds → HaveKinds after (renumbered_expressions columns es) kinds
       all_renumbered no_more kinds h = h

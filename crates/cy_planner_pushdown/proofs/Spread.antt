@@ -35,14 +35,12 @@ kind_of_cell (cell.Rels rs) = kind.Relationships
 kind_of_cell (cell.Value v) = kind.Value
 
 shows : (c : Cell) → is_cell_of (kind_of_cell c) c ≡ true
-shows (cell.Node n) = refl
-shows (cell.Rel r) = refl
-shows (cell.Rels rs) = refl
 shows (cell.Value value.Null) = refl
 shows (cell.Value (value.Bool b)) = refl
 shows (cell.Value (value.Int n)) = refl
 shows (cell.Value (value.Text t)) = refl
 shows (cell.Value (value.List vs)) = refl
+shows _ = refl
 
 -- the variable that stands in a column
 abbrev stands : Scope → List ℕ → ℕ → Option (Name × Kind)

@@ -60,9 +60,6 @@ pub parts_below : (P : Plan → Type 0) (ws : List Wanted) (p : Plan) → All P 
 parts_below P [] p each = each
 parts_below P (w ∷ ws) p each = All-tail P (plan.lookup p w.column w.attribute) (parts p) (parts_below P ws (plan.lookup p w.column w.attribute) each)
 
-inside_below : (ws : List Wanted) (p : Plan) (n : ℕ) → n ≡ width p → AllByRecursion (IsInside n) ws → AllByRecursion (IsInside (width p)) ws
-inside_below ws p n is each = subst (λ (m : ℕ). AllByRecursion (IsInside m) ws) is each
-
 -- a row stands no more often among some rows than what is made of it among what is made of these
 pub count_least : IsTotalOrder row_cmp → (f : List Cell → List Cell) (x : List Cell) (rows : List (List Cell)) → count_of x rows ≤ count_of (f x) (map f rows)
 count_least total f x [] = omega arith
@@ -100,10 +97,6 @@ all_of left right (k ∷ keys) each =
 
 pub keys_wider : (left right more others : ℕ) (keys : List KeyColumns) → All (IsKeyBetween left right) keys → All (IsKeyBetween (left + more) (right + others)) keys
 keys_wider left right more others keys each = All-weaker (IsKeyBetween left right) (IsKeyBetween (left + more) (right + others)) (λ k is. (let one = is.0 in omega (arith, one), let two = is.1 in omega (arith, two))) keys each
-
-mapped_flat : {A B C : Type 0} (f : B → C) (g : A → List B) (xs : List A) → map f (flat_map g xs) ≡ flat_map (λ x. map f (g x)) xs
-mapped_flat f g [] = refl
-mapped_flat f g (x ∷ xs) = map-append f (g x) (flat_map g xs) ∙ ap (λ l. map f (g x) ++ l) (mapped_flat f g xs)
 
 each_tested : {A : Type 0} (P : A → Type 0) (q : A → Bool) (xs : List A) → AllByRecursion P xs → AllByRecursion P (filter q xs)
 each_tested P q [] each = tt

@@ -31,11 +31,8 @@ over_all [] p q is = is
 over_all (l ∷ ls) p q is = over_any l (layered ls p) (layered ls q) (over_all ls p q is)
 
 well_below_one : (l : Layer) (p : Plan) → IsWellFormed (over_layer l p) → IsWellFormed p
-well_below_one (layer.Lookup column attribute) p well = well.0
-well_below_one (layer.Filter test) p well = well.0
-well_below_one (layer.AllDifferent columns) p well = well.0
-well_below_one (layer.Project outputs) p well = well.0
 well_below_one layer.Distinct p well = well
+well_below_one _ p well = well.0
 
 pub well_below : (ls : List Layer) (p : Plan) → IsWellFormed (layered ls p) → IsWellFormed p
 well_below [] p well = well
@@ -67,12 +64,7 @@ next_layer orig q r all ls l is before put =
     (subst (λ (p : Plan). IsRewritten orig p) (layer_off all ls l q is) before)
     (over_all ls (over_layer l q) r put)
 
--- a layer is taken off the plan
-pub layer_taken : (orig p q : Plan) (ls others : List Layer) (l : Layer) → IsWellFormed orig → p ≡ over_layer l q → IsRewritten orig (layered ls p) → AreInPlace (ls ++ l ∷ []) others q q → IsRewritten orig (layered others q)
-layer_taken orig p q ls others l well is before place =
-    let first : IsRewritten orig (layered (ls ++ l ∷ []) q) = subst (λ (r : Plan). IsRewritten orig r) (ap (layered ls) is ∙ sym (layers_over ls (l ∷ []) q)) before in
-    rewritten_again orig (layered (ls ++ l ∷ []) q) (layered others q) first (place (first.well_formed well))
-
+-- a plan under layers is put in place of another
 pub part_replaced : (orig p q : Plan) (ls : List Layer) → IsRewritten p q → IsRewritten orig (layered ls p) → IsRewritten orig (layered ls q)
 part_replaced orig p q ls is before = rewritten_again orig (layered ls p) (layered ls q) before (over_all ls p q is)
 

@@ -1,5 +1,5 @@
 -- A base with look-ups on it, split.
-use Rattle.std.proofs.Common.{◌≡◌, Global, ℕ, ◌+◌, ◌<◌, ◌≤◌, List, [], Vec, length, map, sym, subst, arith}
+use Rattle.std.proofs.Common.{◌≡◌, Global, ℕ, ◌+◌, ◌<◌, ◌≤◌, List, [], Vec, length, map, sym, subst}
 use Rattle.std.specs.Prelude.{None, Option, Some}
 use Rattle.std.specs.Cmp.{IsTotalOrder}
 use Rattle.std.specs.List.{AllByRecursion}
@@ -8,7 +8,7 @@ use Rattle.cy_trees.specs.declared.expressions.Expr.{Expr}
 use Rattle.cy_trees.specs.Trees.{Expression}
 use Rattle.cy_trees.specs.TreeModels.{expression_of}
 use Rattle.cy_planner_algebra.specs.declared.operators.KeyColumns.{KeyColumns}
-use Rattle.cy_planner_algebra.specs.declared.operators.Operator.{Operator, size-Operator}
+use Rattle.cy_planner_algebra.specs.declared.operators.Operator.{Operator}
 use Rattle.cy_planner_algebra.specs.declared.operators.Output.{Output}
 use Rattle.cy_planner_algebra.specs.Plans as plan
 use Rattle.cy_planner_algebra.specs.Plans.{Plan, width}
@@ -23,26 +23,14 @@ use Rattle.cy_planner_rewriting.specs.declared.layers.Layer.{Layer}
 use Rattle.cy_planner_rewriting.specs.declared.splits.Joint.{Joint}
 use Rattle.cy_planner_rewriting.specs.declared.splits.Joint.TheVariants as joint
 use Rattle.cy_planner_rewriting.specs.declared.splits.Side.{Side}
-use Rattle.cy_planner_rewriting.specs.declared.splits.Split.{Split}
-use Rattle.cy_planner_rewriting.specs.declared.splits.Split.TheVariants as split
 use Rattle.cy_planner_rewriting.specs.internal.Layers.{layered, over_outputs}
 use Rattle.cy_planner_rewriting.specs.internal.Lowered.{CanBeSplit, both_columns, joined_columns, lefts, rights}
-use Rattle.cy_planner_rewriting.specs.internal.Splits.{AreLessDeep, AreSides, HasParts, side_plan, together}
+use Rattle.cy_planner_rewriting.specs.internal.Splits.{AreSides, side_plan, together}
 use Rattle.cy_planner_rewriting.specs.Rewritten.{IsRewritten}
 use Rattle.cy_planner_rewriting.proofs.Congruent.{over_join, over_outer, over_project, over_union, rewritten_again}
 use Rattle.cy_planner_rewriting.proofs.Joining.{on_join, on_outer}
 use Rattle.cy_planner_rewriting.proofs.Layering.{over_all}
 use Rattle.cy_planner_rewriting.proofs.Passing.{looked_up_alike, well_looked_up}
-
--- the sides are those of the parts
-pub less_deep : (s : Split) (left right : Operator) (depth : ℕ) → HasParts left right s → size-Operator left < depth → size-Operator right < depth → AreLessDeep depth s
-less_deep (split.Leaf p) left right depth has one two = absurd has
-less_deep (split.Both j l r) left right depth has one two =
-    (subst (λ (o : Operator). size-Operator o < depth) (sym has.0) one, subst (λ (o : Operator). size-Operator o < depth) (sym has.1) two)
-
-pub no_depth : (s : Split) (depth : ℕ) → AreLessDeep 0 s → AreLessDeep depth s
-no_depth (split.Leaf p) depth less = tt
-no_depth (split.Both j l r) depth less = absurd (let none = less.0 in omega (arith, none))
 
 room_in : (p : Plan) (ws : List Wanted) → IsWellFormed (over p ws) → width p + length ws ≤ greatest_width
 room_in p ws well = subst (λ (n : ℕ). n ≤ greatest_width) (width_over p ws) (width_bounded (over p ws) well)

@@ -1,7 +1,6 @@
 -- Layers, and look-ups below them, over plans.
 use Rattle.std.proofs.Common.{◌≡◌, Global, ℕ, ◌+◌, ◌≤◌, List, [], ◌∷◌, ◌++◌, Vec, length, map, reverse, refl, sym, ap, subst, ◌∙◌}
 use Rattle.std.specs.Prelude.{Err, Ok, OnOk, Result, Some}
-use Rattle.std.specs.List.{AllByRecursion}
 use Rattle.std.proofs.lemmas.List.{length-reverse, map-append, reverse-append, reverse-reverse}
 use Rattle.cy_trees.specs.declared.expressions.Expr.{Expr}
 use Rattle.cy_trees.specs.TreeModels.{expression_of}
@@ -77,14 +76,6 @@ map_reversed f (x ∷ xs) =
 
 pub reversed_moves : (outputs : List plan.Output) (ts us : List Wanted) → map (moved outputs) ts ≡ map Some us → map (moved outputs) (reverse ts) ≡ map Some (reverse us)
 reversed_moves outputs ts us is = map_reversed (moved outputs) ts ∙ ap reverse is ∙ sym (map_reversed Some us)
-
-each_append : (P : Wanted → Type 0) (xs ys : List Wanted) → AllByRecursion P xs → AllByRecursion P ys → AllByRecursion P (xs ++ ys)
-each_append P [] ys each others = others
-each_append P (x ∷ xs) ys each others = (each.0, each_append P xs ys each.1 others)
-
-pub each_reversed : (P : Wanted → Type 0) (xs : List Wanted) → AllByRecursion P xs → AllByRecursion P (reverse xs)
-each_reversed P [] each = tt
-each_reversed P (x ∷ xs) each = subst (AllByRecursion P) (sym (reverse-append (x ∷ []) xs)) (each_append P (reverse xs) (x ∷ []) (each_reversed P xs each.1) (each.0, tt))
 
 -- a step of the way down
 pub next_stack : (orig p q : Plan) (ls ms : List Layer) (ts us : List Wanted) → IsWellFormed orig → IsRewritten orig (stacked ls ts p) → GoesOn ls ts p ms us q → IsRewritten orig (stacked ms us q)

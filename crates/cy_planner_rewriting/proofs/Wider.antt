@@ -9,7 +9,7 @@ use Rattle.std.proofs.lemmas.List.{get_or_append_left}
 use Rattle.std.proofs.lemmas.List.Elements.{All-cons, All-head, All-nil, All-tail, All-weaker}
 use Rattle.cy_values.specs.declared.rows.Cell.{Cell}
 use Rattle.cy_values.specs.declared.rows.Cell.TheVariants as cell
-use Rattle.cy_trees.specs.Trees.{Expression, null, boolean, integer, text, variable, property, has_labels, unary, binary, comparison, list, case, call, call_star, Expressions, no_more, more, Links, no_links, link, Arms, no_arms, arm, Otherwise, nothing, otherwise}
+use Rattle.cy_trees.specs.Trees.{Expression, null, variable, property, has_labels, unary, binary, comparison, list, case, call, Expressions, no_more, more, Links, no_links, link, Arms, no_arms, arm, Otherwise, nothing, otherwise}
 use Rattle.cy_expr.specs.Faults.{on_one}
 use Rattle.cy_expr.specs.Logic.{truth_of}
 use Rattle.cy_expr.specs.Operators.{value_in_cell}
@@ -32,10 +32,6 @@ module _ (m n : ℕ) (less : m ≤ n) where
 
   mutual
     reads_wider : (e : Expression) → reads_below m e ≡ true → reads_below n e ≡ true
-    reads_wider null h = refl
-    reads_wider (boolean b) h = refl
-    reads_wider (integer k) h = refl
-    reads_wider (text t) h = refl
     reads_wider (variable v) h = column_wider v.column h
     reads_wider (property e key) h = reads_wider e h
     reads_wider (has_labels e labels) h = reads_wider e h
@@ -45,7 +41,7 @@ module _ (m n : ℕ) (less : m ≤ n) where
     reads_wider (list es) h = all_wider es h
     reads_wider (case arms e) h = halves _ _ _ _ (arms_wider arms) (else_wider e) h
     reads_wider (call name distinct es) h = all_wider es h
-    reads_wider (call_star name) h = refl
+    reads_wider _ h = refl
 
     all_wider : (es : Expressions) → all_read_below m es ≡ true → all_read_below n es ≡ true
     all_wider no_more h = refl

@@ -2,7 +2,7 @@
 use Rattle.std.proofs.Common.{◌≡◌, ℕ, ◌+◌, ◌<◌, List, [], ◌∷◌, ◌++◌, length, get_or, drop, refl, sym, ap, ◌∙◌}
 use Rattle.std.specs.Prelude.{Option, None, Some}
 use Rattle.std.proofs.lemmas.List.{drop_more}
-use Rattle.cy_trees.specs.Trees.{Expression, null, boolean, integer, text, variable, property, has_labels, unary, binary, comparison, list, case, call, call_star, Expressions, no_more, more, Links, no_links, link, Arms, no_arms, arm, Otherwise, nothing, otherwise}
+use Rattle.cy_trees.specs.Trees.{Expression, unary, binary, comparison, list, case, call, Expressions, no_more, more, Links, no_links, link, Arms, no_arms, arm, Otherwise, nothing, otherwise}
 use Rattle.cy_scope_kinds.specs.declared.functions.Function.{Function}
 use Rattle.cy_scope_kinds.specs.declared.functions.Function.TheVariants as function
 use Rattle.cy_scope_kinds.specs.Functions.{function_named}
@@ -22,13 +22,6 @@ call_is wanted (Some f) es made each is = is
 
 mutual
   pub tree_is : (wanted : List Wanted) (e : Expression) → with_tree wanted e ≡ with_asked wanted (asked e)
-  tree_is wanted null = refl
-  tree_is wanted (boolean b) = refl
-  tree_is wanted (integer n) = refl
-  tree_is wanted (text t) = refl
-  tree_is wanted (variable v) = refl
-  tree_is wanted (property e key) = refl
-  tree_is wanted (has_labels e labels) = refl
   tree_is wanted (unary operator e) = tree_is wanted e
   tree_is wanted (binary operator a b) = ap (λ w. with_tree w b) (tree_is wanted a) ∙ tree_is (with_asked wanted (asked a)) b ∙ sym (with_more_asked wanted (asked a) (asked b))
   tree_is wanted (comparison e links) =
@@ -37,7 +30,7 @@ mutual
   tree_is wanted (case arms e) =
       ap (λ w. with_else w e) (arms_are wanted arms) ∙ else_is (with_asked wanted (asked_by_arms arms)) e ∙ sym (with_more_asked wanted (asked_by_arms arms) (asked_by_else e))
   tree_is wanted (call name distinct es) = call_is wanted (function_named name) es (with_elements wanted es) (all_asked es) (elements_are wanted es)
-  tree_is wanted (call_star name) = refl
+  tree_is wanted _ = refl
 
   elements_are : (wanted : List Wanted) (es : Expressions) → with_elements wanted es ≡ with_asked wanted (all_asked es)
   elements_are wanted no_more = refl

@@ -49,41 +49,23 @@ no_value Labels kind.Flag v h = false≢true h
 -- and no list of relationships
 no_list : (a : Attribute) (k : Kind) → is_relationships k ≡ true → has_attribute a k ≡ true → ⊥
 no_list a kind.Node v h = false≢true v
-no_list a kind.Relationship v h = false≢true v
 no_list (Property key) kind.Relationships v h = false≢true h
 no_list RelType kind.Relationships v h = false≢true h
 no_list Labels kind.Relationships v h = false≢true h
-no_list a kind.Value v h = false≢true v
-no_list a kind.Flag v h = false≢true v
+no_list a _ v h = false≢true v
 
 no_both : (k : Kind) → is_node k ≡ true → is_relationship k ≡ true → ⊥
 no_both kind.Node v h = false≢true h
-no_both kind.Relationship v h = false≢true v
-no_both kind.Relationships v h = false≢true v
-no_both kind.Value v h = false≢true v
-no_both kind.Flag v h = false≢true v
+no_both _ v h = false≢true v
 
 -- values, by what makes them
 pub unary_value : (o : UnaryOperator) → is_value (unary_kind o) ≡ true
 unary_value unary_operator.Not = refl
-unary_value unary_operator.Plus = refl
-unary_value unary_operator.Minus = refl
-unary_value unary_operator.IsNull = refl
-unary_value unary_operator.IsNotNull = refl
+unary_value _ = refl
 
 pub binary_value : (o : BinaryOperator) → is_value (binary_kind o) ≡ true
 binary_value binary_operator.Or = refl
-binary_value binary_operator.Xor = refl
-binary_value binary_operator.And = refl
-binary_value binary_operator.In = refl
-binary_value binary_operator.Contains = refl
-binary_value binary_operator.StartsWith = refl
-binary_value binary_operator.EndsWith = refl
-binary_value binary_operator.Add = refl
-binary_value binary_operator.Subtract = refl
-binary_value binary_operator.Multiply = refl
-binary_value binary_operator.Divide = refl
-binary_value binary_operator.Remainder = refl
+binary_value _ = refl
 
 pub chosen_value : (b : Bool) → is_value (flag_if b) ≡ true
 chosen_value true = refl
@@ -98,9 +80,7 @@ called_value f b = refl
 value_apart : (a : Attribute) (k : Kind) (v : Value) → (v ≡ value.Null → ⊥) → is_value_of k v ≡ true → has_attribute a k ≡ true → ⊥
 value_apart a k value.Null some fit h = some refl
 value_apart a k (value.Bool b) some fit h = no_value a k fit h
-value_apart a k (value.Int n) some fit h = no_value a k (and_parts (is_value k) (not (is_flag k)) fit).0 h
-value_apart a k (value.Text t) some fit h = no_value a k (and_parts (is_value k) (not (is_flag k)) fit).0 h
-value_apart a k (value.List es) some fit h = no_value a k (and_parts (is_value k) (not (is_flag k)) fit).0 h
+value_apart a k _ some fit h = no_value a k (and_parts (is_value k) (not (is_flag k)) fit).0 h
 
 module _ (graph : Content) where
   abbrev Gives : Attribute → Cell → Type 0

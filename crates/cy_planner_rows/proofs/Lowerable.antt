@@ -267,35 +267,11 @@ module _ (scope : Scope) (wanted : List Wanted) where
       → CallGood name distinct (more e no_more) (Some function.Exists)
   exists_one name distinct (property e key) k is h among =
       variable_alone (ExistsGood name distinct key) h.1 (Property key) h.3 (variable_exists name distinct key h.1 h.3) e h.2 among
-  exists_one name distinct null k is h among = absurd (false≢true is)
-  exists_one name distinct (boolean b) k is h among = absurd (false≢true is)
-  exists_one name distinct (integer n) k is h among = absurd (false≢true is)
-  exists_one name distinct (text t) k is h among = absurd (false≢true is)
-  exists_one name distinct (variable v) k is h among = absurd (false≢true is)
-  exists_one name distinct (has_labels e labels) k is h among = absurd (false≢true is)
-  exists_one name distinct (unary operator e) k is h among = absurd (false≢true is)
-  exists_one name distinct (binary operator l r) k is h among = absurd (false≢true is)
-  exists_one name distinct (comparison e links) k is h among = absurd (false≢true is)
-  exists_one name distinct (list es) k is h among = absurd (false≢true is)
-  exists_one name distinct (case arms e) k is h among = absurd (false≢true is)
-  exists_one name distinct (call other d es) k is h among = absurd (false≢true is)
-  exists_one name distinct (call_star other) k is h among = absurd (false≢true is)
+  exists_one name distinct _ k is h among = absurd (false≢true is)
 
   not_two : (e d : Expression) (es : Expressions) → is_property (more e (more d es)) ≡ true → ⊥
   not_two (property e key) d es is = false≢true is
-  not_two null d es is = false≢true is
-  not_two (boolean b) d es is = false≢true is
-  not_two (integer n) d es is = false≢true is
-  not_two (text t) d es is = false≢true is
-  not_two (variable v) d es is = false≢true is
-  not_two (has_labels e labels) d es is = false≢true is
-  not_two (unary operator e) d es is = false≢true is
-  not_two (binary operator l r) d es is = false≢true is
-  not_two (comparison e links) d es is = false≢true is
-  not_two (list fs) d es is = false≢true is
-  not_two (case arms e) d es is = false≢true is
-  not_two (call other distinct fs) d es is = false≢true is
-  not_two (call_star other) d es is = false≢true is
+  not_two _ d es is = false≢true is
 
   -- the form of a call of exists
   exists_form : (distinct : Bool) (es : Expressions) (kinds : List Kind) → is_call_of function.Exists distinct es kinds ≡ true → is_property es ≡ true
@@ -323,11 +299,6 @@ module _ (scope : Scope) (wanted : List Wanted) where
   mutual
     -- what an expression asks stands in columns of the row
     pub inside : (e : Expression) (k : Kind) → HasKind scope e k → Inside (asked e)
-    inside null k h = tt
-    inside (boolean b) k h = tt
-    inside (integer n) k h = tt
-    inside (text t) k h = tt
-    inside (variable v) k h = tt
     inside (property e key) k h = owner_inside e h.1 (Property key) h.2 h.3
     inside (has_labels e labels) k h = owner_inside e h.1 Labels h.2 h.3
     inside (unary operator e) k h = inside e h.1 h.2
@@ -338,6 +309,7 @@ module _ (scope : Scope) (wanted : List Wanted) where
     inside (call name distinct es) k h =
         subst (λ (f : Option Function). Inside (asked_by_call f es (all_asked es))) (sym h.2) (call_inside distinct es h.0 h.1 h.4 h.5 (all_inside es h.1 h.4))
     inside (call_star name) k h = absurd h
+    inside _ k h = tt
 
     all_inside : (es : Expressions) (kinds : List Kind) → HaveKinds scope es kinds → Inside (all_asked es)
     all_inside no_more kinds h = tt
@@ -360,10 +332,6 @@ module _ (scope : Scope) (wanted : List Wanted) where
   mutual
     -- and where all of it is wanted, the form over columns is as it should be
     pub good : (e : Expression) (k : Kind) → HasKind scope e k → Among (asked e) → Good e
-    good null k h among = (refl, refl, λ graph row fit. tt)
-    good (boolean b) k h among = (refl, refl, λ graph row fit. tt)
-    good (integer n) k h among = (refl, refl, λ graph row fit. tt)
-    good (text t) k h among = (refl, refl, λ graph row fit. tt)
     good (variable v) k h among = (refl, kept_below v k h, kept v k h)
     good (property e key) k h among = owner e h.1 (Property key) h.2 h.3 among
     good (has_labels e labels) k h among =
@@ -387,6 +355,7 @@ module _ (scope : Scope) (wanted : List Wanted) where
         subst (λ (f : Option Function). Among (asked_by_call f es (all_asked es)) → CallGood name distinct es f) (sym h.2)
         (call_good name distinct es h.0 h.1 h.2 h.4 h.5 (all_good es h.1 h.4)) among
     good (call_star name) k h among = absurd h
+    good _ k h among = (refl, refl, λ graph row fit. tt)
 
     all_good : (es : Expressions) (kinds : List Kind) → HaveKinds scope es kinds → Among (all_asked es) → AllGood es
     all_good no_more kinds h among = (refl, refl, λ graph row fit. tt)

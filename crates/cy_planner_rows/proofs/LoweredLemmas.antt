@@ -16,7 +16,7 @@ use Rattle.cy_values.specs.Truth.{both, is_yes, known, one_at_least}
 use Rattle.cy_values.specs.Compare.{is_null}
 use Rattle.cy_trees.specs.declared.expressions.UnaryOperator.TheVariants.{IsNotNull, IsNull, Not}
 use Rattle.cy_trees.specs.declared.expressions.BinaryOperator.TheVariants.{In}
-use Rattle.cy_trees.specs.Trees.{Name, Expression, null, boolean, integer, text, variable, property, has_labels, unary, binary, comparison, list, case, call, call_star, Expressions, no_more, more, Links, no_links, link, Arms, no_arms, arm, Otherwise, nothing, otherwise}
+use Rattle.cy_trees.specs.Trees.{Name, Expression, null, boolean, text, variable, property, has_labels, unary, binary, comparison, list, case, call, Expressions, no_more, more, Links, no_links, link, Arms, no_arms, arm, Otherwise, nothing, otherwise}
 use Rattle.cy_scope_kinds.specs.declared.functions.Function.{Function}
 use Rattle.cy_scope_kinds.specs.declared.functions.Function.TheVariants as function
 use Rattle.cy_scope_kinds.specs.Functions.{function_named}
@@ -147,19 +147,7 @@ module _ (place : ℕ → Attribute → ℕ) (graph : Lookups) (row wide : List 
   owner_looked_up : (e : Expression) (attribute : Attribute) → IsOwnerLookedUp place graph row wide e attribute
       → cell_of no_graph wide (looked_up place e attribute) ≡ as_cell (on_one (attribute_outcome graph attribute) (cell_of graph row e))
   owner_looked_up (variable v) attribute found = column_looked_up v.column attribute found
-  owner_looked_up null attribute found = absurd found
-  owner_looked_up (boolean b) attribute found = absurd found
-  owner_looked_up (integer n) attribute found = absurd found
-  owner_looked_up (text t) attribute found = absurd found
-  owner_looked_up (property e key) attribute found = absurd found
-  owner_looked_up (has_labels e labels) attribute found = absurd found
-  owner_looked_up (unary operator e) attribute found = absurd found
-  owner_looked_up (binary operator a b) attribute found = absurd found
-  owner_looked_up (comparison e links) attribute found = absurd found
-  owner_looked_up (list es) attribute found = absurd found
-  owner_looked_up (case arms e) attribute found = absurd found
-  owner_looked_up (call name distinct es) attribute found = absurd found
-  owner_looked_up (call_star name) attribute found = absurd found
+  owner_looked_up _ attribute found = absurd found
 
   -- labels
   labels_same : (asked : List Name) (labels : Expression) (c : Cell) (v : Value) → labels_value graph c ≡ Ok v → cell_of no_graph wide labels ≡ Ok (cell.Value v)
@@ -205,19 +193,7 @@ module _ (place : ℕ → Attribute → ℕ) (graph : Lookups) (row wide : List 
     owner_exists : (e : Expression) (key : Name) → IsKept place graph row wide e → IsOwnerLookedUp place graph row wide e (Property key)
         → cell_of no_graph wide (unless_null e (unary IsNotNull (looked_up place e (Property key)))) ≡ as_cell (on_one (existence graph key) (cell_of graph row e))
     owner_exists (variable v) key kept found = column_exists v.column key kept found
-    owner_exists null key kept found = absurd found
-    owner_exists (boolean b) key kept found = absurd found
-    owner_exists (integer n) key kept found = absurd found
-    owner_exists (text t) key kept found = absurd found
-    owner_exists (property e k) key kept found = absurd found
-    owner_exists (has_labels e labels) key kept found = absurd found
-    owner_exists (unary operator e) key kept found = absurd found
-    owner_exists (binary operator a b) key kept found = absurd found
-    owner_exists (comparison e links) key kept found = absurd found
-    owner_exists (list es) key kept found = absurd found
-    owner_exists (case arms e) key kept found = absurd found
-    owner_exists (call name distinct es) key kept found = absurd found
-    owner_exists (call_star name) key kept found = absurd found
+    owner_exists _ key kept found = absurd found
 
     exists_call : (e asked : Expression) → IsExistsReadable place graph row wide e
         → cell_of no_graph wide (lowered_exists place e asked) ≡ as_cell (property_exists graph row (more e no_more))
@@ -235,19 +211,7 @@ module _ (place : ℕ → Attribute → ℕ) (graph : Lookups) (row wide : List 
     owner_labels : (e : Expression) (asked : List Name) → IsOwnerLookedUp place graph row wide e Labels
         → cell_of no_graph wide (all_in (looked_up place e Labels) asked) ≡ as_cell (on_one (labels_test graph asked) (cell_of graph row e))
     owner_labels (variable v) asked found = column_labels v.name v.column asked found
-    owner_labels null asked found = absurd found
-    owner_labels (boolean b) asked found = absurd found
-    owner_labels (integer n) asked found = absurd found
-    owner_labels (text t) asked found = absurd found
-    owner_labels (property e k) asked found = absurd found
-    owner_labels (has_labels e labels) asked found = absurd found
-    owner_labels (unary operator e) asked found = absurd found
-    owner_labels (binary operator a b) asked found = absurd found
-    owner_labels (comparison e links) asked found = absurd found
-    owner_labels (list es) asked found = absurd found
-    owner_labels (case arms e) asked found = absurd found
-    owner_labels (call name distinct es) asked found = absurd found
-    owner_labels (call_star name) asked found = absurd found
+    owner_labels _ asked found = absurd found
 
     -- a function of one argument
     single : (f : Function) (r : Result Cell EvalFault) → on_one (function_value graph f) r ≡ on_one (called graph (Some f)) (on_two (λ c cs. Ok (c ∷ cs)) r (Ok []))
@@ -285,10 +249,6 @@ module _ (place : ℕ → Attribute → ℕ) (graph : Lookups) (row wide : List 
 
     mutual
       pub same : (e : Expression) → IsReadable place graph row wide e → cell_of no_graph wide (lowered place e) ≡ cell_of graph row e
-      same null readable = refl
-      same (boolean b) readable = refl
-      same (integer n) readable = refl
-      same (text t) readable = refl
       same (variable v) readable = ap Ok readable
       same (property e key) readable = owner_looked_up e (Property key) readable
       same (has_labels e labels) readable = owner_labels e labels readable
@@ -300,7 +260,7 @@ module _ (place : ℕ → Attribute → ℕ) (graph : Lookups) (row wide : List 
       same (list es) readable = ap (λ r. as_cell (on_one list_of r)) (same_values es readable)
       same (case arms e) readable = λ i. as_cell (choice (same_arms arms readable.0 i) (same_otherwise e readable.1 i))
       same (call name distinct es) readable = same_call name distinct es (function_named name) refl (same_cells es) (same_outcomes es) readable
-      same (call_star name) readable = refl
+      same _ readable = refl
 
       same_cells : (es : Expressions) → AreReadable place graph row wide es → cells_of no_graph wide (lowered_expressions place es) ≡ cells_of graph row es
       same_cells no_more readable = refl

@@ -6,7 +6,7 @@ use Rattle.std.specs.Option.{option_map_or}
 use Rattle.std.proofs.lemmas.Bool.{and_from, and_parts, lt-ltb}
 use Rattle.std.proofs.lemmas.Bool.Decides.{nat_tests}
 use Rattle.cy_values.specs.declared.rows.Cell.{Cell}
-use Rattle.cy_trees.specs.Trees.{Expression, null, boolean, integer, text, variable, property, has_labels, unary, binary, comparison, list, case, call, call_star, Expressions, no_more, more, Links, no_links, link, Arms, no_arms, arm, Otherwise, nothing, otherwise}
+use Rattle.cy_trees.specs.Trees.{Expression, null, variable, property, has_labels, unary, binary, comparison, list, case, call, Expressions, no_more, more, Links, no_links, link, Arms, no_arms, arm, Otherwise, nothing, otherwise}
 use Rattle.cy_scope_kinds.specs.Functions.{function_named}
 use Rattle.cy_expr.specs.Choice.{choice}
 use Rattle.cy_expr.specs.Evaluation.{as_cell, call_value, cell_of, cells_of, chain, column_value, outcome_of_else, outcomes_of, outcomes_of_arms, property_exists, values_of}
@@ -41,10 +41,6 @@ module _ (graph : Lookups) (row : List Cell) (columns : List ℕ) where
 
   mutual
     pub same_cell : (e : Expression) → reads_below (length columns) e ≡ true → cell_of graph row (renumbered columns e) ≡ cell_of graph moved e
-    same_cell null h = refl
-    same_cell (boolean b) h = refl
-    same_cell (integer n) h = refl
-    same_cell (text t) h = refl
     same_cell (variable v) h = λ i. Ok (column_same v.column h i)
     same_cell (property e key) h = λ i. as_cell (on_one (property_value graph key) (same_cell e h i))
     same_cell (has_labels e labels) h = λ i. as_cell (on_one (labels_test graph labels) (same_cell e h i))
@@ -61,7 +57,7 @@ module _ (graph : Lookups) (row : List Cell) (columns : List ℕ) where
         λ i. as_cell (choice (same_arms arms two.0 i) (same_else e two.1 i))
     same_cell (call name distinct es) h =
         λ i. as_cell (call_value graph (function_named name) (same_cells es h i) (same_outcomes es h i) (same_exists es h i))
-    same_cell (call_star name) h = refl
+    same_cell _ h = refl
 
     same_cells : (es : Expressions) → all_read_below (length columns) es ≡ true → cells_of graph row (renumbered_expressions columns es) ≡ cells_of graph moved es
     same_cells no_more h = refl
@@ -104,38 +100,20 @@ module _ (graph : Lookups) (row : List Cell) (columns : List ℕ) where
         let two = parts (reads_below (length columns) e) true h in λ i. on_one (existence graph key) (same_cell e two.0 i)
     same_exists (more (property e key) (more d es)) h = refl
     same_exists (more null es) h = refl
-    same_exists (more (boolean b) es) h = refl
-    same_exists (more (integer n) es) h = refl
-    same_exists (more (text t) es) h = refl
-    same_exists (more (variable v) es) h = refl
-    same_exists (more (has_labels e labels) es) h = refl
-    same_exists (more (unary operator e) es) h = refl
-    same_exists (more (binary operator a b) es) h = refl
-    same_exists (more (comparison e links) es) h = refl
-    same_exists (more (list fs) es) h = refl
-    same_exists (more (case arms e) es) h = refl
-    same_exists (more (call name distinct fs) es) h = refl
-    same_exists (more (call_star name) es) h = refl
+    same_exists (more _ es) h = refl
 
 -- ---- what it reads
 
 module _ (columns : List ℕ) where
   mutual
     pub same_reading : (e : Expression) → reads_columns (renumbered columns e) ≡ reads_columns e
-    same_reading null = refl
-    same_reading (boolean b) = refl
-    same_reading (integer n) = refl
-    same_reading (text t) = refl
-    same_reading (variable v) = refl
-    same_reading (property e key) = refl
-    same_reading (has_labels e labels) = refl
     same_reading (unary operator e) = same_reading e
     same_reading (binary operator a b) = λ i. same_reading a i && same_reading b i
     same_reading (comparison e links) = λ i. same_reading e i && links_reading links i
     same_reading (list es) = all_reading es
     same_reading (case arms e) = λ i. arms_reading arms i && else_reading e i
     same_reading (call name distinct es) = λ i. not (reads_graph (function_named name)) && all_reading es i
-    same_reading (call_star name) = refl
+    same_reading _ = refl
 
     all_reading : (es : Expressions) → all_read_columns (renumbered_expressions columns es) ≡ all_read_columns es
     all_reading no_more = refl
@@ -172,10 +150,6 @@ module _ (most : ℕ) (columns : List ℕ) (inside : AllByRecursion (λ c. c < m
 
   mutual
     pub reads_inside : (e : Expression) → reads_below n e ≡ true → reads_below most (renumbered columns e) ≡ true
-    reads_inside null h = refl
-    reads_inside (boolean b) h = refl
-    reads_inside (integer k) h = refl
-    reads_inside (text t) h = refl
     reads_inside (variable v) h = column_below v.column h
     reads_inside (property e key) h = reads_inside e h
     reads_inside (has_labels e labels) h = reads_inside e h
@@ -185,7 +159,7 @@ module _ (most : ℕ) (columns : List ℕ) (inside : AllByRecursion (λ c. c < m
     reads_inside (list es) h = all_inside es h
     reads_inside (case arms e) h = halves _ _ _ _ (arms_inside arms) (else_inside e) h
     reads_inside (call name distinct es) h = all_inside es h
-    reads_inside (call_star name) h = refl
+    reads_inside _ h = refl
 
     all_inside : (es : Expressions) → all_read_below n es ≡ true → all_read_below most (renumbered_expressions columns es) ≡ true
     all_inside no_more h = refl

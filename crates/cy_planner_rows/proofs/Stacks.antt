@@ -102,12 +102,6 @@ fewer_single count zero is =
     (omega (arith, all), λ more. absurd (omega (arith, all, more)))
 fewer_single count (suc made) (within, fewer) = (omega (arith, within), λ more. let less = fewer more in omega (arith, less))
 
-pub fewer_last : (count made : ℕ) → AreFewer count made 0 → 1 < count → made < count
-fewer_last count zero is more =
-    let all : 0 ≡ count = is in
-    absurd (omega (arith, all, more))
-fewer_last count (suc made) (within, fewer) more = let less = fewer more in omega (arith, less)
-
 -- ---- two are joined
 
 module _ (all once rest made more : List Expr) (first second pair : Expr) (last : all ≡ once ++ first ∷ []) (next : once ≡ rest ++ second ∷ []) (put : more ≡ made ++ pair ∷ [])

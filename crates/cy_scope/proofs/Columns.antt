@@ -15,7 +15,7 @@ use Rattle.cy_scope_kinds.specs.Scopes.{Scope, find_kind, find_column, is_bound,
 use Rattle.cy_scope_kinds.proofs.ScopesLemmas.{lookup_both, columns_both}
 
 -- the place of a name, counted from a number
-abbrev IsFound : Name → Scope → Kind → ℕ → Type 0
+abbrev pub IsFound : Name → Scope → Kind → ℕ → Type 0
 IsFound name scope k i = (c : ℕ) × (position_from (λ v. bytes_eq name v.0) i scope ≡ Some (i + c)) × (slice_get scope c ≡ Some (name, k))
 
 found_here : (name : Name) (v : Name × Kind) (vs : Scope) (k : Kind) (i : ℕ) → bytes_eq name v.0 ≡ true → v.1 ≡ k → IsFound name (v ∷ vs) k i
@@ -38,7 +38,7 @@ found_in name v vs k i others is = cases (bytes_eq name v.0) refl
     cases true same = found_here name v vs k i same (same_Some v.1 k (sym (ap (λ t. cond t (Some v.1) (lookup (bytes_eq name) vs)) same) ∙ is))
     cases false same = found_later name v vs k i same (others (sym (ap (λ t. cond t (Some v.1) (lookup (bytes_eq name) vs)) same) ∙ is))
 
-found : (name : Name) (scope : Scope) (k : Kind) (i : ℕ) → find_kind scope name ≡ Some k → IsFound name scope k i
+pub found : (name : Name) (scope : Scope) (k : Kind) (i : ℕ) → find_kind scope name ≡ Some k → IsFound name scope k i
 found name [] k i is = absurd (none-some k is)
 found name (v ∷ vs) k i is = found_in name v vs k i (found name vs k (i + 1)) is
 

@@ -38,18 +38,7 @@ use Rattle.cy_scope.proofs.SameTrees.{same_resolved}
 star_counts : (o : Option Function) → star_fault true o ≡ None → o ≡ Some function.Count
 star_counts None good = absurd (none-some UnknownFunction (sym good))
 star_counts (Some function.Count) good = refl
-star_counts (Some function.Id) good = absurd (none-some WrongArguments (sym good))
-star_counts (Some function.Type) good = absurd (none-some WrongArguments (sym good))
-star_counts (Some function.Labels) good = absurd (none-some WrongArguments (sym good))
-star_counts (Some function.Size) good = absurd (none-some WrongArguments (sym good))
-star_counts (Some function.Coalesce) good = absurd (none-some WrongArguments (sym good))
-star_counts (Some function.Abs) good = absurd (none-some WrongArguments (sym good))
-star_counts (Some function.ToString) good = absurd (none-some WrongArguments (sym good))
-star_counts (Some function.Exists) good = absurd (none-some WrongArguments (sym good))
-star_counts (Some function.Sum) good = absurd (none-some WrongArguments (sym good))
-star_counts (Some function.Min) good = absurd (none-some WrongArguments (sym good))
-star_counts (Some function.Max) good = absurd (none-some WrongArguments (sym good))
-star_counts (Some function.Collect) good = absurd (none-some WrongArguments (sym good))
+star_counts (Some _) good = absurd (none-some WrongArguments (sym good))
 
 -- an item's expression may be an aggregate
 abbrev IsItem : Scope → Expression → Kind → Type 0

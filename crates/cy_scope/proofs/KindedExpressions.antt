@@ -4,9 +4,9 @@ use Rattle.std.specs.Prelude.{IsTrue, is_some, unwrap_or, ◌||◌}
 use Rattle.std.specs.List.{list_all}
 use Rattle.std.proofs.lemmas.Option.{none-some}
 use Rattle.std.proofs.lemmas.Bool.{and_parts, and_from}
-use Rattle.cy_trees.specs.Trees.{Name, Expression, null, boolean, integer, text, variable, property, has_labels, unary, binary, comparison, list, case, call, call_star, Expressions, no_more, more, Links, no_links, link, Arms, no_arms, arm, Otherwise, nothing, otherwise}
+use Rattle.cy_trees.specs.Trees.{Name, Expression, variable, property, has_labels, unary, binary, comparison, list, case, call, call_star, Expressions, no_more, more, Links, no_links, link, Arms, no_arms, arm, Otherwise, nothing, otherwise}
 use Rattle.cy_scope_kinds.specs.declared.kinds.Kind.{Kind}
-use Rattle.cy_scope_kinds.specs.declared.kinds.Kind.TheVariants.{Node, Relationship, Relationships, Value, Flag}
+use Rattle.cy_scope_kinds.specs.declared.kinds.Kind.TheVariants.{Node, Value, Flag}
 use Rattle.cy_scope_kinds.specs.declared.faults.ScopeFault.{ScopeFault}
 use Rattle.cy_scope_kinds.specs.declared.faults.ScopeFault.TheVariants.{UnknownVariable, UnknownFunction, WrongKind, AggregateHere, WrongArguments}
 use Rattle.cy_scope_kinds.specs.declared.functions.Function.{Function}
@@ -84,19 +84,8 @@ last_is_flag scope (otherwise e) = refl
 
 star_is_no_part : (o : Option Function) → star_fault false o ≡ None → ⊥
 star_is_no_part None good = none-some UnknownFunction (sym good)
-star_is_no_part (Some function.Id) good = none-some WrongArguments (sym good)
-star_is_no_part (Some function.Type) good = none-some WrongArguments (sym good)
-star_is_no_part (Some function.Labels) good = none-some WrongArguments (sym good)
-star_is_no_part (Some function.Size) good = none-some WrongArguments (sym good)
-star_is_no_part (Some function.Coalesce) good = none-some WrongArguments (sym good)
-star_is_no_part (Some function.Abs) good = none-some WrongArguments (sym good)
-star_is_no_part (Some function.ToString) good = none-some WrongArguments (sym good)
-star_is_no_part (Some function.Exists) good = none-some WrongArguments (sym good)
 star_is_no_part (Some function.Count) good = none-some AggregateHere (sym good)
-star_is_no_part (Some function.Sum) good = none-some WrongArguments (sym good)
-star_is_no_part (Some function.Min) good = none-some WrongArguments (sym good)
-star_is_no_part (Some function.Max) good = none-some WrongArguments (sym good)
-star_is_no_part (Some function.Collect) good = none-some WrongArguments (sym good)
+star_is_no_part (Some _) good = none-some WrongArguments (sym good)
 
 and_swap : (a b : Bool) → a && b ≡ b && a
 and_swap true true = refl
@@ -106,10 +95,7 @@ and_swap false false = refl
 
 pub node_is : (k : Kind) → is_node k ≡ true → k ≡ Node
 node_is Node is = refl
-node_is Relationship is = cc
-node_is Relationships is = cc
-node_is Value is = cc
-node_is Flag is = cc
+node_is _ is = cc
 
 bound_kind : (scope : Scope) (name : Name) (o : Option Kind) → find_kind scope name ≡ o → is_some o ≡ true → find_kind scope name ≡ Some (kind_in scope name)
 bound_kind scope name None is bound = cc
@@ -126,35 +112,13 @@ one_resolved after (more e es) = none_resolved after es
 
 property_resolved : (after : Scope) (es : Expressions) → is_property (resolved_expressions after es) ≡ is_property es
 property_resolved after no_more = refl
-property_resolved after (more null es) = refl
-property_resolved after (more (boolean b) es) = refl
-property_resolved after (more (integer n) es) = refl
-property_resolved after (more (text t) es) = refl
-property_resolved after (more (variable v) es) = refl
 property_resolved after (more (property e key) es) = none_resolved after es
-property_resolved after (more (has_labels e labels) es) = refl
-property_resolved after (more (unary operator e) es) = refl
-property_resolved after (more (binary operator a b) es) = refl
-property_resolved after (more (comparison e links) es) = refl
-property_resolved after (more (list fs) es) = refl
-property_resolved after (more (case arms e) es) = refl
-property_resolved after (more (call name distinct fs) es) = refl
-property_resolved after (more (call_star name) es) = refl
+property_resolved after (more _ es) = refl
 
 fit_resolved : (function : Function) (after : Scope) (es : Expressions) → fit function (resolved_expressions after es) ≡ fit function es
-fit_resolved function.Id after es = one_resolved after es
-fit_resolved function.Type after es = one_resolved after es
-fit_resolved function.Labels after es = one_resolved after es
-fit_resolved function.Size after es = one_resolved after es
 fit_resolved function.Coalesce after es = ap not (none_resolved after es)
-fit_resolved function.Abs after es = one_resolved after es
-fit_resolved function.ToString after es = one_resolved after es
 fit_resolved function.Exists after es = property_resolved after es
-fit_resolved function.Count after es = one_resolved after es
-fit_resolved function.Sum after es = one_resolved after es
-fit_resolved function.Min after es = one_resolved after es
-fit_resolved function.Max after es = one_resolved after es
-fit_resolved function.Collect after es = one_resolved after es
+fit_resolved _ after es = one_resolved after es
 
 -- a call without a fault after its arguments
 abbrev pub IsGoodCall : Bool → Scope → Function → Bool → Expressions → Type 0
@@ -193,10 +157,6 @@ module _ (before after : Scope) where
 module _ (before after : Scope) (reads : Reads before after) where
   mutual
     pub has_kind : (e : Expression) → expression_fault before e ≡ None → HasKind before (resolved after e) (kind_of before e)
-    has_kind null good = refl
-    has_kind (boolean b) good = refl
-    has_kind (integer n) good = refl
-    has_kind (text t) good = refl
     has_kind (variable v) good =
         reads v.name (kind_in before v.name) (bound_kind before v.name (find_kind before v.name) refl (unless_none (is_bound before v.name) UnknownVariable good))
     has_kind (property e key) good =
@@ -241,6 +201,7 @@ module _ (before after : Scope) (reads : Reads before after) where
         let (inner, called) = first_none (expressions_fault before es) (call_fault false before (function_named name) distinct es) good in
         call_kinded before after name distinct es (function_named name) refl called (have_kinds es inner)
     has_kind (call_star name) good = absurd (star_is_no_part (function_named name) good)
+    has_kind _ good = refl
 
     pub have_kinds : (es : Expressions) → expressions_fault before es ≡ None → HaveKinds before (resolved_expressions after es) (kinds_of before es)
     have_kinds no_more good = refl

@@ -2,7 +2,7 @@
 use Rattle.std.proofs.Common.{◌≡◌, ◌&&◌, ◌||◌, List, [], ◌∷◌, map, Option, Some, None, if◌then◌else◌, refl, ap, ◌∙◌}
 use Rattle.std.specs.List.{list_any}
 use Rattle.cy_trees.specs.declared.expressions.Variable.{Variable}
-use Rattle.cy_trees.specs.Trees.{Expression, null, boolean, integer, text, variable, property, has_labels, unary, binary, comparison, list, case, call, call_star, Expressions, no_more, more, Arms, no_arms, arm, Otherwise, nothing, otherwise, Step, Path, Item, Projection, Clause, «match», unwind, «with», «return», create, set, remove, delete}
+use Rattle.cy_trees.specs.Trees.{Expression, null, variable, case, call, Expressions, no_more, more, Arms, no_arms, arm, Otherwise, nothing, otherwise, Step, Path, Item, Projection, Clause, «match», «with», «return», create}
 use Rattle.cy_scope_kinds.specs.declared.kinds.Kind.{Kind}
 use Rattle.cy_scope_kinds.specs.declared.kinds.Kind.TheVariants.{Node}
 use Rattle.cy_scope_kinds.specs.Kinds.{is_flag, flag_if}
@@ -17,22 +17,11 @@ use Rattle.cy_scope.specs.Resolved.{resolved, resolved_expressions, resolved_arm
 module _ (scope columns : Scope) where
   mutual
     pub kind_kept : (e : Expression) → kind_of scope (resolved columns e) ≡ kind_of scope e
-    kind_kept null = refl
-    kind_kept (boolean b) = refl
-    kind_kept (integer n) = refl
-    kind_kept (text t) = refl
-    kind_kept (variable v) = refl
-    kind_kept (property e key) = refl
-    kind_kept (has_labels e labels) = refl
-    kind_kept (unary operator e) = refl
-    kind_kept (binary operator a b) = refl
-    kind_kept (comparison e links) = refl
-    kind_kept (list es) = refl
     kind_kept (case arms e) =
         ap (λ t. flag_if (t && is_flag_otherwise scope (resolved_otherwise columns e))) (arms_kept arms)
         ∙ ap (λ t. flag_if (gives_flags scope arms && t)) (otherwise_kept e)
     kind_kept (call name distinct es) = ap (λ t. call_kind (function_named name) t) (flags_kept es)
-    kind_kept (call_star name) = refl
+    kind_kept _ = refl
 
     flags_kept : (es : Expressions) → are_flags scope (resolved_expressions columns es) ≡ are_flags scope es
     flags_kept no_more = refl
@@ -85,19 +74,7 @@ module _ (columns : Scope) where
 
   aggregate_kept : (e : Expression) → is_aggregate_call (resolved columns e) ≡ is_aggregate_call e
   aggregate_kept null = refl
-  aggregate_kept (boolean b) = refl
-  aggregate_kept (integer n) = refl
-  aggregate_kept (text t) = refl
-  aggregate_kept (variable v) = refl
-  aggregate_kept (property e key) = refl
-  aggregate_kept (has_labels e labels) = refl
-  aggregate_kept (unary operator e) = refl
-  aggregate_kept (binary operator a b) = refl
-  aggregate_kept (comparison e links) = refl
-  aggregate_kept (list es) = refl
-  aggregate_kept (case arms e) = refl
-  aggregate_kept (call name distinct es) = refl
-  aggregate_kept (call_star name) = refl
+  aggregate_kept _ = refl
 
   aggregates_kept : (items : List Item) → list_any (λ i. is_aggregate_call i.expression) (map (resolved_item columns) items) ≡ list_any (λ i. is_aggregate_call i.expression) items
   aggregates_kept [] = refl
@@ -110,13 +87,10 @@ seen_kept before after p = ap (λ t. if p.distinct || t then [] else before) (ag
 
 pub scope_kept : (scope after : Scope) (c : Clause) → scope_after scope (resolved_clause scope after c) ≡ scope_after scope c
 scope_kept scope after («match» optional paths w) = paths_kept after scope paths
-scope_kept scope after (unwind e v) = refl
 scope_kept scope after («with» p w) = columns_kept scope scope p.items
 scope_kept scope after («return» p) = columns_kept scope scope p.items
 scope_kept scope after (create paths) = paths_kept after scope paths
-scope_kept scope after (set items) = refl
-scope_kept scope after (remove items) = refl
-scope_kept scope after (delete detach variables) = refl
+scope_kept scope after _ = refl
 
 pub scopes_kept : (scope : Scope) (cs : List Clause) → scope_after_all scope (resolved_clauses scope cs) ≡ scope_after_all scope cs
 scopes_kept scope [] = refl

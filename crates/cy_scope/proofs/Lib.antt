@@ -1,4 +1,4 @@
-mod Columns
+pub mod Columns
 mod RowsLemmas
 pub mod TreeWordsLemmas
 pub mod KindsKept

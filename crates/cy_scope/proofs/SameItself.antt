@@ -19,32 +19,15 @@ flag false = refl
 
 unary_itself : (a : UnaryOperator) → same_unary a a ≡ true
 unary_itself unary_operator.Not = refl
-unary_itself unary_operator.Plus = refl
-unary_itself unary_operator.Minus = refl
-unary_itself unary_operator.IsNull = refl
-unary_itself unary_operator.IsNotNull = refl
+unary_itself _ = refl
 
 binary_itself : (a : BinaryOperator) → same_binary a a ≡ true
 binary_itself binary_operator.Or = refl
-binary_itself binary_operator.Xor = refl
-binary_itself binary_operator.And = refl
-binary_itself binary_operator.In = refl
-binary_itself binary_operator.Contains = refl
-binary_itself binary_operator.StartsWith = refl
-binary_itself binary_operator.EndsWith = refl
-binary_itself binary_operator.Add = refl
-binary_itself binary_operator.Subtract = refl
-binary_itself binary_operator.Multiply = refl
-binary_itself binary_operator.Divide = refl
-binary_itself binary_operator.Remainder = refl
+binary_itself _ = refl
 
 comparator_itself : (a : Comparator) → same_comparator a a ≡ true
 comparator_itself comparator.Equal = refl
-comparator_itself comparator.NotEqual = refl
-comparator_itself comparator.Less = refl
-comparator_itself comparator.LessOrEqual = refl
-comparator_itself comparator.Greater = refl
-comparator_itself comparator.GreaterOrEqual = refl
+comparator_itself _ = refl
 
 text_itself : (a : List ℕ) → bytes_eq a a ≡ true
 text_itself a = (bytes_eq-Decides a a).1 refl

@@ -17,7 +17,7 @@ use Rattle.std.proofs.lemmas.Option.{none-some, same_Some}
 use Rattle.std.proofs.lemmas.Slice.Eq.{bytes_eq-Decides}
 use Rattle.cy_trees.specs.declared.clauses.Item as coded
 use Rattle.cy_trees.specs.TreeModels.{expression_of, item_of}
-use Rattle.cy_trees.specs.Trees.{Expression, null, boolean, integer, text, variable, property, has_labels, unary, binary, comparison, list, case, call, call_star, Expressions, no_more, more, Links, no_links, link, Arms, no_arms, arm, Otherwise, nothing, otherwise, Item}
+use Rattle.cy_trees.specs.Trees.{Expression, property, has_labels, unary, binary, comparison, list, case, call, Expressions, no_more, more, Links, no_links, link, Arms, no_arms, arm, Otherwise, nothing, otherwise, Item}
 use Rattle.cy_scope_kinds.specs.Same.{same}
 use Rattle.cy_scope.specs.ProjectionFaults.{repeats}
 use Rattle.cy_scope_kinds.specs.ResolvedExpressions.{resolved, resolved_expressions, resolved_links, resolved_arms, resolved_otherwise}
@@ -26,11 +26,6 @@ use Rattle.cy_scope.proofs.SameTrees.{same_resolved}
 
 mutual
   tree_kept : (n : List ℕ) (e : Expression) → with_tree n (resolved [] e) ≡ with_tree n e
-  tree_kept n null = refl
-  tree_kept n (boolean b) = refl
-  tree_kept n (integer i) = refl
-  tree_kept n (text t) = refl
-  tree_kept n (variable v) = refl
   tree_kept n (property e key) = ap (λ (m : List ℕ). with_text m key) (tree_kept (with_word n 5) e)
   tree_kept n (has_labels e labels) = ap (λ (m : List ℕ). with_names m labels) (tree_kept (with_word n 6) e)
   tree_kept n (unary operator e) = tree_kept (with_word (with_word n 7) (unary_word operator)) e
@@ -43,7 +38,7 @@ mutual
   tree_kept n (case arms e) =
       ap (λ (m : List ℕ). with_otherwise m (resolved_otherwise [] e)) (arms_kept (with_word n 11) arms) ∙ otherwise_kept (with_arms (with_word n 11) arms) e
   tree_kept n (call name distinct es) = elements_kept (with_flag (with_text (with_word n 12) name) distinct) es
-  tree_kept n (call_star name) = refl
+  tree_kept n _ = refl
 
   elements_kept : (n : List ℕ) (es : Expressions) → with_elements n (resolved_expressions [] es) ≡ with_elements n es
   elements_kept n no_more = refl

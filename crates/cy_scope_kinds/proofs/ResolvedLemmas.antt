@@ -1,5 +1,5 @@
 -- Columns that are set part by part.
-use Rattle.std.proofs.Common.{◌≡◌, ℕ, zero, suc, ◌<◌, List, [], ◌∷◌, ◌++◌, map, length, get_or, set, take, drop, refl, ap, arith}
+use Rattle.std.proofs.Common.{◌≡◌, ℕ, ◌<◌, List, [], ◌∷◌, ◌++◌, map, take, drop, refl, ap}
 use Rattle.cy_trees.specs.declared.expressions.Comparator.{Comparator}
 use Rattle.cy_trees.specs.Trees.{Expression, Expressions, more, Links, link, Arms, arm}
 use Rattle.cy_trees.specs.TreeModels.{expressions_from, links_from, arms_from}
@@ -23,9 +23,3 @@ module _ {B C : Type 0} (f : B → C) (g : C → C) where
   -- the parts that are done, and what the others are to become
   abbrev pub mixed : ℕ → List B → List C
   mixed i xs = map f (take i xs) ++ map g (map f (drop i xs))
-
-  -- the next part is done
-  pub one_more : (xs : List B) (i : ℕ) (y d : B) → i < length xs → f y ≡ g (f (get_or xs i d)) → mixed (suc i) (set xs i y) ≡ mixed i xs
-  one_more [] i y d h is = absurd (omega arith)
-  one_more (x ∷ xs) zero y d h is = ap (λ (c : C). c ∷ map g (map f xs)) is
-  one_more (x ∷ xs) (suc i) y d h is = ap (λ (cs : List C). f x ∷ cs) (one_more xs i y d (omega arith) is)

@@ -85,9 +85,7 @@ record Placed (Q : State → Cell → Type 0) (n : NodePattern) (old new : Creat
 module _ (Q : State → Cell → Type 0) (keeps : KeepsCells Q) (before : List Cell) (n : NodePattern) (old : Creation) (is : IsGraph old.graph) (row : AllByRecursion (Q old.graph) old.row) where
   named_node : (c : Cell) → Q old.graph c → IfSome (node_in_cell c) (λ id. IsSome (node_at id old.graph))
   named_node (cell.Node id) here = keeps.names old.graph id here
-  named_node (cell.Rel id) here = tt
-  named_node (cell.Rels ids) here = tt
-  named_node (cell.Value v) here = tt
+  named_node _ here = tt
 
   new_placed : bound_to n old.row ≡ None → IfOk (with_new_node before n old) (Placed Q n old)
   new_placed free =

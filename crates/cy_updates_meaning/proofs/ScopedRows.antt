@@ -10,7 +10,7 @@ use Rattle.cy_values.specs.declared.rows.Cell.TheVariants as cell
 use Rattle.cy_values.specs.Order.{row_cmp}
 use Rattle.cy_trees.specs.declared.clauses.Length.{Length}
 use Rattle.cy_trees.specs.declared.expressions.Variable.{Variable}
-use Rattle.cy_trees.specs.Trees.{Name, MapEntry, NodePattern, RelationshipPattern, Step, Path, Clause, «match», unwind, «with», «return», create, set, remove, delete}
+use Rattle.cy_trees.specs.Trees.{Name, MapEntry, NodePattern, RelationshipPattern, Step, Path, Clause, create, set, remove, delete}
 use Rattle.cy_scope_kinds.specs.declared.faults.ScopeFault.TheVariants.{AlreadyBound, BadCreate}
 use Rattle.cy_scope_kinds.specs.declared.kinds.Kind.{Kind}
 use Rattle.cy_scope_kinds.specs.declared.kinds.Kind.TheVariants as kind
@@ -234,10 +234,6 @@ module _ (graph : State) (scope : Scope) (rows : List (List Cell)) (fit : RowsFi
 
   taken_fit : (clause : Clause) → clause_fault scope clause ≡ None → is_update clause ≡ true
       → IfOk (rows_taken graph (resolved_clause scope (scope_after scope clause) clause) rows) (λ t. RowsFit (scope_after scope clause) t.rows)
-  taken_fit («match» optional paths test) good updates = absurd (false≢true updates)
-  taken_fit (unwind e v) good updates = absurd (false≢true updates)
-  taken_fit («with» p test) good updates = absurd (false≢true updates)
-  taken_fit («return» p) good updates = absurd (false≢true updates)
   taken_fit (create paths) good updates =
       each_leads (λ row. row_fits scope row ≡ true) (λ (t : GraphTable). RowsFit (with_paths scope paths) t.rows) (create_row (map (resolved_path (with_paths scope paths)) paths))
       (row_created scope paths good) rows fit (record { graph = graph; rows = [] }) tt
@@ -245,6 +241,7 @@ module _ (graph : State) (scope : Scope) (rows : List (List Cell)) (fit : RowsFi
   taken_fit (remove items) good updates = fit
   taken_fit (delete detach variables) good updates =
       and_any (λ (t : GraphTable). RowsFit scope t.rows) (λ after. Ok (record { graph = after; rows = [] })) (λ after. tt) (deleted graph detach (map (resolved_variable (scope_after scope (delete detach variables))) variables) rows)
+  taken_fit _ good updates = absurd (false≢true updates)
 
 pub clause_fits : (graph : State) (scope : Scope) (clause : Clause) (rows : List (List Cell)) → clause_fault scope clause ≡ None → is_update clause ≡ true → RowsFit scope rows
     → IfOk (updated graph (resolved_clause scope (scope_after scope clause) clause) rows) (λ t. RowsFit (scope_after scope clause) t.rows)

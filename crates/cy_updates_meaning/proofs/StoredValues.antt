@@ -53,10 +53,7 @@ settable_is v =
 -- so it can be stored where it isn't null
 pub storable_if : (v : Value) → IsSettable v → IfSome (unless_null v) (λ w. IsTrue (is_storable w))
 storable_if value.Null is = tt
-storable_if (value.List elements) is = is
-storable_if (value.Text text) is = is
-storable_if (value.Bool truth) is = is
-storable_if (value.Int number) is = is
+storable_if _ is = is
 
 -- ---- properties
 

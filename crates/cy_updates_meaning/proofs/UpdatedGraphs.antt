@@ -6,7 +6,7 @@ use Rattle.cy_values.specs.declared.numbers.NodeId.{NodeId}
 use Rattle.cy_values.specs.declared.numbers.RelId.{RelId}
 use Rattle.cy_values.specs.declared.rows.Cell.{Cell}
 use Rattle.cy_values.specs.Order.{row_cmp}
-use Rattle.cy_trees.specs.Trees.{Clause, «match», unwind, «with», «return», create, set, remove, delete, Query, Statement}
+use Rattle.cy_trees.specs.Trees.{Clause, create, set, remove, delete, Query, Statement}
 use Rattle.cy_scope.specs.Views.{is_update}
 use Rattle.cy_graph.specs.Graph.{Content, State, IsGraph}
 use Rattle.cy_graph.specs.declared.nodes.Node.{Node}
@@ -86,10 +86,6 @@ module _ (graph : State) (is : IsGraph graph) (rows : List (List Cell)) (there :
   }
 
   taken : (clause : Clause) → IfOk (rows_taken graph clause rows) (Updated graph)
-  taken («match» optional paths test) = nothing_done
-  taken (unwind e v) = nothing_done
-  taken («with» p test) = nothing_done
-  taken («return» p) = nothing_done
   taken (create paths) =
       if_ok_weaker (GoodTable graph) (Updated graph)
       (λ after good. record { is = good.is; counted = counted_grown graph after.graph is good.grown; rows = good.rows })
@@ -101,6 +97,7 @@ module _ (graph : State) (is : IsGraph graph) (rows : List (List Cell)) (there :
       and_then (Left graph) (Updated graph) (λ after. Ok (record { graph = after; rows = [] }))
       (λ after left. record { is = left.is; counted = counted_left graph after is left; rows = tt })
       (deleted graph detach variables rows) (delete_left graph detach variables rows is)
+  taken _ = nothing_done
 
 pub clause_updated : (graph : State) (clause : Clause) (rows : List (List Cell)) → IsGraph graph → AreInGraph graph.content rows → IfOk (updated graph clause rows) (Updated graph)
 clause_updated graph clause rows is there =

@@ -19,7 +19,7 @@ use Rattle.cy_graph.specs.declared.nodes.Node.{Node}
 use Rattle.cy_graph.specs.declared.nodes.Rel.{Rel}
 use Rattle.cy_updates_meaning.specs.Deleting.{is_node_of, is_relationship_of, lies_at}
 use Rattle.cy_updates_writes.specs.internal.Deleting.{is_node_among, is_rel_among, lies_among, nodes_among, rels_among, without_nodes, without_rels}
-use Rattle.cy_updates_meaning.proofs.Entries.{Sorted, Below, found, order, not_less}
+use Rattle.cy_updates_meaning.proofs.Entries.{Sorted, Below, found, order}
 use Rattle.cy_updates_meaning.proofs.EntryCounts.{few}
 use Rattle.cy_updates_meaning.proofs.Graphs.{node_number, rel_number}
 
@@ -110,11 +110,6 @@ module _ {K : Type 0} (num : K → ℕ) where
     -- one of them wasn't there
     pub none_removed : (ids : List K) (id : K) (es : List (K × V)) → found num id es ≡ None → left_of ids es ≡ left_of (ids ++ id ∷ []) es
     none_removed ids id es none = ap (left_of ids) (sym (kept_whole id es (others id es none))) ∙ one_removed ids id es
-
-    above : (id : K) (es : List (K × V)) → Below num id es → AllByRecursion (λ (e : K × V). eq_by_cmp (order num) id e.0 ≡ false) es
-    above id [] below = tt
-    above id (e ∷ es) below =
-        let parts = and_parts (is_lt (order num id e.0)) (entries.below_all (order num) id es) below in (not_less num id e.0 parts.0, above id es parts.1)
 
     -- a number is there once
     pub one_less : (id : K) (es : List (K × V)) → Sorted num es → IsSome (found num id es) → length (removed id es) + 1 ≡ length es

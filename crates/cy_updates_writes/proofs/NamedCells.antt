@@ -1,7 +1,6 @@
 -- What a variable names on a row.
-use Rattle.std.proofs.Common.{◌≡◌, ℕ, zero, suc, List, [], ◌∷◌, Option, Some, None, refl, sym, subst}
-use Rattle.std.specs.Prelude.{slice_get, slice_index_or}
-use Rattle.std.specs.Option.{option_and_then}
+use Rattle.std.proofs.Common.{◌≡◌, ℕ, zero, suc, List, [], ◌∷◌, Option, Some, None, sym, subst}
+use Rattle.std.specs.Prelude.{slice_index_or}
 use Rattle.cy_values.specs.declared.numbers.Entity.{Entity}
 use Rattle.cy_values.specs.declared.numbers.Entity.TheVariants as entity
 use Rattle.cy_values.specs.declared.scalars.Value.TheVariants as value
@@ -13,16 +12,6 @@ use Rattle.cy_expr.specs.Evaluation.{column_value}
 use Rattle.cy_oneshot_meaning.specs.Reading.{IsInGraph}
 use Rattle.cy_oneshot_meaning.specs.internal.Answers.{IsRowThere}
 use Rattle.cy_updates_meaning.specs.Values.{entity_in, named_by}
-
-named_at : (row : List Cell) (i : ℕ) → entity_in (slice_index_or row i (cell.Value value.Null)) ≡ option_and_then entity_in (slice_get row i)
-named_at [] i = refl
-named_at (c ∷ row) zero = refl
-named_at (c ∷ row) (suc i) = named_at row i
-
--- what the cell in its column does, and nothing where there is none
-pub named_in : (column : Option ℕ) (row : List Cell) → entity_in (column_value column row) ≡ option_and_then entity_in (option_and_then (slice_get row) column)
-named_in None row = refl
-named_in (Some i) row = named_at row i
 
 module _ (graph : State) where
   cell_at : (row : List Cell) (i : ℕ) → IsRowThere graph.content row → IsInGraph graph.content (slice_index_or row i (cell.Value value.Null))

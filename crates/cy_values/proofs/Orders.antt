@@ -40,14 +40,12 @@ values_alike (value.Text s) (value.Text t) = refl
 values_alike (value.Bool a) (value.Bool b) = refl
 values_alike (value.Int m) (value.Int n) = refl
 values_alike (value.List _) _ = refl
-values_alike (value.Text _) _ = refl
-values_alike (value.Bool _) _ = refl
-values_alike (value.Int _) _ = refl
 values_alike value.Null (value.List _) = refl
 values_alike value.Null (value.Text _) = refl
 values_alike value.Null (value.Bool _) = refl
 values_alike value.Null (value.Int _) = refl
 values_alike value.Null value.Null = refl
+values_alike _ _ = refl
 
 pub cells_alike : (x y : Cell) → (cell_impl.cmp-value).it x y ≡ cell_order x y
 cells_alike (cell.Node m) (cell.Node n) = refl

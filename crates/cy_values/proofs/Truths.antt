@@ -6,24 +6,12 @@ use Rattle.cy_values.specs.declared.truth.Truth.{Truth}
 use Rattle.cy_values.specs.declared.truth.Truth.TheVariants.{No, Unknown, Yes}
 use Rattle.std.proofs.lemmas.Bool.Decides.{nat_tests}
 use Rattle.cy_values.specs.Truth.{both, known}
-use Rattle.cy_values.specs.Compare.{value_in, plain_equality, all_equality, list_less}
+use Rattle.cy_values.specs.Compare.{all_equality, list_less}
 
 pub both-yes : (a : Truth) → both a Yes ≡ a
 both-yes No = refl
 both-yes Unknown = refl
 both-yes Yes = refl
-
-pub both-both : (a b c : Truth) → both (both a b) c ≡ both a (both b c)
-both-both No No No = refl
-both-both No Unknown No = refl
-both-both No Yes No = refl
-both-both Unknown No No = refl
-both-both Unknown Unknown No = refl
-both-both Unknown Yes No = refl
-both-both Yes No No = refl
-both-both Yes Unknown No = refl
-both-both Yes Yes No = refl
-both-both _ _ _ = refl
 
 ended : (xs ys : List Scalar) → (xs ≡ []) ⊎ (ys ≡ []) → all_equality xs ys ≡ Yes
 ended [] ys none = refl
@@ -34,10 +22,6 @@ ended (x ∷ xs) (y ∷ ys) (inr none) = cc
 -- at the end of a list all is known
 pub equal_so_far : (a : Truth) (xs ys : List Scalar) → (xs ≡ []) ⊎ (ys ≡ []) → both a (all_equality xs ys) ≡ a
 equal_so_far a xs ys none = ap (both a) (ended xs ys none) ∙ both-yes a
-
--- one more pair
-pub equal_with : (a : Truth) (x y : Scalar) (xs ys : List Scalar) → both (both a (plain_equality (value_in x) (value_in y))) (all_equality xs ys) ≡ both a (all_equality (x ∷ xs) (y ∷ ys))
-equal_with a x y xs ys = both-both a (plain_equality (value_in x) (value_in y)) (all_equality xs ys)
 
 -- at the end of a list the longer one is greater
 pub less_ended : (m n : ℕ) (xs ys : List Scalar) → (xs ≡ []) ⊎ (ys ≡ []) → length xs + n ≡ length ys + m → known (nat_lt m n) ≡ list_less xs ys

@@ -38,17 +38,7 @@ unit_done p from_nothing old now deltas is first made =
 
 unit_is : (p : Plan) → is_unit p ≡ true → p ≡ plan.unit
 unit_is plan.unit is = refl
-unit_is plan.nodes is = absurd (true≢false (sym is))
-unit_is (plan.rels types orientation) is = absurd (true≢false (sym is))
-unit_is (plan.join left right ks) is = absurd (true≢false (sym is))
-unit_is (plan.outer left right ks test) is = absurd (true≢false (sym is))
-unit_is (plan.semi left right ks keeping) is = absurd (true≢false (sym is))
-unit_is (plan.lookup p column attribute) is = absurd (true≢false (sym is))
-unit_is (plan.filter p test) is = absurd (true≢false (sym is))
-unit_is (plan.all_different p columns) is = absurd (true≢false (sym is))
-unit_is (plan.project p outputs) is = absurd (true≢false (sym is))
-unit_is (plan.distinct p) is = absurd (true≢false (sym is))
-unit_is (plan.union left right) is = absurd (true≢false (sym is))
+unit_is _ is = absurd (true≢false (sym is))
 
 -- what is no part of the empty row is a scan
 other_is : (p : Plan) → is_unit p ≡ false → (is_scan p ≡ true) ⊎ (p ≡ plan.unit) → is_scan p ≡ true

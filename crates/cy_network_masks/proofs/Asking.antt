@@ -1,61 +1,26 @@
 -- What a condition asks of the labels in the second column.
-use Rattle.std.proofs.Common.{◌≡◌, Bool, true, false, ◌&&◌, ◌||◌, List, [], ◌∷◌, refl, sym, ap, ◌∙◌, map}
+use Rattle.std.proofs.Common.{◌≡◌, Bool, true, false, ◌&&◌, ◌||◌, List, [], ◌∷◌, refl, sym, ap, ◌∙◌}
 use Rattle.std.specs.Prelude.{IfSome, Option, None, Some, Result, Ok, Err}
-use Rattle.std.specs.List.{list_any}
 use Rattle.std.proofs.lemmas.Bool.{false≢true}
-use Rattle.std.specs.Str.{bytes_eq}
 use Rattle.cy_values.specs.declared.rows.Cell.{Cell}
-use Rattle.cy_values.specs.declared.rows.Cell.TheVariants as cell
-use Rattle.cy_values.specs.declared.scalars.Scalar.TheVariants as scalar
 use Rattle.cy_values.specs.declared.scalars.Value.{Value}
-use Rattle.cy_values.specs.declared.scalars.Value.TheVariants as value
 use Rattle.cy_values.specs.declared.truth.Truth.{Truth}
 use Rattle.cy_values.specs.declared.truth.Truth.TheVariants.{No, Unknown, Yes}
-use Rattle.cy_values.specs.Truth.{both, is_yes, known, one_at_least}
+use Rattle.cy_values.specs.Truth.{both, is_yes}
 use Rattle.cy_trees.specs.declared.expressions.BinaryOperator.TheVariants.{And, In}
 use Rattle.cy_trees.specs.Trees.{Expression, Name, binary, text}
 use Rattle.cy_expr.specs.declared.faults.EvalFault.{EvalFault}
 use Rattle.cy_expr.specs.Evaluation.{as_cell}
 use Rattle.cy_expr.specs.Faults.{on_one, on_two}
-use Rattle.cy_expr.specs.Lists.{equals_one, membership}
 use Rattle.cy_expr.specs.Logic.{conjunction, truth_of, value_of}
 use Rattle.cy_expr.specs.Operators.{value_in_cell}
-use Rattle.cy_planner_algebra.specs.Expressions.{cell_at, cell_of, holds, is_true}
+use Rattle.cy_planner_algebra.specs.Expressions.{cell_of, holds, is_true}
 use Rattle.cy_planner_algebra.specs.Plans.{computed}
 use Rattle.cy_network_sources.specs.Scans.{is_column}
-use Rattle.cy_network_sources.proofs.Through.{column_is}
+use Rattle.cy_network_sources.proofs.NeededLabels.{passes}
 use Rattle.cy_network_masks.specs.internal.Labelled.{Asks}
 
 -- ---- whether a label is in a list of labels
-
-either_known : (a b : Bool) → one_at_least (known a) (known b) ≡ known (a || b)
-either_known true true = refl
-either_known true false = refl
-either_known false true = refl
-either_known false false = refl
-
-label_among : (l : Name) (ls : List Name) → equals_one (value.Text l) (map (λ m. scalar.Text m) ls) ≡ known (list_any (bytes_eq l) ls)
-label_among l [] = refl
-label_among l (m ∷ ls) = ap (one_at_least (known (bytes_eq l m))) (label_among l ls) ∙ either_known (bytes_eq l m) (list_any (bytes_eq l) ls)
-
-known_value : (a : Bool) → value_of (known a) ≡ value.Bool a
-known_value true = refl
-known_value false = refl
-
-module _ (row : List Cell) (labels : Expression) (column : is_column 1 (computed labels) ≡ true) (l : Name) (ls : List Name)
-    (at : cell_at row 1 ≡ cell.Value (value.List (map (λ m. scalar.Text m) ls))) where
-  one_in : cell_of row (binary In (text l) labels) ≡ Ok (cell.Value (value.Bool (list_any (bytes_eq l) ls)))
-  one_in =
-      ap (λ r. as_cell (on_one (membership (value.Text l)) (on_one value_in_cell r))) (column_is labels 1 row column ∙ ap Ok at)
-      ∙ ap (λ t. Ok (cell.Value (value_of t))) (label_among l ls)
-      ∙ ap (λ v. Ok (cell.Value v)) (known_value (list_any (bytes_eq l) ls))
-
-  passes : holds (binary In (text l) labels) row ≡ list_any (bytes_eq l) ls
-  passes = ap (λ r. is_true (on_one truth_of (on_one value_in_cell r))) one_in ∙ by (list_any (bytes_eq l) ls)
-    where
-      by : (b : Bool) → is_true (on_one truth_of (on_one value_in_cell (Ok (cell.Value (value.Bool b))))) ≡ b
-      by true = refl
-      by false = refl
 
 pub asks_in : (label : Name) (test labels : Expression) → test ≡ binary In (text label) labels → is_column 1 (computed labels) ≡ true → Asks label test
 asks_in label test labels is second row ls at held = sym (passes row labels second label ls at) ∙ ap (λ (e : Expression). holds e row) (sym is) ∙ held

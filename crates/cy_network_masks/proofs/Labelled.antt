@@ -38,9 +38,6 @@ module _ {X : Type 0} (P : X → Type 0) where
 
 -- ---- scans of nodes
 
-pub names_nodes : NamesNodes plan.nodes
-names_nodes = record { column = refl; leaf = refl }
-
 pub names_lookup : (p : Plan) (column : ℕ) (attribute : Attribute) → column ≡ 0 → NamesNodes p → NamesNodes (plan.lookup p column attribute)
 names_lookup p column attribute first names = record { column = ap (λ n. if_this n (scan_column p)) first ∙ ap (if_this 0) names.column; leaf = names.leaf }
 
@@ -51,9 +48,6 @@ pub names_project : (p : Plan) (outputs : List Output) → kept_at 0 outputs ≡
 names_project p outputs first names = record { column = ap (λ o. kept o outputs) names.column ∙ first; leaf = names.leaf }
 
 -- ---- of one column
-
-pub single_nodes : IsSingle plan.nodes
-single_nodes = record { names = names_nodes; single = λ number node. ((cell.Node (record { 0 = number }), refl), tt) }
 
 pub single_filter : (p : Plan) (test : Expression) → IsSingle p → IsSingle (plan.filter p test)
 single_filter p test one = record {

@@ -1,4 +1,4 @@
-pub mod Bits
+pub mod Apart
 pub mod NameBits
 pub mod Asking
 pub mod Labelled

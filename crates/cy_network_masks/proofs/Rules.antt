@@ -1,6 +1,5 @@
--- What an entity without the bits of a mask leaves as it is of a part, by what it leaves of the parts below it.
+-- What an entity whose bits are apart from those of a mask leaves as it is of a part, by what it leaves of the parts below it.
 use Rattle.std.proofs.Common.{◌≡◌, ℕ, false, List, [], ◌∷◌, ◌++◌, Option, None, Some, map, filter, is_some, refl, sym, ap, subst, ◌∙◌, inl, inr}
-use Rattle.std.specs.Int.Bits.{bit_and}
 use Rattle.cy_values.specs.declared.rows.Cell.TheVariants as cell
 use Rattle.cy_trees.specs.Trees.{Expression, Name}
 use Rattle.cy_graph.specs.declared.nodes.Node.{Node}
@@ -21,27 +20,27 @@ use Rattle.cy_network_relevance.specs.internal.Kept.{NodeKept, RelKept}
 use Rattle.cy_network_relevance.proofs.Rules.{no_nodes, no_rels, none_of_types, of_another}
 use Rattle.cy_network_masks.specs.declared.masks.Mask.{Mask}
 use Rattle.cy_network_masks.specs.Masks.{joined}
-use Rattle.cy_network_masks.specs.Names.{node_bits, rel_bits}
+use Rattle.cy_network_masks.specs.Names.{AreBitsApart, lowest_bits, no_bits, node_bits, rel_bits}
 use Rattle.cy_network_masks.specs.internal.Labelled.{LacksWithout}
 use Rattle.cy_network_masks.specs.internal.Left.{IsLimited, IsReadOf, IsWithin, LeavesUnread, MissesNode, MissesRel, label_mask, rels_mask}
-use Rattle.cy_network_masks.proofs.Bits.{left_apart, right_apart}
+use Rattle.cy_network_masks.proofs.Apart.{left_apart, right_apart}
 use Rattle.cy_network_masks.proofs.NameBits.{lacks_label, lacks_types, no_node, no_rel}
 
 -- ---- masks within others
 
 pub within_itself : (mask : Mask) → IsWithin mask mask
-within_itself mask = record { nodes = λ bits none. none; rels = λ bits none. none }
+within_itself mask = record { nodes = λ bits apart. apart; rels = λ bits apart. apart }
 
 pub within_first : (a b mask : Mask) → IsWithin (joined a b) mask → IsWithin a mask
 within_first a b mask within = record {
-  nodes = λ bits none. left_apart bits a.nodes b.nodes (within.nodes bits none);
-  rels = λ bits none. left_apart bits a.rels b.rels (within.rels bits none);
+  nodes = λ bits apart. left_apart bits a.nodes b.nodes (within.nodes bits apart);
+  rels = λ bits apart. left_apart bits a.rels b.rels (within.rels bits apart);
 }
 
 pub within_second : (a b mask : Mask) → IsWithin (joined a b) mask → IsWithin b mask
 within_second a b mask within = record {
-  nodes = λ bits none. right_apart bits a.nodes b.nodes (within.nodes bits none);
-  rels = λ bits none. right_apart bits a.rels b.rels (within.rels bits none);
+  nodes = λ bits apart. right_apart bits a.nodes b.nodes (within.nodes bits apart);
+  rels = λ bits apart. right_apart bits a.rels b.rels (within.rels bits apart);
 }
 
 module _ (mask other : Mask) (within : IsWithin mask other) where
@@ -50,13 +49,6 @@ module _ (mask other : Mask) (within : IsWithin mask other) where
 
   fewer_rels : (old new : Option Rel) → MissesRel other old new → MissesRel mask old new
   fewer_rels old new misses = (within.rels (rel_bits old) misses.0, within.rels (rel_bits new) misses.1)
-
-  pub limited_within : (p : Plan) → IsLimited mask p → IsLimited other p
-  limited_within p limited = record {
-    column = limited.column;
-    nodes = λ old new misses. limited.nodes old new (fewer_nodes old new misses);
-    rels = λ old new misses. limited.rels old new (fewer_rels old new misses);
-  }
 
   pub read_within : (attribute : Attribute) → IsReadOf mask attribute → IsReadOf other attribute
   read_within attribute read = record {
@@ -72,19 +64,19 @@ module _ (mask other : Mask) (within : IsWithin mask other) where
 
 -- ---- attributes
 
-pub read_property : (mask : Mask) (key : Name) → mask ≡ record { nodes = 1; rels = 1 } → IsReadOf mask (Property key)
+pub read_property : (mask : Mask) (key : Name) → mask ≡ record { nodes = lowest_bits; rels = lowest_bits } → IsReadOf mask (Property key)
 read_property mask key is = subst (λ (m : Mask). IsReadOf m (Property key)) (sym is) (record {
   nodes = λ old new misses. ap (node_attribute (Property key)) (no_node old misses.0 ∙ sym (no_node new misses.1));
   rels = λ old new misses. ap (rel_attribute (Property key)) (no_rel old misses.0 ∙ sym (no_rel new misses.1));
 })
 
-pub read_type : (mask : Mask) → mask ≡ record { nodes = 0; rels = 1 } → IsReadOf mask RelType
+pub read_type : (mask : Mask) → mask ≡ record { nodes = no_bits; rels = lowest_bits } → IsReadOf mask RelType
 read_type mask is = subst (λ (m : Mask). IsReadOf m RelType) (sym is) (record {
   nodes = λ old new misses. refl;
   rels = λ old new misses. ap (rel_attribute RelType) (no_rel old misses.0 ∙ sym (no_rel new misses.1));
 })
 
-pub read_labels : (mask : Mask) → mask ≡ record { nodes = 1; rels = 0 } → IsReadOf mask Labels
+pub read_labels : (mask : Mask) → mask ≡ record { nodes = lowest_bits; rels = no_bits } → IsReadOf mask Labels
 read_labels mask is = subst (λ (m : Mask). IsReadOf m Labels) (sym is) (record {
   nodes = λ old new misses. ap (node_attribute Labels) (no_node old misses.0 ∙ sym (no_node new misses.1));
   rels = λ old new misses. refl;
@@ -119,15 +111,15 @@ module _ (types : List Name) (orientation : Orientation) where
   rel_project p outputs number None none = refl
   rel_project p outputs number (Some rel) none = ap (map (projected outputs)) none
 
-  rows_missed : (rel : Option Rel) → bit_and (rels_mask types).rels (rel_bits rel) ≡ 0 → (other : Orientation) (number : ℕ) → rel_rows types other number rel ≡ []
+  rows_missed : (rel : Option Rel) → AreBitsApart (rels_mask types).rels (rel_bits rel) → (other : Orientation) (number : ℕ) → rel_rows types other number rel ≡ []
   rows_missed None misses other number = refl
   rows_missed (Some rel) misses other number = by types misses
     where
-      by : (ts : List Name) → bit_and (rels_mask ts).rels (rel_bits (Some rel)) ≡ 0 → rel_rows ts other number (Some rel) ≡ []
-      by [] none = let gone : Some rel ≡ None = no_rel (Some rel) none in absurd (cc)
-      by (t ∷ ts) none = of_another (t ∷ ts) rel false (sym (lacks_types (t ∷ ts) rel none)) refl other number
+      by : (ts : List Name) → AreBitsApart (rels_mask ts).rels (rel_bits (Some rel)) → rel_rows ts other number (Some rel) ≡ []
+      by [] apart = let gone : Some rel ≡ None = no_rel (Some rel) apart in absurd (cc)
+      by (t ∷ ts) apart = of_another (t ∷ ts) rel false (sym (lacks_types (t ∷ ts) rel apart)) refl other number
 
-pub limited_nodes : (mask : Mask) → mask ≡ record { nodes = 1; rels = 0 } → IsLimited mask plan.nodes
+pub limited_nodes : (mask : Mask) → mask ≡ record { nodes = lowest_bits; rels = no_bits } → IsLimited mask plan.nodes
 limited_nodes mask is = subst (λ (m : Mask). IsLimited m plan.nodes) (sym is) (record {
   column = refl;
   nodes = λ old new misses leaf number. (ap (node_made (scan_parts plan.nodes) number) (no_node old misses.0), ap (node_made (scan_parts plan.nodes) number) (no_node new misses.1));
@@ -151,7 +143,7 @@ limited_label label p lacks = record {
   rels = λ old new misses types orientation leaf number. no_rels types orientation (sym lacks.names.leaf ∙ leaf);
 }
   where
-    one : (node : Option Node) → bit_and (label_mask label).nodes (node_bits node) ≡ 0 → (number : ℕ) → node_made (scan_parts p) number node ≡ []
+    one : (node : Option Node) → AreBitsApart (label_mask label).nodes (node_bits node) → (number : ℕ) → node_made (scan_parts p) number node ≡ []
     one None misses number = refl
     one (Some node) misses number = lacks.needed number node (lacks_label label node misses)
 
@@ -211,9 +203,6 @@ unread_limited_filter mask p test limited = record {
   nodes = λ old new misses. inl (ap is_some limited.column, kept_node mask (plan.filter p test) limited old new misses);
   rels = λ old new misses. inl (ap is_some limited.column, kept_rel mask (plan.filter p test) limited old new misses);
 }
-
-pub unread_unit : (mask : Mask) → LeavesUnread mask plan.unit
-unread_unit mask = record { nodes = λ old new misses. tt; rels = λ old new misses. tt }
 
 module _ (mask : Mask) (p : Plan) (left : LeavesUnread mask p) where
   pub unread_lookup : (column : ℕ) (attribute : Attribute) → IsReadOf mask attribute → LeavesUnread mask (plan.lookup p column attribute)

@@ -2,6 +2,7 @@
 
 ghost use Rattle.cy_network_masks.specs.internal.Left.{IsReadOf};
 
+use crate::bits::{LOWEST, NONE};
 use crate::masks::Mask;
 use cy_planner_algebra::Attribute;
 
@@ -10,8 +11,17 @@ pub(crate) fn attribute_mask(attribute: &Attribute) -> Mask
     ensures { IsReadOf result attribute.now }
 {
     match attribute {
-        Attribute::Property(_) => Mask { nodes: 1, rels: 1 },
-        Attribute::RelType => Mask { nodes: 0, rels: 1 },
-        Attribute::Labels => Mask { nodes: 1, rels: 0 },
+        Attribute::Property(_) => Mask {
+            nodes: LOWEST,
+            rels: LOWEST,
+        },
+        Attribute::RelType => Mask {
+            nodes: NONE,
+            rels: LOWEST,
+        },
+        Attribute::Labels => Mask {
+            nodes: LOWEST,
+            rels: NONE,
+        },
     }
 }

@@ -2,6 +2,7 @@
 #![tactic(auto)]
 
 mod attributes;
+mod bits;
 mod conditions;
 mod limits;
 mod masks;

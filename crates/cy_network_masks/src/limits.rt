@@ -5,20 +5,24 @@ ghost use Rattle.cy_planner_algebra.specs.PlanModels.{plan_of};
 ghost use Rattle.cy_network_masks.specs.internal.Left as left;
 ghost use Rattle.cy_network_masks.specs.internal.Left.{IsLimited};
 
+use crate::bits::{LOWEST, NONE};
 use crate::conditions::{keeps_first, label_asked};
 use crate::masks::Mask;
-use crate::names::{name_bit, with_names};
+use crate::names::{name_bits, with_names};
 use cy_planner_algebra::Operator;
 use cy_values::Text;
 
-/// The bits of which each entity has one that has a row in a part, where this is a scan that names its entities in the first column.
+/// Bits from which no entity is apart that has a row in a part, where this is a scan that names its entities in the first column.
 pub(crate) fn limit_of(part: &Operator) -> Option<Mask>
     ensures { IfSome result (λ limit. IsLimited limit (plan_of part.now)) }
 {
     let mut part = part;
     loop {
         match part {
-            Operator::Nodes => return Some(Mask { nodes: 1, rels: 0 }),
+            Operator::Nodes => return Some(Mask {
+                nodes: LOWEST,
+                rels: NONE,
+            }),
             Operator::Rels(types, _) => return Some(rels_mask(types)),
             Operator::Lookup(below, column, _) => {
                 if *column > 0 {
@@ -49,25 +53,28 @@ pub(crate) fn limit_of(part: &Operator) -> Option<Mask>
     }
 }
 
-/// The bits of which each relationship of some types has one; where none is named, each is of them.
+/// Bits from which no relationship of some types is apart; where none is named, each is of them.
 pub(crate) fn rels_mask(types: &[Text]) -> Mask
     ensures { result ≡ left.rels_mask types.now }
 {
     if types.is_empty() {
-        return Mask { nodes: 0, rels: 1 };
+        return Mask {
+            nodes: NONE,
+            rels: LOWEST,
+        };
     }
     Mask {
-        nodes: 0,
-        rels: with_names(0, types),
+        nodes: NONE,
+        rels: with_names(NONE, types),
     }
 }
 
-// The bit that each node with a label has.
+// The bits that each node with a label has.
 fn label_mask(label: &Text) -> Mask
     ensures { result ≡ left.label_mask label.now }
 {
     Mask {
-        nodes: name_bit(label),
-        rels: 0,
+        nodes: name_bits(label),
+        rels: NONE,
     }
 }

@@ -5,19 +5,20 @@ ghost use Rattle.cy_planner_algebra.specs.PlanModels.{plan_of};
 ghost use Rattle.cy_network_masks.specs.Masks as spec;
 ghost use Rattle.cy_network_masks.specs.Masks.{AreApart, Covers, mask_of};
 
+use crate::bits::Bits;
 use crate::plans::plan_mask;
 use crate::touched::{touched_nodes, touched_rels};
 use cy_index::Sight;
 use cy_network_touches::GraphChange;
 use cy_planner_algebra::Operator;
 
-/// A set of bits: of what a plan reads, or of what a change touched. A name has one bit, which it may share with others.
+/// The bits of what a plan reads, or of what a change touched. A name has one bit in each of two words, either of which it may share with others.
 #[derive(Clone, Copy, Debug, PartialEq, Eq)]
 pub struct Mask {
-    /// The lowest for nodes, the others for their labels.
-    pub(crate) nodes: u64,
-    /// The lowest for relationships, the others for their types.
-    pub(crate) rels: u64,
+    /// The lowest bits for nodes, the others for their labels.
+    pub(crate) nodes: Bits,
+    /// The lowest bits for relationships, the others for their types.
+    pub(crate) rels: Bits,
 }
 
 impl Mask {
@@ -39,11 +40,11 @@ impl Mask {
         Mask { nodes, rels }
     }
 
-    /// Whether two have a bit in common.
+    /// Whether two have bits in common in both words of nodes, or in both of relationships.
     pub fn meets(self, other: Mask) -> bool
         ensures { result ≡ false → AreApart self other }
     {
-        self.nodes & other.nodes != 0 || self.rels & other.rels != 0
+        self.nodes.meets(other.nodes) || self.rels.meets(other.rels)
     }
 
     /// The bits of both.
@@ -51,8 +52,8 @@ impl Mask {
         ensures { result ≡ spec.joined self other }
     {
         Mask {
-            nodes: self.nodes | other.nodes,
-            rels: self.rels | other.rels,
+            nodes: self.nodes.with(other.nodes),
+            rels: self.rels.with(other.rels),
         }
     }
 }

@@ -6,6 +6,7 @@ ghost use Rattle.cy_network_masks.specs.Masks.{Covers};
 ghost use Rattle.cy_network_masks.specs.internal.Left.{IsLimited, LeavesUnread};
 
 use crate::attributes::attribute_mask;
+use crate::bits::{LOWEST, NONE};
 use crate::conditions::keeps_first;
 use crate::limits::{limit_of, rels_mask};
 use crate::masks::Mask;
@@ -24,12 +25,18 @@ fn parts_mask(part: &Operator) -> Mask
     ensures { LeavesUnread result (plan_of part.now) }
 {
     let mut part = part;
-    let mut mask = Mask { nodes: 0, rels: 0 };
+    let mut mask = Mask {
+        nodes: NONE,
+        rels: NONE,
+    };
     let mut known = false;
     loop {
         match part {
             Operator::Unit => return mask,
-            Operator::Nodes => return mask.with(Mask { nodes: 1, rels: 0 }),
+            Operator::Nodes => return mask.with(Mask {
+                nodes: LOWEST,
+                rels: NONE,
+            }),
             Operator::Rels(types, _) => return mask.with(rels_mask(types)),
             Operator::Lookup(below, column, attribute) => {
                 if let Some(limit) = limit_unless(known, part) {
@@ -87,7 +94,7 @@ fn parts_mask(part: &Operator) -> Mask
     }
 }
 
-// The bits of which each entity has one that has a row in a part, unless it is known that this is no such scan.
+// Bits from which no entity is apart that has a row in a part, unless it is known that this is no such scan.
 fn limit_unless(known: bool, part: &Operator) -> Option<Mask>
     ensures { IfSome result (λ limit. IsLimited limit (plan_of part.now)) }
 {

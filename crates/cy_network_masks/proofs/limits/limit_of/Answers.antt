@@ -8,6 +8,7 @@ use Rattle.cy_planner_algebra.specs.Plans.{Plan}
 use Rattle.cy_planner_algebra.specs.PlanModels.{output_of, plan_of, plan_step}
 use Rattle.cy_network_sources.specs.Scans.{kept_at}
 use Rattle.cy_network_masks.specs.declared.masks.Mask.{Mask}
+use Rattle.cy_network_masks.specs.Names.{lowest_bits, no_bits}
 use Rattle.cy_network_masks.specs.internal.Labelled.{LacksWithout}
 use Rattle.cy_network_masks.specs.internal.Left.{IsLimited, label_mask, rels_mask}
 use Rattle.cy_network_masks.proofs.Rules.{limited_filter, limited_label, limited_lookup, limited_nodes, limited_project, limited_rels}
@@ -39,7 +40,7 @@ loop-part-preserved c = λ mask limited.
 
 pub returns-in-Nodes : goal.returns-in-Nodes
 returns-in-Nodes c =
-    let mask : Mask = record { nodes = 1; rels = 0 } in
+    let mask : Mask = record { nodes = lowest_bits; rels = no_bits } in
     let is : plan_of c.loop-part.part.now ≡ plan.nodes = search (rules, the_lemmas) in
     c.loop-part.invariant mask (subst (IsLimited mask) (sym is) (limited_nodes mask refl))
 

@@ -6,5 +6,5 @@ use Rattle.cy_network_masks.proofs.names.name_sum.Given as goal
 abbrev pub invariant-loop-byte : goal.invariant-loop-byte
 invariant-loop-byte l = record {
   sum : spec.name_sum l.sum (drop l.byte-index l.name) ≡ spec.name_sum 0 l.name;
-  below : l.sum < 61;
+  below : l.sum < 4294967296;
 }

@@ -8,6 +8,7 @@ use Rattle.cy_planner_algebra.specs.Plans as plan
 use Rattle.cy_planner_algebra.specs.Plans.{Plan}
 use Rattle.cy_planner_algebra.specs.PlanModels.{output_of, plan_of, plan_step}
 use Rattle.cy_network_masks.specs.declared.masks.Mask.{Mask}
+use Rattle.cy_network_masks.specs.Names.{lowest_bits, no_bits}
 use Rattle.cy_network_masks.specs.internal.Left.{IsLimited, LeavesUnread, rels_mask}
 use Rattle.cy_network_masks.proofs.Rules.{limited_nodes, limited_rels, unread_nodes, unread_rels}
 use Rattle.cy_network_masks.proofs.Walk.{Leads, ends_filter, ends_here, ends_lookup, leads_different, leads_distinct, leads_filter, leads_join, leads_lookup, leads_outer, leads_project, leads_semi, leads_union}
@@ -24,7 +25,7 @@ below_known so_far at below part whole is smaller within leads = record {
 pub returns-in-Nodes : goal.returns-in-Nodes
 returns-in-Nodes t c =
     let whole = plan_of c.args.part.now in
-    let mask : Mask = record { nodes = 1; rels = 0 } in
+    let mask : Mask = record { nodes = lowest_bits; rels = no_bits } in
     let is : plan_of c.loop-part.part.now ≡ plan.nodes = search (rules, the_lemmas) in
     subst (λ (m : Mask). LeavesUnread m whole) (sym c.with.ensures)
     (ends_here c.loop-part.mask (plan_of c.loop-part.part.now) whole c.loop-part.invariant.leads mask (subst (LeavesUnread mask) (sym is) (unread_nodes mask (limited_nodes mask refl))))

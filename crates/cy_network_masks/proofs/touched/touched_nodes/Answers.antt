@@ -1,9 +1,10 @@
 use Rattle.std.proofs.Common.{◌≡◌, ℕ, List, Option, map, refl, sym, ap, ◌∙◌, Bor}
-use Rattle.std.specs.Int.RustNames.{bit_or}
 use Rattle.std.specs.Option.{option_copied}
 use Rattle.cy_graph.specs.declared.nodes.Node.{Node}
 use Rattle.cy_graph.specs.Graph.{Versions, node_at}
 use Rattle.cy_index.specs.Index.{SightState}
+use Rattle.cy_network_masks.specs.declared.bits.Bits.{Bits}
+use Rattle.cy_network_masks.specs.Names.{joined_bits, node_bits, no_bits}
 use Rattle.cy_network_masks.specs.Masks.{with_nodes}
 use Rattle.cy_network_masks.proofs.TouchedBits.{next_node}
 use Rattle.cy_network_masks.proofs.touched.touched_nodes.Goals as goal
@@ -13,7 +14,7 @@ loop-number-init c =
     let iterator = c.into_iter-number-iterator.result in
     let all : map (λ (e : ℕ × Option (Bor Node)). (e.0, option_copied e.1)) iterator ≡ c.args.change.now.nodes =
     ap (map (λ (e : ℕ × Option (Bor Node)). (e.0, option_copied e.1))) c.into_iter-number-iterator.ensures.into_iter_gives ∙ c.nodes-number-items.ensures in
-    record { bits = ap (with_nodes c.args.sight.now.graph.now 0) all; graph = refl }
+    record { bits = ap (with_nodes c.args.sight.now.graph.now no_bits) all; graph = refl }
 
 pub loop-number-preserved : goal.loop-number-preserved
 loop-number-preserved c =
@@ -21,8 +22,10 @@ loop-number-preserved c =
     let graph = c.args.sight.now.graph.now in
     let now = c.node-now.ensures.node ∙ ap (λ (g : Versions). node_at (record { 0 = c.in-Some.number.now }) g.now) so_far.graph in
     let rest = map (λ (e : ℕ × Option (Bor Node)). (e.0, option_copied e.1)) c.next.new.self in
+    let both : c.with-bits.result ≡ joined_bits (joined_bits c.loop-number.bits (node_bits (option_copied c.in-Some.was.now))) (node_bits (option_copied c.node-now.result)) =
+    c.with-bits.ensures ∙ (λ i. joined_bits (c.with-before.ensures i) (c.node_bits-new.ensures i)) ∙ (λ i. joined_bits (joined_bits c.loop-number.bits (c.node_bits-old.ensures i)) (node_bits (option_copied c.node-now.result))) in
     record {
-      bits = (λ i. with_nodes graph (bit_or (bit_or c.loop-number.bits (c.node_bits-old.ensures i)) (c.node_bits-new.ensures i)) rest)
+      bits = ap (λ (b : Bits). with_nodes graph b rest) both
           ∙ next_node graph c.loop-number.number-iterator c.next.new.self c.in-Some.number.now c.in-Some.was.now (option_copied c.node-now.result) c.loop-number.bits c.in-Some.ensures.steps now ∙ so_far.bits;
       graph = ap (λ (s : SightState). s.graph) c.node-now.ensures.read ∙ so_far.graph;
     }

@@ -1,0 +1,5 @@
+pub mod SameRows
+pub mod Elements
+pub mod Keeping
+pub mod ColumnCells
+pub mod Comparing

@@ -1,0 +1,3 @@
+-- What proofs alone need.
+pub mod Cells
+pub mod Columns

@@ -20,4 +20,4 @@ pub use keyed::KeyedMemory;
 pub use listed::ListMemory;
 pub use lists::ListCursor;
 pub use memory::{Listed, Made, Memory, RowDelta};
-pub use tables::KeyedCursor;
+pub use tables::{GREATEST_COUNT, KeyedCursor};

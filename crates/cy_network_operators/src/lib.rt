@@ -15,5 +15,5 @@ pub use distinct_rows::distinct;
 pub use filters::{all_different, filter};
 pub use joins::join_through;
 pub use memories::{records_with, stage_deltas};
-pub use pairs::{appended, followed_by, preceded_by};
+pub use pairs::{appended, followed_by, preceded_by, product};
 pub use passages::{Passage, Unchanged};

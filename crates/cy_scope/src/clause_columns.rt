@@ -29,43 +29,37 @@ fn resolve_items(alloc: Global, scope: &Scope, items: &mut [Item])
     }
 }
 
+/// What keys are resolved by: the scope before their projection, the columns that it makes and what else keys see, and its items.
+#[derive(Clone, Copy)]
+struct KeyScopes<'a> {
+    before: &'a Scope,
+    columns: &'a Scope,
+    others: &'a Scope,
+    places: &'a Places,
+    items: &'a [Item],
+}
+
 /// Sets the columns of a key's variables: as those of the item that it repeats, or else as keys see them.
-fn resolve_key(
-    alloc: Global,
-    before: &Scope,
-    columns: &Scope,
-    others: &Scope,
-    places: &Places,
-    items: &[Item],
-    key: &mut Key,
-) -> Result<(), AllocError>
-    requires { ArePlaced places.now.entries (map item_of items.now) }
-    ensures { OnOk result (key_of key.new ≡ spec.resolved_key before.now (columns.now ++ others.now) (map item_of items.now) (key_of key.old)) }
+fn resolve_key(alloc: Global, scopes: &KeyScopes<'_>, key: &mut Key) -> Result<(), AllocError>
+    requires { ArePlaced scopes.now.places.now.entries (map item_of scopes.now.items.now) }
+    ensures { OnOk result (key_of key.new ≡ spec.resolved_key scopes.now.before.now (scopes.now.columns.now ++ scopes.now.others.now) (map item_of scopes.now.items.now) (key_of key.old)) }
 {
-    let repeated = repeats(alloc, places, items, &key.expression)?;
+    let repeated = repeats(alloc, scopes.places, scopes.items, &key.expression)?;
     let expression = mem::replace(&mut key.expression, Expr::Null);
     key.expression = if repeated {
-        resolved_expression(alloc, before, expression)
+        resolved_expression(alloc, scopes.before, expression)
     } else {
-        resolved(columns, others, expression)
+        resolved(scopes.columns, scopes.others, expression)
     };
     Ok(())
 }
 
-fn resolve_keys(
-    alloc: Global,
-    before: &Scope,
-    columns: &Scope,
-    others: &Scope,
-    places: &Places,
-    items: &[Item],
-    keys: &mut [Key],
-) -> Result<(), AllocError>
-    requires { ArePlaced places.now.entries (map item_of items.now) }
-    ensures { OnOk result (map key_of keys.new ≡ map (spec.resolved_key before.now (columns.now ++ others.now) (map item_of items.now)) (map key_of keys.old)) }
+fn resolve_keys(alloc: Global, scopes: &KeyScopes<'_>, keys: &mut [Key]) -> Result<(), AllocError>
+    requires { ArePlaced scopes.now.places.now.entries (map item_of scopes.now.items.now) }
+    ensures { OnOk result (map key_of keys.new ≡ map (spec.resolved_key scopes.now.before.now (scopes.now.columns.now ++ scopes.now.others.now) (map item_of scopes.now.items.now)) (map key_of keys.old)) }
 {
     for key in keys.iter_mut() {
-        resolve_key(alloc, before, columns, others, places, items, key)?;
+        resolve_key(alloc, scopes, key)?;
     }
     Ok(())
 }
@@ -85,15 +79,14 @@ fn resolve_order(
     let places = places_of(alloc, &projection.items)?;
     let nothing = Scope::new(alloc);
     let others = seen_by_keys(projection, &nothing, before);
-    resolve_keys(
-        alloc,
+    let scopes = KeyScopes {
         before,
         columns,
         others,
-        &places,
-        &projection.items,
-        &mut projection.order,
-    )
+        places: &places,
+        items: &projection.items,
+    };
+    resolve_keys(alloc, &scopes, &mut projection.order)
 }
 
 fn resolve_projection(

@@ -7,4 +7,4 @@ use Rattle.cy_scope.proofs.clause_columns.resolve_keys.Given as goal
 
 abbrev pub invariant-loop-key : goal.invariant-loop-key
 invariant-loop-key l =
-    mixed key_of (spec.resolved_key l.before (l.columns ++ l.others) (map item_of l.items)) l.key-index l.keys ≡ map (spec.resolved_key l.before (l.columns ++ l.others) (map item_of l.items)) (map key_of l.initial.keys)
+    mixed key_of (spec.resolved_key l.scopes.before.now (l.scopes.columns.now ++ l.scopes.others.now) (map item_of l.scopes.items.now)) l.key-index l.keys ≡ map (spec.resolved_key l.scopes.before.now (l.scopes.columns.now ++ l.scopes.others.now) (map item_of l.scopes.items.now)) (map key_of l.initial.keys)

@@ -2,13 +2,13 @@
 
 ghost use Rattle.std.specs.Prelude.{◌≡◌, ◌++◌, ◌&&◌, IfOk, map};
 ghost use Rattle.std.specs.List.{list_all};
-ghost use Rattle.cy_scope_kinds.specs.Sure.{is_known_list, is_literal, is_sure_binary, is_sure_unary};
+ghost use Rattle.cy_scope_kinds.specs.Sure.{is_literal};
 ghost use Rattle.cy_trees.specs.TreeModels.{expression_of, expressions_from, link_of, links_from};
 ghost use Rattle.cy_oneshot_outcomes.specs.Certain as spec;
 ghost use Rattle.cy_oneshot_patterns.specs.internal.Patterns.{place_of};
 
 use cy_oneshot_patterns::Place;
-use cy_scope_kinds::{Function, is_literal};
+use cy_scope_kinds::{Function, is_known_list, is_literal, is_sure_binary, is_sure_unary};
 use cy_trees::{BinaryOperator, Comparator, Expr, Link, UnaryOperator};
 use cy_values::{Cell, Fault, Value};
 use std::alloc::Global;
@@ -142,14 +142,14 @@ fn is_certain(shapes: &[Shape], expression: &Expr) -> bool
         Expr::Property(owner, _) => variable_shape(shapes, owner).has_properties(),
         Expr::HasLabels(owner, _) => variable_shape(shapes, owner).has_labels(),
         Expr::Unary(operator, operand) => {
-            is_certain(shapes, operand) && may_take(*operator, gives_flag(shapes, operand))
+            is_certain(shapes, operand) && is_sure_unary(*operator, gives_flag(shapes, operand))
         }
         Expr::Binary(operator, left, right) => {
             is_certain(shapes, left)
                 && is_certain(shapes, right)
                 && gives_value(shapes, left)
                 && gives_value(shapes, right)
-                && may_join(
+                && is_sure_binary(
                     *operator,
                     gives_flag(shapes, left) && gives_flag(shapes, right),
                     is_known_list(right),
@@ -232,30 +232,6 @@ fn is_certain_value(shapes: &[Shape], expression: &Expr) -> bool
     is_certain(shapes, expression) && gives_value(shapes, expression)
 }
 
-// Whether an operator surely has a value for a value, which may be a flag.
-fn may_take(operator: UnaryOperator, flag: bool) -> bool
-    ensures { result ≡ is_sure_unary operator flag }
-{
-    match operator {
-        UnaryOperator::Not => flag,
-        UnaryOperator::IsNull | UnaryOperator::IsNotNull => true,
-        UnaryOperator::Plus | UnaryOperator::Minus => false,
-    }
-}
-
-// Whether an operator surely has a value for two values, which may both be flags, and of which the right one may be a known
-// list.
-fn may_join(operator: BinaryOperator, flags: bool, known: bool) -> bool
-    ensures { result ≡ is_sure_binary operator flags known }
-{
-    match operator {
-        BinaryOperator::Or | BinaryOperator::Xor | BinaryOperator::And => flags,
-        BinaryOperator::In => known,
-        BinaryOperator::Contains | BinaryOperator::StartsWith | BinaryOperator::EndsWith => true,
-        _ => false,
-    }
-}
-
 // Whether two cells may surely be compared, which may both be values.
 fn may_compare(comparator: Comparator, values: bool) -> bool
     ensures { result ≡ spec.may_compare comparator values }
@@ -321,19 +297,6 @@ fn all_literals(expressions: &[Expr]) -> bool
     ensures { result ≡ list_all (λ e. is_literal (expression_of e)) expressions.now }
 {
     expressions.iter().all(|expression| is_literal(expression))
-}
-
-// Whether an expression is a list that is written out, or the labels of a node.
-fn is_known_list(expression: &Expr) -> bool
-    ensures { result ≡ is_known_list (expression_of expression.now) }
-{
-    match expression {
-        Expr::List(_) => true,
-        Expr::Call(name, _, _) => {
-            matches!(Function::named(name.as_str()), Some(Function::Labels))
-        }
-        _ => false,
-    }
 }
 
 // The shape of the first of arguments, if it is the only one and a variable.

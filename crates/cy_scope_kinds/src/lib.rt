@@ -23,5 +23,5 @@ pub use kinds::Kind;
 pub use resolving::{resolved, resolved_variable};
 pub use sameness::same;
 pub use scopes::{Scope, relationship_kind};
-pub use sure::{is_literal, is_sure, is_sure_flag};
+pub use sure::{is_known_list, is_literal, is_sure, is_sure_binary, is_sure_flag, is_sure_unary};
 pub use tree_words::words_of;

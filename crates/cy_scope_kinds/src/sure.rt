@@ -21,7 +21,7 @@ pub fn is_literal(expression: &Expr) -> bool
 }
 
 /// Whether the expression is a list that is written out, or `labels(..)`.
-fn is_known_list(expression: &Expr) -> bool
+pub fn is_known_list(expression: &Expr) -> bool
     ensures { result ≡ spec.is_known_list (expression_of expression.now) }
 {
     match expression {
@@ -55,7 +55,7 @@ fn have_size(scope: &Scope, elements: &[Expr]) -> bool
 }
 
 /// Whether an operator is sure on a sure operand, which may be a flag.
-fn is_sure_unary(operator: UnaryOperator, flag: bool) -> bool
+pub fn is_sure_unary(operator: UnaryOperator, flag: bool) -> bool
     ensures { result ≡ spec.is_sure_unary operator flag }
 {
     match operator {
@@ -66,7 +66,7 @@ fn is_sure_unary(operator: UnaryOperator, flag: bool) -> bool
 }
 
 /// Whether an operator is sure on sure operands, which may both be flags, and of which the right one may be a known list.
-fn is_sure_binary(operator: BinaryOperator, flags: bool, known: bool) -> bool
+pub fn is_sure_binary(operator: BinaryOperator, flags: bool, known: bool) -> bool
     ensures { result ≡ spec.is_sure_binary operator flags known }
 {
     match operator {

@@ -6,11 +6,9 @@ mod columns;
 mod matches;
 mod own_columns;
 mod patterns;
-mod places;
 mod projections;
 
 pub use matches::match_rows;
 pub use own_columns::columns_of;
 pub use patterns::own_paths;
-pub use places::all_places;
 pub use projections::{project_rows, with_rows};

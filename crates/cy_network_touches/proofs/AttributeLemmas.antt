@@ -21,7 +21,6 @@ use Rattle.cy_network_touches.specs.declared.attributes.Attributes.{Attributes}
 use Rattle.cy_network_touches.specs.Changes.{IsChange, Touches}
 use Rattle.cy_network_touches.specs.internal.Attributes.{AreAttributes, reattributed, still, still_deltas, valued}
 use Rattle.cy_network_touches.specs.Attributes.{node_attribute, rel_attribute}
-use Rattle.cy_network_touches.proofs.LookupDeltas.{still_by_graphs}
 use Rattle.cy_network_touches.proofs.LookupLemmas.{at_node, at_rel, valued_is}
 
 -- the attributes of the entity in a cell
@@ -39,22 +38,12 @@ rel_cell now touches attribute id c is values are before change =
     subst (λ (a : Value). AreAttributes a (attribute_of now.content attribute c) values) (sym (ap (attribute_of before.content attribute) is ∙ at_rel before attribute id))
     (subst (λ (b : Value). AreAttributes (rel_attribute attribute (rel_at id before)) b values) (sym (ap (attribute_of now.content attribute) is ∙ at_rel now attribute id)) (are before change))
 
--- what rows make that name a touched node, and a touched relationship
-pub still_node : (before now : State) (column : ℕ) (attribute : Attribute) (was staged : Counts) (id : NodeId) (values : Attributes)
-    → AreAttributes (node_attribute attribute (node_at id before)) (node_attribute attribute (node_at id now)) values → (row : List Cell)
-    → still_deltas (column ∷ []) was staged (cell.Node id ∷ []) values row ≡ still before.content now.content column attribute was staged (cell.Node id) row
-still_node before now column attribute was staged id values are =
-    still_by_graphs before.content now.content column attribute was staged (cell.Node id) values
-    (subst (λ (a : Value). AreAttributes a (attribute_of now.content attribute (cell.Node id)) values) (sym (at_node before attribute id))
-    (subst (λ (b : Value). AreAttributes (node_attribute attribute (node_at id before)) b values) (sym (at_node now attribute id)) are))
-
-pub still_rel : (before now : State) (column : ℕ) (attribute : Attribute) (was staged : Counts) (id : RelId) (values : Attributes)
-    → AreAttributes (rel_attribute attribute (rel_at id before)) (rel_attribute attribute (rel_at id now)) values → (row : List Cell)
-    → still_deltas (column ∷ []) was staged (cell.Rel id ∷ []) values row ≡ still before.content now.content column attribute was staged (cell.Rel id) row
-still_rel before now column attribute was staged id values are =
-    still_by_graphs before.content now.content column attribute was staged (cell.Rel id) values
-    (subst (λ (a : Value). AreAttributes a (attribute_of now.content attribute (cell.Rel id)) values) (sym (at_rel before attribute id))
-    (subst (λ (b : Value). AreAttributes (rel_attribute attribute (rel_at id before)) b values) (sym (at_rel now attribute id)) are))
+-- and those of the entity in one that is the same
+pub same_cell : (now : State) (touches : Touches) (attribute : Attribute) (c other : Cell) → c ≡ other → (values : Attributes)
+    → ((before : State) → IsChange before now touches → AreAttributes (attribute_of before.content attribute other) (attribute_of now.content attribute other) values)
+    → (before : State) → IsChange before now touches → AreAttributes (attribute_of before.content attribute c) (attribute_of now.content attribute c) values
+same_cell now touches attribute c other is values are before change =
+    subst (λ (x : Cell). AreAttributes (attribute_of before.content attribute x) (attribute_of now.content attribute x) values) (sym is) (are before change)
 
 -- ---- what the three passes make together
 

@@ -87,17 +87,34 @@ pub(crate) fn attributes_at<'a>(
 {
     let cells = row.as_slice();
     if column < cells.len() {
-        match &cells[column] {
-            Cell::Node(id) => return node_attributes(alloc, change, sight, attribute, *id),
-            Cell::Rel(id) => return rel_attributes(alloc, change, sight, attribute, *id),
-            Cell::Rels(_) | Cell::Value(_) => {}
-        }
+        cell_attributes(alloc, change, sight, attribute, &cells[column])
+    } else {
+        Ok(Attributes::null())
     }
-    Ok(Attributes::null())
+}
+
+/// An attribute of the entity that a cell names. It reads one entity at most. Fails only when out of memory.
+pub(crate) fn cell_attributes<'a>(
+    alloc: Global,
+    change: &GraphChange<'a>,
+    sight: &mut Sight<'a>,
+    attribute: &Attribute,
+    cell: &Cell,
+) -> Result<Attributes, Fault>
+    ensures values { IfOk result (λ values. (before : State) → IsChange before sight.old.graph.now change.now
+        → AreAttributes (attribute_of before.content attribute.now cell.now) (attribute_of sight.old.graph.now.content attribute.now cell.now) values) }
+    ensures graph { sight.new.graph ≡ sight.old.graph }
+    ensures reads { sight.new.reads ≤ sight.old.reads + 1 }
+{
+    match cell {
+        Cell::Node(id) => node_attributes(alloc, change, sight, attribute, *id),
+        Cell::Rel(id) => rel_attributes(alloc, change, sight, attribute, *id),
+        Cell::Rels(_) | Cell::Value(_) => Ok(Attributes::null()),
+    }
 }
 
 /// An attribute of a node. It reads the node. Fails only when out of memory.
-pub(crate) fn node_attributes<'a>(
+fn node_attributes<'a>(
     alloc: Global,
     change: &GraphChange<'a>,
     sight: &mut Sight<'a>,
@@ -117,7 +134,7 @@ pub(crate) fn node_attributes<'a>(
 }
 
 /// An attribute of a relationship. It reads the relationship. Fails only when out of memory.
-pub(crate) fn rel_attributes<'a>(
+fn rel_attributes<'a>(
     alloc: Global,
     change: &GraphChange<'a>,
     sight: &mut Sight<'a>,

@@ -22,20 +22,20 @@ loop-touched-preserved g c =
       made = λ before column change keys row.
           walked (λ (e : ℕ × Option Rel). still before.content c.args.sight.now.graph.now.content column c.args.attribute.now was staged (cell.Rel (record { 0 = e.0 })) row)
           (c.in-Some.touched.0.now, option_copied c.in-Some.touched.1.now) (map (λ e. (e.0, option_copied e.1)) c.next.new.self)
-          (deltas_of row c.loop-touched.made.items) (deltas_of row c.add_at_rel.new.made.items) _
+          (deltas_of row c.loop-touched.made.items) (deltas_of row c.add_at.new.made.items) _
           (one_entity c.args.change.now c.args.attribute.now (cell.Rel (record { 0 = c.in-Some.touched.0.now })) c.args.sight.now.graph c.loop-touched.sight.graph
           columns (g.M.Memory.key_columns c.loop-touched.memory) was (g.M.Memory.was c.loop-touched.memory) staged (g.M.Memory.staged c.loop-touched.memory)
-          so_far.graph so_far.read.columns so_far.read.was so_far.read.staged c.loop-touched.made.items c.add_at_rel.new.made.items c.in_ok-add_at_rel.ensures.made before column change keys row)
+          so_far.graph so_far.read.columns so_far.read.was so_far.read.staged c.loop-touched.made.items c.add_at.new.made.items c.in_ok-add_at.ensures.made before column change keys row)
           (ap (λ left. deltas_of row c.loop-touched.made.items ++ flat_map (λ (e : ℕ × Option Rel). still before.content c.args.sight.now.graph.now.content column c.args.attribute.now was staged (cell.Rel (record { 0 = e.0 })) row) (map (λ e. (e.0, option_copied e.1)) left)) (sym c.in-Some.ensures.steps)
           ∙ so_far.made before column change keys row);
-      read = read_then so_far.read c.add_at_rel.ensures.read;
-      graph = c.add_at_rel.ensures.graph ∙ so_far.graph;
-      reads = one_less c.loop-touched.touched-iterator c.next.new.self _ c.args.sight.now.reads c.loop-touched.sight.reads c.add_at_rel.new.sight.reads _ c.in-Some.ensures.steps so_far.reads c.add_at_rel.ensures.reads;
+      read = read_then so_far.read c.add_at.ensures.read;
+      graph = c.add_at.ensures.graph ∙ so_far.graph;
+      reads = one_less c.loop-touched.touched-iterator c.next.new.self _ c.args.sight.now.reads c.loop-touched.sight.reads c.add_at.new.sight.reads _ c.in-Some.ensures.steps so_far.reads c.add_at.ensures.reads;
       steps = λ column rows keys among exact.
           fewer_left (λ e. (e.0, option_copied e.1)) (λ (e : ℕ × Option Rel). with_key (column ∷ []) (cell.Rel (record { 0 = e.0 }) ∷ []) rows) c.loop-touched.touched-iterator c.next.new.self (c.in-Some.touched.0.now, c.in-Some.touched.1.now)
-          (g.M.Memory.step_count c.args.memory.now) (g.M.Memory.step_count c.loop-touched.memory) (g.M.Memory.step_count c.add_at_rel.new.memory) _ c.in-Some.ensures.steps
+          (g.M.Memory.step_count c.args.memory.now) (g.M.Memory.step_count c.loop-touched.memory) (g.M.Memory.step_count c.add_at.new.memory) _ c.in-Some.ensures.steps
           (so_far.steps column rows keys among exact)
-          (c.in_ok-add_at_rel.ensures.steps column rows (so_far.read.columns ∙ keys) (among_alike rows was (g.M.Memory.was c.loop-touched.memory) staged (g.M.Memory.staged c.loop-touched.memory) so_far.read.was so_far.read.staged among) exact);
+          (c.in_ok-add_at.ensures.steps column rows (so_far.read.columns ∙ keys) (among_alike rows was (g.M.Memory.was c.loop-touched.memory) staged (g.M.Memory.staged c.loop-touched.memory) so_far.read.was so_far.read.staged among) exact);
     }
 
 pub returns-clause-made : goal.returns-clause-made

@@ -10,4 +10,4 @@ mod lookups;
 
 pub use attributes::{node_value, rel_value};
 pub use changes::GraphChange;
-pub use lookups::lookup;
+pub use lookups::{ColumnAttribute, lookup};

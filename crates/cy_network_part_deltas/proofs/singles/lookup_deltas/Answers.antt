@@ -100,13 +100,13 @@ module _ {M : Type 0} (key_columns : M → List ℕ) (was staged : M → Counts)
 pub offset_bounds-0 : goal.offset_bounds-0
 offset_bounds-0 g c =
     let own = c.args.own.now in
-    let long : length own ≡ 1 = one_kept g.M.Memory.key_columns own (plan_of c.args.part.now) c.args.column c.args.attribute.now c.requires.is c.requires.kept c.requires.begun.1.own.keyed in
+    let long : length own ≡ 1 = one_kept g.M.Memory.key_columns own (plan_of c.args.part.now) c.args.asked.now.column c.args.asked.now.attribute.now c.requires.is c.requires.kept c.requires.begun.1.own.keyed in
     omega (arith, long)
 
 pub bounds-own-0 : goal.bounds-own-0
 bounds-own-0 g c =
     let own = c.args.own.now in
-    let long : length own ≡ 1 = one_kept g.M.Memory.key_columns own (plan_of c.args.part.now) c.args.column c.args.attribute.now c.requires.is c.requires.kept c.requires.begun.1.own.keyed in
+    let long : length own ≡ 1 = one_kept g.M.Memory.key_columns own (plan_of c.args.part.now) c.args.asked.now.column c.args.asked.now.attribute.now c.requires.is c.requires.kept c.requires.begun.1.own.keyed in
     omega (arith, long)
 
 pub lookup-requires-clause-columns : goal.lookup-requires-clause-columns
@@ -118,8 +118,8 @@ lookup-requires-clause-columns g c =
     let fed = c.requires.begun.1 in
     let d = c.index-own-0.result in
     let m = get_or c.args.own.now 0 d in
-    let f = fed_lookup g.M.Memory.key_columns g.M.Memory.was g.M.Memory.staged d c.args.own.now p c.args.column c.args.attribute.now old now touches c.args.deltas.items c.requires.is c.requires.kept fed in
-    lookup_keyed old now touches (first_below p) c.args.column c.args.attribute.now c.args.deltas.items (g.M.Memory.key_columns m) (g.M.Memory.was m) (g.M.Memory.staged m) (still p c.args.column c.args.attribute.now c.requires.is c.requires.kept) f.1 f.2 fed.below
+    let f = fed_lookup g.M.Memory.key_columns g.M.Memory.was g.M.Memory.staged d c.args.own.now p c.args.asked.now.column c.args.asked.now.attribute.now old now touches c.args.deltas.items c.requires.is c.requires.kept fed in
+    lookup_keyed old now touches (first_below p) c.args.asked.now.column c.args.asked.now.attribute.now c.args.deltas.items (g.M.Memory.key_columns m) (g.M.Memory.was m) (g.M.Memory.staged m) (still p c.args.asked.now.column c.args.asked.now.attribute.now c.requires.is c.requires.kept) f.1 f.2 fed.below
 
 pub lookup-requires-clause-held : goal.lookup-requires-clause-held
 lookup-requires-clause-held g c =
@@ -130,8 +130,8 @@ lookup-requires-clause-held g c =
     let fed = c.requires.begun.1 in
     let d = c.index-own-0.result in
     let m = get_or c.args.own.now 0 d in
-    let f = fed_lookup g.M.Memory.key_columns g.M.Memory.was g.M.Memory.staged d c.args.own.now p c.args.column c.args.attribute.now old now touches c.args.deltas.items c.requires.is c.requires.kept fed in
-    lookup_leads old now touches (first_below p) c.args.column c.args.attribute.now c.args.deltas.items (g.M.Memory.key_columns m) (g.M.Memory.was m) (g.M.Memory.staged m) (still p c.args.column c.args.attribute.now c.requires.is c.requires.kept) f.1 f.2 fed.below
+    let f = fed_lookup g.M.Memory.key_columns g.M.Memory.was g.M.Memory.staged d c.args.own.now p c.args.asked.now.column c.args.asked.now.attribute.now old now touches c.args.deltas.items c.requires.is c.requires.kept fed in
+    lookup_leads old now touches (first_below p) c.args.asked.now.column c.args.asked.now.attribute.now c.args.deltas.items (g.M.Memory.key_columns m) (g.M.Memory.was m) (g.M.Memory.staged m) (still p c.args.asked.now.column c.args.asked.now.attribute.now c.requires.is c.requires.kept) f.1 f.2 fed.below
 
 pub lookup-requires-clause-settled : goal.lookup-requires-clause-settled
 lookup-requires-clause-settled g c =
@@ -142,8 +142,8 @@ lookup-requires-clause-settled g c =
     let fed = c.requires.begun.1 in
     let d = c.index-own-0.result in
     let m = get_or c.args.own.now 0 d in
-    let f = fed_lookup g.M.Memory.key_columns g.M.Memory.was g.M.Memory.staged d c.args.own.now p c.args.column c.args.attribute.now old now touches c.args.deltas.items c.requires.is c.requires.kept fed in
-    lookup_settled old now touches (first_below p) c.args.column c.args.attribute.now c.args.deltas.items (g.M.Memory.key_columns m) (g.M.Memory.was m) (g.M.Memory.staged m) (still p c.args.column c.args.attribute.now c.requires.is c.requires.kept) f.1 f.2 fed.below
+    let f = fed_lookup g.M.Memory.key_columns g.M.Memory.was g.M.Memory.staged d c.args.own.now p c.args.asked.now.column c.args.asked.now.attribute.now old now touches c.args.deltas.items c.requires.is c.requires.kept fed in
+    lookup_settled old now touches (first_below p) c.args.asked.now.column c.args.asked.now.attribute.now c.args.deltas.items (g.M.Memory.key_columns m) (g.M.Memory.was m) (g.M.Memory.staged m) (still p c.args.asked.now.column c.args.asked.now.attribute.now c.requires.is c.requires.kept) f.1 f.2 fed.below
 
 pub lookup-requires-clause-within : goal.lookup-requires-clause-within
 lookup-requires-clause-within g c =
@@ -154,32 +154,32 @@ lookup-requires-clause-within g c =
     let fed = c.requires.begun.1 in
     let d = c.index-own-0.result in
     let m = get_or c.args.own.now 0 d in
-    let f = fed_lookup g.M.Memory.key_columns g.M.Memory.was g.M.Memory.staged d c.args.own.now p c.args.column c.args.attribute.now old now touches c.args.deltas.items c.requires.is c.requires.kept fed in
-    lookup_within old now touches (first_below p) c.args.column c.args.attribute.now c.args.deltas.items (g.M.Memory.key_columns m) (g.M.Memory.was m) (g.M.Memory.staged m) (still p c.args.column c.args.attribute.now c.requires.is c.requires.kept) f.1 f.2 fed.below
+    let f = fed_lookup g.M.Memory.key_columns g.M.Memory.was g.M.Memory.staged d c.args.own.now p c.args.asked.now.column c.args.asked.now.attribute.now old now touches c.args.deltas.items c.requires.is c.requires.kept fed in
+    lookup_within old now touches (first_below p) c.args.asked.now.column c.args.asked.now.attribute.now c.args.deltas.items (g.M.Memory.key_columns m) (g.M.Memory.was m) (g.M.Memory.staged m) (still p c.args.asked.now.column c.args.asked.now.attribute.now c.requires.is c.requires.kept) f.1 f.2 fed.below
 
 pub lookup-requires-clause-bounded : goal.lookup-requires-clause-bounded
 lookup-requires-clause-bounded g c = c.requires.begun.1.below.bounded
 
 pub returns-clause-done : goal.returns-clause-done
-returns-clause-done g c old fed = ends g.M.Memory.key_columns g.M.Memory.was g.M.Memory.staged g.M.Memory.step_count c.index-own-0.result c.args.own.now (plan_of c.args.part.now) c.args.column c.args.attribute.now c.args.deltas.items c.requires.is c.requires.kept
+returns-clause-done g c old fed = ends g.M.Memory.key_columns g.M.Memory.was g.M.Memory.staged g.M.Memory.step_count c.index-own-0.result c.args.own.now (plan_of c.args.part.now) c.args.asked.now.column c.args.asked.now.attribute.now c.args.deltas.items c.requires.is c.requires.kept
     c.lookup.new.memory old c.args.sight.now.graph.now c.args.change.now fed c.in_ok-made.made.items c.in_ok-made.ensures.delta c.in_ok-made.ensures.bounded c.in_ok-made.ensures.staged
 
 pub returns-clause-was : goal.returns-clause-was
 returns-clause-was g c =
     let own = c.args.own.now in
-    let long : length own ≡ 1 = one_kept g.M.Memory.key_columns own (plan_of c.args.part.now) c.args.column c.args.attribute.now c.requires.is c.requires.kept c.requires.begun.1.own.keyed in
+    let long : length own ≡ 1 = one_kept g.M.Memory.key_columns own (plan_of c.args.part.now) c.args.asked.now.column c.args.asked.now.attribute.now c.requires.is c.requires.kept c.requires.begun.1.own.keyed in
     ap (map g.M.Memory.was) (set_one c.lookup.new.memory own long) ∙ ap (λ n. n ∷ []) c.lookup.ensures.was ∙ sym (ap (map g.M.Memory.was) (one_only c.index-own-0.result own long))
 
 pub returns-clause-columns : goal.returns-clause-columns
 returns-clause-columns g c =
     let own = c.args.own.now in
-    let long : length own ≡ 1 = one_kept g.M.Memory.key_columns own (plan_of c.args.part.now) c.args.column c.args.attribute.now c.requires.is c.requires.kept c.requires.begun.1.own.keyed in
+    let long : length own ≡ 1 = one_kept g.M.Memory.key_columns own (plan_of c.args.part.now) c.args.asked.now.column c.args.asked.now.attribute.now c.requires.is c.requires.kept c.requires.begun.1.own.keyed in
     ap (map g.M.Memory.key_columns) (set_one c.lookup.new.memory own long) ∙ ap (λ n. n ∷ []) c.lookup.ensures.columns ∙ sym (ap (map g.M.Memory.key_columns) (one_only c.index-own-0.result own long))
 
 pub returns-clause-grows : goal.returns-clause-grows
 returns-clause-grows g c =
     let own = c.args.own.now in
-    let long : length own ≡ 1 = one_kept g.M.Memory.key_columns own (plan_of c.args.part.now) c.args.column c.args.attribute.now c.requires.is c.requires.kept c.requires.begun.1.own.keyed in
+    let long : length own ≡ 1 = one_kept g.M.Memory.key_columns own (plan_of c.args.part.now) c.args.asked.now.column c.args.asked.now.attribute.now c.requires.is c.requires.kept c.requires.begun.1.own.keyed in
     grown_of_one g.M.Memory.step_count own (set own 0 c.lookup.new.memory) (get_or own 0 c.index-own-0.result) c.lookup.new.memory (one_only c.index-own-0.result own long) (set_one c.lookup.new.memory own long) c.lookup.ensures.grows
 
 pub returns-clause-graph : goal.returns-clause-graph
@@ -188,19 +188,19 @@ returns-clause-graph g c = c.lookup.ensures.graph
 pub returns-in_err-made-clause-was : goal.returns-in_err-made-clause-was
 returns-in_err-made-clause-was g c =
     let own = c.args.own.now in
-    let long : length own ≡ 1 = one_kept g.M.Memory.key_columns own (plan_of c.args.part.now) c.args.column c.args.attribute.now c.requires.is c.requires.kept c.requires.begun.1.own.keyed in
+    let long : length own ≡ 1 = one_kept g.M.Memory.key_columns own (plan_of c.args.part.now) c.args.asked.now.column c.args.asked.now.attribute.now c.requires.is c.requires.kept c.requires.begun.1.own.keyed in
     ap (map g.M.Memory.was) (set_one c.lookup.new.memory own long) ∙ ap (λ n. n ∷ []) c.lookup.ensures.was ∙ sym (ap (map g.M.Memory.was) (one_only c.index-own-0.result own long))
 
 pub returns-in_err-made-clause-columns : goal.returns-in_err-made-clause-columns
 returns-in_err-made-clause-columns g c =
     let own = c.args.own.now in
-    let long : length own ≡ 1 = one_kept g.M.Memory.key_columns own (plan_of c.args.part.now) c.args.column c.args.attribute.now c.requires.is c.requires.kept c.requires.begun.1.own.keyed in
+    let long : length own ≡ 1 = one_kept g.M.Memory.key_columns own (plan_of c.args.part.now) c.args.asked.now.column c.args.asked.now.attribute.now c.requires.is c.requires.kept c.requires.begun.1.own.keyed in
     ap (map g.M.Memory.key_columns) (set_one c.lookup.new.memory own long) ∙ ap (λ n. n ∷ []) c.lookup.ensures.columns ∙ sym (ap (map g.M.Memory.key_columns) (one_only c.index-own-0.result own long))
 
 pub returns-in_err-made-clause-grows : goal.returns-in_err-made-clause-grows
 returns-in_err-made-clause-grows g c =
     let own = c.args.own.now in
-    let long : length own ≡ 1 = one_kept g.M.Memory.key_columns own (plan_of c.args.part.now) c.args.column c.args.attribute.now c.requires.is c.requires.kept c.requires.begun.1.own.keyed in
+    let long : length own ≡ 1 = one_kept g.M.Memory.key_columns own (plan_of c.args.part.now) c.args.asked.now.column c.args.asked.now.attribute.now c.requires.is c.requires.kept c.requires.begun.1.own.keyed in
     grown_of_one g.M.Memory.step_count own (set own 0 c.lookup.new.memory) (get_or own 0 c.index-own-0.result) c.lookup.new.memory (one_only c.index-own-0.result own long) (set_one c.lookup.new.memory own long) c.lookup.ensures.grows
 
 pub returns-in_err-made-clause-graph : goal.returns-in_err-made-clause-graph
@@ -208,12 +208,12 @@ returns-in_err-made-clause-graph g c = c.lookup.ensures.graph
 
 pub returns-clause-steps : goal.returns-clause-steps
 returns-clause-steps g c exact old fed =
-    steps g.M.Memory.key_columns g.M.Memory.was g.M.Memory.staged g.M.Memory.step_count c.index-own-0.result c.args.own.now (plan_of c.args.part.now) c.args.column c.args.attribute.now c.args.deltas.items c.requires.is c.requires.kept
+    steps g.M.Memory.key_columns g.M.Memory.was g.M.Memory.staged g.M.Memory.step_count c.index-own-0.result c.args.own.now (plan_of c.args.part.now) c.args.asked.now.column c.args.asked.now.attribute.now c.args.deltas.items c.requires.is c.requires.kept
     c.lookup.new.memory old c.args.sight.now.graph.now c.args.change.now fed (λ first rows rows_now change same leads. c.in_ok-made.ensures.steps first rows rows_now change same leads exact)
 
 pub returns-clause-reads : goal.returns-clause-reads
 returns-clause-reads g c old fed =
-    reads g.M.Memory.key_columns g.M.Memory.was g.M.Memory.staged g.M.Memory.step_count c.index-own-0.result c.args.own.now (plan_of c.args.part.now) c.args.column c.args.attribute.now c.args.deltas.items c.requires.is c.requires.kept
+    reads g.M.Memory.key_columns g.M.Memory.was g.M.Memory.staged g.M.Memory.step_count c.index-own-0.result c.args.own.now (plan_of c.args.part.now) c.args.asked.now.column c.args.asked.now.attribute.now c.args.deltas.items c.requires.is c.requires.kept
     c.lookup.new.memory old c.args.sight.now.graph.now c.args.change.now fed c.args.sight.now.reads c.lookup.new.sight.reads c.lookup.ensures.reads
 
 pub returns-in_err-made-clause-done : goal.returns-in_err-made-clause-done

@@ -14,16 +14,16 @@ returns-clause-delta g c = λ before old new change is delta.
     on_ok c.stage_deltas.result (sym c.is_err.ensures.value ∙ c.if-is_err.false) c.stage_deltas.ensures.staged
     ∙ ap (λ deltas. counts_after deltas was) c.deref.ensures.value in
     let keys = c.stage_deltas.ensures.columns ∙ c.requires.columns in
-    lookup_delta before c.args.sight.now.graph.now c.args.change.now change c.args.column c.args.attribute.now was c.args.deltas.items c.add_at_rels.new.made.items c.requires.held
-    (assembled c.args.change.now c.args.column c.args.attribute.now
+    lookup_delta before c.args.sight.now.graph.now c.args.change.now change c.args.asked.now.column c.args.asked.now.attribute.now was c.args.deltas.items c.add_at_rels.new.made.items c.requires.held
+    (assembled c.args.change.now c.args.asked.now.column c.args.asked.now.attribute.now
     c.args.sight.now.graph c.add_changed.new.sight.graph c.add_at_nodes.new.sight.graph c.add_changed.ensures.graph (c.add_at_nodes.ensures.graph ∙ c.add_changed.ensures.graph)
     was (counts_after c.args.deltas.items was)
     (g.M.Memory.was c.stage_deltas.new.memory) (g.M.Memory.staged c.stage_deltas.new.memory) (g.M.Memory.was c.add_at_nodes.new.memory) (g.M.Memory.staged c.add_at_nodes.new.memory)
     c.stage_deltas.ensures.was staged_now (c.add_at_nodes.ensures.read.was ∙ c.stage_deltas.ensures.was) (c.add_at_nodes.ensures.read.staged ∙ staged_now)
     c.args.deltas.items c.new-made.result.items c.add_changed.new.made.items c.add_at_nodes.new.made.items c.add_at_rels.new.made.items c.new-made.ensures.items
     c.in_ok-add_changed.ensures.made
-    (λ b h. c.in_ok-add_at_nodes.ensures.made b c.args.column h keys)
-    (λ b h. c.in_ok-add_at_rels.ensures.made b c.args.column h (c.add_at_nodes.ensures.read.columns ∙ keys))
+    (λ b h. c.in_ok-add_at_nodes.ensures.made b c.args.asked.now.column h keys)
+    (λ b h. c.in_ok-add_at_rels.ensures.made b c.args.asked.now.column h (c.add_at_nodes.ensures.read.columns ∙ keys))
     before change)
     old new is delta
 
@@ -34,16 +34,16 @@ returns-clause-bounded g c = λ before change.
     on_ok c.stage_deltas.result (sym c.is_err.ensures.value ∙ c.if-is_err.false) c.stage_deltas.ensures.staged
     ∙ ap (λ deltas. counts_after deltas was) c.deref.ensures.value in
     let keys = c.stage_deltas.ensures.columns ∙ c.requires.columns in
-    lookup_bounded before c.args.sight.now.graph.now c.args.change.now change c.args.column c.args.attribute.now was c.args.deltas.items c.add_at_rels.new.made.items c.requires.held
-    (assembled c.args.change.now c.args.column c.args.attribute.now
+    lookup_bounded before c.args.sight.now.graph.now c.args.change.now change c.args.asked.now.column c.args.asked.now.attribute.now was c.args.deltas.items c.add_at_rels.new.made.items c.requires.held
+    (assembled c.args.change.now c.args.asked.now.column c.args.asked.now.attribute.now
     c.args.sight.now.graph c.add_changed.new.sight.graph c.add_at_nodes.new.sight.graph c.add_changed.ensures.graph (c.add_at_nodes.ensures.graph ∙ c.add_changed.ensures.graph)
     was (counts_after c.args.deltas.items was)
     (g.M.Memory.was c.stage_deltas.new.memory) (g.M.Memory.staged c.stage_deltas.new.memory) (g.M.Memory.was c.add_at_nodes.new.memory) (g.M.Memory.staged c.add_at_nodes.new.memory)
     c.stage_deltas.ensures.was staged_now (c.add_at_nodes.ensures.read.was ∙ c.stage_deltas.ensures.was) (c.add_at_nodes.ensures.read.staged ∙ staged_now)
     c.args.deltas.items c.new-made.result.items c.add_changed.new.made.items c.add_at_nodes.new.made.items c.add_at_rels.new.made.items c.new-made.ensures.items
     c.in_ok-add_changed.ensures.made
-    (λ b h. c.in_ok-add_at_nodes.ensures.made b c.args.column h keys)
-    (λ b h. c.in_ok-add_at_rels.ensures.made b c.args.column h (c.add_at_nodes.ensures.read.columns ∙ keys))
+    (λ b h. c.in_ok-add_at_nodes.ensures.made b c.args.asked.now.column h keys)
+    (λ b h. c.in_ok-add_at_rels.ensures.made b c.args.asked.now.column h (c.add_at_nodes.ensures.read.columns ∙ keys))
     before change)
     c.requires.within c.requires.bounded
 
@@ -59,7 +59,7 @@ returns-clause-steps g c = λ before old new change is delta exact.
     all_steps (g.M.Memory.step_count c.args.memory.now) (g.M.Memory.step_count c.stage_deltas.new.memory) (g.M.Memory.step_count c.add_at_nodes.new.memory) (g.M.Memory.step_count c.add_at_rels.new.memory)
     _ _ _ _ _
     (c.stage_deltas.ensures.steps exact)
-    (c.in_ok-add_at_nodes.ensures.steps c.args.column rows keys (among_alike rows was (g.M.Memory.was c.stage_deltas.new.memory) (counts_after c.args.deltas.items was) (g.M.Memory.staged c.stage_deltas.new.memory) c.stage_deltas.ensures.was staged_now among) exact)
-    (c.in_ok-add_at_rels.ensures.steps c.args.column rows (c.add_at_nodes.ensures.read.columns ∙ keys)
+    (c.in_ok-add_at_nodes.ensures.steps c.args.asked.now.column rows keys (among_alike rows was (g.M.Memory.was c.stage_deltas.new.memory) (counts_after c.args.deltas.items was) (g.M.Memory.staged c.stage_deltas.new.memory) c.stage_deltas.ensures.was staged_now among) exact)
+    (c.in_ok-add_at_rels.ensures.steps c.args.asked.now.column rows (c.add_at_nodes.ensures.read.columns ∙ keys)
     (among_alike rows was (g.M.Memory.was c.add_at_nodes.new.memory) (counts_after c.args.deltas.items was) (g.M.Memory.staged c.add_at_nodes.new.memory) (c.add_at_nodes.ensures.read.was ∙ c.stage_deltas.ensures.was) (c.add_at_nodes.ensures.read.staged ∙ staged_now) among) exact)
-    (named_sum c.args.change.now c.args.column change.nodes_once change.rels_once rows)
+    (named_sum c.args.change.now c.args.asked.now.column change.nodes_once change.rels_once rows)

@@ -7,5 +7,5 @@ use Rattle.cy_network_sources.proofs.scanning.add_rel.Goals as goal
 
 pub returns-then-are_alike_rels-clause-made : goal.returns-then-are_alike_rels-clause-made
 returns-then-are_alike_rels-clause-made c = λ row.
-    sym (ap (λ made. deltas_of row c.args.deltas.now.items ++ made) (none_between row _ _ (ap (count_of row) (c.are_alike_rels.ensures c.if-are_alike_rels.true c.args.types.now c.args.orientation c.args.id.0)))
+    sym (ap (λ made. deltas_of row c.args.deltas.now.items ++ made) (none_between row _ _ (ap (count_of row) (c.are_alike_rels.ensures c.if-are_alike_rels.true c.args.scan.now.types.now c.args.scan.now.orientation c.args.id.0)))
     ∙ append-nil (deltas_of row c.args.deltas.now.items))

@@ -6,7 +6,7 @@ ghost use Rattle.cy_values.specs.declared.rows.Cell.{Cell};
 ghost use Rattle.cy_network_memory.specs.declared.faults.MemoryFault.TheVariants.{NoMemory, TooManyRows};
 ghost use Rattle.cy_network_memory.specs.Counts.{greatest_count};
 ghost use Rattle.cy_network_operators.specs.Deltas.{IsBounded, IsDelta, row_delta_between};
-ghost use Rattle.cy_network_operators.specs.Reading.{IsRead};
+ghost use Rattle.cy_network_operators.specs.internal.Reading.{IsRead};
 ghost use Rattle.cy_network_merges.specs.Merges.{AreBounded};
 ghost use Rattle.cy_network_merges.specs.internal.Sums.{AreRowDeltasOf, lost, gained, deltas_at};
 

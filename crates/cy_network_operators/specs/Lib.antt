@@ -1,5 +1,4 @@
 pub mod OperatorCosts
 pub mod Deltas
-pub mod Reading
 pub mod Passing
 pub mod internal

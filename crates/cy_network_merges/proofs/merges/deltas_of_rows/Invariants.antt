@@ -1,6 +1,6 @@
 use Rattle.std.proofs.Common.{◌≡◌, ◌+◌, ◌*◌, ◌≤◌, length, true}
 use Rattle.cy_network_merges.specs.internal.Sums.{deltas_at}
-use Rattle.cy_network_operators.specs.Reading.{IsRead}
+use Rattle.cy_network_operators.specs.internal.Reading.{IsRead}
 use Rattle.cy_network_merges.proofs.merges.deltas_of_rows.Given as goal
 
 -- the row deltas of the rows so far

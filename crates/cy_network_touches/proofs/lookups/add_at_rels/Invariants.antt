@@ -7,7 +7,7 @@ use Rattle.cy_values.specs.declared.rows.Cell.TheVariants as cell
 use Rattle.cy_graph.specs.declared.nodes.Rel.{Rel}
 use Rattle.cy_graph.specs.Graph.{State}
 use Rattle.cy_network_operators.specs.Deltas.{deltas_of}
-use Rattle.cy_network_operators.specs.Reading.{IsRead}
+use Rattle.cy_network_operators.specs.internal.Reading.{IsRead}
 use Rattle.cy_network_touches.specs.Changes.{IsChange}
 use Rattle.cy_network_touches.specs.internal.Attributes.{still}
 use Rattle.cy_network_touches.specs.internal.Named.{AreAmong, with_key}

@@ -32,10 +32,10 @@ use Rattle.cy_planner_rows.specs.Lowered.{lowered}
 use Rattle.cy_planner_rows.specs.Places.{place}
 use Rattle.cy_planner_rows.specs.Renumbered.{renumbered}
 use Rattle.cy_planner_rows.proofs.RenumberedLemmas.{same_cell}
-use Rattle.cy_planner_rows.specs.internal.Asked.{asked}
+use Rattle.cy_planner_rows.specs.internal.Asked.{asked, wanted_of}
 use Rattle.cy_planner_rows.specs.internal.Lookups.{narrowed, over, with_values}
 use Rattle.cy_planner_rows.specs.Rows.{IsFiltered, condition_on, keeps}
-use Rattle.cy_planner_rows.proofs.Filtered.{same_value, wanted_inside, wanted_of}
+use Rattle.cy_planner_rows.proofs.Filtered.{same_value, wanted_inside}
 use Rattle.cy_planner_rows.proofs.Lists.{all_of_each, each_both_of, each_mapped, sifted_same}
 use Rattle.cy_planner_rows.proofs.OverRows.{cond_less, filter_within, long_rows, own_part, parts_narrowed, parts_over, rows_narrowed, rows_over, smaller_within, sure_narrowed, sure_over, width_narrowed, width_over, within_over}
 use Rattle.cy_planner_rows.proofs.Placed.{asked_among}

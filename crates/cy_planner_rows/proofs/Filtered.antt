@@ -30,7 +30,7 @@ use Rattle.cy_planner_rows.specs.declared.places.Wanted.{Wanted}
 use Rattle.cy_planner_rows.specs.Lowered.{lowered}
 use Rattle.cy_planner_rows.specs.Places.{place}
 use Rattle.cy_planner_rows.proofs.LoweredLemmas.{same}
-use Rattle.cy_planner_rows.specs.internal.Asked.{asked, with_asked}
+use Rattle.cy_planner_rows.specs.internal.Asked.{asked, wanted_of}
 use Rattle.cy_planner_rows.specs.internal.Lookups.{narrowed, over, with_values}
 use Rattle.cy_planner_rows.specs.Rows.{FitsRows, IsFiltered, IsReadOver, condition_on, keeps}
 use Rattle.cy_scope_kinds.specs.Kinded.{IsKinded}
@@ -39,10 +39,6 @@ use Rattle.cy_planner_rows.proofs.Lowerable.{good, inside}
 use Rattle.cy_planner_rows.proofs.OverRows.{IsInside, cond_less, filter_within, long_rows, own_part, parts_narrowed, parts_over, rows_narrowed, rows_over, smaller_within, sure_narrowed, sure_over, width_narrowed, well_over, width_over, within_over}
 use Rattle.cy_planner_rows.proofs.Placed.{IsAmong, asked_among, asked_each}
 use Rattle.cy_planner_rows.proofs.Stored.{no_null_stored}
-
--- what is wanted of an expression alone
-abbrev pub wanted_of : Expression → List Wanted
-wanted_of e = with_asked [] (asked e)
 
 -- it stands in columns of the rows
 pub wanted_inside : (p : Plan) (e : Expression) → IsReadOver p e → AllByRecursion (IsInside (width p)) (wanted_of e)

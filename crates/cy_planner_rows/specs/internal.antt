@@ -3,3 +3,4 @@ pub mod Opened
 pub mod WantedLists
 pub mod Asked
 pub mod Lookups
+pub mod Filters

@@ -66,6 +66,10 @@ abbrev pub with_asked : List Wanted → List Wanted → List Wanted
 with_asked wanted [] = wanted
 with_asked wanted (w ∷ others) = with_asked (added wanted w) others
 
+-- what is wanted of an expression alone
+abbrev pub wanted_of : Expression → List Wanted
+wanted_of e = with_asked [] (asked e)
+
 -- with what an expression asks, from the left to the right
 abbrev pub with_attribute : List Wanted → Expression → Attribute → List Wanted
 with_attribute wanted e attribute = with_asked wanted (asked_of e attribute)

@@ -1,72 +1,20 @@
-use Rattle.std.proofs.Common.{◌≡◌, ◌+◌, ◌≤◌, ◌<◌, List, [], length, sym, ap, subst, ◌∙◌, arith, rules}
-use Rattle.std.specs.List.{All}
-use Rattle.std.proofs.lemmas.Grind.{common_steps}
+use Rattle.std.proofs.Common.{sym, subst}
 use Rattle.cy_trees.specs.Trees.{Expression}
 use Rattle.cy_trees.specs.TreeModels.{expression_of}
-use Rattle.cy_planner_algebra.specs.Plans as plan
-use Rattle.cy_planner_algebra.specs.Plans.{Plan, width}
+use Rattle.cy_planner_algebra.specs.Plans.{Plan}
 use Rattle.cy_planner_algebra.specs.PlanModels.{plan_of}
-use Rattle.cy_planner_algebra.specs.WellFormed.{IsOver, greatest_width}
-use Rattle.cy_planner_rows.specs.declared.places.Wanted.{Wanted}
-use Rattle.cy_planner_rows.specs.Lowered.{lowered}
-use Rattle.cy_planner_rows.specs.Places.{place}
-use Rattle.cy_planner_rows.specs.internal.Asked.{asked, with_tree}
-use Rattle.cy_planner_rows.specs.internal.Lookups.{narrowed, over}
 use Rattle.cy_planner_rows.specs.Rows.{IsFiltered}
-use Rattle.cy_planner_rows.proofs.AskedLists.{tree_is}
-use Rattle.cy_planner_rows.proofs.Filtered.{filtered, if_ok_map, lowered_over, wanted_inside, wanted_of, well_kept}
-use Rattle.cy_planner_rows.proofs.Lists.{all_of_each}
-use Rattle.cy_planner_rows.proofs.OverRows.{IsInside, width_over}
-use Rattle.cy_planner_rows.proofs.Placed.{asked_among}
+use Rattle.cy_planner_rows.specs.internal.Filters.{IsLookedUpFilter}
+use Rattle.cy_planner_rows.proofs.Filtered.{filtered, if_ok_map, well_kept}
 use Rattle.cy_planner_rows.proofs.filters.filter_where.Goals as goal
-
-pub with_lookups-requires-clause-columns : goal.with_lookups-requires-clause-columns
-with_lookups-requires-clause-columns c =
-    let below : Plan = plan_of c.args.below in
-    let test : Expression = expression_of c.args.test.now in
-    let wants : c.as_slice.result.now ≡ with_tree [] test = first_of (cc, grind (arith, common_steps)) in
-    subst (λ (ws : List Wanted). All (λ w. w.column < width below) ws) (sym (wants ∙ tree_is [] test))
-    (all_of_each (IsInside (width below)) (wanted_of test) (wanted_inside below test c.requires))
-
-pub filter-requires : goal.filter-requires
-filter-requires c =
-    let below : Plan = plan_of c.args.below in
-    let test : Expression = expression_of c.args.test.now in
-    let wants : c.add_asked.new.wanted ≡ with_tree [] test = first_of (cc, grind (arith, common_steps)) in
-    let wants_again : c.as_slice.result.now ≡ with_tree [] test = first_of (cc, grind (arith, common_steps)) in
-    let wide : plan_of c.in_ok-wide.wide ≡ over below (wanted_of test) = c.in_ok-wide.ensures ∙ ap (over below) (wants_again ∙ tree_is [] test) in
-    let condition : expression_of c.in_ok-condition.condition ≡ lowered (place (width below) (wanted_of test)) test =
-    c.in_ok-condition.ensures ∙ (λ i. lowered (place (c.width-width.ensures.width i) ((wants ∙ tree_is [] test) i)) test) in
-    subst (λ (p : Plan). IsOver (width p) (expression_of c.in_ok-condition.condition)) (sym wide)
-    (subst (λ (e : Expression). IsOver (width (over below (wanted_of test))) e) (sym condition)
-    (lowered_over below (wanted_of test) test c.requires (asked_among [] (asked test))))
-
-pub narrowed-requires : goal.narrowed-requires
-narrowed-requires c =
-    let below : Plan = plan_of c.args.below in
-    let kept : width (plan_of c.in_ok-kept.kept) ≡ width (plan_of c.in_ok-wide.wide) = ap width c.in_ok-kept.ensures in
-    let wide : width (plan_of c.in_ok-wide.wide) ≡ width (over below c.as_slice.result.now) = ap width c.in_ok-wide.ensures in
-    let more = width_over below c.as_slice.result.now in
-    let same = c.width-width.ensures.width in
-    omega (arith, kept, wide, more, same)
 
 pub returns : goal.returns
 returns c =
     let below : Plan = plan_of c.args.below in
     let test : Expression = expression_of c.args.test.now in
-    let wants : c.add_asked.new.wanted ≡ with_tree [] test = first_of (cc, grind (arith, common_steps)) in
-    let wants_again : c.as_slice.result.now ≡ with_tree [] test = first_of (cc, grind (arith, common_steps)) in
-    let room : c.width-width.result + length c.as_slice.result.now ≤ greatest_width = first_of (search rules, grind (arith, common_steps)) in
-    let here : width below + length (wanted_of test) ≤ greatest_width =
-    subst (λ (ws : List Wanted). width below + length ws ≤ greatest_width) (wants_again ∙ tree_is [] test)
-    (let same = c.width-width.ensures.width in omega (arith, room, same)) in
-    let wide : plan_of c.in_ok-wide.wide ≡ over below (wanted_of test) = c.in_ok-wide.ensures ∙ ap (over below) (wants_again ∙ tree_is [] test) in
-    let condition : expression_of c.in_ok-condition.condition ≡ lowered (place (width below) (wanted_of test)) test =
-    c.in_ok-condition.ensures ∙ (λ i. lowered (place (c.width-width.ensures.width i) ((wants ∙ tree_is [] test) i)) test) in
-    let kept : plan_of c.in_ok-kept.kept ≡ plan.filter (over below (wanted_of test)) (lowered (place (width below) (wanted_of test)) test) =
-    c.in_ok-kept.ensures ∙ (λ i. plan.filter (wide i) (condition i)) in
-    if_ok_map (λ p. plan_of p ≡ narrowed c.width-width.result (plan_of c.in_ok-kept.kept)) (λ p. IsFiltered below test (plan_of p))
-    (λ p is.
-    subst (λ (q : Plan). IsFiltered below test q) (sym (is ∙ (λ i. narrowed (c.width-width.ensures.width i) (kept i))))
-    (filtered below test c.width-width.ensures.well_formed here c.requires (well_kept below test c.width-width.ensures.well_formed here c.requires)))
-    c.narrowed.result c.narrowed.ensures
+    if_ok_map (λ p. IsLookedUpFilter below test (plan_of p)) (λ p. IsFiltered below test (plan_of p))
+    (λ p made. subst (IsFiltered below test) (sym made.is) (filtered below test made.well_formed made.room c.requires (well_kept below test made.well_formed made.room c.requires)))
+    c.looked_up_filter.result c.looked_up_filter.ensures
+
+pub looked_up_filter-requires : goal.looked_up_filter-requires
+looked_up_filter-requires c = λ well. c.requires

@@ -16,7 +16,7 @@ mod wanted;
 
 pub use asked::add_asked;
 pub use columns::{column_output, column_outputs, narrowed};
-pub use conditions::{and_also, column_variable, equals, or_true, size_of};
+pub use conditions::{and_also, column_variable, either, equals, is_empty, or_true, size_of};
 pub use conjunctions::{all_of, conjuncts, halved};
 pub use filters::{check_room, filter_where, looked_up_filter};
 pub use lookups::{copy_attribute, with_lookups};

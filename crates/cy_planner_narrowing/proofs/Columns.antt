@@ -26,7 +26,8 @@ use Rattle.cy_planner_rows.specs.Renumbered.{new_column, renumbered}
 use Rattle.cy_planner_rows.specs.internal.Lookups.{first_columns}
 use Rattle.cy_planner_rows.proofs.Lists.{first_elements, map_same}
 use Rattle.cy_planner_rows.proofs.OverRows.{IsLong, any_rows, columns_have_cells, columns_over, columns_read, first_over, long_rows, own_part, width_bounded}
-use Rattle.cy_planner_rewriting.specs.internal.Columns.{AreColumns, renumbered_output, taken_column}
+use Rattle.cy_planner_rows.specs.Columns.{taken_column}
+use Rattle.cy_planner_rewriting.specs.internal.Columns.{AreColumns, renumbered_output}
 use Rattle.cy_planner_rewriting.specs.internal.Lowered.{lookup_at, moved}
 use Rattle.cy_planner_rewriting.specs.Rewritten.{IsRewritten}
 use Rattle.cy_planner_rewriting.proofs.Congruent.{over_lookup, rewritten_again, same_within}

@@ -9,38 +9,11 @@ ghost use Rattle.cy_planner_pushdown.specs.internal.Conditions as conditions;
 ghost use Rattle.cy_planner_pushdown.specs.internal.Pushed as spec;
 
 use cy_planner_algebra::{KeyColumns, Operator, Output};
+use cy_planner_rows::output_column;
 use cy_scope_kinds::Kind;
 use cy_trees::Expr;
 use cy_values::Fault;
 use std::alloc::Global;
-
-fn variable_column(expression: &Expr) -> Option<usize>
-    ensures { result ≡ spec.variable_column (expression_of expression.now) }
-{
-    match expression {
-        Expr::Variable(variable) => variable.column,
-        _ => None,
-    }
-}
-
-fn taken_over(output: &Output) -> Option<usize>
-    ensures { result ≡ spec.column_taken_over (Some (output_of output.now)) }
-{
-    match output {
-        Output::Cell(expression) => variable_column(expression),
-        Output::Rels(_) => None,
-    }
-}
-
-/// The column that a projection takes over.
-pub(crate) fn column_of(outputs: &[Output], column: usize) -> Option<usize>
-    ensures { result ≡ spec.column_taken_over (slice_get (map output_of outputs.now) column) }
-{
-    match outputs.get(column) {
-        Some(output) => taken_over(output),
-        None => None,
-    }
-}
 
 fn kind_computed(expression: &Expr) -> Option<Kind>
     ensures { result ≡ spec.kind_computed (expression_of expression.now) }
@@ -132,7 +105,7 @@ pub(crate) fn kind_at(part: &Operator, column: usize) -> Option<Kind>
         Operator::Filter(below, _) | Operator::AllDifferent(below, _) => kind_at(below, column),
         Operator::Semi(left, _, _, _) => kind_at(left, column),
         Operator::Distinct(below) => kind_at(below, column),
-        Operator::Project(below, outputs) => match column_of(outputs, column) {
+        Operator::Project(below, outputs) => match output_column(outputs, column) {
             Some(column) => kind_at(below, column),
             None => kind_made(outputs, column),
         },
@@ -288,7 +261,7 @@ pub(crate) fn columns_of(
 {
     let mut found = Vec::new(alloc);
     for column in columns {
-        let Some(other) = column_of(outputs, *column) else {
+        let Some(other) = output_column(outputs, *column) else {
             return Ok(None);
         };
         if is_among(found.as_slice(), other) {

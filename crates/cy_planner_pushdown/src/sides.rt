@@ -10,8 +10,9 @@ ghost use Rattle.cy_planner_algebra.specs.WellFormed.{IsWellFormed};
 ghost use Rattle.cy_planner_pushdown.specs.internal.Ways as spec;
 ghost use Rattle.cy_planner_pushdown.specs.internal.Pushed.{CanBePushed};
 
-use crate::columns::{column_of, columns_on_left, columns_on_right};
+use crate::columns::{columns_on_left, columns_on_right};
 use cy_planner_algebra::{KeyColumns, Operator, Output};
+use cy_planner_rows::output_column;
 use cy_trees::Expr;
 use cy_values::Fault;
 use std::alloc::Global;
@@ -78,7 +79,7 @@ fn is_of_nodes_or_trails(part: &Operator, column: usize) -> bool
             {
                 return true;
             }
-            match column_of(outputs, column) {
+            match output_column(outputs, column) {
                 Some(column) => is_of_nodes_or_trails(below, column),
                 None => false,
             }

@@ -27,7 +27,7 @@ use Rattle.cy_planner_rows.specs.declared.places.Wanted.{Wanted}
 use Rattle.cy_planner_rows.specs.Columns.{column_output}
 use Rattle.cy_planner_rows.specs.internal.Lookups.{over}
 use Rattle.cy_planner_rows.proofs.OverRows.{IsLong, long_rows, own_part, within_over}
-use Rattle.cy_planner_rewriting.specs.internal.Columns.{taken_column}
+use Rattle.cy_planner_rows.specs.Columns.{taken_column}
 use Rattle.cy_planner_rewriting.specs.internal.Lowered.{lookup_at, moved, with_columns}
 use Rattle.cy_planner_rewriting.specs.Rewritten.{IsRewritten}
 use Rattle.cy_planner_rewriting.proofs.Congruent.{over_lookup, rewritten_again, same_plan, same_within}

@@ -19,7 +19,8 @@ use Rattle.cy_planner_algebra.specs.Sure.{HasCell, HasCells}
 use Rattle.cy_planner_algebra.specs.WellFormed.{IsColumn, IsOutputOver}
 use Rattle.cy_planner_rows.specs.Renumbered.{new_column}
 use Rattle.cy_planner_rows.proofs.RenumberedLemmas.{reads_inside, same_cell, same_reading}
-use Rattle.cy_planner_rewriting.specs.internal.Columns.{AreColumns, are_columns_from, is_column, renumbered_output, taken_column}
+use Rattle.cy_planner_rows.specs.Columns.{taken_column}
+use Rattle.cy_planner_rewriting.specs.internal.Columns.{AreColumns, are_columns_from, is_column, renumbered_output}
 
 -- the variable that an output is
 pub output_known : (o : Output) (c : ℕ) → taken_column o ≡ Some c → (v : Variable) × (o ≡ computed (variable v)) × (v.column ≡ Some c)

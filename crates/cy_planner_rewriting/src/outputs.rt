@@ -1,40 +1,20 @@
 //! Projections that take over columns, and projections of them.
 
 ghost use Rattle.std.specs.Prelude.{◌≡◌, IfOk, IfSome, map};
-ghost use Rattle.cy_trees.specs.TreeModels.{expression_of};
 ghost use Rattle.cy_planner_algebra.specs.PlanModels.{output_of};
+ghost use Rattle.cy_planner_rows.specs.Columns.{taken_column};
 ghost use Rattle.cy_planner_rows.specs.Renumbered.{new_column};
 ghost use Rattle.cy_planner_rewriting.specs.internal.Columns as spec;
 
 use cy_planner_algebra::Output;
-use cy_planner_rows::renumber;
-use cy_trees::Expr;
+use cy_planner_rows::{renumber, taken_column};
 use cy_values::Fault;
 use std::alloc::Global;
 
-fn variable_column(expression: &Expr) -> Option<usize>
-    ensures { result ≡ spec.variable_column (expression_of expression.now) }
-{
-    match expression {
-        Expr::Variable(variable) => variable.column,
-        _ => None,
-    }
-}
-
-/// The column that an output takes over.
-pub(crate) fn column_of(output: &Output) -> Option<usize>
-    ensures { result ≡ spec.taken_column (output_of output.now) }
-{
-    match output {
-        Output::Cell(expression) => variable_column(expression),
-        Output::Rels(_) => None,
-    }
-}
-
 fn is_column(column: usize, output: &Output) -> bool
-    ensures { result ≡ spec.is_column column (spec.taken_column (output_of output.now)) }
+    ensures { result ≡ spec.is_column column (taken_column (output_of output.now)) }
 {
-    match column_of(output) {
+    match taken_column(output) {
         Some(other) => column == other,
         None => false,
     }
@@ -58,7 +38,7 @@ pub fn columns_of(alloc: Global, outputs: &[Output]) -> Result<Option<Vec<usize>
 {
     let mut columns = Vec::with_capacity(alloc, outputs.len())?;
     for output in outputs {
-        match column_of(output) {
+        match taken_column(output) {
             Some(column) => columns.push(column)?,
             None => return Ok(None),
         }

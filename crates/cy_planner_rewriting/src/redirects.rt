@@ -9,9 +9,9 @@ ghost use Rattle.cy_planner_algebra.specs.PlanModels.{plan_of};
 ghost use Rattle.cy_planner_algebra.specs.WellFormed.{IsKeyBetween, IsWellFormed, greatest_width};
 ghost use Rattle.cy_planner_rewriting.specs.internal.Redirected as spec;
 
-use crate::lookups::{lookup_at, output_column};
+use crate::lookups::lookup_at;
 use cy_planner_algebra::{KeyColumns, Operator};
-use cy_planner_rows::Wanted;
+use cy_planner_rows::{Wanted, output_column};
 use cy_values::Fault;
 use std::alloc::Global;
 

@@ -1,7 +1,7 @@
 -- Where what stands in the columns of a plan comes from, and plans with a condition on it. (own)
 use Rattle.std.specs.Prelude.{◌≡◌, ℕ, zero, suc, ◌==◌, ◌-◌, List, [], ◌∷◌, ◌++◌, Option, Some, None, IsTrue, length, map, filter, if◌then◌else◌, nat_lt, slice_get, ⊤}
 use Rattle.std.specs.List.{All, Contains, IsDistinct}
-use Rattle.std.specs.Option.{option_map_or}
+use Rattle.std.specs.Option.{option_and_then, option_map_or}
 use Rattle.cy_values.specs.declared.rows.Cell.{Cell}
 use Rattle.cy_trees.specs.Trees.{Name, Expression, variable}
 use Rattle.cy_scope_kinds.specs.declared.kinds.Kind.{Kind}
@@ -17,16 +17,12 @@ use Rattle.cy_planner_algebra.specs.Meaning.{rows_of}
 use Rattle.cy_planner_algebra.specs.Parts.{parts}
 use Rattle.cy_planner_algebra.specs.Sure.{IsSureOn}
 use Rattle.cy_planner_algebra.specs.Within.{IsWithin}
+use Rattle.cy_planner_rows.specs.Columns.{taken_column}
 use Rattle.cy_planner_pushdown.specs.internal.Conditions.{IsTest, keeps_cells}
-
-abbrev pub variable_column : Expression → Option ℕ
-variable_column (variable v) = v.column
-variable_column e = None
 
 -- the column that a projection takes over
 abbrev pub column_taken_over : Option Output → Option ℕ
-column_taken_over (Some (computed e)) = variable_column e
-column_taken_over o = None
+column_taken_over = option_and_then taken_column
 
 -- the kind of what an expression makes; a variable is taken over
 abbrev pub kind_computed : Expression → Option Kind

@@ -2,16 +2,8 @@
 use Rattle.std.specs.Prelude.{◌≡◌, ℕ, ◌+◌, ◌==◌, Bool, true, false, ◌&&◌, List, [], ◌∷◌, map, Option, Some, None}
 use Rattle.cy_trees.specs.Trees.{Expression, variable}
 use Rattle.cy_planner_algebra.specs.Plans.{Output, computed, gathered}
+use Rattle.cy_planner_rows.specs.Columns.{taken_column}
 use Rattle.cy_planner_rows.specs.Renumbered.{new_column, renumbered}
-
-abbrev pub variable_column : Expression → Option ℕ
-variable_column (variable v) = v.column
-variable_column e = None
-
--- the column that an output takes over
-abbrev pub taken_column : Output → Option ℕ
-taken_column (computed e) = variable_column e
-taken_column (gathered columns) = None
 
 -- a projection takes over these columns and makes no other one
 abbrev pub AreColumns : List Output → List ℕ → Type 0

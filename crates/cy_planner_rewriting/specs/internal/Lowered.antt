@@ -7,7 +7,7 @@ use Rattle.cy_planner_algebra.specs.Plans.{Plan, Output, width}
 use Rattle.cy_planner_algebra.specs.WellFormed.{IsWellFormed, greatest_width}
 use Rattle.cy_planner_rows.specs.declared.places.Wanted.{Wanted}
 use Rattle.cy_planner_rows.specs.Columns.{column_output}
-use Rattle.cy_planner_rewriting.specs.internal.Columns.{taken_column}
+use Rattle.cy_planner_rows.specs.Columns.{taken_column}
 
 -- a look-up of an attribute in a column
 abbrev pub lookup_at : Attribute → ℕ → Wanted

@@ -20,7 +20,7 @@ pub use columns::{
 };
 pub use conditions::{and_also, column_variable, either, equals, is_empty, or_true, size_of};
 pub use conjunctions::{all_of, conjuncts, halved};
-pub use filters::{check_room, filter_where, looked_up_filter};
+pub use filters::{GREATEST_WIDTH, check_room, filter_where, looked_up_filter};
 pub use lookups::{copy_attribute, with_lookups};
 pub use lowering::{lower, lowering_keeps_values};
 pub use places::{Wanted, place};

@@ -14,7 +14,7 @@ use Rattle.cy_planner_algebra.specs.Expressions.{holds, is_true, no_graph, truth
 use Rattle.cy_planner_algebra.specs.Plans.{Plan}
 use Rattle.cy_planner_algebra.specs.Sure.{HasTruth}
 use Rattle.cy_planner_algebra.specs.WellFormed.{IsOver}
-use Rattle.cy_planner_rows.specs.Alike.{IsAlike, if_ok}
+use Rattle.cy_planner_rows.specs.internal.Alike.{IsAlike, if_ok}
 use Rattle.cy_planner_rows.specs.Conjuncts.{conjuncts}
 use Rattle.cy_planner_rows.specs.internal.Opened.{waiting}
 use Rattle.cy_planner_rows.proofs.Alike.{alike}

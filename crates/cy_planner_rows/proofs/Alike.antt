@@ -25,7 +25,7 @@ use Rattle.cy_expr.specs.Logic.{conjunction, truth_of, value_of}
 use Rattle.cy_expr.specs.Lookups.{Lookups}
 use Rattle.cy_expr.specs.Operators.{value_in_cell}
 use Rattle.cy_expr.specs.Reading.{reads_below, reads_columns}
-use Rattle.cy_planner_rows.specs.Alike.{IsAlike, if_ok, truth_on}
+use Rattle.cy_planner_rows.specs.internal.Alike.{IsAlike, if_ok, truth_on}
 use Rattle.cy_planner_rows.specs.Conjuncts.{conjuncts}
 
 -- ---- a condition is an AND, or it is the only one in it

@@ -1,5 +1,4 @@
 pub mod Renumbered
-pub mod Alike
 pub mod Conjuncts
 pub mod Places
 pub mod Lowered

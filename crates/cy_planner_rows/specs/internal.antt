@@ -4,3 +4,4 @@ pub mod WantedLists
 pub mod Asked
 pub mod Lookups
 pub mod Filters
+pub mod Alike

@@ -162,41 +162,27 @@ module _ {M : Type 0} (key_columns : M → List ℕ) (was staged : M → Counts)
       (subst (λ n. step_count new ≤ step_count memory + n)
       (ap (λ n. 2 * n) (ap length are ∙ length-map deltas (image (projected (outputs_of p))) ∙ deltas_long old now (first_below p) deltas fed.below) ∙ ap (own_steps (rows_at (content_of old)) (rows_at (Some now.content)) touches) (sym is)) most)
 
-pub returns-clause-done : goal.returns-clause-done
-returns-clause-done g c =
-    if_ok_three _ _ _ _ c.project.result c.project.ensures.delta c.project.ensures.staged c.project.ensures.deltas
-    (λ made leads holds bounds old now touches given.
-    ends g.M.Memory.key_columns g.M.Memory.was g.M.Memory.staged g.M.Memory.step_count c.index-own-0.result c.args.own.now (plan_of c.args.part.now) (outputs_of (plan_of c.args.part.now)) given.deltas c.args.images.items given.are (project_is (plan_of c.args.part.now) c.requires.project) c.requires.kept
-    c.project.new.memory old now touches given.fed made.items leads holds bounds)
-
-pub returns-clause-too_many : goal.returns-clause-too_many
-returns-clause-too_many g c =
-    if_err_more _ _ c.project.result c.project.ensures.too_many
-    (λ fault found is old now touches given.
-    too_many g.M.Memory.key_columns g.M.Memory.was g.M.Memory.staged g.M.Memory.step_count c.index-own-0.result c.args.own.now (plan_of c.args.part.now) (outputs_of (plan_of c.args.part.now)) given.deltas c.args.images.items given.are (project_is (plan_of c.args.part.now) c.requires.project) c.requires.kept
-    c.project.new.memory old now touches given.fed (found is))
-
-pub returns-clause-was : goal.returns-clause-was
-returns-clause-was g c =
+pub returns : goal.returns
+returns g c =
     let own = c.args.own.now in
     let long : length own ≡ 1 = one_kept g.M.Memory.key_columns own (plan_of c.args.part.now) (outputs_of (plan_of c.args.part.now)) (project_is (plan_of c.args.part.now) c.requires.project) c.requires.kept c.requires.begun.1.1.1.fed.own.keyed in
-    ap (map g.M.Memory.was) (set_one c.project.new.memory own long) ∙ ap (λ n. n ∷ []) c.project.ensures.was ∙ sym (ap (map g.M.Memory.was) (one_only c.index-own-0.result own long))
-
-pub returns-clause-columns : goal.returns-clause-columns
-returns-clause-columns g c =
-    let own = c.args.own.now in
-    let long : length own ≡ 1 = one_kept g.M.Memory.key_columns own (plan_of c.args.part.now) (outputs_of (plan_of c.args.part.now)) (project_is (plan_of c.args.part.now) c.requires.project) c.requires.kept c.requires.begun.1.1.1.fed.own.keyed in
-    ap (map g.M.Memory.key_columns) (set_one c.project.new.memory own long) ∙ ap (λ n. n ∷ []) c.project.ensures.columns ∙ sym (ap (map g.M.Memory.key_columns) (one_only c.index-own-0.result own long))
-
-pub returns-clause-grows : goal.returns-clause-grows
-returns-clause-grows g c =
-    let own = c.args.own.now in
-    let long : length own ≡ 1 = one_kept g.M.Memory.key_columns own (plan_of c.args.part.now) (outputs_of (plan_of c.args.part.now)) (project_is (plan_of c.args.part.now) c.requires.project) c.requires.kept c.requires.begun.1.1.1.fed.own.keyed in
-    grown_of_one g.M.Memory.step_count own (set own 0 c.project.new.memory) (get_or own 0 c.index-own-0.result) c.project.new.memory (one_only c.index-own-0.result own long) (set_one c.project.new.memory own long) c.project.ensures.grows
-
-pub returns-clause-steps : goal.returns-clause-steps
-returns-clause-steps g c =
-    if_ok_from _ c.project.result
-    (λ made exact old now touches given.
-    steps g.M.Memory.key_columns g.M.Memory.was g.M.Memory.staged g.M.Memory.step_count c.index-own-0.result c.args.own.now (plan_of c.args.part.now) (outputs_of (plan_of c.args.part.now)) given.deltas c.args.images.items given.are (project_is (plan_of c.args.part.now) c.requires.project) c.requires.kept
-    c.project.new.memory old now touches given.fed (c.project.ensures.steps exact))
+    record {
+      done =
+          if_ok_three _ _ _ _ c.project.result c.project.ensures.delta c.project.ensures.staged c.project.ensures.deltas
+          (λ made leads holds bounds old now touches given.
+          ends g.M.Memory.key_columns g.M.Memory.was g.M.Memory.staged g.M.Memory.step_count c.index-own-0.result c.args.own.now (plan_of c.args.part.now) (outputs_of (plan_of c.args.part.now)) given.deltas c.args.images.items given.are (project_is (plan_of c.args.part.now) c.requires.project) c.requires.kept
+          c.project.new.memory old now touches given.fed made.items leads holds bounds);
+      too_many =
+          if_err_more _ _ c.project.result c.project.ensures.too_many
+          (λ fault found is old now touches given.
+          too_many g.M.Memory.key_columns g.M.Memory.was g.M.Memory.staged g.M.Memory.step_count c.index-own-0.result c.args.own.now (plan_of c.args.part.now) (outputs_of (plan_of c.args.part.now)) given.deltas c.args.images.items given.are (project_is (plan_of c.args.part.now) c.requires.project) c.requires.kept
+          c.project.new.memory old now touches given.fed (found is));
+      was = ap (map g.M.Memory.was) (set_one c.project.new.memory own long) ∙ ap (λ n. n ∷ []) c.project.ensures.was ∙ sym (ap (map g.M.Memory.was) (one_only c.index-own-0.result own long));
+      columns = ap (map g.M.Memory.key_columns) (set_one c.project.new.memory own long) ∙ ap (λ n. n ∷ []) c.project.ensures.columns ∙ sym (ap (map g.M.Memory.key_columns) (one_only c.index-own-0.result own long));
+      grows = grown_of_one g.M.Memory.step_count own (set own 0 c.project.new.memory) (get_or own 0 c.index-own-0.result) c.project.new.memory (one_only c.index-own-0.result own long) (set_one c.project.new.memory own long) c.project.ensures.grows;
+      steps =
+          if_ok_from _ c.project.result
+          (λ made exact old now touches given.
+          steps g.M.Memory.key_columns g.M.Memory.was g.M.Memory.staged g.M.Memory.step_count c.index-own-0.result c.args.own.now (plan_of c.args.part.now) (outputs_of (plan_of c.args.part.now)) given.deltas c.args.images.items given.are (project_is (plan_of c.args.part.now) c.requires.project) c.requires.kept
+          c.project.new.memory old now touches given.fed (c.project.ensures.steps exact));
+    }

@@ -63,7 +63,7 @@ state_of key_columns was staged step_count n = record {
 abbrev pub operator_of : {M C : Type 0} → Network M C → Operator
 operator_of n = n.plan
 
--- the network stands for the graph: its rows are those of its plan there, its memories hold those of the plan's parts, and nothing is prepared
+-- the network stands for the graph: its rows are those of its plan there, its memories hold those of the plan's operators, and nothing is prepared
 pub record StandsFor (graph : Content) (n : NetworkState) : Type 0 where
   pub sure : IsSure n.plan
   pub held : AreHeld (Some graph) n.plan n.columns n.was n.staged

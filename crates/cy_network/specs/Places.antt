@@ -19,7 +19,7 @@ pub data Place : Type 0 where
 abbrev pub place_where : Bool → Place → Place
 place_where held place = if held then place else in_table
 
--- where the rows of a plan stand: in its last memory, where its uppermost part keeps its rows there, or is a distinct over one that does; else in a
+-- where the rows of a plan stand: in its last memory, where its uppermost operator keeps its rows there, or is a distinct over one that does; else in a
 -- table of their own
 abbrev pub place_of : Plan → Place
 place_of plan.unit = in_table

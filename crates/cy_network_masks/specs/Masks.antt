@@ -1,4 +1,4 @@
--- Masks: the bits of labels and of types. That of a plan has the labels and the types that its parts ask for, that of a change those of the entities that it
+-- Masks: the bits of labels and of types. That of a plan has the labels and the types that its operators ask for, that of a change those of the entities that it
 -- touched; where the two are apart, the plan reads nothing that the change touched. (own)
 use Rattle.std.specs.Prelude.{ℕ, List, [], ◌∷◌, Option}
 use Rattle.cy_graph.specs.declared.nodes.Node.{Node}
@@ -33,6 +33,6 @@ pub record AreApart (a b : Mask) : Type 0 where
   pub nodes : AreBitsApart a.nodes b.nodes
   pub rels : AreBitsApart a.rels b.rels
 
--- a mask has all that a plan reads: a change whose mask is apart from it leaves the rows of the plan's parts as they are
+-- a mask has all that a plan reads: a change whose mask is apart from it leaves the rows of the plan's operators as they are
 abbrev pub Covers : Mask → Plan → Type 0
 Covers mask p = (before now : State) (touches : Touches) → IsChange before now touches → AreApart mask (mask_of now touches) → IsUntouched before.content now.content p

@@ -13,7 +13,7 @@ use cy_planner_algebra::{Attribute, Operator, Output};
 use cy_trees::{BinaryOperator, Expr};
 use cy_values::Text;
 
-/// The label without which no node has a row in a filter over a part, where it asks for one.
+/// The label without which no node has a row in a filter over an operator, where it asks for one.
 pub(crate) fn label_asked<'p>(below: &Operator, test: &'p Expr) -> Option<&'p Text>
     ensures { IfSome result (λ label. LacksWithout label.now (plan.filter (plan_of below.now) (expression_of test.now))) }
 {
@@ -41,7 +41,7 @@ fn label_tested(test: &Expr) -> Option<&Text>
     }
 }
 
-// Whether the rows of a part are nodes, each with the list of its labels in the second column.
+// Whether the rows of an operator are nodes, each with the list of its labels in the second column.
 fn has_labels(part: &Operator) -> bool
     ensures { result ≡ true → HasLabels (plan_of part.now) }
 {
@@ -70,7 +70,7 @@ fn is_labels(attribute: &Attribute) -> bool
     matches!(attribute, Attribute::Labels)
 }
 
-// Whether the rows of a part are nodes, and nothing beside.
+// Whether the rows of an operator are nodes, and nothing beside.
 fn is_single(part: &Operator) -> bool
     ensures { result ≡ true → IsSingle (plan_of part.now) }
 {
@@ -100,7 +100,7 @@ pub(crate) fn keeps_first(outputs: &[Output]) -> bool
     matches!(kept_at(outputs, 0), Some(0))
 }
 
-// Whether a part is a scan of nodes, and names them in the first column.
+// Whether an operator is a scan of nodes, and names them in the first column.
 fn names_nodes(part: &Operator) -> bool
     ensures { result ≡ true → NamesNodes (plan_of part.now) }
 {

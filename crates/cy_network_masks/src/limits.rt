@@ -12,7 +12,7 @@ use crate::names::{name_bits, with_names};
 use cy_planner_algebra::Operator;
 use cy_values::Text;
 
-/// Bits from which no entity is apart that has a row in a part, where this is a scan that names its entities in the first column.
+/// Bits from which no entity is apart that has a row in an operator, where this is a scan that names its entities in the first column.
 pub(crate) fn limit_of(part: &Operator) -> Option<Mask>
     ensures { IfSome result (λ limit. IsLimited limit (plan_of part.now)) }
 {

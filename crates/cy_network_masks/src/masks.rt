@@ -22,7 +22,7 @@ pub struct Mask {
 }
 
 impl Mask {
-    /// What a plan reads. A change that has nothing in common with it leaves the rows of the plan's parts as they are. Each part is gone
+    /// What a plan reads. A change that has nothing in common with it leaves the rows of the plan's operators as they are. Each operator is gone
     /// through a few times at most.
     pub fn of_plan(part: &Operator) -> Mask
         ensures { Covers result (plan_of part.now) }

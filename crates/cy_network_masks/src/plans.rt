@@ -1,4 +1,4 @@
-//! What the parts of a plan read.
+//! What the operators of a plan read.
 
 ghost use Rattle.std.specs.Prelude.{IfSome};
 ghost use Rattle.cy_planner_algebra.specs.PlanModels.{plan_of};
@@ -12,15 +12,15 @@ use crate::limits::{limit_of, rels_mask};
 use crate::masks::Mask;
 use cy_planner_algebra::Operator;
 
-/// What the parts of a plan read.
+/// What the operators of a plan read.
 pub(crate) fn plan_mask(part: &Operator) -> Mask
     ensures { Covers result (plan_of part.now) }
 {
     parts_mask(part)
 }
 
-// What the parts of a plan read. A limit is asked for at the uppermost of the parts that stand over one another in a scan, and not once more at those below
-// it: so each part is gone through twice at most.
+// What the operators of a plan read. A limit is asked for at the uppermost of the operators that stand over one another in a scan, and not once more at those below
+// it: so each operator is gone through twice at most.
 fn parts_mask(part: &Operator) -> Mask
     ensures { LeavesUnread result (plan_of part.now) }
 {
@@ -94,7 +94,7 @@ fn parts_mask(part: &Operator) -> Mask
     }
 }
 
-// Bits from which no entity is apart that has a row in a part, unless it is known that this is no such scan.
+// Bits from which no entity is apart that has a row in an operator, unless it is known that this is no such scan.
 fn limit_unless(known: bool, part: &Operator) -> Option<Mask>
     ensures { IfSome result (λ limit. IsLimited limit (plan_of part.now)) }
 {

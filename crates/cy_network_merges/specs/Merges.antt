@@ -44,12 +44,12 @@ IsOneToOne width outputs = (row other : List Cell) → length row ≡ width → 
 abbrev pub IsOneToOneOn : List (List Cell) → List Output → Type 0
 IsOneToOneOn rows outputs = (row other : List Cell) → 0 < count_of row rows → 0 < count_of other rows → projected outputs row ≡ projected outputs other → row ≡ other
 
--- the rows of the two parts of a union
+-- the rows of the two inputs of a union
 pub record Sides : Type 0 where
   pub left : List (List Cell)
   pub right : List (List Cell)
 
--- The row deltas of each part of a union lead from some rows of it to others, and the rows that count are the first of both. The key of
+-- The row deltas of each input of a union lead from some rows of it to others, and the rows that count are the first of both. The key of
 -- each is the whole row.
 pub record IsUnionChange (columns : List ℕ) (was : Counts) (left right : List RowDelta) (before after : Sides) : Type 0 where
   pub delta_left : IsDelta (counts before.left) (counts after.left) left

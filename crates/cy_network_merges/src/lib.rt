@@ -1,5 +1,5 @@
-//! How a change of rows goes through the parts of a plan that count: `Project` and `Union`, whose counts are sums, each with a memory of
-//! its own rows, and `Semi`, the rows of a left part that have a partner in the right part, or that have none.
+//! How a change of rows goes through the operators of a plan that count: `Project` and `Union`, whose counts are sums, each with a memory of
+//! its own rows, and `Semi`, the rows of a left input that have a partner in the right input, or that have none.
 #![tactic(auto)]
 
 mod changes;

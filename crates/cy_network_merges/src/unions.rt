@@ -12,7 +12,7 @@ use crate::merges::merge;
 use cy_network_memory::{Memory, MemoryFault, RowDelta};
 use std::alloc::Global;
 
-/// What changes of the rows of a union, where the rows of its two parts change. The memory holds the union's rows as they were; its
+/// What changes of the rows of a union, where the rows of its two inputs change. The memory holds the union's rows as they were; its
 /// key is the whole row. What it counts after the change is staged. `TooManyRows` where a row of the union counts too often after
 /// the change; otherwise it fails only when out of memory, and never where nothing changes. After a refusal a part may be staged.
 pub fn union<M: Memory>(

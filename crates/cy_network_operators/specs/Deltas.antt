@@ -56,7 +56,7 @@ HaveColumns columns before after = (row : List Cell) → 0 < before row + after 
 abbrev pub AreWide : ℕ → Counts → Counts → Type 0
 AreWide width before after = (row : List Cell) → 0 < before row + after row → length row ≡ width
 
--- how often a row of the left part and one of the right part count together: as often as the one times as often as the other where they meet
+-- how often a row of the left input and one of the right input count together: as often as the one times as often as the other where they meet
 abbrev pub pair_count : List KeyColumns → Counts → Counts → List Cell → List Cell → ℕ
 pair_count keys left right row other = if meet keys row other then left row * right other else 0
 

@@ -1,4 +1,4 @@
-//! How a change of rows goes through each part of a plan: what changes above it when rows change below it.
+//! How a change of rows goes through each operator of a plan: what changes above it when rows change below it.
 #![tactic(auto)]
 
 mod deltas;

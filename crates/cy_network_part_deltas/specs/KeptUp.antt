@@ -1,4 +1,4 @@
--- A part of a plan over a change: what is asked, and what is promised of its memories and of what changes of its rows. (own)
+-- An operator of a plan over a change: what is asked, and what is promised of its memories and of what changes of its rows. (own)
 use Rattle.std.specs.Prelude.{◌≡◌, ℕ, ◌+◌, ◌≤◌, Bool, true, List, Option, Some, IfErr, IfOk, Result, map, sum_by}
 use Rattle.std.specs.declared.alloc.Global.{Global}
 use Rattle.std.specs.declared.vec.Vec.{Vec}
@@ -19,7 +19,7 @@ use Rattle.cy_network_part_deltas.specs.Images.{IsFedImages}
 abbrev pub OnSome : (Option State → State → Touches → Type 0) → Type 0
 OnSome Fed = (old : Option State) × ((now : State) × ((touches : Touches) × Fed old now touches))
 
--- what a part with two parts below it is fed, by its own memories
+-- what an operator with two operators below it is fed, by its own memories
 abbrev pub FedPairs : {M : Type 0} → (M → List ℕ) → (M → Counts) → (M → Counts) → List M → Plan → List RowDelta → List RowDelta → Option State → State → Touches → Type 0
 FedPairs key_columns was staged own p lefts rights old now touches = IsFedByTwo old now touches p (map key_columns own) (map was own) (map staged own) lefts rights
 
@@ -27,8 +27,8 @@ FedPairs key_columns was staged own p lefts rights old now touches = IsFedByTwo 
 abbrev pub FedImages : {M : Type 0} → (M → List ℕ) → (M → Counts) → (M → Counts) → List M → Plan → List RowDelta → Option State → State → Touches → Type 0
 FedImages key_columns was staged own p images old now touches = IsFedImages old now touches p (map key_columns own) (map was own) (map staged own) images
 
--- A part is kept up on each change on which it is fed so: what changes of its rows is right, and its memories are staged for the second graph. Where it
--- can't be, for too many rows, one of its rows counts too often. Its memories stand as they were, and their exact steps are no more than the part may cost.
+-- An operator is kept up on each change on which it is fed so: what changes of its rows is right, and its memories are staged for the second graph. Where it
+-- can't be, for too many rows, one of its rows counts too often. Its memories stand as they were, and their exact steps are no more than the operator may cost.
 pub record IsKeptUp {M : Type 0} (exact : Bool) (key_columns : M → List ℕ) (was_in staged_in : M → Counts) (step_count : M → ℕ) (p : Plan) (Fed : Option State → State → Touches → Type 0)
     (Done : Option State → State → List Counts → List RowDelta → Type 0) (old_own own : List M) (result : Result (Vec RowDelta Global) MemoryFault) : Type 0 where
   pub done : IfOk result (λ made. (old : Option State) (now : State) (touches : Touches) → Fed old now touches → Done old now (map staged_in own) made.items)

@@ -1,4 +1,4 @@
-//! What changes of the rows of the lowest parts of a plan: of scans, and of the empty row.
+//! What changes of the rows of the lowest operators of a plan: of scans, and of the empty row.
 
 ghost use Rattle.std.specs.Prelude.{◌≡◌, ◌≤◌, ◌+◌, ◌⊎◌, true, [], List, Option, IfOk, if◌then◌else◌, is_none, map};
 ghost use Rattle.cy_values.specs.declared.rows.Cell.{Cell};
@@ -22,7 +22,7 @@ use cy_planner_algebra::Operator;
 use cy_values::{Fault, Sequence};
 use std::alloc::Global;
 
-/// What changes of the rows of a scan, with its parts from the top down, or of the empty row, where the graph changes: from nothing, where
+/// What changes of the rows of a scan, with its operators from the top down, or of the empty row, where the graph changes: from nothing, where
 /// there was no graph before. Fails only when out of memory.
 pub fn lowest_deltas<'a>(
     alloc: Global,

@@ -1,4 +1,4 @@
-//! What changes of the rows of one part of a plan, by what changes of those of the parts right below it.
+//! What changes of the rows of one operator of a plan, by what changes of those of the operators right below it.
 #![tactic(auto)]
 
 mod leaves;

@@ -1,4 +1,4 @@
--- The memories of a plan: a part has those of the part at its left below it, then those of the one at its right, and then its own.
+-- The memories of a plan: an operator has those of the operator at its left below it, then those of the one at its right, and then its own.
 use Rattle.std.specs.Prelude.{◌≡◌, ℕ, ◌||◌, Bool, List, [], ◌∷◌, ◌++◌, Option, if◌then◌else◌, is_some, map, length}
 use Rattle.std.specs.List.{All, list_all}
 use Rattle.cy_values.specs.declared.rows.Cell.{Cell}
@@ -15,7 +15,7 @@ use Rattle.cy_network_sources.specs.Scans.{kept_at, scan_column}
 use Rattle.cy_network_outer.specs.Outer.{numbers_of_partners}
 use Rattle.cy_network_merges.specs.Semi.{numbers_of_keys}
 
--- a part is a scan: what changes of its rows comes from the touched entities alone
+-- an operator is a scan: what changes of its rows comes from the touched entities alone
 abbrev pub is_scan : Plan → Bool
 is_scan p = is_some (scan_column p)
 
@@ -35,10 +35,10 @@ is_row_by_row p outputs = is_scan (plan.project p outputs) || tells_rows p outpu
 abbrev pub none_where : {X : Type 0} → Bool → List X → List X
 none_where so xs = if so then [] else xs
 
--- the key columns of the memories that a part has itself: a join keeps the rows of both sides by their keys, an outer join these and the number of
+-- the key columns of the memories that an operator has itself: a join keeps the rows of both sides by their keys, an outer join these and the number of
 -- partners of each row of its left side, a semi join the rows of its left side by their keys and the number of different rows of its right side
 -- with each key, a look-up the rows below it by its column, and what adds counts keeps its own rows. A scan
--- keeps nothing, nor does a projection that is gone through row by row, or a union of parts that are apart.
+-- keeps nothing, nor does a projection that is gone through row by row, or a union of operators that are apart.
 abbrev pub own_keys : Plan → List (List ℕ)
 own_keys plan.unit = []
 own_keys plan.nodes = []
@@ -68,7 +68,7 @@ keys (plan.project p outputs) = keys p ++ own_keys (plan.project p outputs)
 keys (plan.distinct p) = keys p
 keys (plan.union left right) = (keys left ++ keys right) ++ own_keys (plan.union left right)
 
--- what the memories of a part count, where the rows of each part are given
+-- what the memories of an operator count, where the rows of each operator are given
 abbrev pub own_contents : (Plan → List (List Cell)) → Plan → List Counts
 own_contents rows plan.unit = []
 own_contents rows plan.nodes = []
@@ -98,7 +98,7 @@ contents rows (plan.project p outputs) = contents rows p ++ own_contents rows (p
 contents rows (plan.distinct p) = contents rows p
 contents rows (plan.union left right) = (contents rows left ++ contents rows right) ++ own_contents rows (plan.union left right)
 
--- no row of any part counts more than 2^62 - 1
+-- no row of any operator counts more than 2^62 - 1
 abbrev pub AreWithin : Option Content → Plan → Type 0
 AreWithin graph p = All (λ part. AreBounded (counts (rows_at graph part))) (parts p)
 

@@ -1,11 +1,11 @@
--- The parts that stand right below a part of a plan, and the chains that parts make. (own)
+-- The operators that stand right below an operator of a plan, and the chains that operators make. (own)
 use Rattle.std.specs.Prelude.{◌≡◌, ◌≢◌, ℕ, ◌<◌, ◌⊎◌, Bool, true, false, List, [], ◌∷◌, drop, length, take}
 use Rattle.std.specs.List.{All}
 use Rattle.cy_planner_algebra.specs.Plans as plan
 use Rattle.cy_planner_algebra.specs.Plans.{Plan}
 use Rattle.cy_network_parts.specs.Memories.{is_scan}
 
--- how many parts stand right below a part
+-- how many operators stand right below an operator
 abbrev pub below_count : Plan → ℕ
 below_count plan.unit = 0
 below_count plan.nodes = 0
@@ -20,7 +20,7 @@ below_count (plan.project p outputs) = 1
 below_count (plan.distinct p) = 1
 below_count (plan.union left right) = 2
 
--- whether a part is that of the empty row
+-- whether an operator is that of the empty row
 abbrev pub is_unit : Plan → Bool
 is_unit plan.unit = true
 is_unit plan.nodes = false
@@ -35,7 +35,7 @@ is_unit (plan.project p outputs) = false
 is_unit (plan.distinct p) = false
 is_unit (plan.union left right) = false
 
--- the part right below one, or the left one of two
+-- the operator right below one, or the left one of two
 abbrev pub first_below : Plan → Plan
 first_below plan.unit = plan.unit
 first_below plan.nodes = plan.nodes
@@ -50,7 +50,7 @@ first_below (plan.project p outputs) = p
 first_below (plan.distinct p) = p
 first_below (plan.union left right) = left
 
--- the right one of two parts right below one
+-- the right one of two inputs right below one
 abbrev pub second_below : Plan → Plan
 second_below plan.unit = plan.unit
 second_below plan.nodes = plan.nodes
@@ -65,7 +65,7 @@ second_below (plan.project p outputs) = p
 second_below (plan.distinct p) = p
 second_below (plan.union left right) = right
 
--- the parts from a part of a plan down to the first one that has no part below it, or two
+-- the operators from an operator of a plan down to the first one that has no operator below it, or two
 abbrev pub chain : Plan → List Plan
 chain plan.unit = plan.unit ∷ []
 chain plan.nodes = plan.nodes ∷ []
@@ -80,11 +80,11 @@ chain (plan.project p outputs) = plan.project p outputs ∷ chain p
 chain (plan.distinct p) = plan.distinct p ∷ chain p
 chain (plan.union left right) = plan.union left right ∷ []
 
--- a part whose rows come in one step of the graph or of the rows of two parts: a scan, or a part that has no part below it, or two
+-- an operator whose rows come in one step of the graph or of the rows of two inputs: a scan, or an operator that has no operator below it, or two
 abbrev pub IsWhole : Plan → Type 0
 IsWhole p = (is_scan p ≡ true) ⊎ (below_count p ≢ 1)
 
--- a chain is cut where such a part stands, and no part above that one is a scan
+-- a chain is cut where such an operator stands, and no operator above that one is a scan
 pub record IsCut (ps : List Plan) (place : ℕ) : Type 0 where
   pub within : place < length ps
   pub unscanned : All (λ p. is_scan p ≡ false) (take place ps)

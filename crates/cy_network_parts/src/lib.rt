@@ -1,4 +1,4 @@
-//! The parts of a plan: those right below a part, and the chain that it begins; and their memories: which ones they keep, how these are
+//! The operators of a plan: those right below an operator, and the chain that it begins; and their memories: which ones they keep, how these are
 //! made, settled and abandoned, and how many steps they took.
 #![tactic(auto)]
 

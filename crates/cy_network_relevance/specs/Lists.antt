@@ -1,4 +1,4 @@
--- How many relationships the cells in a column of a plan's rows name, as far as the plan shows it, and parts of a plan that have no row in
+-- How many relationships the cells in a column of a plan's rows name, as far as the plan shows it, and operators of a plan that have no row in
 -- common because of that. (own)
 use Rattle.std.specs.Prelude.{◌≡◌, ℕ, ◌+◌, ◌-◌, ◌==◌, ◌≤◌, ◌⊎◌, ⊤, Bool, false, ◌||◌, List, Option, None, Some, fold, if◌then◌else◌, length, max, min, nat_lt, slice_get, sum_by}
 use Rattle.std.specs.Option.{option_and_then, option_map_or}
@@ -77,14 +77,14 @@ most_named (plan.project p outputs) column = option_and_then (most_made (most_na
 most_named (plan.distinct p) column = most_named p column
 most_named (plan.union left right) column = greater (most_named left column) (most_named right column)
 
--- ---- parts of a plan
+-- ---- operators of a plan
 
 -- this many at least are more than this many at most
 abbrev pub is_above : ℕ → Option ℕ → Bool
 is_above least None = false
 is_above least (Some most) = nat_lt most least
 
--- the first cells of the rows of the one part name more relationships than those of the other
+-- the first cells of the rows of the one operator name more relationships than those of the other
 abbrev pub are_apart : Plan → Plan → Bool
 are_apart left right = is_above (least_named right 0) (most_named left 0) || is_above (least_named left 0) (most_named right 0)
 

@@ -6,15 +6,15 @@ use Rattle.cy_planner_algebra.specs.Plans as plan
 use Rattle.cy_planner_algebra.specs.Plans.{Plan}
 use Rattle.cy_network_sources.specs.Scans.{scan_column}
 
--- a part has the same rows on two graphs
+-- an operator has the same rows on two graphs
 abbrev pub HasSameRows : Content → Content → Plan → Type 0
 HasSameRows before after p = rows_of before p ≡ rows_of after p
 
--- a part is a scan, so that nothing is asked of the parts below it; or this is so of the one below it
+-- an operator is a scan, so that nothing is asked of the operators below it; or this is so of the one below it
 abbrev pub IsScanOr : Plan → Type 0 → Type 0
 IsScanOr p below = (is_some (scan_column p) ≡ true) ⊎ below
 
--- The parts of a plan have the same rows on two graphs: those of which a scan is made may have others, but not the scan.
+-- The operators of a plan have the same rows on two graphs: those of which a scan is made may have others, but not the scan.
 abbrev pub IsUntouched : Content → Content → Plan → Type 0
 IsUntouched before after plan.unit = ⊤
 IsUntouched before after plan.nodes = HasSameRows before after plan.nodes

@@ -89,7 +89,7 @@ has_lists (plan.union left right) = has_lists left && has_lists right
 
 -- ---- both together
 
--- a column of the right part of a join is one of its key
+-- a column of the right input of a join is one of its key
 abbrev pub is_key : List KeyColumns → ℕ → Bool
 is_key keys column = list_any (λ (k : KeyColumns). k.right == column) keys
 

@@ -1,4 +1,4 @@
-//! Parts of a plan that have no row in common.
+//! Operators of a plan that have no row in common.
 
 ghost use Rattle.std.specs.Prelude.{◌≡◌, true, List};
 ghost use Rattle.cy_values.specs.declared.rows.Cell.{Cell};
@@ -11,7 +11,7 @@ use crate::at_least::least_named;
 use crate::at_most::most_named;
 use cy_planner_algebra::Operator;
 
-/// Whether the first cells of the rows of the one part name more relationships than those of the other, as far as the plan shows it. Then
+/// Whether the first cells of the rows of the one operator name more relationships than those of the other, as far as the plan shows it. Then
 /// no row stands among those of both, whatever the graph.
 pub fn are_apart(left: &Operator, right: &Operator) -> bool
     requires left { IsWellFormed (plan_of left.now) }
@@ -22,7 +22,7 @@ pub fn are_apart(left: &Operator, right: &Operator) -> bool
     is_above(right, left) || is_above(left, right)
 }
 
-/// Whether the first cells of the rows of a part name more relationships than those of another one.
+/// Whether the first cells of the rows of an operator name more relationships than those of another one.
 fn is_above(part: &Operator, other: &Operator) -> bool
     requires part { IsWellFormed (plan_of part.now) }
     requires other { IsWellFormed (plan_of other.now) }

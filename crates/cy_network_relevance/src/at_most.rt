@@ -10,7 +10,7 @@ ghost use Rattle.cy_network_relevance.specs.Lists as lists;
 use crate::columns::variable_column;
 use cy_planner_algebra::{Operator, Output};
 
-/// How many relationships the cell in a column of a part's rows names at most, if the plan shows that.
+/// How many relationships the cell in a column of an operator's rows names at most, if the plan shows that.
 pub(crate) fn most_named(part: &Operator, column: usize) -> Option<u16>
     requires { IsWellFormed (plan_of part.now) }
     ensures { result ≡ lists.most_named (plan_of part.now) column }
@@ -18,8 +18,8 @@ pub(crate) fn most_named(part: &Operator, column: usize) -> Option<u16>
     most_below(part, part.width(), column)
 }
 
-/// How many the cell in a column of the rows of a part of this width names at most. What has one part below it is gone through in a loop, and
-/// so is the part of a join that has the column.
+/// How many the cell in a column of the rows of an operator of this width names at most. What has one operator below it is gone through in a loop, and
+/// so is the input of a join that has the column.
 #[cycle(at_most)]
 fn most_below(part: &Operator, wide: usize, column: usize) -> Option<u16>
     requires part { IsWellFormed (plan_of part.now) }

@@ -1,4 +1,4 @@
-//! The key of a part's rows: columns whose cells tell a row on any graph, as far as the plan shows them.
+//! The key of an operator's rows: columns whose cells tell a row on any graph, as far as the plan shows them.
 
 ghost use Rattle.std.specs.Prelude.{◌≡◌, map};
 ghost use Rattle.cy_planner_algebra.specs.PlanModels.{output_of, plan_of};
@@ -32,7 +32,7 @@ fn column_at(outputs: &[Output], place: usize) -> Option<usize>
     }
 }
 
-/// Whether a column of a part's rows is one of their key.
+/// Whether a column of an operator's rows is one of their key.
 fn is_key_column(part: &Operator, column: usize) -> bool
     requires { IsWellFormed (plan_of part.now) }
     ensures { result ≡ trails.is_key_column (plan_of part.now) column }
@@ -74,7 +74,7 @@ fn is_key_column(part: &Operator, column: usize) -> bool
     }
 }
 
-/// Whether a projection keeps a column of a part's rows, if it is one of their key. It is looked for at this place first.
+/// Whether a projection keeps a column of an operator's rows, if it is one of their key. It is looked for at this place first.
 fn is_kept_key(part: &Operator, outputs: &[Output], column: usize, place: usize) -> bool
     requires { IsWellFormed (plan_of part.now) }
     ensures { result ≡ trails.is_kept_key (plan_of part.now) (map output_of outputs.now) column }
@@ -82,7 +82,7 @@ fn is_kept_key(part: &Operator, outputs: &[Output], column: usize, place: usize)
     !is_key_column(part, column) || is_kept(outputs, column, place)
 }
 
-/// Whether a projection keeps the key of a part's rows. Each column is looked for first after the one before it, since projections mostly keep the
+/// Whether a projection keeps the key of an operator's rows. Each column is looked for first after the one before it, since projections mostly keep the
 /// columns in their order.
 fn keeps_key(part: &Operator, outputs: &[Output]) -> bool
     requires { IsWellFormed (plan_of part.now) }
@@ -107,7 +107,7 @@ pub(crate) fn follows_key(part: &Operator, outputs: &[Output]) -> bool
     part.width() <= GREATEST_FOLLOWED && keeps_key(part, outputs)
 }
 
-/// Whether the columns of a part's key tell its rows.
+/// Whether the columns of an operator's key tell its rows.
 pub(crate) fn has_key(part: &Operator) -> bool
     requires { IsWellFormed (plan_of part.now) }
     ensures { result ≡ trails.has_key (plan_of part.now) }

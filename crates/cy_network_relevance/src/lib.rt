@@ -1,5 +1,5 @@
-//! Whether a change of the graph is relevant to a plan: whether what it touched may make other rows of its parts; and what the plan alone
-//! shows of its rows: parts that have none in common, since the lists of relationships in the rows of the one are longer than those of the
+//! Whether a change of the graph is relevant to a plan: whether what it touched may make other rows of its operators; and what the plan alone
+//! shows of its rows: operators that have none in common, since the lists of relationships in the rows of the one are longer than those of the
 //! other, and projections that leave out columns and yet tell the rows below them apart.
 #![tactic(auto)]
 

@@ -1,4 +1,4 @@
-//! What becomes of the rows of a plan's parts where one entity has another value.
+//! What becomes of the rows of a plan's operators where one entity has another value.
 
 ghost use Rattle.std.specs.Prelude.{◌≡◌, Some, map, true};
 ghost use Rattle.cy_trees.specs.TreeModels.{expression_of};
@@ -19,7 +19,7 @@ use cy_planner_algebra::{Operator, Output};
 use cy_trees::Expr;
 use cy_values::Text;
 
-/// Whether the rows of a part, and of the parts below it that a scan doesn't take together, are the same before and after, as far as
+/// Whether the rows of an operator, and of the operators below it that a scan doesn't take together, are the same before and after, as far as
 /// they come from the entity. Where it says no, they may be so too. Of one that is there before and after it is asked first whether what they
 /// read of it is the same, which takes less.
 pub(crate) fn is_unchanged(part: &Operator, entity: &Entity<'_>) -> bool
@@ -28,8 +28,8 @@ pub(crate) fn is_unchanged(part: &Operator, entity: &Entity<'_>) -> bool
     reads_the_same(part, entity) || is_kept(part, entity, false)
 }
 
-// Whether the rows are the same, by what the parts make of the entity. Whether the scan below makes nothing of it is asked at the uppermost of the look-ups that
-// stand over one another, and not once more at those below it: so each part is gone through twice at most.
+// Whether the rows are the same, by what the operators make of the entity. Whether the scan below makes nothing of it is asked at the uppermost of the look-ups that
+// stand over one another, and not once more at those below it: so each operator is gone through twice at most.
 fn is_kept(part: &Operator, entity: &Entity<'_>, asked: bool) -> bool
     ensures { result ≡ true → IsUnchanged entity.now (plan_of part.now) }
 {
@@ -85,7 +85,7 @@ fn makes_the_same(types: &[Text], entity: &Entity<'_>) -> bool
     keeps_rel(*entity) || makes_no_rel(*entity, types)
 }
 
-// Whether a part is a scan that names its entities in the first column, and makes no row of this one, neither before nor after.
+// Whether an operator is a scan that names its entities in the first column, and makes no row of this one, neither before nor after.
 fn makes_nothing(part: &Operator, entity: &Entity<'_>) -> bool
     ensures { result ≡ true → IsAbsent entity.now (plan_of part.now) }
 {
@@ -143,7 +143,7 @@ fn is_first(output: &Output) -> bool
     }
 }
 
-// Whether a filter over a part tests all nodes for a label that the entity lacks.
+// Whether a filter over an operator tests all nodes for a label that the entity lacks.
 fn is_left_out(below: &Operator, test: &Expr, entity: Entity<'_>) -> bool
     ensures unchanged { result ≡ true → IsUnchanged entity.entry (plan.filter (plan_of below.now) (expression_of test.now)) }
     ensures absent { result ≡ true → IsAbsent entity.entry (plan.filter (plan_of below.now) (expression_of test.now)) }
@@ -154,7 +154,7 @@ fn is_left_out(below: &Operator, test: &Expr, entity: Entity<'_>) -> bool
     }
 }
 
-// Whether a part looks up the labels of all nodes.
+// Whether an operator looks up the labels of all nodes.
 fn looks_labels_up(part: &Operator) -> bool
     ensures { result ≡ true → plan_of part.now ≡ plan.lookup plan.nodes 0 Labels }
 {
@@ -166,7 +166,7 @@ fn looks_labels_up(part: &Operator) -> bool
     }
 }
 
-// Whether a part gives the nodes.
+// Whether an operator gives the nodes.
 fn is_nodes(part: &Operator) -> bool
     ensures { result ≡ true → plan_of part.now ≡ plan.nodes }
 {

@@ -17,7 +17,7 @@ use cy_network_touches::GraphChange;
 use cy_planner_algebra::Operator;
 use cy_values::{NodeId, RelId};
 
-/// Whether a change of the graph is relevant to a plan. Where it says no, the rows of its parts are the same before and after. It reads each
+/// Whether a change of the graph is relevant to a plan. Where it says no, the rows of its operators are the same before and after. It reads each
 /// touched entity once at most, and allocates nothing.
 pub fn is_relevant<'a>(part: &Operator, change: &GraphChange<'a>, sight: &mut Sight<'a>) -> bool
     ensures untouched { result ≡ false → (before : State) → IsChange before sight.old.graph.now change.now → IsUntouched before.content sight.old.graph.now.content (plan_of part.now) }
@@ -33,7 +33,7 @@ pub fn is_relevant<'a>(part: &Operator, change: &GraphChange<'a>, sight: &mut Si
     changes_by_rels(part, change, sight)
 }
 
-// Whether some part of a plan looks at the graph.
+// Whether some operator of a plan looks at the graph.
 fn looks_at_graph(part: &Operator) -> bool
     ensures { result ≡ work.looks_at_graph (plan_of part.now) }
 {
@@ -59,7 +59,7 @@ fn looks_at_graph(part: &Operator) -> bool
     }
 }
 
-// Whether a touched node may change the rows of a part. Reads each touched node once at most.
+// Whether a touched node may change the rows of an operator. Reads each touched node once at most.
 fn changes_by_nodes<'a>(part: &Operator, change: &GraphChange<'a>, sight: &mut Sight<'a>) -> bool
     ensures unchanged { result ≡ false → All (λ e. IsNodeUnchanged e.1 (node_at (record { 0 = e.0 }) sight.old.graph.now) (plan_of part.now)) change.now.nodes }
     ensures graph { sight.new.graph ≡ sight.old.graph }
@@ -74,7 +74,7 @@ fn changes_by_nodes<'a>(part: &Operator, change: &GraphChange<'a>, sight: &mut S
     false
 }
 
-// Whether a touched relationship may change the rows of a part. Reads each touched relationship once at most.
+// Whether a touched relationship may change the rows of an operator. Reads each touched relationship once at most.
 fn changes_by_rels<'a>(part: &Operator, change: &GraphChange<'a>, sight: &mut Sight<'a>) -> bool
     ensures unchanged { result ≡ false → All (λ e. IsRelUnchanged e.1 (rel_at (record { 0 = e.0 }) sight.old.graph.now) (plan_of part.now)) change.now.rels }
     ensures graph { sight.new.graph ≡ sight.old.graph }

@@ -1,4 +1,4 @@
-//! Whether the parts of a plan read the same of an entity.
+//! Whether the operators of a plan read the same of an entity.
 
 ghost use Rattle.std.specs.Prelude.{◌≡◌, IfSome, true};
 ghost use Rattle.cy_planner_algebra.specs.declared.operators.Attribute.{Attribute};
@@ -10,7 +10,7 @@ ghost use Rattle.cy_network_relevance.specs.internal.Kept.{IsUnchanged, KeepsVal
 use crate::entities::{Entity, has_same, keeps_node, keeps_rel};
 use cy_planner_algebra::{Attribute, Operator};
 
-/// Whether an entity is there before and after, and what the parts of a plan read of it is the same. Its labels are compared once at most.
+/// Whether an entity is there before and after, and what the operators of a plan read of it is the same. Its labels are compared once at most.
 pub(crate) fn reads_the_same(part: &Operator, entity: &Entity<'_>) -> bool
     ensures { result ≡ true → IsUnchanged entity.now (plan_of part.now) }
 {
@@ -32,8 +32,8 @@ fn is_there_twice(entity: &Entity<'_>) -> bool {
     )
 }
 
-// Where all that the parts of a plan read of an entity is the same but its labels, or they make of it what they made before: whether one of
-// them reads its labels. Each part is gone through once at most.
+// Where all that the operators of a plan read of an entity is the same but its labels, or they make of it what they made before: whether one of
+// them reads its labels. Each operator is gone through once at most.
 fn labels_matter(part: &Operator, entity: &Entity<'_>) -> Option<bool>
     ensures { IfSome result (λ matter. (matter ≡ true → KeepsValue entity.now Labels) → IsUnchanged entity.now (plan_of part.now)) }
 {
@@ -70,7 +70,7 @@ fn labels_matter(part: &Operator, entity: &Entity<'_>) -> Option<bool>
     }
 }
 
-// Whether a look-up in this column of a part is one of all relationships or all nodes, and the entity is none of these.
+// Whether a look-up in this column of an operator is one of all relationships or all nodes, and the entity is none of these.
 fn is_of_others(below: &Operator, column: usize, entity: &Entity<'_>) -> bool
     ensures { result ≡ true → (attribute : Attribute) → IsUnchanged entity.now (plan.lookup (plan_of below.now) column attribute) }
 {
@@ -83,7 +83,7 @@ fn is_of_others(below: &Operator, column: usize, entity: &Entity<'_>) -> bool
     }
 }
 
-// Of a leaf: whether labels matter to the parts above it, where it makes the same of the entity.
+// Of a leaf: whether labels matter to the operators above it, where it makes the same of the entity.
 fn unless_changed(kept: bool, matter: bool) -> Option<bool>
     ensures { IfSome result (λ found. (kept ≡ true) × (found ≡ matter)) }
 {

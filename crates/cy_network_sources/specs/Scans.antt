@@ -1,4 +1,4 @@
--- Scans: the parts of a plan whose rows come of one entity each, and name it. Such a part stands over `nodes` or `rels` alone; it looks up
+-- Scans: the operators of a plan whose rows come of one entity each, and name it. Such an operator stands over `nodes` or `rels` alone; it looks up
 -- attributes of this entity, leaves out rows, and makes of a row one that still names it. So what changes of its rows where the graph changes
 -- comes from the touched entities alone. (own)
 use Rattle.std.specs.Prelude.{◌≡◌, ℕ, suc, ◌==◌, Bool, false, List, [], ◌∷◌, Option, None, Some, IsSome, if◌then◌else◌, length}
@@ -36,7 +36,7 @@ abbrev pub if_this : ℕ → Option ℕ → Option ℕ
 if_this column None = None
 if_this column (Some other) = if other == column then Some other else None
 
--- in which column each row of a part names its entity, where that of the one part below it is given
+-- in which column each row of an operator names its entity, where that of the one operator below it is given
 abbrev pub column_over : Plan → Option ℕ → Option ℕ
 column_over plan.unit below = None
 column_over plan.nodes below = Some 0
@@ -51,7 +51,7 @@ column_over (plan.project p outputs) below = kept below outputs
 column_over (plan.distinct p) below = None
 column_over (plan.union left right) below = None
 
--- in which column each row of a scan names its entity; none of a part that is no scan
+-- in which column each row of a scan names its entity; none of an operator that is no scan
 abbrev pub scan_column : Plan → Option ℕ
 scan_column plan.unit = None
 scan_column plan.nodes = Some 0
@@ -66,7 +66,7 @@ scan_column (plan.project p outputs) = kept (scan_column p) outputs
 scan_column (plan.distinct p) = None
 scan_column (plan.union left right) = None
 
--- the parts of a scan, from the whole down to the one that reads the graph
+-- the operators of a scan, from the whole down to the one that reads the graph
 abbrev pub scan_parts : Plan → List Plan
 scan_parts plan.unit = plan.unit ∷ []
 scan_parts plan.nodes = plan.nodes ∷ []
@@ -96,7 +96,7 @@ scan_reads touches (plan.project p outputs) = scan_reads touches p
 scan_reads touches (plan.distinct p) = 0
 scan_reads touches (plan.union left right) = 0
 
--- a scan with these parts, over a change from one graph to another
+-- a scan with these operators, over a change from one graph to another
 pub record IsScan (before now : State) (touches : Touches) (given : List Plan) (p : Plan) : Type 0 where
   pub parts : given ≡ scan_parts p
   pub column : IsSome (scan_column p)

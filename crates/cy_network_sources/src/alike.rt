@@ -50,7 +50,7 @@ pub fn have_same_ends(old: &Rel, new: &Rel) -> bool
     old.source == new.source && old.target == new.target && old.kind == new.kind
 }
 
-// Whether the parts make the same rows of an entity that had one value and has another.
+// Whether the operators make the same rows of an entity that had one value and has another.
 fn are_alike(parts: &[&Operator], old: EntityValue<'_>, new: EntityValue<'_>) -> bool
     ensures { result ≡ true → (rows : List (List Cell))
         → spec.through (attribute_in old.entry) (map (λ part. plan_of part.now) parts.now) rows ≡ spec.through (attribute_in new.entry) (map (λ part. plan_of part.now) parts.now) rows }
@@ -63,7 +63,7 @@ fn are_alike(parts: &[&Operator], old: EntityValue<'_>, new: EntityValue<'_>) ->
     true
 }
 
-// Whether a part does.
+// Whether an operator does.
 fn is_alike(part: &Operator, old: EntityValue<'_>, new: EntityValue<'_>) -> bool
     ensures { result ≡ true → (rows : List (List Cell)) → spec.made_by (attribute_in old.entry) (plan_of part.now) rows ≡ spec.made_by (attribute_in new.entry) (plan_of part.now) rows }
 {

@@ -22,7 +22,7 @@ pub(crate) enum EntityValue<'a> {
     Rel(&'a Rel),
 }
 
-/// The row of a node in a scan with these parts, if it is there and has one. Fails only when out of memory.
+/// The row of a node in a scan with these operators, if it is there and has one. Fails only when out of memory.
 pub(crate) fn row_at_node(
     alloc: Global,
     parts: &[&Operator],
@@ -46,7 +46,7 @@ pub(crate) fn row_at_node(
     )
 }
 
-/// The rows of a relationship in a scan with these parts, if it is there. Fails only when out of memory.
+/// The rows of a relationship in a scan with these operators, if it is there. Fails only when out of memory.
 pub(crate) fn rows_at_rel(
     alloc: Global,
     parts: &[&Operator],
@@ -65,7 +65,7 @@ pub(crate) fn rows_at_rel(
     rows_through(alloc, parts, EntityValue::Rel(rel), rows)
 }
 
-// What the parts make of rows of an entity.
+// What the operators make of rows of an entity.
 fn rows_through(
     alloc: Global,
     parts: &[&Operator],
@@ -82,7 +82,7 @@ fn rows_through(
     Ok(made)
 }
 
-// Adds what the parts make of a row of an entity.
+// Adds what the operators make of a row of an entity.
 fn add_row(
     alloc: Global,
     parts: &[&Operator],
@@ -99,7 +99,7 @@ fn add_row(
     Ok(())
 }
 
-// What the parts make of a row of an entity, the last part first.
+// What the operators make of a row of an entity, the last operator first.
 fn row_through(
     alloc: Global,
     parts: &[&Operator],
@@ -121,7 +121,7 @@ fn row_through(
     Ok(Some(row))
 }
 
-// What a part makes of a row of an entity.
+// What an operator makes of a row of an entity.
 fn row_by(
     alloc: Global,
     part: &Operator,

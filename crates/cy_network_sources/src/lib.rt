@@ -1,4 +1,4 @@
-//! What changes of the rows of a scan, a part of a plan whose rows come from one entity each, over what an open change of the store touched.
+//! What changes of the rows of a scan, an operator of a plan whose rows come from one entity each, over what an open change of the store touched.
 #![tactic(auto)]
 
 mod alike;

@@ -20,7 +20,7 @@ use cy_planner_algebra::{Attribute, Operator, Output};
 use cy_trees::{BinaryOperator, Expr};
 use cy_values::Text;
 
-/// A label without which no node has a row in a scan with these parts, where the scan begins with a test of one.
+/// A label without which no node has a row in a scan with these operators, where the scan begins with a test of one.
 pub(crate) fn needed_label<'p>(parts: &[&'p Operator]) -> Option<&'p Text>
     ensures { IfSome result (λ label. IsNeeded label.now (map (λ part. plan_of part.now) parts.now)) }
 {
@@ -31,7 +31,7 @@ pub(crate) fn needed_label<'p>(parts: &[&'p Operator]) -> Option<&'p Text>
     label_tested(parts[count - 3], parts[count - 2], parts[count - 1])
 }
 
-/// How many parts of a scan, from the top, are left to make the row of a node: none of those at its end that test no more than that the
+/// How many operators of a scan, from the top, are left to make the row of a node: none of those at its end that test no more than that the
 /// nodes have a label, if this one has it.
 pub(crate) fn parts_left(parts: &[&Operator], node: &Node) -> usize
     ensures within { result ≤ length parts.now }
@@ -69,7 +69,7 @@ fn leave_node(
     }
 }
 
-// Whether a part is a projection to the first column alone.
+// Whether an operator is a projection to the first column alone.
 fn gives_first(part: &Operator) -> bool
     ensures { result ≡ true → (p : Plan) × ((o : plan.Output) × ((plan_of part.now ≡ plan.project p (o ∷ [])) × (scans.is_column 0 o ≡ true))) }
 {
@@ -86,7 +86,7 @@ fn is_first(outputs: &[Output]) -> bool
     outputs.len() == 1 && is_column(&outputs[0], 0)
 }
 
-// The label for which a filter tests the nodes, over a part that looks their labels up.
+// The label for which a filter tests the nodes, over an operator that looks their labels up.
 fn label_tested<'p>(filter: &'p Operator, lookup: &Operator, nodes: &Operator) -> Option<&'p Text>
     ensures { IfSome result (λ label. IsLabelTest label.now (plan_of filter.now ∷ plan_of lookup.now ∷ plan_of nodes.now ∷ [])) }
 {
@@ -99,7 +99,7 @@ fn label_tested<'p>(filter: &'p Operator, lookup: &Operator, nodes: &Operator) -
     }
 }
 
-// Whether a part looks up the labels of nodes.
+// Whether an operator looks up the labels of nodes.
 fn looks_labels_up(part: &Operator) -> bool
     ensures { result ≡ true → (p : Plan) × ((column : ℕ) × (plan_of part.now ≡ plan.lookup p column Labels)) }
 {
@@ -116,7 +116,7 @@ fn are_labels(attribute: &Attribute) -> bool
     matches!(attribute, Attribute::Labels)
 }
 
-// Whether a part gives the nodes.
+// Whether an operator gives the nodes.
 fn are_nodes(part: &Operator) -> bool
     ensures { result ≡ true → plan_of part.now ≡ plan.nodes }
 {

@@ -9,7 +9,7 @@ ghost use Rattle.cy_network_sources.specs.Scans as scans;
 use cy_planner_algebra::{Operator, Output};
 use cy_trees::Expr;
 
-/// In which column each row of a part of a plan names its entity, where that of the one part below it is given; none of a part that is no
+/// In which column each row of an operator of a plan names its entity, where that of the one operator below it is given; none of an operator that is no
 /// scan.
 pub fn column_over(part: &Operator, below: Option<usize>) -> Option<usize>
     ensures { result ≡ scans.column_over (plan_of part.now) below }

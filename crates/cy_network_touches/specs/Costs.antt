@@ -1,4 +1,4 @@
--- What the upkeep of a plan's rows costs, where a graph becomes another one: the sum over its parts, each by what it gets. A changed row is one that
+-- What the upkeep of a plan's rows costs, where a graph becomes another one: the sum over its operators, each by what it gets. A changed row is one that
 -- counts otherwise after than before, a touched entity one that differs, and a pair is of rows that count before or after. Nothing else is counted:
 -- neither the rows that stay nor the size of the graph. (own)
 use Rattle.std.specs.Prelude.{ℕ, ◌+◌, List, length, sum_by}
@@ -26,7 +26,7 @@ module _ (before after : Content) where
   joining left right keys = changed left + changed right + changed_pairs keys (rows_of before left) (rows_of after left) (rows_of before right) (rows_of after right)
 
 module _ (touches : Touches) (before after : Content) where
-  -- one part: touched entities where it reads the graph, changed rows of what it gets, the rows that it looks at since they name a touched
+  -- one operator: touched entities where it reads the graph, changed rows of what it gets, the rows that it looks at since they name a touched
   -- entity, and the pairs that it joins
   abbrev pub part_cost : Plan → ℕ
   part_cost plan.unit = 0
@@ -42,6 +42,6 @@ module _ (touches : Touches) (before after : Content) where
   part_cost (plan.distinct p) = changed before after p
   part_cost (plan.union left right) = changed before after left + changed before after right
 
-  -- all parts, and the changed rows that the whole plan gives
+  -- all operators, and the changed rows that the whole plan gives
   abbrev pub cost : Plan → ℕ
   cost p = sum_by part_cost (parts p) + changed before after p

@@ -1,4 +1,4 @@
--- What the steps of the memories and the reads of the graph may be at the parts of a plan, as the operators promise it. (own)
+-- What the steps of the memories and the reads of the graph may be at the operators of a plan, as these promise it. (own)
 use Rattle.std.specs.Prelude.{ℕ, ◌+◌, ◌*◌, ◌||◌, Bool, true, false, List, if◌then◌else◌, length}
 use Rattle.cy_values.specs.declared.rows.Cell.{Cell}
 use Rattle.cy_planner_algebra.specs.Plans as plan
@@ -7,7 +7,7 @@ use Rattle.cy_network_operators.specs.OperatorCosts.{changed_pairs, changed_rows
 use Rattle.cy_network_touches.specs.Changes.{Touches}
 use Rattle.cy_network_touches.specs.LookupCosts.{naming_rows}
 
--- how many steps the memories of a part take at most, where the rows of each part before and after are given
+-- how many steps the memories of an operator take at most, where the rows of each operator before and after are given
 abbrev pub own_steps : (Plan → List (List Cell)) → (Plan → List (List Cell)) → Touches → Plan → ℕ
 own_steps rows rows_now touches plan.unit = 0
 own_steps rows rows_now touches plan.nodes = 0
@@ -40,7 +40,7 @@ own_reads rows rows_now touches (plan.project p outputs) = 0
 own_reads rows rows_now touches (plan.distinct p) = 0
 own_reads rows rows_now touches (plan.union left right) = 0
 
--- what a number of each part comes to in a plan
+-- what a number of each operator comes to in a plan
 abbrev pub in_all : (Plan → ℕ) → Plan → ℕ
 in_all own plan.unit = own plan.unit
 in_all own plan.nodes = own plan.nodes
@@ -55,15 +55,15 @@ in_all own (plan.project p outputs) = in_all own p + own (plan.project p outputs
 in_all own (plan.distinct p) = in_all own p + own (plan.distinct p)
 in_all own (plan.union left right) = in_all own left + in_all own right + own (plan.union left right)
 
--- how many steps the memories of all parts of a plan take at most
+-- how many steps the memories of all operators of a plan take at most
 abbrev pub all_steps : (Plan → List (List Cell)) → (Plan → List (List Cell)) → Touches → Plan → ℕ
 all_steps rows rows_now touches = in_all (own_steps rows rows_now touches)
 
--- how many entities all parts of a plan read at most
+-- how many entities all operators of a plan read at most
 abbrev pub all_reads : (Plan → List (List Cell)) → (Plan → List (List Cell)) → Touches → Plan → ℕ
 all_reads rows rows_now touches = in_all (own_reads rows rows_now touches)
 
--- some part of a plan looks at the graph
+-- some operator of a plan looks at the graph
 abbrev pub looks_at_graph : Plan → Bool
 looks_at_graph plan.unit = false
 looks_at_graph plan.nodes = true

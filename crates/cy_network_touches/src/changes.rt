@@ -17,7 +17,7 @@ use std::alloc::Global;
 use std::marker::Model;
 
 /// The entities whose value differs from when the open change began, each under its number with the value that it had, if it was
-/// there. It is made once for all parts of a plan. It lends from the store and not from the sight, which can be read on beside it.
+/// there. It is made once for all operators of a plan. It lends from the store and not from the sight, which can be read on beside it.
 #[derive(Drop)]
 pub struct GraphChange<'a> {
     nodes: IndexMap<u64, Option<&'a Node>>,

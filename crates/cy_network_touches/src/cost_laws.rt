@@ -8,7 +8,7 @@ ghost use Rattle.cy_network_touches.specs.Changes.{IsChange, Touches};
 ghost use Rattle.cy_network_touches.specs.Costs.{cost};
 ghost use Rattle.cy_network_touches.specs.Work.{all_reads, all_steps, asked_reads};
 
-/// What the operators may do at the parts of a plan, counted in steps of memories and reads of the graph, is at most sixteen times the cost, the
+/// What the operators of a plan may do, counted in steps of memories and reads of the graph, is at most sixteen times the cost, the
 /// reads included that tell whether the change concerns the plan. From one graph to another a plan has one cost; and where nothing differs, it costs nothing (own).
 pub fn bounds()
     ensures work { (touches : Touches) (before after : Content) (p : Plan)

@@ -1,5 +1,5 @@
 //! What an open change of the store touched, by number, what changes by it of rows with an attribute of an entity that they name, and what
-//! the upkeep of a plan's rows costs, with the law that what its parts may do is within it.
+//! the upkeep of a plan's rows costs, with the law that what its operators may do is within it.
 #![tactic(auto)]
 
 mod attributes;

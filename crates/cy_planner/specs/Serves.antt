@@ -13,7 +13,7 @@ use Rattle.cy_planner_algebra.specs.WellFormed.{IsWellFormed}
 use Rattle.cy_planner_algebra.specs.Within.{IsWithin}
 use Rattle.cy_planner.specs.WideTables.{wide_tables}
 
--- On every graph the rows of the plan are, as a bag, the rows of the query; no part of it counts a row more often than the wide
+-- On every graph the rows of the plan are, as a bag, the rows of the query; no operator of it counts a row more often than the wide
 -- tables do; and no expression of it has a fault.
 pub record Serves (p : Plan) (query : Statement) : Type 0 where
   pub well_formed : IsWellFormed p

@@ -1,5 +1,5 @@
 -- The wide tables of a statement: for each clause of its queries the table that it would give without its own WHERE and DISTINCT, and the rows of
--- all queries together. (own) No part of a plan that serves the statement has a row that counts more than some row of them.
+-- all queries together. (own) No operator of a plan that serves the statement has a row that counts more than some row of them.
 use Rattle.std.specs.Prelude.{false, List, [], ◌∷◌, ◌++◌, flat_map, None, Result, Ok, Err}
 use Rattle.cy_values.specs.declared.rows.Cell.{Cell}
 use Rattle.cy_trees.specs.Trees.{Where, Clause, «match», «with», «return», Query, Statement}

@@ -81,7 +81,7 @@ fn united_rows(alloc: Global, statement: &Statement) -> Result<Plan, Fault>
 }
 
 /// A plan that serves the query of a view: on every graph its rows are, as a bag, those of the query, no expression of it has a fault,
-/// and no part of it counts a row more often than once or than some row of the query's wide tables. `PlanTooLarge` exactly where the
+/// and no operator of it counts a row more often than once or than some row of the query's wide tables. `PlanTooLarge` exactly where the
 /// query weighs more than 512; else it fails only with `NoMemory` (own).
 pub fn plan(alloc: Global, query: &ViewQuery) -> Result<Plan, PlanFault>
     ensures too_large { IsErrOf result PlanFault.PlanTooLarge ↔ greatest_weight < weight (statement_of query.now) }

@@ -1,6 +1,6 @@
 -- The expressions of plans. They read the columns of a row alone, so they have the same value on every graph: the rules of the
 -- language's own expressions, on a graph that answers nothing. (openCypher 9, Expressions; that a plan asks the graph only by its
--- parts: own)
+-- operators: own)
 use Rattle.std.specs.Prelude.{ℕ, Bool, false, [], List, ◌∷◌, None, flat_map, map, Result, Ok, Err, slice_index_or}
 use Rattle.cy_values.specs.declared.numbers.RelId.{RelId}
 use Rattle.cy_values.specs.declared.scalars.Value.TheVariants as value

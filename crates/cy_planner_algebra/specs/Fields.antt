@@ -1,4 +1,4 @@
--- The part that is made of some fields. (own)
+-- The operator that is made of some fields. (own)
 use Rattle.cy_planner_algebra.specs.declared.operators.Fields.{Fields}
 use Rattle.cy_planner_algebra.specs.declared.operators.Fields.TheVariants as fields
 use Rattle.cy_planner_algebra.specs.declared.operators.Operator.{Operator}

@@ -1,4 +1,4 @@
--- The rows of a plan on the content of a graph, as a bag: one equation for each part. (Francis et al., bags of records; the parts: own)
+-- The rows of a plan on the content of a graph, as a bag: one equation for each operator. (Francis et al., bags of records; the operators: own)
 use Rattle.std.specs.Prelude.{ℕ, ◌==◌, Bool, true, not, ◌&&◌, List, [], ◌∷◌, ◌++◌, map, flat_map, replicate, Result, Ok, Err, if◌then◌else◌}
 use Rattle.std.specs.Prelude as std
 use Rattle.std.specs.List.{list_any}
@@ -61,7 +61,7 @@ attribute_of graph Labels c = value_or_null (labels_value (lookups graph) c)
 abbrev pub with_attribute : Content → ℕ → Attribute → List Cell → List Cell
 with_attribute graph column attribute row = row ++ cell.Value (attribute_of graph attribute (cell_at row column)) ∷ []
 
--- a row of the right part that a row of the left part meets, and with which the predicate is true
+-- a row of the right input that a row of the left input meets, and with which the predicate is true
 abbrev pub is_partner : List KeyColumns → Expression → List Cell → List Cell → Bool
 is_partner keys test left right = meet keys left right && holds test (left ++ right)
 
@@ -69,7 +69,7 @@ is_partner keys test left right = meet keys left right && holds test (left ++ ri
 abbrev pub paired : List Cell → List (List Cell) → List (List Cell)
 paired left rights = map (λ right. left ++ right) rights
 
--- the rows of the one part with those of the other that they meet
+-- the rows of the one operator with those of the other that they meet
 abbrev pub joined : List KeyColumns → List (List Cell) → List (List Cell) → List (List Cell)
 joined keys lefts rights = flat_map (λ left. paired left (std.filter (meet keys left) rights)) lefts
 
@@ -84,7 +84,7 @@ or_nulls count (found ∷ others) = found ∷ others
 abbrev pub outer_joined : List KeyColumns → Expression → ℕ → List (List Cell) → List (List Cell) → List (List Cell)
 outer_joined keys test count lefts rights = flat_map (λ left. paired left (or_nulls count (std.filter (is_partner keys test left) rights))) lefts
 
--- a row of the left part meets some row of the right one
+-- a row of the left input meets some row of the right one
 abbrev pub has_partner : List KeyColumns → List (List Cell) → List Cell → Bool
 has_partner keys rights left = list_any (meet keys left) rights
 
@@ -93,7 +93,7 @@ abbrev pub stays : Keeping → Bool → Bool
 stays Matched found = found
 stays Unmatched found = not found
 
--- the rows of the left part that have a partner, or that have none
+-- the rows of the left input that have a partner, or that have none
 abbrev pub semi_joined : List KeyColumns → Keeping → List (List Cell) → List (List Cell) → List (List Cell)
 semi_joined keys keeping lefts rights = std.filter (λ left. stays keeping (has_partner keys rights left)) lefts
 

@@ -1,4 +1,4 @@
--- The parts of a plan: itself, and the parts of those below it. (own)
+-- The operators of a plan: itself, and the operators of those below it. (own)
 use Rattle.std.specs.Prelude.{List, [], ◌∷◌, ◌++◌}
 use Rattle.cy_planner_algebra.specs.Plans as plan
 use Rattle.cy_planner_algebra.specs.Plans.{Plan}

@@ -11,7 +11,7 @@ abbrev pub output_of : coded_output.Output → Output
 output_of (output.Cell e) = computed (expression_of e)
 output_of (output.Rels columns) = gathered columns.items
 
--- one part, with each part below it already seen as its plan
+-- one operator, with each operator below it already seen as its plan
 abbrev pub plan_step : Operator-F Plan → Plan
 plan_step Operator-F.Unit = unit
 plan_step Operator-F.Nodes = nodes

@@ -1,4 +1,4 @@
--- The plans of views, as trees: each part makes a bag of rows out of the graph or out of the rows of the parts below it. What the
+-- The plans of views, as trees: each operator makes a bag of rows out of the graph or out of the rows of the operators below it. What the
 -- code boxes, or keeps in a vector, stands here itself. (own)
 use Rattle.std.specs.Prelude.{ℕ, ◌+◌, List, length}
 use Rattle.cy_trees.specs.Trees.{Name, Expression}
@@ -21,11 +21,11 @@ pub data Plan : Type 0 where
   nodes : Plan
   -- rows for each relationship of one of the types (of any, where none is named): itself, its two ends and its type
   rels : List Name → Orientation → Plan
-  -- the rows of the left part, each with each row of the right one that has the same key
+  -- the rows of the left input, each with each row of the right one that has the same key
   join : Plan → Plan → List KeyColumns → Plan
-  -- those of these rows for which a predicate is true; a row of the left part that finds none stands with nulls
+  -- those of these rows for which a predicate is true; a row of the left input that finds none stands with nulls
   outer : Plan → Plan → List KeyColumns → Expression → Plan
-  -- the rows of the left part for which the right one has a row with the same key, or those for which it has none
+  -- the rows of the left input for which the right one has a row with the same key, or those for which it has none
   semi : Plan → Plan → List KeyColumns → Keeping → Plan
   -- each row with an attribute of the entity in one of its columns
   lookup : Plan → ℕ → Attribute → Plan
@@ -37,7 +37,7 @@ pub data Plan : Type 0 where
   project : Plan → List Output → Plan
   -- each row once
   distinct : Plan → Plan
-  -- the rows of both parts
+  -- the rows of both inputs
   union : Plan → Plan → Plan
 
 -- how many columns its rows have

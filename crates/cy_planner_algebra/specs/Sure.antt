@@ -21,7 +21,7 @@ HasCell row (gathered columns) = ⊤
 abbrev pub HasCells : List Output → List Cell → Type 0
 HasCells outputs row = All (HasCell row) outputs
 
--- on one graph: each condition has a truth on each row of the part below it, a predicate on each pair of rows that have the same
+-- on one graph: each condition has a truth on each row of the operator below it, a predicate on each pair of rows that have the same
 -- key, and each column of a projection its cell
 abbrev pub IsSureOn : Content → Plan → Type 0
 IsSureOn graph plan.unit = ⊤

@@ -1,4 +1,4 @@
-//! The plans of views: parts that make bags of rows out of a graph, what each of them means, and which plans can be built.
+//! The plans of views: operators that make bags of rows out of a graph, what each of them means, and which plans can be built.
 #![tactic(auto)]
 
 pub mod laws;

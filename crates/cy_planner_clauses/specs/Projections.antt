@@ -34,7 +34,7 @@ pub record CanProject (below : Plan) (p : Projection) (graph : State) (scope : S
   pub fits : FitsRows scope graph.content below
   pub ok : IsOk (projection_rows graph.content p (rows_of graph.content below))
 
--- The rows of a projection, as a bag. No part counts a row more often than the parts below, or than the table that the projection makes
+-- The rows of a projection, as a bag. No operator counts a row more often than the operators below, or than the table that the projection makes
 -- without DISTINCT, do.
 pub record IsProjection (below : Plan) (p : Projection) (made : Plan) : Type 0 where
   pub as_wide : width made ≡ length p.items

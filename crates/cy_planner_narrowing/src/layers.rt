@@ -1,4 +1,4 @@
-//! Parts with one part below them. Each call fails only when out of memory.
+//! Operators with one operator below them. Each call fails only when out of memory.
 
 ghost use Rattle.std.specs.Prelude.{IfOk, map};
 ghost use Rattle.cy_trees.specs.TreeModels.{expression_of};

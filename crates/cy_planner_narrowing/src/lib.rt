@@ -1,4 +1,4 @@
-//! Plans whose parts keep narrower rows: of columns in which a join makes the same stand, one is kept, and a column goes as soon as nobody reads
+//! Plans whose operators keep narrower rows: of columns in which a join makes the same stand, one is kept, and a column goes as soon as nobody reads
 //! it.
 #![tactic(auto)]
 

@@ -16,14 +16,14 @@ use cy_planner_rewriting::Layer;
 use cy_values::Fault;
 use std::alloc::Global;
 
-/// What stands above a part, the left one of two that go together.
+/// What stands above an operator, the left one of two that go together.
 #[derive(Drop)]
 pub(crate) enum Above {
     Layer(Layer),
     Joint(Joint, Narrow),
 }
 
-/// What stands above a part, put over it.
+/// What stands above an operator, put over it.
 fn put(alloc: Global, below: Narrow, above: Above) -> Result<Narrow, Fault>
     requires { IsWellFormed (standing.over_one above (restored below)) }
     ensures { IfOk result (λ n. IsRewritten (standing.over_one above (restored below)) (restored n)) }
@@ -47,7 +47,7 @@ fn put_over(alloc: Global, base: Narrow, above: Vec<Above>) -> Result<Narrow, Fa
     Ok(narrow)
 }
 
-/// A part with narrower rows. Of two parts below another one the left one is taken in a loop, and the right one by a call.
+/// An operator with narrower rows. Of two operators below another one the left one is taken in a loop, and the right one by a call.
 fn narrow(alloc: Global, part: Operator) -> Result<Narrow, Fault>
     requires { IsWellFormed (plan_of part) }
     ensures { IfOk result (λ n. IsRewritten (plan_of part) (restored n)) }

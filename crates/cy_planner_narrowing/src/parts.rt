@@ -1,4 +1,4 @@
-//! The parts of a plan, opened.
+//! The operators of a plan, opened.
 
 ghost use Rattle.cy_planner_narrowing.specs.internal.Parts as spec;
 
@@ -6,7 +6,7 @@ use cy_planner_algebra::{Fields, Keeping, KeyColumns, Operator, Plan};
 use cy_planner_rewriting::Layer;
 use cy_trees::Expr;
 
-/// How two parts go together.
+/// How two operators go together.
 #[derive(Drop)]
 pub(crate) enum Joint {
     Join(Vec<KeyColumns>),
@@ -15,18 +15,18 @@ pub(crate) enum Joint {
     Union,
 }
 
-/// What a part is.
+/// What an operator is.
 #[derive(Drop)]
 pub(crate) enum Part {
-    /// A plan with no part below it.
+    /// A plan with no operator below it.
     Leaf(Plan),
-    /// A layer over another part.
+    /// A layer over another operator.
     Over(Layer, Operator),
-    /// Two parts that go together.
+    /// Two operators that go together.
     Both(Joint, Operator, Operator),
 }
 
-/// A part opened.
+/// An operator opened.
 pub(crate) fn opened(part: Operator) -> Part
     ensures { spec.IsOpened part result }
 {

@@ -24,7 +24,7 @@ reading_entries places = flat_map other_entries places
 abbrev pub values_of : List MapEntry → List Expression
 values_of entries = map (λ e. e.value) entries
 
--- The rows of a plan, each with the values of expressions after it. No part counts a row more often than some row of the parts below.
+-- The rows of a plan, each with the values of expressions after it. No operator counts a row more often than some row of the operators below.
 pub record IsExtended (below : Plan) (values : List Expression) (p : Plan) : Type 0 where
   pub as_wide : width p ≡ width below + length values
   pub rows : (graph : State) (scope : Scope) → IsGraph graph → AllByRecursion (IsKinded scope) values → FitsRows scope graph.content below

@@ -23,7 +23,7 @@ pub(crate) struct Layers {
     pub(crate) base: Operator,
 }
 
-/// How two parts go together.
+/// How two operators go together.
 #[derive(Drop)]
 pub(crate) enum Joint {
     Join(Vec<KeyColumns>),
@@ -35,9 +35,9 @@ pub(crate) enum Joint {
 /// What layers stand on.
 #[derive(Drop)]
 pub(crate) enum Base {
-    /// A plan with no part below it.
+    /// A plan with no operator below it.
     Leaf(Plan),
-    /// Two parts that go together.
+    /// Two operators that go together.
     Both(Joint, Operator, Operator),
 }
 
@@ -105,7 +105,7 @@ pub(crate) fn open_base(base: Operator) -> Base
     }
 }
 
-/// Two plans together: what the predicate of an outer join asks of the right rows alone is asked of the right part.
+/// Two plans together: what the predicate of an outer join asks of the right rows alone is asked of the right input.
 pub(crate) fn put_together(
     alloc: Global,
     joint: Joint,

@@ -1,4 +1,4 @@
-//! Outer joins whose predicates ask something of the right rows alone: that is asked of the right part, before it is joined.
+//! Outer joins whose predicates ask something of the right rows alone: that is asked of the right input, before it is joined.
 #![tactic(auto)]
 
 mod bases;

@@ -12,7 +12,7 @@ use cy_planner_rewriting::{Layer, layered};
 use cy_values::Fault;
 use std::alloc::Global;
 
-/// What stands above the left one of two parts: how they go together, the right one, and the layers on that.
+/// What stands above the left one of two inputs: how they go together, the right one, and the layers on that.
 #[derive(Drop)]
 pub(crate) struct Above {
     joint: Joint,
@@ -41,7 +41,7 @@ fn put_over(alloc: Global, base: Plan, above: Vec<Above>) -> Result<Plan, Fault>
     Ok(plan)
 }
 
-/// The plan that stands for a part and those below it. Of two parts below another one the left one is taken in a loop, and the right one
+/// The plan that stands for an operator and those below it. Of two operators below another one the left one is taken in a loop, and the right one
 /// by a call.
 fn lowered(alloc: Global, part: Operator) -> Result<Plan, Fault>
     requires { IsWellFormed (plan_of part) }
@@ -70,7 +70,7 @@ fn lowered(alloc: Global, part: Operator) -> Result<Plan, Fault>
 }
 
 /// A plan in place of another one: what the predicate of an outer join asks of the right rows alone, and what has a truth whatever stands
-/// there, is asked of the right part before it is joined, as far down as it can be. Fails only when out of memory.
+/// there, is asked of the right input before it is joined, as far down as it can be. Fails only when out of memory.
 pub fn with_low_predicates(alloc: Global, plan: Plan) -> Result<Plan, Fault>
     ensures { IfOk result (λ p. StandsFor (plan_of plan) (plan_of p)) }
 {

@@ -22,7 +22,7 @@ fn meant(plan: &Plan)
     let _root = plan.root();
 }
 
-/// An outer join: what its predicate asks of the right rows alone is asked of the right part. Fails only when out of memory.
+/// An outer join: what its predicate asks of the right rows alone is asked of the right input. Fails only when out of memory.
 pub(crate) fn outer(
     alloc: Global,
     left: Plan,

@@ -1,4 +1,4 @@
-//! The predicate of an outer join, taken apart: what it asks of the right rows alone is put on the right part.
+//! The predicate of an outer join, taken apart: what it asks of the right rows alone is put on the right input.
 
 ghost use Rattle.std.specs.Prelude.{◌≡◌, ◌+◌, IfOk, option_map};
 ghost use Rattle.cy_trees.specs.TreeModels.{expression_of};
@@ -12,7 +12,7 @@ use cy_trees::{BinaryOperator, Expr};
 use cy_values::Fault;
 use std::alloc::Global;
 
-/// The right part of an outer join, and what is left of the predicate.
+/// The right input of an outer join, and what is left of the predicate.
 #[derive(Drop)]
 pub(crate) struct Split {
     pub(crate) right: Plan,
@@ -61,7 +61,7 @@ fn halves(alloc: Global, test: Option<Expr>) -> Result<Option<Expr>, Fault>
     }
 }
 
-/// Each of the conditions that AND joins is put on the right part, if it reads that alone and has a truth whatever stands there. Fails only
+/// Each of the conditions that AND joins is put on the right input, if it reads that alone and has a truth whatever stands there. Fails only
 /// when out of memory.
 pub(crate) fn taken_apart(
     alloc: Global,

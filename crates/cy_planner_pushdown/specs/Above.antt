@@ -1,4 +1,4 @@
--- What stands above a part of a plan. (own)
+-- What stands above an operator of a plan. (own)
 use Rattle.std.specs.Prelude.{List, [], ◌∷◌, map}
 use Rattle.cy_trees.specs.TreeModels.{expression_of}
 use Rattle.cy_planner_algebra.specs.Plans as plan
@@ -9,7 +9,7 @@ use Rattle.cy_planner_pushdown.specs.declared.above.Above.TheVariants as above
 use Rattle.cy_planner_pushdown.specs.declared.above.Pair.{Pair}
 use Rattle.cy_planner_pushdown.specs.declared.above.Pair.TheVariants as pair
 
--- a part over a plan
+-- an operator over a plan
 abbrev pub placed : Above → Plan → Plan
 placed (above.Lookup column attribute) p = plan.lookup p column attribute
 placed (above.Filter test) p = plan.filter p (expression_of test)

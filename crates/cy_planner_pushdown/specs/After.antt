@@ -11,8 +11,8 @@ use Rattle.cy_planner_algebra.specs.Sure.{IsSureOn}
 use Rattle.cy_planner_algebra.specs.Within.{IsWithin}
 use Rattle.cy_planner_rows.specs.Rows.{keeps}
 
--- Of the rows of a plan those with which a condition is true, whatever this many columns before them hold. No part counts a row more often
--- than some row of the parts below.
+-- Of the rows of a plan those with which a condition is true, whatever this many columns before them hold. No operator counts a row more often
+-- than some row of the operators below.
 pub record IsKept (before : ℕ) (below : Plan) (test : Expression) (p : Plan) : Type 0 where
   pub as_wide : width p ≡ width below
   pub holds : Content → List Cell → Bool

@@ -1,4 +1,4 @@
-//! What stands above a part of a plan. Each call fails only when out of memory.
+//! What stands above an operator of a plan. Each call fails only when out of memory.
 
 ghost use Rattle.std.specs.Prelude.{◌≡◌, IfOk};
 ghost use Rattle.cy_planner_algebra.specs.Plans as plan;
@@ -11,7 +11,7 @@ use cy_trees::Expr;
 use cy_values::Fault;
 use std::alloc::Global;
 
-/// A part without one that stands right below it. The other one below it, if there is one, is there.
+/// An operator without one that stands right below it. The other one below it, if there is one, is there.
 #[derive(Drop)]
 pub enum Above {
     Lookup(usize, Attribute),
@@ -19,26 +19,26 @@ pub enum Above {
     AllDifferent(Vec<usize>),
     Project(Vec<Output>),
     Distinct,
-    /// A join with this right part.
+    /// A join with this right input.
     JoinLeft(Plan, Vec<KeyColumns>),
-    /// A join with this left part.
+    /// A join with this left input.
     JoinRight(Plan, Vec<KeyColumns>),
-    /// An outer join with this right part.
+    /// An outer join with this right input.
     Outer(Plan, Vec<KeyColumns>, Expr),
-    /// A semi join with this right part.
+    /// A semi join with this right input.
     Semi(Plan, Vec<KeyColumns>, Keeping),
-    /// A union with this right part.
+    /// A union with this right input.
     Union(Plan),
 }
 
-/// How the two parts below a part stand together.
+/// How the two operators below an operator stand together.
 #[derive(Drop)]
 pub(crate) enum Pair {
     Join(Vec<KeyColumns>),
     Union,
 }
 
-/// What stands above the left part, where the right one is done.
+/// What stands above the left input, where the right one is done.
 pub(crate) fn above_left(pair: Pair, right: Plan) -> Above
     ensures { (left : plan.Plan) → spec.placed result left ≡ spec.paired pair left (plan_of right) }
 {
@@ -48,7 +48,7 @@ pub(crate) fn above_left(pair: Pair, right: Plan) -> Above
     }
 }
 
-/// A part over a plan.
+/// An operator over a plan.
 fn placed(alloc: Global, below: Plan, above: Above) -> Result<Plan, Fault>
     requires { IsWellFormed (spec.placed above (plan_of below)) }
     ensures { IfOk result (λ p. plan_of p ≡ spec.placed above (plan_of below)) }
@@ -67,7 +67,7 @@ fn placed(alloc: Global, below: Plan, above: Above) -> Result<Plan, Fault>
     }
 }
 
-/// Parts over a plan, the uppermost first. Fails only when out of memory.
+/// Operators over a plan, the uppermost first. Fails only when out of memory.
 pub fn placed_over(alloc: Global, below: Plan, above: Vec<Above>) -> Result<Plan, Fault>
     requires { IsWellFormed (spec.placed_over above.items (plan_of below)) }
     ensures { IfOk result (λ p. plan_of p ≡ spec.placed_over above.items (plan_of below)) }

@@ -1,4 +1,4 @@
-//! What stands in the columns of a plan, and in which columns of the parts below there stands the same.
+//! What stands in the columns of a plan, and in which columns of the operators below there stands the same.
 
 ghost use Rattle.std.specs.Prelude.{◌≡◌, IfOk, IfSome, Some, map, nat_lt, slice_get};
 ghost use Rattle.std.specs.List.{list_all};
@@ -75,7 +75,7 @@ fn kind_of_rels(column: usize) -> Option<Kind>
     }
 }
 
-/// The kind of what stands in a column, as far as the plan's parts show it.
+/// The kind of what stands in a column, as far as the plan's operators show it.
 pub(crate) fn kind_at(part: &Operator, column: usize) -> Option<Kind>
     requires { IsWellFormed (plan_of part.now) }
     ensures { result ≡ spec.kind_at (plan_of part.now) column }
@@ -127,7 +127,7 @@ pub(crate) fn are_below(columns: &[usize], width: usize) -> bool
     columns.iter().all(|column| *column < width)
 }
 
-/// The column of the left part that has the same key as one of the right part, if it shows the kind.
+/// The column of the left input that has the same key as one of the right input, if it shows the kind.
 fn left_key(
     left: &Operator,
     keys: &[KeyColumns],
@@ -145,7 +145,7 @@ fn left_key(
     None
 }
 
-/// The column of the right part that has the same key as one of the left part, if it shows the kind.
+/// The column of the right input that has the same key as one of the left input, if it shows the kind.
 fn right_key(
     right: &Operator,
     keys: &[KeyColumns],
@@ -163,7 +163,7 @@ fn right_key(
     None
 }
 
-/// The column of the left part in which there stands what stands in a column of a join.
+/// The column of the left input in which there stands what stands in a column of a join.
 fn column_on_left(
     left: &Operator,
     right: &Operator,
@@ -182,7 +182,7 @@ fn column_on_left(
     left_key(left, keys, column, kind_at(right, column))
 }
 
-/// The column of the right part in which there stands what stands in a column of a join.
+/// The column of the right input in which there stands what stands in a column of a join.
 fn column_on_right(
     left: &Operator,
     right: &Operator,
@@ -200,7 +200,7 @@ fn column_on_right(
     right_key(right, keys, column, kind_at(left, column))
 }
 
-/// Columns of the left part in which there stands what stands in columns of a join, if there are such ones, and each once. Fails only
+/// Columns of the left input in which there stands what stands in columns of a join, if there are such ones, and each once. Fails only
 /// when out of memory.
 pub(crate) fn columns_on_left(
     alloc: Global,
@@ -226,7 +226,7 @@ pub(crate) fn columns_on_left(
     Ok(Some(found))
 }
 
-/// Columns of the right part in which there stands what stands in columns of a join, if there are such ones, and each once. Fails only when out of memory.
+/// Columns of the right input in which there stands what stands in columns of a join, if there are such ones, and each once. Fails only when out of memory.
 pub(crate) fn columns_on_right(
     alloc: Global,
     left: &Operator,

@@ -17,11 +17,11 @@ use cy_trees::{BinaryOperator, Expr};
 use cy_values::Fault;
 use std::alloc::Global;
 
-/// A plan with more parts than these is left as it is, so that what a condition costs is bounded: it passes over each part on its way,
+/// A plan with more operators than these is left as it is, so that what a condition costs is bounded: it passes over each operator on its way,
 /// and asks at each for the width of what is below.
 const MOST_PARTS: usize = 192;
 
-/// What is left of a number after one for each part of a plan, if there are no more parts.
+/// What is left of a number after one for each operator of a plan, if there are no more operators.
 pub fn left_after(part: &Operator, count: usize) -> Option<usize> {
     let mut part = part;
     let mut rest = count;

@@ -1,4 +1,4 @@
-//! A condition on what stands in some columns, put on the parts that this comes from. Fails only when out of memory.
+//! A condition on what stands in some columns, put on the operators that this comes from. Fails only when out of memory.
 
 ghost use Rattle.std.specs.Prelude.{IfOk};
 ghost use Rattle.cy_trees.specs.TreeModels.{expression_of};
@@ -21,7 +21,7 @@ fn meant(plan: &Plan)
     let _root = plan.root();
 }
 
-/// The condition can be put on a part.
+/// The condition can be put on an operator.
 fn can_go_on(place: &Place, test: &Expr)
     requires good { IsWellFormed (plan_of place.now.part) }
     requires can { spec.CanBePushed (plan_of place.now.part) place.now.columns.items (expression_of test.now) }
@@ -29,8 +29,8 @@ fn can_go_on(place: &Place, test: &Expr)
     ensures can { spec.CanBePushed (plan_of place.now.part) place.now.columns.items (expression_of test.now) }
 {}
 
-/// The rows of a part for which the condition on what stands in the columns is true. It goes down in a loop, and into the second one of
-/// two parts by a call.
+/// The rows of an operator for which the condition on what stands in the columns is true. It goes down in a loop, and into the second one of
+/// two operators by a call.
 pub(crate) fn push(alloc: Global, place: Place, test: &Expr) -> Result<Plan, Fault>
     requires good { IsWellFormed (plan_of place.part) }
     requires can { spec.CanBePushed (plan_of place.part) place.columns.items (expression_of test.now) }

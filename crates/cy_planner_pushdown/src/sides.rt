@@ -26,7 +26,7 @@ pub(crate) enum Way {
     Nowhere,
 }
 
-/// The column of the left part that has the same key.
+/// The column of the left input that has the same key.
 fn left_column(keys: &[KeyColumns], column: usize) -> Option<usize> {
     for key in keys {
         if key.right == column {
@@ -36,7 +36,7 @@ fn left_column(keys: &[KeyColumns], column: usize) -> Option<usize> {
     None
 }
 
-/// The column of the right part that has the same key.
+/// The column of the right input that has the same key.
 fn right_column(keys: &[KeyColumns], column: usize) -> Option<usize> {
     for key in keys {
         if key.left == column {

@@ -1,4 +1,4 @@
-//! Where a condition goes on from a part: in one of the parts below it, in both, or not. Each call fails only when out of memory.
+//! Where a condition goes on from an operator: in one of the operators below it, in both, or not. Each call fails only when out of memory.
 
 ghost use Rattle.std.specs.Prelude.{◌<◌, ℕ, IfOk, map};
 ghost use Rattle.cy_trees.specs.TreeModels.{expression_of};
@@ -17,7 +17,7 @@ use cy_trees::Expr;
 use cy_values::Fault;
 use std::alloc::Global;
 
-/// A part, and columns of its rows with a condition on what stands there.
+/// An operator, and columns of its rows with a condition on what stands there.
 #[derive(Drop)]
 pub(crate) struct Place {
     pub(crate) part: Operator,
@@ -27,11 +27,11 @@ pub(crate) struct Place {
 /// Where a condition goes on.
 #[derive(Drop)]
 pub(crate) enum Step {
-    /// It stays on the part.
+    /// It stays on the operator.
     Here(Place),
-    /// It goes on in a part below.
+    /// It goes on in an operator below.
     Below(Above, Place),
-    /// It goes on in both parts below.
+    /// It goes on in both operators below.
     Both(Pair, Place, Place),
 }
 
@@ -77,7 +77,7 @@ fn below_join(
     }
 }
 
-/// It goes on in the left part, where the columns stand there.
+/// It goes on in the left input, where the columns stand there.
 fn below_outer(
     left: Box<Operator>,
     right: Box<Operator>,
@@ -151,7 +151,7 @@ fn below_project(
     }
 }
 
-/// It goes on in both parts of a union, in the same columns.
+/// It goes on in both inputs of a union, in the same columns.
 fn below_union(
     alloc: Global,
     left: Box<Operator>,
@@ -177,7 +177,7 @@ fn below_union(
     Ok(Step::Both(Pair::Union, left, right))
 }
 
-/// Where a condition goes on from a part.
+/// Where a condition goes on from an operator.
 pub(crate) fn step_from(alloc: Global, place: Place, test: &Expr) -> Result<Step, Fault>
     requires good { IsWellFormed (plan_of place.part) }
     requires can { CanBePushed (plan_of place.part) place.columns.items (expression_of test.now) }

@@ -11,7 +11,7 @@ use Rattle.cy_planner_algebra.specs.WellFormed.{IsWellFormed}
 use Rattle.cy_planner_algebra.specs.Within.{IsWithin}
 
 -- A plan that can stand in place of another one: on each graph it has the same rows in the same order, its expressions have no fault
--- where those of the other have none, and where the parts of the other count no row more often than some tables do, its parts don't.
+-- where those of the other have none, and where the operators of the other count no row more often than some tables do, its operators don't.
 pub record IsRewritten (p q : Plan) : Type 0 where
   pub as_wide : width q ≡ width p
   pub well_formed : IsWellFormed p → IsWellFormed q

@@ -1,4 +1,4 @@
-//! The layers of a plan, from the uppermost part down: parts with one part below them. Each call fails only when out of memory.
+//! The layers of a plan, from the uppermost operator down: operators with one operator below them. Each call fails only when out of memory.
 
 ghost use Rattle.std.specs.Prelude.{◌≡◌, ◌<◌, ◌≤◌, ◌++◌, ◌∷◌, [], IfOk, IsTrue, OnOk, map};
 ghost use Rattle.std.specs.List.{AllByRecursion};
@@ -24,7 +24,7 @@ use std::alloc::Global;
 /// A projection goes up over at most this many conditions and tests.
 const MOST_PASSED: usize = 64;
 
-/// A part that has one part below it, without that one.
+/// An operator that has one operator below it, without that one.
 #[derive(Drop)]
 pub enum Layer {
     Lookup(usize, Attribute),
@@ -34,14 +34,14 @@ pub enum Layer {
     Distinct,
 }
 
-/// What a part is.
+/// What an operator is.
 #[derive(Drop)]
 pub enum Opened {
-    /// A layer over another part.
+    /// A layer over another operator.
     Over(Layer, Operator),
-    /// Another part can stand in its place.
+    /// Another operator can stand in its place.
     Same(Operator),
-    /// It has two parts below it, or none.
+    /// It has two operators below it, or none.
     Base(Operator),
 }
 
@@ -59,7 +59,7 @@ fn is_unit(part: &Operator) -> bool
     matches!(part, Operator::Unit)
 }
 
-/// A part opened. The pairs of the empty row and the rows of another part, by no key, are the rows of that part.
+/// An operator opened. The pairs of the empty row and the rows of another operator, by no key, are the rows of that operator.
 pub fn open_part(part: Operator) -> Opened
     ensures { spec.IsOpened part result }
 {

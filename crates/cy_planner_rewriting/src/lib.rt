@@ -1,4 +1,4 @@
-//! Plans in place of others: the same rows in the same order, by parts that cost less to keep up.
+//! Plans in place of others: the same rows in the same order, by operators that cost less to keep up.
 #![tactic(auto)]
 
 mod layers;

@@ -25,7 +25,7 @@ pub(crate) struct Redirect {
     pub(crate) to: usize,
 }
 
-/// The column of the right part in which the same stands as in a column of the left one.
+/// The column of the right input in which the same stands as in a column of the left one.
 fn right_column(keys: &[KeyColumns], column: usize) -> Option<usize> {
     for key in keys {
         if key.left == column {

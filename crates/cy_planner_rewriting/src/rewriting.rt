@@ -14,7 +14,7 @@ use cy_planner_algebra::Plan;
 use cy_values::Fault;
 use std::alloc::Global;
 
-/// What stands above the left one of two parts: how they go together, the right one, and the layers on that.
+/// What stands above the left one of two inputs: how they go together, the right one, and the layers on that.
 #[derive(Drop)]
 pub(crate) struct Above {
     joint: Joint,
@@ -42,7 +42,7 @@ fn put_over(alloc: Global, base: Plan, above: Vec<Above>) -> Result<Plan, Fault>
     Ok(plan)
 }
 
-/// A part with look-ups on it. Of two parts below each other the left one is taken in a loop, and the right one by a call.
+/// An operator with look-ups on it. Of two operators below each other the left one is taken in a loop, and the right one by a call.
 fn rewritten_side(alloc: Global, side: Side) -> Result<Plan, Fault>
     requires { IsWellFormed (spec.side_plan side) }
     ensures { IfOk result (λ p. IsRewritten (spec.side_plan side) (plan_of p)) }

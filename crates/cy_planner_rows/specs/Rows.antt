@@ -1,5 +1,5 @@
 -- What is read on the rows of a plan: conditions and columns, and what plans make of it. (openCypher 9, WHERE, WITH and RETURN; that no
--- part counts a row more often: own)
+-- operator counts a row more often: own)
 use Rattle.std.specs.Prelude.{◌≡◌, Bool, List, length, map, filter, Result, IsOk, IsTrue}
 use Rattle.std.specs.List.{All, AllByRecursion}
 use Rattle.cy_values.specs.declared.rows.Cell.{Cell}
@@ -45,7 +45,7 @@ IsReadOver p e = (scope : Scope) × (length scope ≡ width p) × IsKinded scope
 abbrev pub AreReadOver : Plan → List Expression → Type 0
 AreReadOver p es = (scope : Scope) × (length scope ≡ width p) × AllByRecursion (IsKinded scope) es
 
--- Of the rows of a plan those for which a condition is true. No part counts a row more often than some row of the parts below.
+-- Of the rows of a plan those for which a condition is true. No operator counts a row more often than some row of the operators below.
 pub record IsFiltered (below : Plan) (test : Expression) (p : Plan) : Type 0 where
   pub as_wide : width p ≡ width below
   pub rows : (graph : State) (scope : Scope) → IsGraph graph → IsKinded scope test → FitsRows scope graph.content below
@@ -55,7 +55,7 @@ pub record IsFiltered (below : Plan) (test : Expression) (p : Plan) : Type 0 whe
   pub bounded : (graph : State) (scope : Scope) (tables : List (List (List Cell))) → IsGraph graph → IsKinded scope test → FitsRows scope graph.content below
       → All (IsWithin graph.content tables) (parts below) → All (IsWithin graph.content tables) (parts p)
 
--- Of each row of a plan the cells of some expressions. No part but the uppermost counts a row more often than some row of the parts
+-- Of each row of a plan the cells of some expressions. No operator but the uppermost counts a row more often than some row of the operators
 -- below: it may merge rows.
 pub record IsProjected (below : Plan) (es : List Expression) (p : Plan) : Type 0 where
   pub as_wide : width p ≡ length es

@@ -1,4 +1,4 @@
-//! The text of plans: a line for each part, with the parts below it further to the right.
+//! The text of plans: a line for each operator, with the operators below it further to the right.
 
 use crate::expression_texts::{write_column, write_columns, write_expression};
 use cy_planner_algebra::{Attribute, Keeping, KeyColumns, Operator, Orientation, Output, Plan};
@@ -7,8 +7,8 @@ use cy_values::Text;
 use std::fmt;
 use std::fmt::{Display, Formatter, Write};
 
-/// A plan as an indented tree: a line for each part, and those of the parts below it further to the right. The columns of a part are
-/// numbered from `#0` on, as its rows have them; a join's keys name a column of its left part and one of its right part (own).
+/// A plan as an indented tree: a line for each operator, and those of the operators below it further to the right. The columns of an operator are
+/// numbered from `#0` on, as its rows have them; a join's keys name a column of its left input and one of its right input (own).
 #[derive(Drop)]
 pub struct PlanText<'a>(pub &'a Plan);
 
@@ -108,7 +108,7 @@ fn write_outputs<W: Write>(f: &mut Formatter<W>, outputs: &[Output]) -> fmt::Res
     Ok(())
 }
 
-/// Writes the line of a part, without those of the parts below it.
+/// Writes the line of an operator, without those of the operators below it.
 fn write_line<W: Write>(f: &mut Formatter<W>, part: &Operator) -> fmt::Result {
     match part {
         Operator::Unit => f.write_str("Unit"),
@@ -133,7 +133,7 @@ fn write_line<W: Write>(f: &mut Formatter<W>, part: &Operator) -> fmt::Result {
     }
 }
 
-/// Writes a part and the parts below it, this far to the right.
+/// Writes an operator and the operators below it, this far to the right.
 fn write_part<W: Write>(f: &mut Formatter<W>, part: &Operator, depth: u16) -> fmt::Result {
     for _ in 0..depth {
         f.write_str("  ")?;

@@ -29,7 +29,7 @@ IsLabelled node row = (first : Cell) × (others : List Cell) × (row ≡ first �
 abbrev pub IsOne : List Cell → Type 0
 IsOne row = (first : Cell) × (row ≡ first ∷ [])
 
--- a part is a scan of nodes that names them in the first column
+-- an operator is a scan of nodes that names them in the first column
 pub record NamesNodes (p : Plan) : Type 0 where
   pub column : scan_column p ≡ Some 0
   pub leaf : leaf_of p ≡ plan.nodes

@@ -18,12 +18,12 @@ MissesNode mask old new = (AreBitsApart mask.nodes (node_bits old)) × (AreBitsA
 abbrev pub MissesRel : Mask → Option Rel → Option Rel → Type 0
 MissesRel mask old new = (AreBitsApart mask.rels (rel_bits old)) × (AreBitsApart mask.rels (rel_bits new))
 
--- such an entity leaves the parts of a plan as they are
+-- such an entity leaves the operators of a plan as they are
 pub record LeavesUnread (mask : Mask) (p : Plan) : Type 0 where
   pub nodes : (old new : Option Node) → MissesNode mask old new → IsNodeUnchanged old new p
   pub rels : (old new : Option Rel) → MissesRel mask old new → IsRelUnchanged old new p
 
--- it has no row in a part, which is a scan that names its entities in the first column
+-- it has no row in an operator, which is a scan that names its entities in the first column
 pub record IsLimited (mask : Mask) (p : Plan) : Type 0 where
   pub column : scan_column p ≡ Some 0
   pub nodes : (old new : Option Node) → MissesNode mask old new → NodeAbsent old new p

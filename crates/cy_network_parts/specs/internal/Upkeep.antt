@@ -1,4 +1,4 @@
--- How a change of a graph goes through the parts of a plan, down to a part and up again.
+-- How a change of a graph goes through the operators of a plan, down to an operator and up again.
 use Rattle.std.specs.Prelude.{◌≡◌, ℕ, ◌+◌, ◌≤◌, Bool, false, List, ◌++◌, Option, Some, is_none, length}
 use Rattle.std.specs.List.{All}
 use Rattle.cy_values.specs.declared.rows.Cell.{Cell}
@@ -18,20 +18,20 @@ use Rattle.cy_network_parts.specs.internal.Parts.{own_of_all}
 use Rattle.cy_network_parts.specs.Counted.{written}
 use Rattle.cy_network_parts.specs.Upkeep.{content_of, IsStep, IsDeltaOf}
 
--- a part of a plan over a change, and its memories and those of the parts below it hold what these mean on the first graph
+-- an operator of a plan over a change, and its memories and those of the operators below it hold what these mean on the first graph
 pub record IsBegun (from_nothing : Bool) (old : Option State) (now : State) (touches : Touches) (p : Plan) (columns : List (List ℕ)) (was staged : List Counts) : Type 0 where
   pub first : from_nothing ≡ is_none old
   pub step : IsStep old now touches p
   pub held : AreHeld (content_of old) p columns was staged
 
--- what it gives: what changes of the rows of the part, and all these memories staged for the second graph
+-- what it gives: what changes of the rows of the operator, and all these memories staged for the second graph
 pub record IsDone (old : Option State) (now : State) (p : Plan) (staged : List Counts) (deltas : List RowDelta) : Type 0 where
   pub change : IsDeltaOf old now p deltas
   pub holds : staged ≡ contents (rows_at (Some now.content)) p
   pub within : AreWithin (Some now.content) p
 
--- A change that went through a part in the chain of a plan and not yet through the parts above that one: their memories hold what they mean on the
--- first graph, and those of the part and of the parts below it, this many, are staged for the second.
+-- A change that went through an operator in the chain of a plan and not yet through the operators above that one: their memories hold what they mean on the
+-- first graph, and those of the operator and of the operators below it, this many, are staged for the second.
 pub record IsPartway (old : Option State) (now : State) (touches : Touches) (p : Plan) (above : List Plan) (q : Plan) (place : ℕ) (columns : List (List ℕ)) (was staged : List Counts) (deltas : List RowDelta) : Type 0 where
   pub step : IsStep old now touches p
   pub linked : chain p ≡ above ++ chain q
@@ -51,7 +51,7 @@ pub record IsStaged (before after : Content) (p : Plan) (columns : List (List �
   pub difference : IsDifference (rows_of before p) (rows_of after p) change
 
 -- The steps of the memories and the reads of the graph, as they were and as they are once a plan's rows were kept up over a change, are within what
--- its parts may do, and what is read to tell whether the change concerns it.
+-- its operators may do, and what is read to tell whether the change concerns it.
 pub record IsUpkeep (before now : State) (p : Plan) (taken taken_now read read_now : ℕ) : Type 0 where
   pub touches : Touches
   pub change : IsChange before now touches

@@ -1,4 +1,4 @@
--- What becomes of the rows of a plan's parts, as far as they come from one entity, where it has another value.
+-- What becomes of the rows of a plan's operators, as far as they come from one entity, where it has another value.
 use Rattle.std.specs.Prelude.{◌≡◌, ◌⊎◌, ⊤, ℕ, true, List, [], Option, Some, is_some}
 use Rattle.std.specs.Option.{option_copied}
 use Rattle.cy_trees.specs.Trees.{Name}
@@ -49,11 +49,11 @@ abbrev pub KeepsValue : Entity → Attribute → Type 0
 KeepsValue (entity.Node old new) = NodeKeeps (option_copied old) (option_copied new)
 KeepsValue (entity.Rel old new) = RelKeeps (option_copied old) (option_copied new)
 
--- no row of a part comes from an entity; the part is a scan that names its entities in the first column
+-- no row of an operator comes from an entity; the operator is a scan that names its entities in the first column
 abbrev pub IsAbsent : Entity → Plan → Type 0
 IsAbsent e p = (scan_column p ≡ Some 0) × NoRows e p
 
--- The parts of a plan make the same rows where this is known of scans and of attributes: each leaf, and each part that looks something up or leaves rows
+-- The operators of a plan make the same rows where this is known of scans and of attributes: each leaf, and each operator that looks something up or leaves rows
 -- out, unless it is a scan that as a whole makes the same rows.
 abbrev pub AreKept : (Plan → Type 0) → (Attribute → Type 0) → Plan → Type 0
 AreKept Rows Value plan.unit = ⊤

@@ -1,4 +1,4 @@
--- What the parts of a scan make of the rows of one entity.
+-- What the operators of a scan make of the rows of one entity.
 use Rattle.std.specs.Prelude.{ℕ, Bool, true, false, ◌≡◌, ◌++◌, ⊤, List, [], ◌∷◌, Option, None, Some, if◌then◌else◌, map}
 use Rattle.std.specs.Prelude as std
 use Rattle.std.specs.List.{All, list_any}
@@ -34,7 +34,7 @@ abbrev pub attribute_in : EntityValue → Attribute → Value
 attribute_in (entity.Node node) attribute = node_attribute attribute (Some node.now)
 attribute_in (entity.Rel rel) attribute = rel_attribute attribute (Some rel.now)
 
--- what a part makes of rows of one entity, whose attributes are given
+-- what an operator makes of rows of one entity, whose attributes are given
 abbrev pub made_by : (Attribute → Value) → Plan → List (List Cell) → List (List Cell)
 made_by value_of plan.unit rows = rows
 made_by value_of plan.nodes rows = rows
@@ -49,12 +49,12 @@ made_by value_of (plan.project p outputs) rows = map (projected outputs) rows
 made_by value_of (plan.distinct p) rows = rows
 made_by value_of (plan.union left right) rows = rows
 
--- what several parts make, the last one first
+-- what several operators make, the last one first
 abbrev pub through : (Attribute → Value) → List Plan → List (List Cell) → List (List Cell)
 through value_of [] rows = rows
 through value_of (p ∷ ps) rows = made_by value_of p (through value_of ps rows)
 
--- the expressions of a part have no fault on the rows that it gets
+-- the expressions of an operator have no fault on the rows that it gets
 abbrev pub IsFit : Plan → List (List Cell) → Type 0
 IsFit plan.unit rows = ⊤
 IsFit plan.nodes rows = ⊤
@@ -74,7 +74,7 @@ abbrev pub AreFit : (Attribute → Value) → List Plan → List (List Cell) →
 AreFit value_of [] rows = ⊤
 AreFit value_of (p ∷ ps) rows = IsFit p (through value_of ps rows) × AreFit value_of ps rows
 
--- the rows of a node in a scan with these parts, if it is there, and those of a relationship
+-- the rows of a node in a scan with these operators, if it is there, and those of a relationship
 abbrev pub node_made : List Plan → ℕ → Option Node → List (List Cell)
 node_made ps number None = []
 node_made ps number (Some node) = through (λ a. node_attribute a (Some node)) ps (node_rows number (Some node))
@@ -83,7 +83,7 @@ abbrev pub rel_made : List Name → Orientation → List Plan → ℕ → Option
 rel_made types orientation ps number None = []
 rel_made types orientation ps number (Some rel) = through (λ a. rel_attribute a (Some rel)) ps (rel_rows types orientation number (Some rel))
 
--- the parts are fit for it
+-- the operators are fit for it
 abbrev pub IsNodeFit : List Plan → ℕ → Option Node → Type 0
 IsNodeFit ps number None = ⊤
 IsNodeFit ps number (Some node) = AreFit (λ a. node_attribute a (Some node)) ps (node_rows number (Some node))
@@ -96,16 +96,16 @@ IsRelFit types orientation ps number (Some rel) = AreFit (λ a. rel_attribute a 
 abbrev pub labelled : ℕ → Node → List Cell
 labelled number node = cell.Node (record { 0 = number }) ∷ cell.Value (node_attribute Labels (Some node)) ∷ []
 
--- these parts make a node's row with its labels of it, if it has this label, and no row otherwise
+-- these operators make a node's row with its labels of it, if it has this label, and no row otherwise
 abbrev pub IsLabelTest : Name → List Plan → Type 0
 IsLabelTest label ps =
     (number : ℕ) (node : Node) → node_made ps number (Some node) ≡ (if list_any (bytes_eq label) (map (λ l. l.0) node.labels) then labelled number node ∷ [] else [])
 
--- these parts leave a node's row as it is
+-- these operators leave a node's row as it is
 abbrev pub LeaveNode : Node → List Plan → Type 0
 LeaveNode node ps = (number : ℕ) → node_made ps number (Some node) ≡ node_rows number (Some node)
 
--- a node without this label has no row in a scan with these parts
+-- a node without this label has no row in a scan with these operators
 abbrev pub IsNeeded : Name → List Plan → Type 0
 IsNeeded label ps = (number : ℕ) (node : Node) → list_any (bytes_eq label) (map (λ l. l.0) node.labels) ≡ false → node_made ps number (Some node) ≡ []
 
@@ -113,7 +113,7 @@ IsNeeded label ps = (number : ℕ) (node : Node) → list_any (bytes_eq label) (
 abbrev pub recounted : List (List Cell) → List (List Cell) → List Cell → List RowDelta
 recounted old new row = row_delta_between row (count_of row old) (count_of row new)
 
--- the part that reads the graph
+-- the operator that reads the graph
 abbrev pub leaf_of : Plan → Plan
 leaf_of plan.unit = plan.unit
 leaf_of plan.nodes = plan.nodes
@@ -128,7 +128,7 @@ leaf_of (plan.project p outputs) = leaf_of p
 leaf_of (plan.distinct p) = plan.distinct p
 leaf_of (plan.union left right) = plan.union left right
 
--- a part reads the graph, and gives its entities
+-- an operator reads the graph, and gives its entities
 abbrev pub reads_graph : Plan → Bool
 reads_graph plan.unit = false
 reads_graph plan.nodes = true
@@ -143,7 +143,7 @@ reads_graph (plan.project p outputs) = false
 reads_graph (plan.distinct p) = false
 reads_graph (plan.union left right) = false
 
--- a scan with these parts over the last of them, over a change from one graph to another
+-- a scan with these operators over the last of them, over a change from one graph to another
 pub record IsScanOver (before now : State) (touches : Touches) (given : List Plan) (last p : Plan) : Type 0 where
   pub scan : IsScan before now touches given p
   pub leaf : leaf_of p ≡ last

@@ -20,8 +20,8 @@ use Rattle.cy_planner.specs.internal.ViewClauses.{HasScope, IsViewClause}
 abbrev pub Fits : Scope → List Cell → Type 0
 Fits scope row = IsTrue (row_fits scope row)
 
--- over a plan whose rows fit a scope: where the clause has no fault its rows are those of the clause, and fit another scope; and no part
--- counts a row more often than the parts below, or than the clause's wide table, do
+-- over a plan whose rows fit a scope: where the clause has no fault its rows are those of the clause, and fit another scope; and no operator
+-- counts a row more often than the operators below, or than the clause's wide table, do
 pub record IsClausePlan (c : Clause) (scope after : Scope) (below p : Plan) : Type 0 where
   pub long : length after ≡ width p
   pub rows : (graph : State) → IsGraph graph → AllByRecursion (Fits scope) (rows_of graph.content below) → IsOk (rows_after graph.content c (rows_of graph.content below))

@@ -17,7 +17,7 @@ use Rattle.cy_planner_algebra.specs.WellFormed.{IsWellFormed}
 use Rattle.cy_planner_algebra.specs.Within.{IsWithin}
 use Rattle.cy_planner.specs.WideTables.{query_tables, rows_or_none}
 
--- the rows of a query, as a bag; no part counts a row more often than the tables of the query do
+-- the rows of a query, as a bag; no operator counts a row more often than the tables of the query do
 pub record IsQueryPlan (query : Query) (p : Plan) : Type 0 where
   pub long : length (query_scope query) ≡ width p
   pub rows : (graph : State) → IsGraph graph → IsSameOutcome (Ok (rows_of graph.content p)) (query_rows graph.content query)

@@ -1,4 +1,4 @@
--- What stands above a part, the left one of two that go together. (own)
+-- What stands above an operator, the left one of two that go together. (own)
 use Rattle.std.specs.Prelude.{List, [], ◌∷◌}
 use Rattle.cy_planner_algebra.specs.Plans.{Plan}
 use Rattle.cy_planner_algebra.specs.PlanModels.{plan_of}
@@ -19,7 +19,7 @@ abbrev pub over_all : List Above → Plan → Plan
 over_all [] p = p
 over_all (a ∷ others) p = over_one a (over_all others p)
 
--- A part that can be meant, of a plan: with what stands above it, it can stand in the plan's place.
+-- An operator that can be meant, of a plan: with what stands above it, it can stand in the plan's place.
 pub record StandsBelow (whole : Plan) (rest : List Above) (part : Plan) : Type 0 where
   pub good : IsWellFormed part
   pub placed : IsRewritten whole (over_all rest part)

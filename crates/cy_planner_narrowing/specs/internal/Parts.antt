@@ -1,4 +1,4 @@
--- What the parts of plans are. (own)
+-- What the operators of plans are. (own)
 use Rattle.std.specs.Prelude.{◌≡◌, ◌<◌}
 use Rattle.cy_trees.specs.TreeModels.{expression_of}
 use Rattle.cy_planner_algebra.specs.declared.operators.Operator.{Operator, size-Operator}
@@ -18,7 +18,7 @@ together (joint.Outer keys test) p q = plan.outer p q keys.items (expression_of 
 together (joint.Semi keys keeping) p q = plan.semi p q keys.items keeping
 together joint.Union p q = plan.union p q
 
--- what a part is: a plan with no part below it, a layer over another part, or two parts together
+-- what an operator is: a plan with no operator below it, a layer over another operator, or two operators together
 abbrev pub IsOpened : Operator → Part → Type 0
 IsOpened part (opened.Leaf p) = plan_of part ≡ plan_of p
 IsOpened part (opened.Over l below) = (plan_of part ≡ over_layer l (plan_of below)) × (size-Operator below < size-Operator part)

@@ -1,4 +1,4 @@
--- What stands above a part, the left one of two that go together. (own)
+-- What stands above an operator, the left one of two that go together. (own)
 use Rattle.std.specs.Prelude.{List, [], ◌∷◌}
 use Rattle.cy_planner_algebra.specs.Plans.{Plan}
 use Rattle.cy_planner_algebra.specs.PlanModels.{plan_of}
@@ -17,7 +17,7 @@ abbrev pub put_over : List Above → Plan → Plan
 put_over [] p = p
 put_over (a ∷ others) p = put_over_one a (put_over others p)
 
--- A part that can be meant, of a plan: below all that stands above it, what stands for it stands for the plan.
+-- An operator that can be meant, of a plan: below all that stands above it, what stands for it stands for the plan.
 pub record StandsBelow (whole : Plan) (above : List Above) (part : Plan) : Type 0 where
   pub good : IsWellFormed part
   pub placed : (p : Plan) → StandsFor part p → StandsFor whole (put_over above p)

@@ -1,4 +1,4 @@
--- What the layers of a plan stand on: two parts that go together, or none below it. (own)
+-- What the layers of a plan stand on: two operators that go together, or none below it. (own)
 use Rattle.std.specs.Prelude.{◌≡◌, ◌<◌, ⊤}
 use Rattle.cy_trees.specs.TreeModels.{expression_of}
 use Rattle.cy_planner_algebra.specs.declared.operators.Operator.{Operator, size-Operator}
@@ -18,12 +18,12 @@ together (joint.Outer keys test) p q = plan.outer p q keys.items (expression_of 
 together (joint.Semi keys keeping) p q = plan.semi p q keys.items keeping
 together joint.Union p q = plan.union p q
 
--- a base is a plan with no part below it, or two parts together
+-- a base is a plan with no operator below it, or two operators together
 abbrev pub IsOpened : Operator → Base → Type 0
 IsOpened part (base.Leaf p) = plan_of part ≡ plan_of p
 IsOpened part (base.Both j left right) = plan_of part ≡ together j (plan_of left) (plan_of right)
 
--- the two parts are less deep than the base
+-- the two inputs are less deep than the base
 abbrev pub AreLessDeep : Operator → Base → Type 0
 AreLessDeep part (base.Leaf p) = ⊤
 AreLessDeep part (base.Both j left right) = (size-Operator left < size-Operator part) × (size-Operator right < size-Operator part)

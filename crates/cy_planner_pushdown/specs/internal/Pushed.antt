@@ -53,7 +53,7 @@ common_kind (Some kind.Node) (Some kind.Node) = Some kind.Node
 common_kind (Some kind.Relationship) (Some kind.Relationship) = Some kind.Relationship
 common_kind k l = None
 
--- the kind of what stands in a column, as far as the plan's parts show it
+-- the kind of what stands in a column, as far as the plan's operators show it
 abbrev pub kind_at : Plan → ℕ → Option Kind
 kind_at plan.unit column = None
 kind_at plan.nodes column = kind_of_nodes column
@@ -93,7 +93,7 @@ Each R (c ∷ columns) (d ∷ others) = R c d × Each R columns others
 abbrev pub AreMoved : (ℕ → ℕ → Type 0) → List ℕ → List ℕ → Type 0
 AreMoved R columns others = Each R columns others × AreDistinct others
 
--- A column of the left part that has the same key as one of the right part, and shows the kind.
+-- A column of the left input that has the same key as one of the right input, and shows the kind.
 pub record IsLeftKey (left : Plan) (keys : List KeyColumns) (column : ℕ) (k : Option Kind) (other : ℕ) : Type 0 where
   pub key : KeyColumns
   pub among : Contains keys key
@@ -101,7 +101,7 @@ pub record IsLeftKey (left : Plan) (keys : List KeyColumns) (column : ℕ) (k : 
   pub there : key.left ≡ other
   pub kinds : kind_at left other ≡ k
 
--- A column of the right part that has the same key as one of the left part, and shows the kind.
+-- A column of the right input that has the same key as one of the left input, and shows the kind.
 pub record IsRightKey (right : Plan) (keys : List KeyColumns) (column : ℕ) (k : Option Kind) (other : ℕ) : Type 0 where
   pub key : KeyColumns
   pub among : Contains keys key
@@ -109,12 +109,12 @@ pub record IsRightKey (right : Plan) (keys : List KeyColumns) (column : ℕ) (k 
   pub there : key.right ≡ other
   pub kinds : kind_at right other ≡ k
 
--- What stands in a column of a join stands in a column of the left part too.
+-- What stands in a column of a join stands in a column of the left input too.
 pub record IsOnLeft (left right : Plan) (keys : List KeyColumns) (column other : ℕ) : Type 0 where
   pub kinds : kind_at left other ≡ kind_at (plan.join left right keys) column
   pub cells : (l r : List Cell) → length l ≡ width left → IsTrue (meet keys l r) → cell_at l other ≡ cell_at (l ++ r) column
 
--- What stands in a column of a join stands in a column of the right part too.
+-- What stands in a column of a join stands in a column of the right input too.
 pub record IsOnRight (left right : Plan) (keys : List KeyColumns) (column other : ℕ) : Type 0 where
   pub kinds : kind_at right other ≡ kind_at (plan.join left right keys) column
   pub cells : (l r : List Cell) → length l ≡ width left → IsTrue (meet keys l r) → cell_at r other ≡ cell_at (l ++ r) column

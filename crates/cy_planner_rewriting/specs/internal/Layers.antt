@@ -1,4 +1,4 @@
--- The layers of a plan: parts with one part below them. (own)
+-- The layers of a plan: operators with one operator below them. (own)
 use Rattle.std.specs.Prelude.{◌≡◌, ◌<◌, ◌≤◌, List, [], ◌∷◌, map, reverse, None, Option, Some, ⊤}
 use Rattle.std.specs.declared.alloc.Global.{Global}
 use Rattle.std.specs.declared.vec.Vec.{Vec}
@@ -35,7 +35,7 @@ abbrev pub over_outputs : Option (Vec Output Global) → Plan → Plan
 over_outputs None p = p
 over_outputs (Some outputs) p = plan.project p (map output_of outputs.items)
 
--- a part with two parts below it, or none
+-- an operator with two operators below it, or none
 abbrev pub IsBase : Plan → Type 0
 IsBase plan.unit = ⊤
 IsBase plan.nodes = ⊤
@@ -50,7 +50,7 @@ IsBase (plan.project p outputs) = ⊥
 IsBase (plan.distinct p) = ⊥
 IsBase (plan.union left right) = ⊤
 
--- what a part is: a layer over another part, one that can stand in its place, or a base
+-- what an operator is: a layer over another operator, one that can stand in its place, or a base
 abbrev pub IsOpened : Operator → Opened → Type 0
 IsOpened part (opened.Over l below) = (plan_of part ≡ over_layer l (plan_of below)) × (size-Operator below < size-Operator part)
 IsOpened part (opened.Same other) = IsRewritten (plan_of part) (plan_of other) × (size-Operator other < size-Operator part)

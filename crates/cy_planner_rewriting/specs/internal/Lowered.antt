@@ -21,7 +21,7 @@ moved outputs w = option_map (lookup_at w.attribute) (option_and_then taken_colu
 abbrev pub with_columns : List Output → ℕ → ℕ → List Output
 with_columns outputs first count = outputs ++ map column_output (range_with_len first count)
 
--- look-ups in the columns of the left part, and in those of the right one
+-- look-ups in the columns of the left input, and in those of the right one
 abbrev pub is_left : ℕ → Wanted → Bool
 is_left width w = nat_lt w.column width
 
@@ -33,12 +33,12 @@ abbrev pub rights : ℕ → List Wanted → List Wanted
 rights width [] = []
 rights width (w ∷ ws) = if is_left width w then rights width ws else lookup_at w.attribute (w.column - width) ∷ rights width ws
 
--- where they stand, those of the left part from a column on, and those of the right one
+-- where they stand, those of the left input from a column on, and those of the right one
 abbrev pub places : ℕ → ℕ → ℕ → List Wanted → List ℕ
 places width left right [] = []
 places width left right (w ∷ ws) = if is_left width w then left ∷ places width (left + 1) right ws else right ∷ places width left (right + 1) ws
 
--- the columns of both parts, where this many look-ups stand on the left one
+-- the columns of both inputs, where this many look-ups stand on the left one
 abbrev pub both_columns : ℕ → ℕ → ℕ → List ℕ
 both_columns left right count = range_with_len 0 left ++ range_with_len (left + count) right
 

@@ -6,7 +6,7 @@ use Rattle.cy_planner_rows.specs.declared.places.Wanted.{Wanted}
 use Rattle.cy_planner_rewriting.specs.declared.redirects.Redirect.{Redirect}
 use Rattle.cy_planner_rewriting.specs.internal.Lowered.{lookup_at}
 
--- the columns of a key, where the left part has this many columns, in the one order or the other
+-- the columns of a key, where the left input has this many columns, in the one order or the other
 abbrev pub IsRedirect : List KeyColumns → ℕ → Redirect → Type 0
 IsRedirect keys width r =
     (key : KeyColumns) × Contains keys key × (((r.from ≡ key.left) × (r.to ≡ width + key.right)) ⊎ ((r.from ≡ width + key.right) × (r.to ≡ key.left)))

@@ -1,4 +1,4 @@
--- A base with look-ups on it, split into its two parts with look-ups on them. (own)
+-- A base with look-ups on it, split into its two operators with look-ups on them. (own)
 use Rattle.std.specs.Prelude.{◌≡◌, ℕ, ◌<◌, List, ⊤}
 use Rattle.cy_trees.specs.TreeModels.{expression_of}
 use Rattle.cy_planner_algebra.specs.declared.operators.Operator.{Operator, size-Operator}
@@ -23,7 +23,7 @@ together (joint.Outer keys test outputs) p q = over_outputs outputs (plan.outer 
 together (joint.Semi keys keeping) p q = plan.semi p q keys.items keeping
 together (joint.Union lookups) p q = over (plan.union p q) lookups.items
 
--- a part with look-ups on it
+-- an operator with look-ups on it
 abbrev pub side_plan : Side → Plan
 side_plan s = over (plan_of s.part) s.lookups.items
 
@@ -42,7 +42,7 @@ abbrev pub AreLessDeep : ℕ → Split → Type 0
 AreLessDeep depth (split.Leaf p) = ⊤
 AreLessDeep depth (split.Both j l r) = (size-Operator l.part < depth) × (size-Operator r.part < depth)
 
--- the sides are these parts
+-- the sides are these operators
 abbrev pub HasParts : Operator → Operator → Split → Type 0
 HasParts left right (split.Leaf p) = ⊥
 HasParts left right (split.Both j l r) = (l.part ≡ left) × (r.part ≡ right)

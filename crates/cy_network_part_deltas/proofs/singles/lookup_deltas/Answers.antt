@@ -109,8 +109,8 @@ bounds-own-0 g c =
     let long : length own ≡ 1 = one_kept g.M.Memory.key_columns own (plan_of c.args.part.now) c.args.asked.now.column c.args.asked.now.attribute.now c.requires.is c.requires.kept c.requires.begun.1.own.keyed in
     omega (arith, long)
 
-pub lookup-requires-clause-columns : goal.lookup-requires-clause-columns
-lookup-requires-clause-columns g c =
+pub lookup-requires : goal.lookup-requires
+lookup-requires g c =
     let p = plan_of c.args.part.now in
     let old = c.requires.begun.0 in
     let now = c.args.sight.now.graph.now in
@@ -119,46 +119,13 @@ lookup-requires-clause-columns g c =
     let d = c.index-own-0.result in
     let m = get_or c.args.own.now 0 d in
     let f = fed_lookup g.M.Memory.key_columns g.M.Memory.was g.M.Memory.staged d c.args.own.now p c.args.asked.now.column c.args.asked.now.attribute.now old now touches c.args.deltas.items c.requires.is c.requires.kept fed in
-    lookup_keyed old now touches (first_below p) c.args.asked.now.column c.args.asked.now.attribute.now c.args.deltas.items (g.M.Memory.key_columns m) (g.M.Memory.was m) (g.M.Memory.staged m) (still p c.args.asked.now.column c.args.asked.now.attribute.now c.requires.is c.requires.kept) f.1 f.2 fed.below
-
-pub lookup-requires-clause-held : goal.lookup-requires-clause-held
-lookup-requires-clause-held g c =
-    let p = plan_of c.args.part.now in
-    let old = c.requires.begun.0 in
-    let now = c.args.sight.now.graph.now in
-    let touches = c.args.change.now in
-    let fed = c.requires.begun.1 in
-    let d = c.index-own-0.result in
-    let m = get_or c.args.own.now 0 d in
-    let f = fed_lookup g.M.Memory.key_columns g.M.Memory.was g.M.Memory.staged d c.args.own.now p c.args.asked.now.column c.args.asked.now.attribute.now old now touches c.args.deltas.items c.requires.is c.requires.kept fed in
-    lookup_leads old now touches (first_below p) c.args.asked.now.column c.args.asked.now.attribute.now c.args.deltas.items (g.M.Memory.key_columns m) (g.M.Memory.was m) (g.M.Memory.staged m) (still p c.args.asked.now.column c.args.asked.now.attribute.now c.requires.is c.requires.kept) f.1 f.2 fed.below
-
-pub lookup-requires-clause-settled : goal.lookup-requires-clause-settled
-lookup-requires-clause-settled g c =
-    let p = plan_of c.args.part.now in
-    let old = c.requires.begun.0 in
-    let now = c.args.sight.now.graph.now in
-    let touches = c.args.change.now in
-    let fed = c.requires.begun.1 in
-    let d = c.index-own-0.result in
-    let m = get_or c.args.own.now 0 d in
-    let f = fed_lookup g.M.Memory.key_columns g.M.Memory.was g.M.Memory.staged d c.args.own.now p c.args.asked.now.column c.args.asked.now.attribute.now old now touches c.args.deltas.items c.requires.is c.requires.kept fed in
-    lookup_settled old now touches (first_below p) c.args.asked.now.column c.args.asked.now.attribute.now c.args.deltas.items (g.M.Memory.key_columns m) (g.M.Memory.was m) (g.M.Memory.staged m) (still p c.args.asked.now.column c.args.asked.now.attribute.now c.requires.is c.requires.kept) f.1 f.2 fed.below
-
-pub lookup-requires-clause-within : goal.lookup-requires-clause-within
-lookup-requires-clause-within g c =
-    let p = plan_of c.args.part.now in
-    let old = c.requires.begun.0 in
-    let now = c.args.sight.now.graph.now in
-    let touches = c.args.change.now in
-    let fed = c.requires.begun.1 in
-    let d = c.index-own-0.result in
-    let m = get_or c.args.own.now 0 d in
-    let f = fed_lookup g.M.Memory.key_columns g.M.Memory.was g.M.Memory.staged d c.args.own.now p c.args.asked.now.column c.args.asked.now.attribute.now old now touches c.args.deltas.items c.requires.is c.requires.kept fed in
-    lookup_within old now touches (first_below p) c.args.asked.now.column c.args.asked.now.attribute.now c.args.deltas.items (g.M.Memory.key_columns m) (g.M.Memory.was m) (g.M.Memory.staged m) (still p c.args.asked.now.column c.args.asked.now.attribute.now c.requires.is c.requires.kept) f.1 f.2 fed.below
-
-pub lookup-requires-clause-bounded : goal.lookup-requires-clause-bounded
-lookup-requires-clause-bounded g c = c.requires.begun.1.below.bounded
+    record {
+      columns = lookup_keyed old now touches (first_below p) c.args.asked.now.column c.args.asked.now.attribute.now c.args.deltas.items (g.M.Memory.key_columns m) (g.M.Memory.was m) (g.M.Memory.staged m) (still p c.args.asked.now.column c.args.asked.now.attribute.now c.requires.is c.requires.kept) f.1 f.2 fed.below;
+      held = lookup_leads old now touches (first_below p) c.args.asked.now.column c.args.asked.now.attribute.now c.args.deltas.items (g.M.Memory.key_columns m) (g.M.Memory.was m) (g.M.Memory.staged m) (still p c.args.asked.now.column c.args.asked.now.attribute.now c.requires.is c.requires.kept) f.1 f.2 fed.below;
+      settled = lookup_settled old now touches (first_below p) c.args.asked.now.column c.args.asked.now.attribute.now c.args.deltas.items (g.M.Memory.key_columns m) (g.M.Memory.was m) (g.M.Memory.staged m) (still p c.args.asked.now.column c.args.asked.now.attribute.now c.requires.is c.requires.kept) f.1 f.2 fed.below;
+      bounded = c.requires.begun.1.below.bounded;
+      within = lookup_within old now touches (first_below p) c.args.asked.now.column c.args.asked.now.attribute.now c.args.deltas.items (g.M.Memory.key_columns m) (g.M.Memory.was m) (g.M.Memory.staged m) (still p c.args.asked.now.column c.args.asked.now.attribute.now c.requires.is c.requires.kept) f.1 f.2 fed.below;
+    }
 
 pub returns-clause-done : goal.returns-clause-done
 returns-clause-done g c old fed = ends g.M.Memory.key_columns g.M.Memory.was g.M.Memory.staged g.M.Memory.step_count c.index-own-0.result c.args.own.now (plan_of c.args.part.now) c.args.asked.now.column c.args.asked.now.attribute.now c.args.deltas.items c.requires.is c.requires.kept

@@ -60,13 +60,8 @@ bounds-own-0 g c =
     let long : length own ≡ 1 = one_kept g.M.Memory.key_columns own (plan_of c.args.part.now) (outputs_of (plan_of c.args.part.now)) (project_is (plan_of c.args.part.now) c.requires.project) c.requires.kept c.requires.begun.1.1.1.fed.own.keyed in
     omega (arith, long)
 
-pub project-requires-clause-bounded : goal.project-requires-clause-bounded
-project-requires-clause-bounded g c =
-    let given = c.requires.begun.1.1.1 in
-    subst (All IsBounded) (sym given.are) (images_bounded (projected (outputs_of (plan_of c.args.part.now))) given.deltas given.fed.below.bounded)
-
-pub project-requires-clause-settled : goal.project-requires-clause-settled
-project-requires-clause-settled g c =
+pub project-requires : goal.project-requires
+project-requires g c =
     let p = plan_of c.args.part.now in
     let old = c.requires.begun.0 in
     let now = c.requires.begun.1.0 in
@@ -76,48 +71,30 @@ project-requires-clause-settled g c =
     let fed = given.fed in
     let d = c.index-own-0.result in
     let m = get_or c.args.own.now 0 d in
-    let f = fed_project g.M.Memory.key_columns g.M.Memory.was g.M.Memory.staged d c.args.own.now p outputs old now touches given.deltas (project_is (plan_of c.args.part.now) c.requires.project) c.requires.kept fed in
-    project_settled old now touches (first_below p) outputs given.deltas (g.M.Memory.key_columns m) (g.M.Memory.was m) (g.M.Memory.staged m) c.requires.kept f.1 f.2 fed.below
-
-pub project-requires-clause-counts : goal.project-requires-clause-counts
-project-requires-clause-counts g c =
-    let p = plan_of c.args.part.now in
-    let old = c.requires.begun.0 in
-    let now = c.requires.begun.1.0 in
-    let touches = c.requires.begun.1.1.0 in
-    let outputs = outputs_of (plan_of c.args.part.now) in
-    let given = c.requires.begun.1.1.1 in
-    let fed = given.fed in
-    let d = c.index-own-0.result in
-    let m = get_or c.args.own.now 0 d in
-    let f = fed_project g.M.Memory.key_columns g.M.Memory.was g.M.Memory.staged d c.args.own.now p outputs old now touches given.deltas (project_is (plan_of c.args.part.now) c.requires.project) c.requires.kept fed in
-    project_within old now touches (first_below p) outputs given.deltas (g.M.Memory.key_columns m) (g.M.Memory.was m) (g.M.Memory.staged m) c.requires.kept f.1 f.2 fed.below
-
-pub project-requires-clause-held : goal.project-requires-clause-held
-project-requires-clause-held g c =
-    let p = plan_of c.args.part.now in
-    let old = c.requires.begun.0 in
-    let now = c.requires.begun.1.0 in
-    let touches = c.requires.begun.1.1.0 in
-    let outputs = outputs_of (plan_of c.args.part.now) in
-    let given = c.requires.begun.1.1.1 in
-    let fed = given.fed in
-    let d = c.index-own-0.result in
-    let m = get_or c.args.own.now 0 d in
-    let f = fed_project g.M.Memory.key_columns g.M.Memory.was g.M.Memory.staged d c.args.own.now p outputs old now touches given.deltas (project_is (plan_of c.args.part.now) c.requires.project) c.requires.kept fed in (
-      outputs,
-      (
-        rows_at (content_of old) (first_below p),
-        (
-          rows_at (Some now.content) (first_below p),
-          record {
-            deltas = given.deltas;
-            are = given.are;
-            change = project_change old now touches (first_below p) outputs given.deltas (g.M.Memory.key_columns m) (g.M.Memory.was m) (g.M.Memory.staged m) c.requires.kept f.1 f.2 fed.below;
-          },
-        ),
-      ),
-    )
+    record {
+      bounded = subst (All IsBounded) (sym given.are) (images_bounded (projected (outputs_of (plan_of c.args.part.now))) given.deltas given.fed.below.bounded);
+      settled =
+          let f = fed_project g.M.Memory.key_columns g.M.Memory.was g.M.Memory.staged d c.args.own.now p outputs old now touches given.deltas (project_is (plan_of c.args.part.now) c.requires.project) c.requires.kept fed in
+          project_settled old now touches (first_below p) outputs given.deltas (g.M.Memory.key_columns m) (g.M.Memory.was m) (g.M.Memory.staged m) c.requires.kept f.1 f.2 fed.below;
+      counts =
+          let f = fed_project g.M.Memory.key_columns g.M.Memory.was g.M.Memory.staged d c.args.own.now p outputs old now touches given.deltas (project_is (plan_of c.args.part.now) c.requires.project) c.requires.kept fed in
+          project_within old now touches (first_below p) outputs given.deltas (g.M.Memory.key_columns m) (g.M.Memory.was m) (g.M.Memory.staged m) c.requires.kept f.1 f.2 fed.below;
+      held =
+          let f = fed_project g.M.Memory.key_columns g.M.Memory.was g.M.Memory.staged d c.args.own.now p outputs old now touches given.deltas (project_is (plan_of c.args.part.now) c.requires.project) c.requires.kept fed in (
+            outputs,
+            (
+              rows_at (content_of old) (first_below p),
+              (
+                rows_at (Some now.content) (first_below p),
+                record {
+                  deltas = given.deltas;
+                  are = given.are;
+                  change = project_change old now touches (first_below p) outputs given.deltas (g.M.Memory.key_columns m) (g.M.Memory.was m) (g.M.Memory.staged m) c.requires.kept f.1 f.2 fed.below;
+                },
+              ),
+            ),
+          );
+    }
 
 -- what a projection gives, by the memories that the part has
 module _ {M : Type 0} (key_columns : M → List ℕ) (was staged : M → Counts) (step_count : M → ℕ) (d : M) (own : List M) (p : Plan) (outputs : List Output) (deltas given : List RowDelta) (are : given ≡ images_by p deltas)

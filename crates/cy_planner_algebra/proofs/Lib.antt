@@ -3,5 +3,6 @@ pub mod Pairs
 pub mod Widths
 pub mod PartCounts
 pub mod Numbers
+pub mod Layers
 mod ExampleGraphs
 mod Examples

@@ -6,5 +6,5 @@ mod operators;
 mod plans;
 pub mod rows;
 
-pub use operators::{Attribute, Fields, Keeping, KeyColumns, Operator, Orientation, Output};
+pub use operators::{Attribute, Below, Fields, Keeping, KeyColumns, Operator, Orientation, Output};
 pub use plans::Plan;

@@ -10,7 +10,7 @@ ghost use Rattle.cy_planner_algebra.specs.WellFormed.{IsKeyBetween, IsWellFormed
 ghost use Rattle.cy_planner_rewriting.specs.internal.Redirected as spec;
 
 use crate::lookups::lookup_at;
-use cy_planner_algebra::{KeyColumns, Operator};
+use cy_planner_algebra::{Below, KeyColumns, Operator};
 use cy_planner_rows::{Wanted, output_column};
 use cy_values::Fault;
 use std::alloc::Global;
@@ -58,17 +58,15 @@ fn is_own(part: &Operator, column: usize, most: usize) -> bool
                 is_own(right, column - width, most - 1)
             }
         }
-        Operator::Lookup(below, _, _)
-        | Operator::Filter(below, _)
-        | Operator::AllDifferent(below, _) => is_own(below, column, most - 1),
         Operator::Project(below, outputs) => match output_column(outputs, column) {
             Some(column) => is_own(below, column, most - 1),
             None => false,
         },
-        Operator::Outer(left, _, _, _) | Operator::Semi(left, _, _, _) => {
-            is_own(left, column, most - 1)
-        }
-        Operator::Unit | Operator::Distinct(_) | Operator::Union(_, _) => false,
+        Operator::Distinct(_) | Operator::Union(_, _) => false,
+        _ => match part.below() {
+            Below::One(below) | Below::Two(below, _) => is_own(below, column, most - 1),
+            Below::None => false,
+        },
     }
 }
 

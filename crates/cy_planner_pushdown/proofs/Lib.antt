@@ -10,3 +10,4 @@ pub mod RenumberedKinds
 pub mod SiftedRows
 pub mod Spread
 pub mod Stepping
+pub mod Elsewhere

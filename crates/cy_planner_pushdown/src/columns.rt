@@ -81,7 +81,6 @@ pub(crate) fn kind_at(part: &Operator, column: usize) -> Option<Kind>
     ensures { result ≡ spec.kind_at (plan_of part.now) column }
 {
     match part {
-        Operator::Unit => None,
         Operator::Nodes => kind_of_nodes(column),
         Operator::Rels(_, _) => kind_of_rels(column),
         Operator::Join(left, right, _) | Operator::Outer(left, right, _, _) => {
@@ -102,14 +101,16 @@ pub(crate) fn kind_at(part: &Operator, column: usize) -> Option<Kind>
                 None
             }
         }
-        Operator::Filter(below, _) | Operator::AllDifferent(below, _) => kind_at(below, column),
-        Operator::Semi(left, _, _, _) => kind_at(left, column),
         Operator::Distinct(below) => kind_at(below, column),
         Operator::Project(below, outputs) => match output_column(outputs, column) {
             Some(column) => kind_at(below, column),
             None => kind_made(outputs, column),
         },
         Operator::Union(left, right) => common_kind(kind_at(left, column), kind_at(right, column)),
+        _ => match part.sifted() {
+            Some(below) => kind_at(below, column),
+            None => None,
+        },
     }
 }
 

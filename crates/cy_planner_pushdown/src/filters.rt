@@ -11,7 +11,7 @@ ghost use Rattle.cy_planner_pushdown.specs.internal.Pushed as pushed;
 use crate::conditions::{cells_test, find_reading};
 use crate::pushing::push;
 use crate::steps::Place;
-use cy_planner_algebra::{Operator, Plan};
+use cy_planner_algebra::{Below, Operator, Plan};
 use cy_planner_rows::filter_where;
 use cy_trees::{BinaryOperator, Expr};
 use cy_values::Fault;
@@ -27,20 +27,13 @@ pub fn left_after(part: &Operator, count: usize) -> Option<usize> {
     let mut rest = count;
     loop {
         rest = rest.checked_sub(1)?;
-        match part {
-            Operator::Unit | Operator::Nodes | Operator::Rels(_, _) => return Some(rest),
-            Operator::Join(left, right, _)
-            | Operator::Outer(left, right, _, _)
-            | Operator::Semi(left, right, _, _)
-            | Operator::Union(left, right) => {
+        match part.below() {
+            Below::None => return Some(rest),
+            Below::One(below) => part = below,
+            Below::Two(left, right) => {
                 rest = left_after(right, rest)?;
                 part = left;
             }
-            Operator::Lookup(below, _, _)
-            | Operator::Filter(below, _)
-            | Operator::AllDifferent(below, _)
-            | Operator::Project(below, _)
-            | Operator::Distinct(below) => part = below,
         }
     }
 }

@@ -11,7 +11,7 @@ ghost use Rattle.cy_planner_pushdown.specs.internal.Ways as spec;
 ghost use Rattle.cy_planner_pushdown.specs.internal.Pushed.{CanBePushed};
 
 use crate::columns::{columns_on_left, columns_on_right};
-use cy_planner_algebra::{KeyColumns, Operator, Output};
+use cy_planner_algebra::{Below, KeyColumns, Operator, Output};
 use cy_planner_rows::output_column;
 use cy_trees::Expr;
 use cy_values::Fault;
@@ -51,7 +51,6 @@ fn is_of_nodes_or_trails(part: &Operator, column: usize) -> bool
     requires { IsWellFormed (plan_of part.now) }
 {
     match part {
-        Operator::Unit | Operator::Rels(_, _) => false,
         Operator::Nodes => true,
         Operator::Join(left, right, keys) => {
             let sides = sides_of(left.width(), keys, column);
@@ -65,13 +64,6 @@ fn is_of_nodes_or_trails(part: &Operator, column: usize) -> bool
             };
             on_left || on_right
         }
-        Operator::Outer(below, _, _, _)
-        | Operator::Semi(below, _, _, _)
-        | Operator::Lookup(below, _, _)
-        | Operator::Filter(below, _)
-        | Operator::AllDifferent(below, _)
-        | Operator::Distinct(below)
-        | Operator::Union(below, _) => is_of_nodes_or_trails(below, column),
         Operator::Project(below, outputs) => {
             if outputs
                 .iter()
@@ -84,6 +76,10 @@ fn is_of_nodes_or_trails(part: &Operator, column: usize) -> bool
                 None => false,
             }
         }
+        _ => match part.below() {
+            Below::One(below) | Below::Two(below, _) => is_of_nodes_or_trails(below, column),
+            Below::None => false,
+        },
     }
 }
 

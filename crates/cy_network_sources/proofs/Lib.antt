@@ -9,3 +9,4 @@ pub mod Replaced
 pub mod ThroughScans
 pub mod SameEnds
 pub mod TypeTests
+pub mod Elsewhere

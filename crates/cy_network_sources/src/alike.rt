@@ -69,17 +69,7 @@ fn is_alike(part: &Operator, old: EntityValue<'_>, new: EntityValue<'_>) -> bool
 {
     match part {
         Operator::Lookup(_, _, attribute) => has_same(attribute, old, new),
-        Operator::Unit
-        | Operator::Nodes
-        | Operator::Rels(_, _)
-        | Operator::Join(_, _, _)
-        | Operator::Outer(_, _, _, _)
-        | Operator::Semi(_, _, _, _)
-        | Operator::Filter(_, _)
-        | Operator::AllDifferent(_, _)
-        | Operator::Project(_, _)
-        | Operator::Distinct(_)
-        | Operator::Union(_, _) => true,
+        _ => true,
     }
 }
 

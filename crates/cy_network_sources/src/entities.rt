@@ -148,14 +148,7 @@ fn row_by(
             let made = rows::projected(alloc, outputs, &row)?;
             Ok(Some(made))
         }
-        Operator::Unit
-        | Operator::Nodes
-        | Operator::Rels(_, _)
-        | Operator::Join(_, _, _)
-        | Operator::Outer(_, _, _, _)
-        | Operator::Semi(_, _, _, _)
-        | Operator::Distinct(_)
-        | Operator::Union(_, _) => Ok(Some(row)),
+        _ => Ok(Some(row)),
     }
 }
 

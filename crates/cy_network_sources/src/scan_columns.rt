@@ -19,12 +19,7 @@ pub fn column_over(part: &Operator, below: Option<usize>) -> Option<usize>
         Operator::Lookup(_, column, _) => if_this(*column, below),
         Operator::Filter(_, _) | Operator::AllDifferent(_, _) => below,
         Operator::Project(_, outputs) => kept(outputs, below),
-        Operator::Unit
-        | Operator::Join(_, _, _)
-        | Operator::Outer(_, _, _, _)
-        | Operator::Semi(_, _, _, _)
-        | Operator::Distinct(_)
-        | Operator::Union(_, _) => None,
+        _ => None,
     }
 }
 

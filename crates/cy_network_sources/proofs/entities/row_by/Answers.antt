@@ -11,7 +11,8 @@ use Rattle.cy_planner_algebra.specs.Plans as plan
 use Rattle.cy_planner_algebra.specs.Plans.{Output, Plan}
 use Rattle.cy_planner_algebra.specs.Sure.{HasCells, HasTruth}
 use Rattle.cy_planner_algebra.specs.PlanModels.{output_of, plan_of, plan_step}
-use Rattle.cy_network_sources.specs.internal.Through.{IsFit}
+use Rattle.cy_network_sources.specs.internal.Through.{IsFit, attribute_in}
+use Rattle.cy_network_sources.proofs.Elsewhere.{made_else}
 use Rattle.cy_network_sources.proofs.entities.row_by.Goals as goal
 
 module _ (part p : Plan) (row : List Cell) (fit : IsFit part (row ∷ [])) where
@@ -49,3 +50,6 @@ projected-requires-clause-numbered c =
     let is : plan_of c.args.part.now ≡ plan.project (plan_of c.in-Project.field-0.value) (map output_of c.in-Project.outputs.items) =
     ap plan_of (c.in-Project.is ∙ sym (rolls-Project c.in-Project.field-0 c.in-Project.outputs)) ∙ fold-roll-Operator Plan plan_step _ in
     (project_fit (plan_of c.args.part.now) (plan_of c.in-Project.field-0.value) c.args.row c.requires (map output_of c.in-Project.outputs.items) is).1
+
+pub returns-in_default : goal.returns-in_default
+returns-in_default c = sym (made_else c.args.part.now (attribute_in c.args.entity) (c.args.row ∷ []) c.in_default.not-Lookup c.in_default.not-Filter c.in_default.not-AllDifferent c.in_default.not-Project)

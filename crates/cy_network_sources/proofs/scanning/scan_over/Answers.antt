@@ -6,6 +6,7 @@ use Rattle.cy_planner_algebra.specs.Plans as plan
 use Rattle.cy_planner_algebra.specs.Plans.{Plan}
 use Rattle.cy_planner_algebra.specs.PlanModels.{plan_of, plan_step}
 use Rattle.cy_network_sources.proofs.ThroughScans.{if_ok_then, nodes_delta, nodes_fit, rels_delta, rels_fit}
+use Rattle.cy_network_sources.proofs.Elsewhere.{reads_else}
 use Rattle.cy_network_sources.proofs.scanning.scan_over.Goals as goal
 
 pub scan_nodes-requires : goal.scan_nodes-requires
@@ -39,3 +40,6 @@ returns-in-Rels-clause-delta c =
     if_ok_then _ _ c.scan_rels.result
     (λ deltas made before p over. rels_delta before c.args.sight.now.graph.now c.args.change.now ps (plan_of c.args.leaf.now) p over c.deref.result.now c.in-Rels.orientation is deltas.items made)
     c.scan_rels.ensures.made
+
+pub unreachable-requires : goal.unreachable-requires
+unreachable-requires c = cc (reads_else c.args.leaf.now c.in_default.not-Nodes c.in_default.not-Rels, c.requires.leaf)

@@ -8,3 +8,4 @@ pub mod Rules
 pub mod Ranges
 pub mod Scanned
 pub mod Untouched
+pub mod Elsewhere

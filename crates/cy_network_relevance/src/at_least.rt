@@ -34,7 +34,6 @@ fn least_below(part: &Operator, wide: usize, column: usize, enough: usize) -> us
     let mut column = column;
     loop {
         match part {
-            Operator::Unit | Operator::Nodes => return 0,
             Operator::Rels(_, _) => return usize::from(column == 0),
             Operator::Join(left, right, _) => {
                 let second = right.width();
@@ -61,15 +60,16 @@ fn least_below(part: &Operator, wide: usize, column: usize, enough: usize) -> us
                 }
                 part = below;
             }
-            Operator::Semi(below, _, _, _)
-            | Operator::Filter(below, _)
-            | Operator::AllDifferent(below, _)
-            | Operator::Distinct(below) => part = below,
+            Operator::Distinct(below) => part = below,
             Operator::Project(below, outputs) => return least_in(below, outputs, column, enough),
             Operator::Union(left, right) => {
                 let few = least_below(left, wide, column, enough);
                 return least_below(right, wide, column, few);
             }
+            _ => match part.sifted() {
+                Some(below) => part = below,
+                None => return 0,
+            },
         }
     }
 }

@@ -31,7 +31,6 @@ fn most_below(part: &Operator, wide: usize, column: usize) -> Option<u16>
     let mut column = column;
     loop {
         match part {
-            Operator::Unit | Operator::Nodes => return None,
             Operator::Rels(_, _) => return (column == 0).then_some(1),
             Operator::Join(left, right, _) => {
                 let second = right.width();
@@ -58,10 +57,7 @@ fn most_below(part: &Operator, wide: usize, column: usize) -> Option<u16>
                 }
                 part = below;
             }
-            Operator::Semi(below, _, _, _)
-            | Operator::Filter(below, _)
-            | Operator::AllDifferent(below, _)
-            | Operator::Distinct(below) => part = below,
+            Operator::Distinct(below) => part = below,
             Operator::Project(below, outputs) => return most_in(below, outputs, column),
             Operator::Union(left, right) => {
                 return greater(
@@ -69,6 +65,10 @@ fn most_below(part: &Operator, wide: usize, column: usize) -> Option<u16>
                     most_below(right, wide, column),
                 );
             }
+            _ => match part.sifted() {
+                Some(below) => part = below,
+                None => return None,
+            },
         }
     }
 }

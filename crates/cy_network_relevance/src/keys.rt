@@ -55,10 +55,7 @@ fn is_key_column(part: &Operator, column: usize) -> bool
                     part = right;
                 }
             }
-            Operator::Semi(below, _, _, _)
-            | Operator::Lookup(below, _, _)
-            | Operator::Filter(below, _)
-            | Operator::AllDifferent(below, _) => part = below,
+            Operator::Lookup(below, _, _) => part = below,
             Operator::Project(below, outputs) => match column_at(outputs, column) {
                 Some(found) => {
                     column = found;
@@ -66,10 +63,10 @@ fn is_key_column(part: &Operator, column: usize) -> bool
                 }
                 None => return false,
             },
-            Operator::Unit
-            | Operator::Outer(_, _, _, _)
-            | Operator::Distinct(_)
-            | Operator::Union(_, _) => return false,
+            _ => match part.sifted() {
+                Some(below) => part = below,
+                None => return false,
+            },
         }
     }
 }
@@ -122,19 +119,17 @@ pub(crate) fn has_key(part: &Operator) -> bool
                 }
                 part = left;
             }
-            Operator::Semi(below, _, _, _)
-            | Operator::Lookup(below, _, _)
-            | Operator::Filter(below, _)
-            | Operator::AllDifferent(below, _) => part = below,
+            Operator::Lookup(below, _, _) => part = below,
             Operator::Project(below, outputs) => {
                 if !follows_key(below, outputs) {
                     return false;
                 }
                 part = below;
             }
-            Operator::Outer(_, _, _, _) | Operator::Distinct(_) | Operator::Union(_, _) => {
-                return false
-            }
+            _ => match part.sifted() {
+                Some(below) => part = below,
+                None => return false,
+            },
         }
     }
 }

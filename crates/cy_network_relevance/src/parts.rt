@@ -15,7 +15,7 @@ use crate::entities::{
 };
 use crate::reads::{is_labels, reads_the_same};
 use cy_network_sources::label_in;
-use cy_planner_algebra::{Operator, Output};
+use cy_planner_algebra::{Below, Operator, Output};
 use cy_trees::Expr;
 use cy_values::Text;
 
@@ -37,7 +37,6 @@ fn is_kept(part: &Operator, entity: &Entity<'_>, asked: bool) -> bool
     let mut asked = asked;
     loop {
         match part {
-            Operator::Unit => return true,
             Operator::Nodes => return keeps_node(*entity),
             Operator::Rels(types, _) => return makes_the_same(types, entity),
             Operator::Lookup(below, column, attribute) => {
@@ -60,19 +59,18 @@ fn is_kept(part: &Operator, entity: &Entity<'_>, asked: bool) -> bool
                 asked = asked && keeps_first(outputs);
                 part = below;
             }
-            Operator::AllDifferent(below, _) | Operator::Distinct(below) => {
+            _ => {
                 asked = false;
-                part = below;
-            }
-            Operator::Join(left, right, _)
-            | Operator::Outer(left, right, _, _)
-            | Operator::Semi(left, right, _, _)
-            | Operator::Union(left, right) => {
-                if !is_kept(right, entity, false) {
-                    return false;
+                match part.below() {
+                    Below::None => return true,
+                    Below::One(below) => part = below,
+                    Below::Two(left, right) => {
+                        if !is_kept(right, entity, false) {
+                            return false;
+                        }
+                        part = left;
+                    }
                 }
-                asked = false;
-                part = left;
             }
         }
     }
@@ -112,13 +110,7 @@ fn makes_nothing(part: &Operator, entity: &Entity<'_>) -> bool
                 }
                 part = below;
             }
-            Operator::Unit
-            | Operator::Join(_, _, _)
-            | Operator::Outer(_, _, _, _)
-            | Operator::Semi(_, _, _, _)
-            | Operator::AllDifferent(_, _)
-            | Operator::Distinct(_)
-            | Operator::Union(_, _) => return false,
+            _ => return false,
         }
     }
 }

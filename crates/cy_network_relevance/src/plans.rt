@@ -14,7 +14,7 @@ use crate::entities::Entity;
 use crate::parts::is_unchanged;
 use cy_index::Sight;
 use cy_network_touches::GraphChange;
-use cy_planner_algebra::Operator;
+use cy_planner_algebra::{Below, Operator};
 use cy_values::{NodeId, RelId};
 
 /// Whether a change of the graph is relevant to a plan. Where it says no, the rows of its operators are the same before and after. It reads each
@@ -40,21 +40,17 @@ fn looks_at_graph(part: &Operator) -> bool
     let mut part = part;
     loop {
         match part {
-            Operator::Unit => return false,
             Operator::Nodes | Operator::Rels(_, _) | Operator::Lookup(_, _, _) => return true,
-            Operator::Filter(below, _)
-            | Operator::AllDifferent(below, _)
-            | Operator::Project(below, _)
-            | Operator::Distinct(below) => part = below,
-            Operator::Join(left, right, _)
-            | Operator::Outer(left, right, _, _)
-            | Operator::Semi(left, right, _, _)
-            | Operator::Union(left, right) => {
-                if looks_at_graph(left) {
-                    return true;
+            _ => match part.below() {
+                Below::None => return false,
+                Below::One(below) => part = below,
+                Below::Two(left, right) => {
+                    if looks_at_graph(left) {
+                        return true;
+                    }
+                    part = right;
                 }
-                part = right;
-            }
+            },
         }
     }
 }

@@ -8,7 +8,7 @@ ghost use Rattle.cy_planner_algebra.specs.PlanModels.{plan_of};
 ghost use Rattle.cy_network_relevance.specs.internal.Kept.{IsUnchanged, KeepsValue};
 
 use crate::entities::{Entity, has_same, keeps_node, keeps_rel};
-use cy_planner_algebra::{Attribute, Operator};
+use cy_planner_algebra::{Attribute, Below, Operator};
 
 /// Whether an entity is there before and after, and what the operators of a plan read of it is the same. Its labels are compared once at most.
 pub(crate) fn reads_the_same(part: &Operator, entity: &Entity<'_>) -> bool
@@ -41,7 +41,6 @@ fn labels_matter(part: &Operator, entity: &Entity<'_>) -> Option<bool>
     let mut matter = false;
     loop {
         match part {
-            Operator::Unit => return Some(matter),
             Operator::Nodes => return unless_changed(keeps_node(*entity), matter),
             Operator::Rels(_, _) => return unless_changed(keeps_rel(*entity), matter),
             Operator::Lookup(below, column, attribute) => {
@@ -55,17 +54,14 @@ fn labels_matter(part: &Operator, entity: &Entity<'_>) -> Option<bool>
                 }
                 part = below;
             }
-            Operator::Filter(below, _)
-            | Operator::AllDifferent(below, _)
-            | Operator::Project(below, _)
-            | Operator::Distinct(below) => part = below,
-            Operator::Join(left, right, _)
-            | Operator::Outer(left, right, _, _)
-            | Operator::Semi(left, right, _, _)
-            | Operator::Union(left, right) => {
-                matter = labels_matter(right, entity)? || matter;
-                part = left;
-            }
+            _ => match part.below() {
+                Below::None => return Some(matter),
+                Below::One(below) => part = below,
+                Below::Two(left, right) => {
+                    matter = labels_matter(right, entity)? || matter;
+                    part = left;
+                }
+            },
         }
     }
 }

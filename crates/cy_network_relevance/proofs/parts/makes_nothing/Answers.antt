@@ -11,8 +11,8 @@ use Rattle.cy_network_relevance.specs.internal.Kept.{IsAbsent}
 use Rattle.cy_network_relevance.proofs.Rules.{absent_filter, absent_lookup, absent_project}
 use Rattle.cy_network_relevance.proofs.parts.makes_nothing.Goals as goal
 
-pub loop-part-preserved-in-Lookup-1 : goal.loop-part-preserved-in-Lookup-1
-loop-part-preserved-in-Lookup-1 c = λ absent.
+pub loop-part-preserved-in-Lookup : goal.loop-part-preserved-in-Lookup
+loop-part-preserved-in-Lookup c = λ absent.
     let e = c.args.entity.now in
     let p = plan_of c.in-Lookup.below.value in
     let is : plan_of c.loop-part.part.now ≡ plan.lookup p c.in-Lookup.column c.in-Lookup.field-2 =
@@ -22,8 +22,8 @@ loop-part-preserved-in-Lookup-1 c = λ absent.
     c.loop-part.invariant (subst (IsAbsent e) (sym is) (absent_lookup e p c.in-Lookup.column c.in-Lookup.field-2 first
     (subst (λ (q : Operator). IsAbsent e (plan_of q)) c.deref-part.ensures absent)))
 
-pub loop-part-preserved-in-Filter-1 : goal.loop-part-preserved-in-Filter-1
-loop-part-preserved-in-Filter-1 c = λ absent.
+pub loop-part-preserved-in-Filter : goal.loop-part-preserved-in-Filter
+loop-part-preserved-in-Filter c = λ absent.
     let e = c.args.entity.now in
     let p = plan_of c.in-Filter.below.value in
     let test = expression_of c.in-Filter.test in

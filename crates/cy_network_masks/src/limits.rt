@@ -42,13 +42,7 @@ pub(crate) fn limit_of(part: &Operator) -> Option<Mask>
                 }
                 part = below;
             }
-            Operator::Unit
-            | Operator::Join(_, _, _)
-            | Operator::Outer(_, _, _, _)
-            | Operator::Semi(_, _, _, _)
-            | Operator::AllDifferent(_, _)
-            | Operator::Distinct(_)
-            | Operator::Union(_, _) => return None,
+            _ => return None,
         }
     }
 }

@@ -14,8 +14,8 @@ use Rattle.cy_network_masks.specs.internal.Left.{IsLimited, label_mask, rels_mas
 use Rattle.cy_network_masks.proofs.Rules.{limited_filter, limited_label, limited_lookup, limited_nodes, limited_project, limited_rels}
 use Rattle.cy_network_masks.proofs.limits.limit_of.Goals as goal
 
-pub loop-part-preserved-in-Lookup-1 : goal.loop-part-preserved-in-Lookup-1
-loop-part-preserved-in-Lookup-1 c = λ mask limited.
+pub loop-part-preserved-in-Lookup : goal.loop-part-preserved-in-Lookup
+loop-part-preserved-in-Lookup c = λ mask limited.
     let p = plan_of c.in-Lookup.below.value in
     let is : plan_of c.loop-part.part.now ≡ plan.lookup p c.in-Lookup.column c.in-Lookup.field-2 =
     ap plan_of (c.in-Lookup.is ∙ sym (rolls-Lookup c.in-Lookup.below c.in-Lookup.column c.in-Lookup.field-2)) ∙ fold-roll-Operator Plan plan_step _ in
@@ -23,8 +23,8 @@ loop-part-preserved-in-Lookup-1 c = λ mask limited.
     let first : c.in-Lookup.column ≡ 0 = omega (arith, few) in
     c.loop-part.invariant mask (subst (IsLimited mask) (sym is) (limited_lookup mask p (subst (λ (q : Operator). IsLimited mask (plan_of q)) c.deref-part.ensures limited) c.in-Lookup.column c.in-Lookup.field-2 first))
 
-pub loop-part-preserved-in-Filter-1 : goal.loop-part-preserved-in-Filter-1
-loop-part-preserved-in-Filter-1 c = λ mask limited.
+pub loop-part-preserved-in-Filter : goal.loop-part-preserved-in-Filter
+loop-part-preserved-in-Filter c = λ mask limited.
     let p = plan_of c.in-Filter.below.value in
     let test = expression_of c.in-Filter.test in
     let is : plan_of c.loop-part.part.now ≡ plan.filter p test = ap plan_of (c.in-Filter.is ∙ sym (rolls-Filter c.in-Filter.below c.in-Filter.test)) ∙ fold-roll-Operator Plan plan_step _ in

@@ -18,3 +18,5 @@ pub mod RowByRow
 pub mod Apart
 pub mod Scanned
 pub mod Cuts
+pub mod Below
+pub mod Elsewhere

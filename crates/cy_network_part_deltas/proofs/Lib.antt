@@ -5,3 +5,4 @@ pub mod OwnOuter
 pub mod OwnSemi
 pub mod PassageLemmas
 pub mod KeptRows
+pub mod Elsewhere

@@ -20,6 +20,7 @@ use Rattle.cy_network_touches.specs.Changes.{Touches}
 use Rattle.cy_network_parts.specs.Upkeep.{IsFed, IsOwnDone}
 use Rattle.cy_network_part_deltas.proofs.OwnSingles.{different_done, filter_sure}
 use Rattle.cy_network_part_deltas.proofs.Shifted.{row_delta_numbers}
+use Rattle.cy_network_part_deltas.proofs.Elsewhere.{single_else}
 use Rattle.cy_network_part_deltas.proofs.singles.single_deltas.Goals as goal
 
 given_sure : (old : Option State) (now : State) (touches : Touches) (part p : Plan) (test : Expression) (deltas : List RowDelta) (columns : List (List ℕ)) (was staged : List Counts)
@@ -70,3 +71,6 @@ returns-in_ok-all_different-in-AllDifferent-clause-done g c old fed =
     made_different old c.args.sight.now.graph.now c.args.change.now (plan_of c.args.part.now) p cells c.deref-in-AllDifferent.result.now c.args.deltas.items c.in_ok-all_different-in-AllDifferent.field-0.items
     (map g.M.Memory.key_columns c.args.own.now) (map g.M.Memory.was c.args.own.now) (map g.M.Memory.staged c.args.own.now) is c.deref-in-AllDifferent.ensures.value
     c.in_ok-all_different-in-AllDifferent.ensures.kept c.in_ok-all_different-in-AllDifferent.ensures.bounded fed
+
+pub unreachable-requires : goal.unreachable-requires
+unreachable-requires g c = single_else c.args.part.now c.in_default.not-Lookup c.in_default.not-Filter c.in_default.not-AllDifferent c.in_default.not-Project c.in_default.not-Distinct c.requires.single

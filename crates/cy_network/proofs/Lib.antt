@@ -12,3 +12,4 @@ pub mod Irrelevant
 pub mod LastMemory
 pub mod Once
 pub mod Passages
+pub mod Elsewhere

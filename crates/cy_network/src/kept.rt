@@ -59,15 +59,7 @@ impl Rows {
                 }
                 Rows::table(alloc, deltas)
             }
-            Operator::Unit
-            | Operator::Nodes
-            | Operator::Rels(_, _)
-            | Operator::Lookup(_, _, _)
-            | Operator::Filter(_, _)
-            | Operator::AllDifferent(_, _)
-            | Operator::Join(_, _, _)
-            | Operator::Outer(_, _, _, _)
-            | Operator::Semi(_, _, _, _) => Rows::table(alloc, deltas),
+            _ => Rows::table(alloc, deltas),
         }
     }
 

@@ -14,3 +14,4 @@ pub mod LookUps
 pub mod Groups
 pub mod RowLists
 pub mod ListedRows
+pub mod Empty

@@ -100,9 +100,6 @@ content_decides c d =
     (Decides-and (pointwise same_node c.nodes d.nodes) (pointwise same_relationship c.rels d.rels)
     (slice_eq-Decides node_decides c.nodes d.nodes _ refl) (slice_eq-Decides relationship_decides c.rels d.rels _ refl))
 
-pub tick_stays : (before after : Content) (tick : ℕ) → after ≡ before → tick_after before after tick ≡ Ok tick
-tick_stays before after tick same = ap (λ (b : Bool). cond b (Ok tick) (next_tick tick)) ((content_decides before after).1 (sym same))
-
 pub tick_moves : (before after : Content) (tick : ℕ) → after ≢ before → tick_after before after tick ≡ next_tick tick
 tick_moves before after tick differs =
     ⊎_elim

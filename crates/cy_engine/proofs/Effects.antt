@@ -15,7 +15,7 @@ use Rattle.cy_index.specs.declared.keys.Pair.{Pair}
 use Rattle.cy_engine.specs.Faults.{of_update}
 use Rattle.cy_engine.specs.declared.faults.Fault.{Fault}
 use Rattle.cy_engine.specs.declared.faults.Fault.TheVariants.{NoSuchView}
-use Rattle.cy_engine.specs.Requests.{Request, Nothing, StatementOf, ViewOf, RowsOf, SinceOf, ListOfViews, ListOfSteps, DropOf, IndexOf, Refused, request}
+use Rattle.cy_engine.specs.Requests.{Request, StatementOf, ViewOf, RowsOf, SinceOf, DropOf, IndexOf, request}
 use Rattle.cy_engine.specs.State.{EngineState, view_at}
 use Rattle.cy_engine_views.specs.RegisteredViews.{AreEntries, Entries, View}
 use Rattle.cy_engine.specs.EngineStep.{Answer, IsExecuted, IsMade, IsDropped, IsIndexed, Executes, Makes, Drops, Indexes, Shows, ShowsAnswer, AnswersSince, Answers, Lexed, EngineStep}
@@ -89,7 +89,6 @@ module _ (old : EngineState) (answer : Answer) (entries : Entries) (new : Engine
   indexes_effects (Err why) a = inl (a.state, a.no_entries)
 
   answers_effects : (line : List ℕ) (asked : Request) → Answers line asked old answer entries new → Effects
-  answers_effects line Nothing a = inl (a.state, a.no_entries)
   answers_effects line (StatementOf tokens) (inl (tree, spelt, a)) = executes_effects (statement_verdict tree old) (statement_timed tree old) a
   answers_effects line (StatementOf tokens) (inr (why, unspelt, a)) = inl (a.state, a.no_entries)
   answers_effects line (ViewOf name tokens) (inl (tree, spelt, a)) =
@@ -97,11 +96,9 @@ module _ (old : EngineState) (answer : Answer) (entries : Entries) (new : Engine
   answers_effects line (ViewOf name tokens) (inr (why, unspelt, a)) = inl (a.state, a.no_entries)
   answers_effects line (RowsOf name) a = shows_effects name (rows_verdict name old) a
   answers_effects line (SinceOf name tick) a = tells_effects name tick (since_verdict name tick old) a
-  answers_effects line ListOfViews a = inl (a.state, a.no_entries)
-  answers_effects line ListOfSteps a = inl (a.state, a.no_entries)
   answers_effects line (DropOf name) a = drops_effects name a
   answers_effects line (IndexOf label key) a = indexes_effects (index_verdict label key old) a
-  answers_effects line (Refused why) a = inl (a.state, a.no_entries)
+  answers_effects line _ a = inl (a.state, a.no_entries)
 
   lexed_effects : (line : List ℕ) (lexed : Result (List Token) LexFault) → Lexed line lexed old answer entries new → Effects
   lexed_effects line (Err why) a = inl (a.state, a.no_entries)

@@ -42,80 +42,26 @@ pub semicolon_is : (k : TokenKind) → k ≡ kind.Symbol sign.Semicolon → is_s
 semicolon_is k is = ap is_semicolon is
 
 pub semicolon_not : (k : TokenKind) → (k ≡ kind.Symbol sign.Semicolon → ⊥) → is_semicolon k ≡ false
-semicolon_not kind.Name other = refl
-semicolon_not kind.QuotedName other = refl
-semicolon_not (kind.Keyword w) other = refl
-semicolon_not (kind.Number n) other = refl
-semicolon_not kind.Text other = refl
-semicolon_not (kind.Symbol s) other = symbol_not s other
-  where
-    symbol_not : (s : Symbol) → ((let k : TokenKind = kind.Symbol s in k) ≡ kind.Symbol sign.Semicolon → ⊥) → is_semicolon (kind.Symbol s) ≡ false
-    symbol_not sign.DotDot other = refl
-    symbol_not sign.NotEqual other = refl
-    symbol_not sign.LessOrEqual other = refl
-    symbol_not sign.GreaterOrEqual other = refl
-    symbol_not sign.LeftParenthesis other = refl
-    symbol_not sign.RightParenthesis other = refl
-    symbol_not sign.LeftBracket other = refl
-    symbol_not sign.RightBracket other = refl
-    symbol_not sign.LeftBrace other = refl
-    symbol_not sign.RightBrace other = refl
-    symbol_not sign.Comma other = refl
-    symbol_not sign.Colon other = refl
-    symbol_not sign.Semicolon other = absurd (other refl)
-    symbol_not sign.Dot other = refl
-    symbol_not sign.Bar other = refl
-    symbol_not sign.Plus other = refl
-    symbol_not sign.Minus other = refl
-    symbol_not sign.Star other = refl
-    symbol_not sign.Slash other = refl
-    symbol_not sign.Percent other = refl
-    symbol_not sign.Equal other = refl
-    symbol_not sign.Less other = refl
-    symbol_not sign.Greater other = refl
+semicolon_not (kind.Symbol sign.Semicolon) other = absurd (other refl)
+semicolon_not _ other = refl
 
 -- ---- faults of the layers
 
 pub lexed : (why : LexFault) → ((why ≡ lex.NoMemory) × (of_lexer why ≡ fault.NoMemory)) ⊎ ((why ≢ lex.NoMemory) × (of_lexer why ≡ fault.Lex why))
-lexed (lex.BadCharacter at) = inr ((λ e. cc), refl)
-lexed (lex.UnclosedText at) = inr ((λ e. cc), refl)
-lexed (lex.BadEscape at) = inr ((λ e. cc), refl)
-lexed (lex.UnclosedComment at) = inr ((λ e. cc), refl)
-lexed (lex.UnclosedName at) = inr ((λ e. cc), refl)
-lexed (lex.BadNumber at) = inr ((λ e. cc), refl)
-lexed (lex.NumberTooLarge at) = inr ((λ e. cc), refl)
-lexed lex.LineTooLong = inr ((λ e. cc), refl)
-lexed (lex.NotUtf8 at) = inr ((λ e. cc), refl)
 lexed lex.NoMemory = inl (refl, refl)
+lexed _ = inr ((λ e. cc), refl)
 
 parsed : (why : ParseFault) → (of_parser why ≡ fault.NoMemory) ⊎ ((why ≢ parse.NoMemory) × (of_parser why ≡ fault.Parse why))
-parsed (parse.NumberTooLarge at) = inr ((λ e. cc), refl)
-parsed (parse.Unexpected at) = inr ((λ e. cc), refl)
-parsed (parse.TooDeep at) = inr ((λ e. cc), refl)
-parsed (parse.ClauseOrder at) = inr ((λ e. cc), refl)
-parsed (parse.BadRange at) = inr ((λ e. cc), refl)
 parsed parse.NoMemory = inl refl
+parsed _ = inr ((λ e. cc), refl)
 
 scoped : (why : ScopeFault) → (of_scope why ≡ fault.NoMemory) ⊎ ((why ≢ scope.NoMemory) × (of_scope why ≡ fault.Scope why))
-scoped scope.UnknownVariable = inr ((λ e. cc), refl)
-scoped scope.AlreadyBound = inr ((λ e. cc), refl)
-scoped scope.WrongKind = inr ((λ e. cc), refl)
-scoped scope.MissingAlias = inr ((λ e. cc), refl)
-scoped scope.DuplicateColumn = inr ((λ e. cc), refl)
-scoped scope.AggregateHere = inr ((λ e. cc), refl)
-scoped scope.UnknownFunction = inr ((λ e. cc), refl)
-scoped scope.WrongArguments = inr ((λ e. cc), refl)
-scoped scope.RepeatedRelationship = inr ((λ e. cc), refl)
-scoped scope.BadCreate = inr ((λ e. cc), refl)
 scoped scope.NoMemory = inl refl
+scoped _ = inr ((λ e. cc), refl)
 
 viewed : (why : ViewFault) → (of_view why ≡ fault.NoMemory) ⊎ ((why ≢ view.NoMemory) × (of_view why ≡ fault.View why))
-viewed view.NotAReading = inr ((λ e. cc), refl)
-viewed view.MayFail = inr ((λ e. cc), refl)
-viewed view.Unbounded = inr ((λ e. cc), refl)
-viewed view.AggregateInView = inr ((λ e. cc), refl)
-viewed view.OrderInView = inr ((λ e. cc), refl)
 viewed view.NoMemory = inl refl
+viewed _ = inr ((λ e. cc), refl)
 
 module _ {A : Type 0} (verdict : Statement → Result A Fault) (line : List ℕ) (tokens : List Token) where
   -- the parser refuses the tokens

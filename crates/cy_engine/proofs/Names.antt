@@ -10,11 +10,6 @@ abbrev pub Among : View → List View → Type 0
 Among view [] = ⊥
 Among view (v ∷ vs) = (v ≡ view) ⊎ Among view vs
 
-pub still_among : (view : View) (vs ws : List View) → Among view vs → Among view (vs ++ ws)
-still_among view [] ws here = absurd here
-still_among view (v ∷ vs) ws (inl is) = inl is
-still_among view (v ∷ vs) ws (inr here) = inr (still_among view vs ws here)
-
 pub among_either : (view last : View) (vs : List View) → Among view (vs ++ last ∷ []) → Among view vs ⊎ (last ≡ view)
 among_either view last [] (inl is) = inr is
 among_either view last [] (inr here) = absurd here

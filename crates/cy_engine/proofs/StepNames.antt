@@ -40,9 +40,6 @@ module _ (entries : Entries) (view : View) where
   pub fed_query : (fed entries view).query ≡ view.query
   fed_query = from_entry (λ (v : View). v.query) (λ e. refl) (entry_at view.name entries)
 
-  pub fed_made : (fed entries view).made ≡ view.made
-  fed_made = from_entry (λ (v : View). v.made) (λ e. refl) (entry_at view.name entries)
-
 new_fed : (entries : Entries) (name : List ℕ) (views : List View) → IsNew name views → IsNew name (map (fed entries) views)
 new_fed entries name [] new = tt
 new_fed entries name (v ∷ views) new = (ap (λ n. bytes_eq n name) (fed_name entries v) ∙ new.0, new_fed entries name views new.1)

@@ -10,7 +10,7 @@ use Rattle.cy_feeds.specs.Feeds.{answer_since}
 use Rattle.cy_index.specs.declared.keys.Pair.{Pair}
 use Rattle.cy_engine.specs.declared.faults.Fault.{Fault}
 use Rattle.cy_engine.specs.declared.replies.Reply.{Reply}
-use Rattle.cy_engine.specs.Requests.{Request, Nothing, StatementOf, ViewOf, RowsOf, SinceOf, ListOfViews, ListOfSteps, DropOf, IndexOf, Refused, request}
+use Rattle.cy_engine.specs.Requests.{Request, StatementOf, ViewOf, RowsOf, SinceOf, DropOf, IndexOf, request}
 use Rattle.cy_engine.specs.Runs.{Event, Run, Agree, IsBound, IsDetermined, OnlySo, accepted, accepted_before, is_choice, is_want, seen_answer, seen_event}
 use Rattle.cy_engine.specs.State.{EngineState, seen}
 use Rattle.cy_engine_views.specs.RegisteredViews.{Entries, View}
@@ -53,18 +53,15 @@ module _ (old : EngineState) (answer : Answer) (entries : Entries) (new : Engine
   indexes_left (Err other) a = a.state
 
   answers_left : (line : List ℕ) (asked : Request) → Answers line asked old answer entries new → new ≡ old
-  answers_left line Nothing a = a.state
   answers_left line (StatementOf tokens) (inl (tree, spelt, a)) = executes_left (statement_verdict tree old) a
   answers_left line (StatementOf tokens) (inr (parsed, unspelt, a)) = a.state
   answers_left line (ViewOf name tokens) (inl (tree, spelt, a)) = makes_left (view_verdict tree name old) a
   answers_left line (ViewOf name tokens) (inr (parsed, unspelt, a)) = a.state
   answers_left line (RowsOf name) a = shows_left name (rows_verdict name old) a
   answers_left line (SinceOf name tick) a = tells_left name tick (since_verdict name tick old) a
-  answers_left line ListOfViews a = a.state
-  answers_left line ListOfSteps a = a.state
   answers_left line (DropOf name) a = drops_left (rows_verdict name old) a
   answers_left line (IndexOf label key) a = indexes_left (index_verdict label key old) a
-  answers_left line (Refused other) a = a.state
+  answers_left line _ a = a.state
 
   lexed_left : (line : List ℕ) (lexed : Result (List Token) LexFault) → Lexed line lexed old answer entries new → new ≡ old
   lexed_left line (Err other) a = a.state

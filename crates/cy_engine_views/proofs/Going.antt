@@ -37,11 +37,6 @@ module _ (R : Registered → Registered → Type 0) where
   none_done [] = refl
   none_done (e ∷ entries) = refl
 
-  pub done_length : (entries now : Registry) (n : ℕ) → FirstDone n entries now → length now ≡ length entries
-  done_length [] now n done = ap length done
-  done_length (e ∷ entries) now zero done = ap length done
-  done_length (e ∷ entries) now (suc n) (view, others, is, r, done) = ap length is ∙ ap suc (done_length entries others n done)
-
   -- the next one is as it was
   pub next_is : (P : Registered → Type 0) (entries now : Registry) (n : ℕ) → FirstDone n entries now → (view : Registered) → Some view ≡ slice_get (values_of now) n → All P entries → P view
   next_is P [] now n done view at all =

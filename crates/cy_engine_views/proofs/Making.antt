@@ -6,7 +6,7 @@ use Rattle.cy_engine_views.specs.declared.views.Views.{Views}
 use Rattle.cy_engine_views.specs.Upkeep.{AreNamed, Held, Registry, Rests, StandFor, held, held_in, view_of, views_in}
 use Rattle.cy_engine_views.specs.RegisteredViews.{view_among, view_limit}
 use Rattle.cy_engine_views.proofs.Going.{All}
-use Rattle.cy_engine_views.proofs.Named.{all_last, held_last, new_last, views, views_last}
+use Rattle.cy_engine_views.proofs.Named.{all_last, held_last, new_last, views_last}
 
 rests_later : (graph : Content) (tick made : ℕ) → tick ≤ made → (view : Registered) → Rests view graph tick → Rests view graph made
 rests_later graph tick made le view rests = record { rows = rests.rows; unprepared = rests.unprepared; idle = rests.idle; in_time = omega (arith, le, rests.in_time) }
@@ -35,11 +35,3 @@ named_alike old new held named = subst (λ (hs : List Held). AreNamed (map view_
 
 pub few_alike : (old new : Views) → held_in new ≡ held_in old → length (held_in old) ≤ view_limit → length (held_in new) ≤ view_limit
 few_alike old new held few = subst (λ (hs : List Held). length hs ≤ view_limit) (sym held) few
-
--- where nothing was added
-pub stand_same : (old new : Views) → new.registered.entries ≡ old.registered.entries → (graph : Content) (tick : ℕ) → StandFor old graph tick → StandFor new graph tick
-stand_same old new same graph tick stand = record {
-  rest = subst (All (λ view. Rests view graph tick)) (sym same) stand.rest;
-  named = subst (λ (es : Registry). AreNamed (views es)) (sym same) stand.named;
-  few = subst (λ (es : Registry). length (map held es) ≤ view_limit) (sym same) stand.few;
-}

@@ -1,33 +1,27 @@
 -- A path that reads nothing of the row is there for each row, or for none.
 use Rattle.std.proofs.Common.{◌≡◌, ℕ, zero, suc, ◌+◌, ◌<◌, ◌≤◌, Bool, true, false, cond, not, ◌&&◌, List, [], ◌∷◌, length, replicate, refl, sym, ap, subst, ◌∙◌, arith}
-use Rattle.std.specs.Prelude.{Result, Ok, Err}
-use Rattle.std.specs.List.{AllByRecursion, list_all, list_any}
+use Rattle.std.specs.Prelude.{Ok}
+use Rattle.std.specs.List.{list_all, list_any}
 use Rattle.std.proofs.lemmas.Bool.{false≢true}
 use Rattle.std.proofs.lemmas.List.{append-nil, length-replicate}
 use Rattle.cy_values.specs.declared.rows.Cell.{Cell}
 use Rattle.cy_values.specs.declared.rows.Cell.TheVariants as cell
 use Rattle.cy_values.specs.declared.scalars.Value.TheVariants as value
-use Rattle.cy_trees.specs.Trees.{Path, PathTest}
+use Rattle.cy_trees.specs.Trees.{Path}
 use Rattle.cy_graph.specs.Graph.{Content}
-use Rattle.cy_expr.specs.declared.faults.EvalFault.{EvalFault}
 use Rattle.cy_expr.specs.Faults.{on_one}
 use Rattle.cy_oneshot_patterns.specs.Fits.{fits}
-use Rattle.cy_oneshot_patterns.specs.Matching.{assigned, is_there, map_values}
+use Rattle.cy_oneshot_patterns.specs.Matching.{assigned, map_values}
 use Rattle.cy_oneshot_patterns.specs.Places.{path_places, places}
-use Rattle.cy_oneshot_meaning.specs.Reading.{IsInGraph}
 use Rattle.cy_oneshot_unwinding.specs.Carried.{ArePlacesRead, carried_from, is_needed}
 use Rattle.cy_oneshot_unwinding.proofs.Carried.{from_long}
 use Rattle.cy_oneshot_unwinding.proofs.CarriedMatch.{path_less}
-use Rattle.cy_oneshot.specs.internal.Conditions.{IsKnown, path_truth, presence}
+use Rattle.cy_oneshot.specs.internal.Conditions.{IsKnown, presence}
 
 -- ---- a row of nulls
 
 abbrev null : Cell
 null = cell.Value value.Null
-
-pub nulls_there : (graph : Content) (count : ℕ) → AllByRecursion (IsInGraph graph) (replicate count null)
-nulls_there graph zero = tt
-nulls_there graph (suc count) = (tt, nulls_there graph count)
 
 none_needed : (width column : ℕ) → column < width → is_needed (replicate width false) column ≡ false
 none_needed zero column less = absurd (omega arith)
@@ -78,12 +72,3 @@ pub none_read : (needed : List Bool) (width : ℕ) (path : Path) → length need
 none_read needed width path long none read =
     subst (λ l. ArePlacesRead l (places (path ∷ []))) (all_false needed none ∙ ap (λ n. replicate n false) long)
     (subst (ArePlacesRead needed) (sym (append-nil (path_places path))) read)
-
-answered : (o : Result (List Cell) EvalFault) (a b : Bool) (f : Bool → Bool) → on_one (λ (vs : List Cell). Ok a) o ≡ Ok b → on_one (λ (vs : List Cell). Ok (f a)) o ≡ Ok (f b)
-answered (Ok vs) a b f is = ap (on_one (λ (x : Bool). Ok (f x))) is
-answered (Err fault) a b f is = absurd (let e : ⊥ = cc is in e)
-
--- a path of which it is known whether it is there
-pub known_met : (graph : Content) (row : List Cell) (asked : Bool) (t : PathTest) (there : Bool) → presence graph row t.path ≡ Ok there
-    → path_truth graph row asked t ≡ Ok (asked && cond t.denied (not there) there)
-known_met graph row asked t there is = answered (map_values graph (t.path ∷ []) row) (is_there graph row t.path) there (λ b. asked && cond t.denied (not b) b) is

@@ -15,7 +15,7 @@ use Rattle.cy_expr.specs.Evaluation.{cell_of}
 use Rattle.cy_expr.specs.Faults.{on_one}
 use Rattle.cy_expr.specs.Graphs.{lookups}
 use Rattle.cy_oneshot_patterns.specs.Matching.{is_met, map_values, test_truth, where_truth}
-use Rattle.cy_oneshot_patterns.specs.Outcomes.{and_also, gathered, smaller, together}
+use Rattle.cy_oneshot_patterns.specs.Outcomes.{and_also, gathered, together}
 use Rattle.cy_oneshot_patterns.specs.Places.{entries_at, path_places, places}
 use Rattle.cy_oneshot_meaning.specs.internal.Answers.{IsAnswer}
 use Rattle.cy_oneshot_meaning.proofs.Together.{single, together_first, together_three}
@@ -51,25 +51,6 @@ both_three (Err f) (Ok b) (Ok c) = refl
 both_three (Err f) (Ok b) (Err h) = refl
 both_three (Err f) (Err g) (Ok c) = refl
 both_three (Err f) (Err g) (Err h) = faults_three f g h
-
--- ---- what answers of two give together
-
-pub both_true : (a b : Bool) (m n : Result Bool EvalFault) → m ≡ Ok a → n ≡ Ok b → both m n ≡ Ok (a && b)
-both_true a b m n is also = λ i. both (is i) (also i)
-
-pub fault_before : (f : EvalFault) (b : Bool) (m n : Result Bool EvalFault) → (m ≡ Err f) ⊎ (f ≡ NoMemory) → n ≡ Ok b → (both m n ≡ Err f) ⊎ (f ≡ NoMemory)
-fault_before f b m n (inl is) also = inl (λ i. both (is i) (also i))
-fault_before f b m n (inr none) also = inr none
-
-pub fault_after : (a : Bool) (g : EvalFault) (m n : Result Bool EvalFault) → m ≡ Ok a → (n ≡ Err g) ⊎ (g ≡ NoMemory) → (both m n ≡ Err g) ⊎ (g ≡ NoMemory)
-fault_after a g m n is (inl also) = inl (λ i. both (is i) (also i))
-fault_after a g m n is (inr none) = inr none
-
-pub two_faults : (f g : EvalFault) (m n : Result Bool EvalFault) → f ≢ NoMemory → g ≢ NoMemory → (m ≡ Err f) ⊎ (f ≡ NoMemory) → (n ≡ Err g) ⊎ (g ≡ NoMemory)
-    → (both m n ≡ Err (smaller f g)) ⊎ (smaller f g ≡ NoMemory)
-two_faults f g m n not neither (inl is) (inl also) = inl (λ i. both (is i) (also i))
-two_faults f g m n not neither (inr none) other = absurd (not none)
-two_faults f g m n not neither (inl is) (inr none) = absurd (neither none)
 
 -- ---- the maps of several paths
 

@@ -26,6 +26,3 @@ appended_more known text at count = appended-appended known (take at text) (take
 
 pub front_appended : (before after : Option (List ℕ)) (text : List ℕ) (at : ℕ) → after ≡ appended before (take at text) → AppendsFront before after text
 front_appended before after text at is = record { front = take at text; rest = drop at text; whole = sym (take-append-drop at text); is = is }
-
-pub front_whole : (before after : Option (List ℕ)) (text : List ℕ) → after ≡ appended before text → AppendsFront before after text
-front_whole before after text is = record { front = text; rest = []; whole = sym (append-nil text); is = is }

@@ -34,11 +34,4 @@ pub not_executed : (state : Serving) (line printed : List ℕ) (fault : LexFault
 not_executed state line printed fault.LineTooLong is shown = TooLong is shown
 not_executed state line printed (fault.NotUtf8 at) is shown =
     NotUtf8 is.0 is.1 (subst (λ n. IsLexFaultText (fault.NotUtf8 n) printed) (sym (utf8_valid_len-IsValidUpTo line at is.2)) shown)
-not_executed state line printed (fault.BadCharacter at) is shown = absurd is
-not_executed state line printed (fault.UnclosedText at) is shown = absurd is
-not_executed state line printed (fault.BadEscape at) is shown = absurd is
-not_executed state line printed (fault.UnclosedComment at) is shown = absurd is
-not_executed state line printed (fault.UnclosedName at) is shown = absurd is
-not_executed state line printed (fault.BadNumber at) is shown = absurd is
-not_executed state line printed (fault.NumberTooLarge at) is shown = absurd is
-not_executed state line printed fault.NoMemory is shown = absurd is
+not_executed state line printed _ is shown = absurd is

@@ -6,7 +6,7 @@ use Rattle.cy_shell.specs.Lines.{ended_lines, begun_line, whole_lines, last_line
 use Rattle.cy_shell.specs.internal.Lines.{buffered}
 use Rattle.cy_shell.specs.Runs.{Serving, WritesRun, WritesBeginning, WritesAll, input_limit, StopsReading, StopsWriting}
 use Rattle.cy_shell.specs.Streams.{Extends, TakesFront}
-use Rattle.cy_shell.proofs.Chains.{no_lines, more_lines}
+use Rattle.cy_shell.proofs.Chains.{more_lines}
 use Rattle.cy_shell.proofs.Cuts.{ended-append, begun-append}
 
 -- this many bytes of the input are read, and the lines that have ended in them are answered
@@ -19,14 +19,6 @@ pub record Reads (input : List ℕ) (total : ℕ) (start : Serving) (left line :
 pub known_input : (left : Option (List ℕ)) {P : List ℕ → Type 0} → ((input : List ℕ) → left ≡ Some input → P input) → IfSome left P
 known_input None each = tt
 known_input (Some input) each = each input refl
-
-pub reads_first : (input : List ℕ) (start : Serving) (left line known : Option (List ℕ)) → left ≡ Some input → line ≡ buffered [] → Reads input 0 start left line start known known
-reads_first input start left line known is keeps = record {
-  within = omega arith;
-  unread = is;
-  keeps = keeps;
-  written = no_lines start known;
-}
 
 -- a read into the front of a piece is one into the piece
 front_taken : (left after : Option (List ℕ)) (old_piece piece : List ℕ) (most count : ℕ) → 0 < most → most ≤ length old_piece → count ≤ length (take most old_piece)

@@ -6,7 +6,7 @@ use Rattle.std.specs.Cmp.{IsTotalOrder}
 use Rattle.std.proofs.lemmas.Bool.{false≢true}
 use Rattle.cy_values.specs.declared.rows.Cell.{Cell}
 use Rattle.cy_values.specs.Order.{row_cmp}
-use Rattle.cy_trees.specs.Trees.{Clause, «match», unwind, «with», «return», create, set, remove, delete}
+use Rattle.cy_trees.specs.Trees.{Clause, unwind, «with», «return»}
 use Rattle.cy_scope.specs.Views.{ends_with_return, is_return, is_update}
 use Rattle.cy_graph.specs.Graph.{State}
 use Rattle.cy_expr.specs.declared.faults.EvalFault.{EvalFault}
@@ -71,12 +71,7 @@ module _ (total : IsTotalOrder row_cmp) (needed : List Bool) (alike : Bool) (bas
   projection_goes : (c : Clause) (p : Progress) → is_projection c ≡ true → IsClauseRead needed c → after_clause c (lessened p) ≡ after_clause c p
   projection_goes («with» q test) p is read = ap (λ o. evaluated o >>= λ rows. Ok (record p { rows = rows })) (projecting_less p.graph.content needed («with» q test) is read p.rows)
   projection_goes («return» q) p is read = ap (λ o. evaluated o >>= λ rows. Ok (record p { rows = rows })) (projecting_less p.graph.content needed («return» q) is read p.rows)
-  projection_goes («match» optional paths test) p is read = absurd (false≢true is)
-  projection_goes (unwind e v) p is read = absurd (false≢true is)
-  projection_goes (create paths) p is read = absurd (false≢true is)
-  projection_goes (set items) p is read = absurd (false≢true is)
-  projection_goes (remove items) p is read = absurd (false≢true is)
-  projection_goes (delete detach variables) p is read = absurd (false≢true is)
+  projection_goes _ p is read = absurd (false≢true is)
 
   -- ---- the clauses that are left
 
@@ -87,12 +82,7 @@ module _ (total : IsTotalOrder row_cmp) (needed : List Bool) (alike : Bool) (bas
   returns_project : (c : Clause) → is_return c ≡ true → is_projection c ≡ true
   returns_project («return» p) is = refl
   returns_project («with» p test) is = refl
-  returns_project («match» optional paths test) is = absurd (false≢true is)
-  returns_project (unwind e v) is = absurd (false≢true is)
-  returns_project (create paths) is = absurd (false≢true is)
-  returns_project (set items) is = absurd (false≢true is)
-  returns_project (remove items) is = absurd (false≢true is)
-  returns_project (delete detach variables) is = absurd (false≢true is)
+  returns_project _ is = absurd (false≢true is)
 
   module _ (returns : Bool) where
     -- the clauses end as the statement does
@@ -173,10 +163,4 @@ module _ (total : IsTotalOrder row_cmp) (returns : Bool) (width : ℕ) (clauses 
       (read_over counts (rows_after graph.content (unwind e v) rows)
       (reading_grown graph.content OverFirst (over_more needed (updates_ahead clauses) (first_row rows)) (unwind e v) refl refl rows
       (over_first needed (updates_ahead clauses) width (first_row rows) rows within wide same)))
-  goes_on_by («match» optional paths test) counts = refl
-  goes_on_by («with» p test) counts = refl
-  goes_on_by («return» p) counts = refl
-  goes_on_by (create paths) counts = refl
-  goes_on_by (set items) counts = refl
-  goes_on_by (remove items) counts = refl
-  goes_on_by (delete detach variables) counts = refl
+  goes_on_by _ counts = refl

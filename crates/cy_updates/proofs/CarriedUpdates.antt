@@ -16,7 +16,7 @@ use Rattle.cy_values.specs.declared.rows.Cell.TheVariants as cell
 use Rattle.cy_values.specs.Order.{cell_order, row_cmp}
 use Rattle.cy_trees.specs.declared.clauses.Length.{Length}
 use Rattle.cy_trees.specs.declared.expressions.Variable.{Variable}
-use Rattle.cy_trees.specs.Trees.{Expression, MapEntry, NodePattern, RelationshipPattern, Step, Path, Clause, «match», unwind, «with», «return», create, set, remove, delete, SetItem, set_property, set_labels, RemoveItem, remove_property, remove_labels}
+use Rattle.cy_trees.specs.Trees.{Expression, MapEntry, NodePattern, RelationshipPattern, Step, Path, Clause, create, set, remove, delete, SetItem, set_property, set_labels, RemoveItem, remove_property, remove_labels}
 use Rattle.cy_scope.specs.Views.{is_update}
 use Rattle.cy_graph.specs.Graph.{State, with_label, with_node, with_rel, without_label}
 use Rattle.cy_oneshot_outcomes.specs.Columns.{column_list, columns_read}
@@ -361,10 +361,7 @@ module _ (needed : List Bool) (alike : Bool) (base : List Cell) where
       subst (λ r. Seen small_table OverTable (r >>= λ after. Ok (record { graph = after; rows = [] })) (rows_taken graph (delete detach variables) rows))
       (sym (ap (λ set. unless_left_over (filter (is_left_over detach set) graph.content.rels) (without_set detach set graph)) (all_names_less variables read rows)))
       (seen_any small_table OverTable (λ (after : State). Ok (record { graph = after; rows = [] })) (λ (after : State). Ok (record { graph = after; rows = [] })) (λ after. (refl, tt)) (deleted graph detach variables rows))
-  taken_less («match» optional paths test) updates read graph rows over = absurd (false≢true updates)
-  taken_less (unwind e v) updates read graph rows over = absurd (false≢true updates)
-  taken_less («with» p test) updates read graph rows over = absurd (false≢true updates)
-  taken_less («return» p) updates read graph rows over = absurd (false≢true updates)
+  taken_less _ updates read graph rows over = absurd (false≢true updates)
 
   pub updated_less : IsTotalOrder row_cmp → alike ≡ true → (c : Clause) → is_update c ≡ true → IsClauseRead needed c → (graph : State) (rows : List (List Cell)) → AllByRecursion Over rows
       → Seen small_table OverTable (updated graph c (map small rows)) (updated graph c rows)

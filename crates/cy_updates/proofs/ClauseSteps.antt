@@ -10,7 +10,7 @@ use Rattle.cy_values.specs.declared.numbers.RelId.{RelId}
 use Rattle.cy_values.specs.declared.rows.Cell.{Cell}
 use Rattle.cy_values.specs.Bag.{IsSameBag}
 use Rattle.cy_values.specs.Order.{row_cmp}
-use Rattle.cy_trees.specs.Trees.{Name, Clause, «match», unwind, «with», «return», create, set, remove, delete, Projection}
+use Rattle.cy_trees.specs.Trees.{Name, Clause, «match», unwind, «return», Projection}
 use Rattle.cy_scope_kinds.specs.declared.kinds.Kind.{Kind}
 use Rattle.cy_scope.specs.ClauseFaults.{clause_fault, clauses_fault}
 use Rattle.cy_scope.specs.ClauseScopes.{scope_after}
@@ -54,23 +54,11 @@ use Rattle.cy_updates_meaning.proofs.InTurn.{or_wants}
 -- what updates, or returns, is no UNWIND
 carried_update : (c : Clause) (needed : List Bool) (r : Result Progress UpdateFault) → is_update c ≡ true → carried_after c needed r ≡ r
 carried_update (unwind e v) needed r updates = absurd (false≢true updates)
-carried_update («match» optional paths test) needed r updates = refl
-carried_update («with» p test) needed r updates = refl
-carried_update («return» p) needed r updates = refl
-carried_update (create paths) needed r updates = refl
-carried_update (set items) needed r updates = refl
-carried_update (remove items) needed r updates = refl
-carried_update (delete detach variables) needed r updates = refl
+carried_update _ needed r updates = refl
 
 pub carried_return : (c : Clause) (needed : List Bool) (r : Result Progress UpdateFault) → is_return c ≡ true → carried_after c needed r ≡ r
 carried_return (unwind e v) needed r is = absurd (false≢true is)
-carried_return («match» optional paths test) needed r is = refl
-carried_return («with» p test) needed r is = refl
-carried_return («return» p) needed r is = refl
-carried_return (create paths) needed r is = refl
-carried_return (set items) needed r is = refl
-carried_return (remove items) needed r is = refl
-carried_return (delete detach variables) needed r is = refl
+carried_return _ needed r is = refl
 
 module _ (clause : Clause) (updates : is_update clause ≡ true) (graph : State) (columns : List Name) (rows : List (List Cell)) (others : List Clause) where
   as_update : (counts : Counts) → after_clause clause (progress graph rows counts) ≡ after_updating clause (progress graph rows counts)
@@ -112,13 +100,7 @@ module _ (clause : Clause) (reads : is_update clause ≡ false) (graph : State) 
 
   carried_with : (c : Clause) (needed : List Bool) (counts : Counts) (r : Result (List (List Cell)) EvalFault) → with_rows counts (carried_by c needed r) ≡ carried_after c needed (with_rows counts r)
   carried_with (unwind e v) needed counts r = some_carried needed counts r
-  carried_with («match» optional paths test) needed counts r = refl
-  carried_with («with» p test) needed counts r = refl
-  carried_with («return» p) needed counts r = refl
-  carried_with (create paths) needed counts r = refl
-  carried_with (set items) needed counts r = refl
-  carried_with (remove items) needed counts r = refl
-  carried_with (delete detach variables) needed counts r = refl
+  carried_with _ needed counts r = refl
 
   -- what the code has of a reading clause
   pub read_done : (columns : List Name) (others : List Clause) (made : List (List Cell)) → Carries graph.content clause others columns rows made → LeadsTo graph columns rows clause others graph made
@@ -225,13 +207,7 @@ module _ (on_bags : (clauses : List Clause) (one other : Progress) → IsSamePro
   return_alike : (clause : Clause) → is_return clause ≡ true → (one other : Progress) → IsSameProgress one other → after_clause clause one ≡ after_clause clause other
   return_alike («return» p) is one other same =
       λ i. evaluated ((ordered one.graph.content p one.rows other.rows same.1 ∙ ap (λ (g : State). projection_rows g.content p other.rows) same.0) i) >>= λ rows. Ok (progress (same.0 i) rows (same.2 i))
-  return_alike («match» optional paths test) is one other same = absurd (false≢true is)
-  return_alike (unwind e v) is one other same = absurd (false≢true is)
-  return_alike («with» p test) is one other same = absurd (false≢true is)
-  return_alike (create paths) is one other same = absurd (false≢true is)
-  return_alike (set items) is one other same = absurd (false≢true is)
-  return_alike (remove items) is one other same = absurd (false≢true is)
-  return_alike (delete detach variables) is one other same = absurd (false≢true is)
+  return_alike _ is one other same = absurd (false≢true is)
 
   after_both : (f : Progress → Result Progress UpdateFault) → ((one other : Progress) → IsSameProgress one other → f one ≡ f other) → (r s : Result Progress UpdateFault) → IsSameResult r s → (r >>= f) ≡ (s >>= f)
   after_both f same (Ok one) (Ok other) p = same one other p
@@ -292,13 +268,7 @@ module _ (on_bags : (clauses : List Clause) (one other : Progress) → IsSamePro
 -- a clause updates or reads whether its variables have columns or not
 pub resolved_updates : (before after : Scope) (c : Clause) → is_update (resolved_clause before after c) ≡ is_update c
 resolved_updates before after («match» optional paths test) = refl
-resolved_updates before after (unwind e v) = refl
-resolved_updates before after («with» p test) = refl
-resolved_updates before after («return» p) = refl
-resolved_updates before after (create paths) = refl
-resolved_updates before after (set items) = refl
-resolved_updates before after (remove items) = refl
-resolved_updates before after (delete detach variables) = refl
+resolved_updates before after _ = refl
 
 -- the clause that comes first, as it was written
 pub record IsWritten (columns : List Name) (rows : List (List Cell)) (c : Clause) (cs : List Clause) : Type 0 where
@@ -352,10 +322,4 @@ each_of_same total P next (Err why) same each = absurd same
 -- RETURN reads
 pub return_reads : (c : Clause) → is_return c ≡ true → is_update c ≡ false
 return_reads («return» p) is = refl
-return_reads («match» optional paths test) is = absurd (false≢true is)
-return_reads (unwind e v) is = absurd (false≢true is)
-return_reads («with» p test) is = absurd (false≢true is)
-return_reads (create paths) is = absurd (false≢true is)
-return_reads (set items) is = absurd (false≢true is)
-return_reads (remove items) is = absurd (false≢true is)
-return_reads (delete detach variables) is = absurd (false≢true is)
+return_reads _ is = absurd (false≢true is)

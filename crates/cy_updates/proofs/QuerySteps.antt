@@ -1,13 +1,12 @@
 -- A statement goes on by a query.
-use Rattle.std.proofs.Common.{◌≡◌, ℕ, ◌+◌, Bool, true, false, cond, List, [], ◌∷◌, ◌++◌, length, map, refl, sym, ap, subst, ◌∙◌, arith}
+use Rattle.std.proofs.Common.{◌≡◌, ℕ, ◌+◌, true, false, cond, List, [], ◌∷◌, ◌++◌, length, refl, sym, ap, subst, ◌∙◌, arith}
 use Rattle.std.specs.Prelude.{Result, Ok, Err, IfOk}
 use Rattle.cy_values.specs.declared.rows.Cell.{Cell}
 use Rattle.cy_trees.specs.declared.clauses.Query as coded
 use Rattle.cy_trees.specs.Trees.{Query, Statement}
-use Rattle.cy_trees.specs.TreeModels.{query_of}
 use Rattle.cy_graph.specs.Graph.{State, IsGraph}
 use Rattle.cy_scope.specs.Views.{ends_with_return}
-use Rattle.cy_oneshot_meaning.specs.Queries.{put_together, united}
+use Rattle.cy_oneshot_meaning.specs.Queries.{put_together}
 use Rattle.cy_updates_meaning.specs.declared.faults.UpdateFault.{UpdateFault}
 use Rattle.cy_updates_meaning.specs.Bags.{IsSameResult}
 use Rattle.cy_updates_meaning.specs.Counts.{AgreeWith, Counts, no_counts}
@@ -108,18 +107,6 @@ module _ (first now next : State) (queries left others : List Query) (query : Qu
 pub first_stops : (first : State) (queries others : List Query) (query : Query) → queries ≡ query ∷ others → (why : UpdateFault) → ((rows : List (List Cell)) (some : Counts) → after_query query (progress first rows some) ≡ Err why)
     → each_in_turn after_query queries (beginning first) ≡ Err why
 first_stops first queries others query are why stops = next_stops after_query queries others query are (beginning first) (each_in_turn after_query queries (beginning first)) refl why (stops [] no_counts)
-
--- ---- tables put together
-
-pub alone : (all : Bool) (queries : List coded.Query) (rows : List (List Cell)) → length queries ≡ 1 → rows ≡ put_together all (map query_of queries) rows
-alone all [] rows one = absurd (omega (arith, one))
-alone all (q ∷ []) rows one = refl
-alone all (q ∷ r ∷ queries) rows one = absurd (omega (arith, one))
-
-pub several : (all : Bool) (queries : List coded.Query) (rows : List (List Cell)) → (length queries ≡ 1 → ⊥) → united all rows ≡ put_together all (map query_of queries) rows
-several all [] rows not_one = refl
-several all (q ∷ []) rows not_one = absurd (not_one refl)
-several all (q ∷ r ∷ queries) rows not_one = refl
 
 -- ---- the end
 

@@ -9,7 +9,7 @@ use Rattle.cy_values.specs.declared.rows.Cell.TheVariants as cell
 use Rattle.cy_values.specs.declared.scalars.Value.TheVariants as value
 use Rattle.cy_values.specs.Bag.{IsSameBag}
 use Rattle.cy_values.specs.Order.{row_cmp}
-use Rattle.cy_trees.specs.Trees.{Name, Clause, Projection, Query, Statement, «match», unwind, «with», «return», create, set, remove, delete}
+use Rattle.cy_trees.specs.Trees.{Name, Clause, Projection, Query, Statement, «match», unwind}
 use Rattle.cy_scope.specs.Checked.{IsChecked, single}
 use Rattle.cy_scope.specs.ClauseFaults.{clause_fault, later_query_fault, queries_fault, query_fault}
 use Rattle.cy_scope.specs.ClauseScopes.{query_scope, scope_after}
@@ -89,12 +89,7 @@ each_carried : (P : State → List Cell → Type 0) (c : Clause) (needed : List 
 each_carried P (unwind e v) needed less (Ok q) each = each_map (P q.graph) (P q.graph) (carried_from needed 0) (less q.graph) q.rows each
 each_carried P (unwind e v) needed less (Err why) each = tt
 each_carried P («match» optional paths test) needed less r each = each
-each_carried P («with» p test) needed less r each = each
-each_carried P («return» p) needed less r each = each
-each_carried P (create paths) needed less r each = each
-each_carried P (set items) needed less r each = each
-each_carried P (remove items) needed less r each = each
-each_carried P (delete detach variables) needed less r each = each
+each_carried P _ needed less r each = each
 
 less_fits : (needed : List Bool) (scope : Scope) (place : ℕ) (row : List Cell) → row_fits scope row ≡ true → row_fits scope (carried_from needed place row) ≡ true
 less_fits needed [] place [] fit = refl

@@ -9,7 +9,7 @@ use Rattle.cy_network_touches.proofs.lookups.add_changed.Given as goal
 abbrev pub invariant-loop-row_delta : goal.invariant-loop-row_delta
 invariant-loop-row_delta l = record {
   made : (before : State) → IsChange before l.initial.sight.graph.now l.change
-      → l.made.items ≡ l.initial.made.items ++ flat_map (reattributed before.content l.initial.sight.graph.now.content l.asked.column l.asked.attribute) l.yielded;
+      → l.made.items ≡ l.initial.made.items ++ flat_map (reattributed before.content l.initial.sight.graph.now.content l.asked.column l.asked.attribute.now) l.yielded;
   graph : l.sight.graph ≡ l.initial.sight.graph;
   reads : l.sight.reads ≤ l.initial.sight.reads + length l.yielded;
 }

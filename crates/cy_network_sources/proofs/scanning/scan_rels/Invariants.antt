@@ -14,12 +14,12 @@ use Rattle.cy_network_sources.proofs.scanning.scan_rels.Given as goal
 abbrev pub invariant-loop-number : goal.invariant-loop-number
 invariant-loop-number l = record {
   made : (row : List Cell) → deltas_of row l.deltas.items
-      ++ flat_map (λ (e : ℕ × Option Rel). recounted (rel_made l.types l.orientation (map (λ part. plan_of part.now) l.parts) e.0 e.1)
-      (rel_made l.types l.orientation (map (λ part. plan_of part.now) l.parts) e.0 (rel_at (record { 0 = e.0 }) l.initial.sight.graph.now)) row) (map (λ e. (e.0, option_copied e.1)) l.number-iterator)
-      ≡ flat_map (λ (e : ℕ × Option Rel). recounted (rel_made l.types l.orientation (map (λ part. plan_of part.now) l.parts) e.0 e.1)
-      (rel_made l.types l.orientation (map (λ part. plan_of part.now) l.parts) e.0 (rel_at (record { 0 = e.0 }) l.initial.sight.graph.now)) row) l.change.rels;
-  fit : All (λ (e : ℕ × Option Rel). IsRelFit l.types l.orientation (map (λ part. plan_of part.now) l.parts) e.0 e.1
-      × IsRelFit l.types l.orientation (map (λ part. plan_of part.now) l.parts) e.0 (rel_at (record { 0 = e.0 }) l.initial.sight.graph.now)) (map (λ e. (e.0, option_copied e.1)) l.number-iterator);
+      ++ flat_map (λ (e : ℕ × Option Rel). recounted (rel_made l.scan.types.now l.scan.orientation (map (λ part. plan_of part.now) l.scan.parts.now) e.0 e.1)
+      (rel_made l.scan.types.now l.scan.orientation (map (λ part. plan_of part.now) l.scan.parts.now) e.0 (rel_at (record { 0 = e.0 }) l.initial.sight.graph.now)) row) (map (λ e. (e.0, option_copied e.1)) l.number-iterator)
+      ≡ flat_map (λ (e : ℕ × Option Rel). recounted (rel_made l.scan.types.now l.scan.orientation (map (λ part. plan_of part.now) l.scan.parts.now) e.0 e.1)
+      (rel_made l.scan.types.now l.scan.orientation (map (λ part. plan_of part.now) l.scan.parts.now) e.0 (rel_at (record { 0 = e.0 }) l.initial.sight.graph.now)) row) l.change.rels;
+  fit : All (λ (e : ℕ × Option Rel). IsRelFit l.scan.types.now l.scan.orientation (map (λ part. plan_of part.now) l.scan.parts.now) e.0 e.1
+      × IsRelFit l.scan.types.now l.scan.orientation (map (λ part. plan_of part.now) l.scan.parts.now) e.0 (rel_at (record { 0 = e.0 }) l.initial.sight.graph.now)) (map (λ e. (e.0, option_copied e.1)) l.number-iterator);
   bounded : All IsBounded l.deltas.items;
   graph : l.sight.graph ≡ l.initial.sight.graph;
   reads : l.sight.reads + length l.number-iterator ≤ l.initial.sight.reads + length l.change.rels;

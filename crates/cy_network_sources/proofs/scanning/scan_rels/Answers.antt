@@ -31,33 +31,33 @@ one_read old new is = let reads : new.reads ≡ min (old.reads + 1) (2 ^ 64 - 1)
 
 pub add_rel-requires-clause-old : goal.add_rel-requires-clause-old
 add_rel-requires-clause-old c =
-    let ps = map (λ part. plan_of part.now) c.args.parts.now in
-    (next_fit (IsFitAt c.args.types.now c.args.orientation c.args.sight.now.graph ps) c.loop-number.number-iterator c.next.new.self (c.in-Some.number.now, c.in-Some.was.now) c.in-Some.ensures.steps c.loop-number.invariant.fit).0.0
+    let ps = map (λ part. plan_of part.now) c.args.scan.now.parts.now in
+    (next_fit (IsFitAt c.args.scan.now.types.now c.args.scan.now.orientation c.args.sight.now.graph ps) c.loop-number.number-iterator c.next.new.self (c.in-Some.number.now, c.in-Some.was.now) c.in-Some.ensures.steps c.loop-number.invariant.fit).0.0
 
 pub add_rel-requires-clause-new : goal.add_rel-requires-clause-new
 add_rel-requires-clause-new c =
-    let ps = map (λ part. plan_of part.now) c.args.parts.now in
-    subst (IsRelFit c.args.types.now c.args.orientation ps c.in-Some.number.now)
+    let ps = map (λ part. plan_of part.now) c.args.scan.now.parts.now in
+    subst (IsRelFit c.args.scan.now.types.now c.args.scan.now.orientation ps c.in-Some.number.now)
     (sym (c.rel-new.ensures.rel ∙ ap (λ (g : Versions). rel_at (record { 0 = c.in-Some.number.now }) g.now) c.loop-number.invariant.graph))
-    (next_fit (IsFitAt c.args.types.now c.args.orientation c.args.sight.now.graph ps) c.loop-number.number-iterator c.next.new.self (c.in-Some.number.now, c.in-Some.was.now) c.in-Some.ensures.steps c.loop-number.invariant.fit).0.1
+    (next_fit (IsFitAt c.args.scan.now.types.now c.args.scan.now.orientation c.args.sight.now.graph ps) c.loop-number.number-iterator c.next.new.self (c.in-Some.number.now, c.in-Some.was.now) c.in-Some.ensures.steps c.loop-number.invariant.fit).0.1
 
 pub loop-number-preserved : goal.loop-number-preserved
 loop-number-preserved c =
-    let ps = map (λ part. plan_of part.now) c.args.parts.now in
+    let ps = map (λ part. plan_of part.now) c.args.scan.now.parts.now in
     let so_far = c.loop-number.invariant in
     let steps = c.in-Some.ensures.steps in
     let now = c.rel-new.ensures.rel ∙ ap (λ (g : Versions). rel_at (record { 0 = c.in-Some.number.now }) g.now) so_far.graph in
     record {
       made = λ row.
-          walked (λ (e : ℕ × Option Rel). recounted (rel_made c.args.types.now c.args.orientation ps e.0 e.1) (rel_made c.args.types.now c.args.orientation ps e.0 (rel_at (record { 0 = e.0 }) c.args.sight.now.graph.now)) row)
+          walked (λ (e : ℕ × Option Rel). recounted (rel_made c.args.scan.now.types.now c.args.scan.now.orientation ps e.0 e.1) (rel_made c.args.scan.now.types.now c.args.scan.now.orientation ps e.0 (rel_at (record { 0 = e.0 }) c.args.sight.now.graph.now)) row)
           (c.in-Some.number.now, option_copied c.in-Some.was.now) (map (λ e. (e.0, option_copied e.1)) c.next.new.self)
           (deltas_of row c.loop-number.deltas.items) (deltas_of row c.add_rel.new.deltas.items) _
           (c.in_ok-add_rel.ensures.made row
-          ∙ ap (λ (o : Option Rel). deltas_of row c.loop-number.deltas.items ++ recounted (rel_made c.args.types.now c.args.orientation ps c.in-Some.number.now (option_copied c.in-Some.was.now)) (rel_made c.args.types.now c.args.orientation ps c.in-Some.number.now o) row) now)
+          ∙ ap (λ (o : Option Rel). deltas_of row c.loop-number.deltas.items ++ recounted (rel_made c.args.scan.now.types.now c.args.scan.now.orientation ps c.in-Some.number.now (option_copied c.in-Some.was.now)) (rel_made c.args.scan.now.types.now c.args.scan.now.orientation ps c.in-Some.number.now o) row) now)
           (ap (λ left. deltas_of row c.loop-number.deltas.items
-          ++ flat_map (λ (e : ℕ × Option Rel). recounted (rel_made c.args.types.now c.args.orientation ps e.0 e.1) (rel_made c.args.types.now c.args.orientation ps e.0 (rel_at (record { 0 = e.0 }) c.args.sight.now.graph.now)) row) (map (λ e. (e.0, option_copied e.1)) left)) (sym steps)
+          ++ flat_map (λ (e : ℕ × Option Rel). recounted (rel_made c.args.scan.now.types.now c.args.scan.now.orientation ps e.0 e.1) (rel_made c.args.scan.now.types.now c.args.scan.now.orientation ps e.0 (rel_at (record { 0 = e.0 }) c.args.sight.now.graph.now)) row) (map (λ e. (e.0, option_copied e.1)) left)) (sym steps)
           ∙ so_far.made row);
-      fit = (next_fit (IsFitAt c.args.types.now c.args.orientation c.args.sight.now.graph ps) c.loop-number.number-iterator c.next.new.self (c.in-Some.number.now, c.in-Some.was.now) steps so_far.fit).1;
+      fit = (next_fit (IsFitAt c.args.scan.now.types.now c.args.scan.now.orientation c.args.sight.now.graph ps) c.loop-number.number-iterator c.next.new.self (c.in-Some.number.now, c.in-Some.was.now) steps so_far.fit).1;
       bounded = c.in_ok-add_rel.ensures.bounded so_far.bounded;
       graph = ap (λ (s : SightState). s.graph) c.rel-new.ensures.read ∙ so_far.graph;
       reads = one_less c.loop-number.number-iterator c.next.new.self (c.in-Some.number.now, c.in-Some.was.now) c.args.sight.now.reads c.loop-number.sight.reads c.rel-new.new.self.reads _ steps so_far.reads

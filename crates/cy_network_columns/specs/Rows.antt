@@ -1,5 +1,5 @@
 -- Rows under numbers (own).
-use Rattle.std.specs.Prelude.{◌≡◌, ℕ, ◌+◌, ◌-◌, Bool, true, false, List, Option, None, Some, if◌then◌else◌, length, nat_eq, nat_lt, slice_get}
+use Rattle.std.specs.Prelude.{Bool, true, false, List, Option, None, Some}
 use Rattle.std.specs.Ordering.{eq_by_cmp}
 use Rattle.cy_values.specs.declared.rows.Cell.{Cell}
 use Rattle.cy_values.specs.Order.{cell_order, row_cmp}
@@ -26,7 +26,3 @@ alike_by same (Some one) (Some other) = same one other
 -- two cells are the same, or there is none of them
 abbrev pub are_alike : Option Cell → Option Cell → Bool
 are_alike = alike_by is_cell
-
--- The elements once one of them went and the last of them took its place.
-abbrev pub IsFilled : {X : Type 0} → ℕ → List X → List X → Type 0
-IsFilled place old new = (i : ℕ) → slice_get new i ≡ (if nat_lt (i + 1) (length old) then slice_get old (if nat_eq place i then length old - 1 else i) else None)

@@ -7,7 +7,7 @@ pub mod Elements
 pub mod Inverses
 pub mod Seats
 pub mod Numbers
-pub mod Tallied
+pub mod Finding
 pub mod Replacing
 pub mod Leaving
 pub mod LookUps

@@ -1,6 +1,7 @@
 -- What proofs alone need.
 pub mod Buckets
 pub mod Keys
+pub mod Entries
 pub mod Maps
 pub mod Tables
 pub mod Lists

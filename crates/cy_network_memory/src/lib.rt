@@ -10,6 +10,7 @@ mod listed;
 mod listings;
 mod lists;
 mod memory;
+mod row_map;
 mod rows;
 mod tables;
 mod tallies;

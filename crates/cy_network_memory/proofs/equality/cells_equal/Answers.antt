@@ -1,5 +1,5 @@
 use Rattle.std.proofs.Common.{◌≡◌, Bool, true, false, ◌&&◌, [], ◌∷◌, refl, sym, ◌∙◌}
-use Rattle.cy_network_memory.proofs.KeyHashes.{one_cell}
+use Rattle.cy_network_columns.proofs.SameRows.{one_cell}
 use Rattle.cy_network_memory.proofs.equality.cells_equal.Goals as goal
 
 plain : (b : Bool) → (b && true) ≡ b

@@ -6,6 +6,7 @@ pub mod Readings
 pub mod Staging
 pub mod BagLemmas
 pub mod PairLemmas
+pub mod NewRows
 pub mod Passed
 pub mod JoinLemmas
 pub mod PlanLemmas

@@ -7,5 +7,6 @@ pub mod Owners
 pub mod LookupLemmas
 pub mod LookupDeltas
 pub mod AttributeLemmas
+pub mod NewRows
 pub mod CostLemmas
 pub mod Determined

@@ -1,4 +1,4 @@
-use Rattle.std.proofs.Common.{ℕ, Option, [], ◌∷◌, ◌++◌, map, sym, ap, ◌∙◌}
+use Rattle.std.proofs.Common.{ℕ, Option, [], ◌∷◌, ◌++◌, map, sym, ap, ◌∙◌, arith}
 use Rattle.std.specs.Option.{option_copied}
 use Rattle.std.specs.Prelude.{flat_map}
 use Rattle.std.proofs.lemmas.List.{append-nil}
@@ -10,6 +10,7 @@ use Rattle.cy_network_touches.specs.internal.Attributes.{still}
 use Rattle.cy_network_touches.specs.internal.Named.{with_key}
 use Rattle.cy_network_touches.proofs.AttributeLemmas.{one_entity, one_less, walked}
 use Rattle.cy_network_touches.proofs.CostLemmas.{among_alike, fewer_left, none_left}
+use Rattle.cy_network_touches.proofs.NewRows.{none_stay}
 use Rattle.cy_network_touches.proofs.lookups.add_at_nodes.Goals as goal
 
 pub loop-touched-preserved : goal.loop-touched-preserved
@@ -51,3 +52,13 @@ pub returns-clause-steps : goal.returns-clause-steps
 returns-clause-steps g c = λ column rows keys among exact.
     none_left (λ e. (e.0, option_copied e.1)) (λ (e : ℕ × Option Node). with_key (column ∷ []) (cell.Node (record { 0 = e.0 }) ∷ []) rows) c.loop-touched.touched-iterator
     (g.M.Memory.step_count c.loop-touched.memory) _ (c.loop-touched.invariant.steps column rows keys among exact)
+
+pub returns-then-all_new-clause-made : goal.returns-then-all_new-clause-made
+returns-then-all_new-clause-made g c = λ before column change keys row.
+    sym (append-nil (deltas_of row c.args.made.now.items))
+    ∙ ap (λ made. deltas_of row c.args.made.now.items ++ made)
+    (sym (none_stay before.content c.args.sight.now.graph.now.content column c.args.attribute.now (g.M.Memory.was c.args.memory.now) (g.M.Memory.staged c.args.memory.now)
+    (λ (e : ℕ × Option Node). cell.Node (record { 0 = e.0 })) row (c.requires.new c.if-all_new.true) c.args.change.now.nodes))
+
+pub returns-then-all_new-clause-steps : goal.returns-then-all_new-clause-steps
+returns-then-all_new-clause-steps g c = λ column rows keys among exact. omega arith

@@ -11,3 +11,4 @@ pub mod SiftedRows
 pub mod Spread
 pub mod Stepping
 pub mod Elsewhere
+pub mod EndRows

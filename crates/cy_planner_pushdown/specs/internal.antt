@@ -3,3 +3,4 @@ pub mod Conditions
 pub mod Pushed
 pub mod Steps
 pub mod Ways
+pub mod Ends

@@ -64,7 +64,7 @@ fn kind_of_nodes(column: usize) -> Option<Kind>
 }
 
 #[tactic(auto, using(crate::proofs::ColumnKinds::rest_of_rels))]
-fn kind_of_rels(column: usize) -> Option<Kind>
+pub(crate) fn kind_of_rels(column: usize) -> Option<Kind>
     ensures { result ≡ spec.kind_of_rels column }
 {
     match column {

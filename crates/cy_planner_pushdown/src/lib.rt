@@ -5,6 +5,7 @@
 mod above;
 mod columns;
 mod conditions;
+mod ends;
 mod filters;
 mod pushing;
 mod sides;

@@ -11,6 +11,7 @@ ghost use Rattle.cy_planner_pushdown.specs.internal.Steps as spec;
 
 use crate::above::{Above, Pair};
 use crate::columns::{are_below, columns_of};
+use crate::ends::asked_end;
 use crate::sides::{Way, way_from};
 use cy_planner_algebra::{Attribute, Fields, KeyColumns, Operator, Output, Plan};
 use cy_trees::Expr;
@@ -177,8 +178,8 @@ fn below_union(
     Ok(Step::Both(Pair::Union, left, right))
 }
 
-/// Where a condition goes on from an operator.
-pub(crate) fn step_from(alloc: Global, place: Place, test: &Expr) -> Result<Step, Fault>
+/// Where a condition goes on from an operator, by what the operator is.
+fn step_below(alloc: Global, place: Place, test: &Expr) -> Result<Step, Fault>
     requires good { IsWellFormed (plan_of place.part) }
     requires can { CanBePushed (plan_of place.part) place.columns.items (expression_of test.now) }
     ensures is { IfOk result (λ s. spec.IsStep (plan_of place.part) place.columns.items (expression_of test.now) s) }
@@ -224,5 +225,19 @@ pub(crate) fn step_from(alloc: Global, place: Place, test: &Expr) -> Result<Step
             Ok(Step::Below(Above::Distinct, Place { part, columns }))
         }
         Fields::Union(left, right) => below_union(alloc, left, right, columns, test),
+    }
+}
+
+/// Where a condition goes on from an operator. What it asks of the node at an end of relationships is asked where these are as few as they
+/// can be.
+pub(crate) fn step_from(alloc: Global, place: Place, test: &Expr) -> Result<Step, Fault>
+    requires good { IsWellFormed (plan_of place.part) }
+    requires can { CanBePushed (plan_of place.part) place.columns.items (expression_of test.now) }
+    ensures is { IfOk result (λ s. spec.IsStep (plan_of place.part) place.columns.items (expression_of test.now) s) }
+    ensures less { IfOk result (λ s. spec.AreBelow (size-Operator place.part) s) }
+{
+    match asked_end(alloc, &place.part, &place.columns, test)? {
+        Some(_) => Ok(Step::Here(place)),
+        None => step_below(alloc, place, test),
     }
 }

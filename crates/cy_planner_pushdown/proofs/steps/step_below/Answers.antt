@@ -17,7 +17,7 @@ use Rattle.cy_planner_pushdown.specs.Above.{placed}
 use Rattle.cy_planner_pushdown.specs.internal.Pushed.{CanBePushed}
 use Rattle.cy_planner_pushdown.specs.internal.Steps.{LeadsTo}
 use Rattle.cy_planner_pushdown.proofs.Stepping.{into_different, into_distinct, into_filter, into_semi}
-use Rattle.cy_planner_pushdown.proofs.steps.step_from.Goals as goal
+use Rattle.cy_planner_pushdown.proofs.steps.step_below.Goals as goal
 
 pub returns-in-Join-clause-less : goal.returns-in-Join-clause-less
 returns-in-Join-clause-less c = c.below_join.ensures.less (size-Operator c.args.place.part) (search (rules, the_lemmas)) (search (rules, the_lemmas))

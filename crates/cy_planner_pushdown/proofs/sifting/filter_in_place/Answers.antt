@@ -1,4 +1,4 @@
-use Rattle.std.proofs.Common.{List, ℕ, sym, subst, ◌∙◌, ap}
+use Rattle.std.proofs.Common.{List, ℕ, sym, subst}
 use Rattle.cy_trees.specs.Trees.{Expression}
 use Rattle.cy_trees.specs.TreeModels.{expression_of}
 use Rattle.cy_planner_algebra.specs.Plans.{Plan}
@@ -10,7 +10,7 @@ use Rattle.cy_planner_rows.proofs.Filtered.{if_ok_map, well_kept}
 use Rattle.cy_planner_pushdown.specs.internal.Pushed.{IsPushed}
 use Rattle.cy_planner_pushdown.proofs.SiftedRows.{sifted}
 use Rattle.cy_planner_pushdown.proofs.Spread.{read_over}
-use Rattle.cy_planner_pushdown.proofs.sifting.filter_columns.Goals as goal
+use Rattle.cy_planner_pushdown.proofs.sifting.filter_in_place.Goals as goal
 
 pub looked_up_filter-requires : goal.looked_up_filter-requires
 looked_up_filter-requires c = λ well.

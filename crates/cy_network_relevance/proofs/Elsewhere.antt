@@ -28,11 +28,12 @@ Both Holds (p ∷ []) = Holds p
 Both Holds (p ∷ q ∷ more) = Holds p × Holds q
 
 -- the first three columns of another part hold a relationship and its ends where those of the part that it sifts do
-pub links_else : (part : Operator) → IsNoRels part → IsNoLookup part → IsNoProject part → has_links (plan_of part) ≡ option_map_or has_links (sifted (plan_of part)) false
-links_else part no_rels no_lookup no_project = by_layer (λ p. has_links p ≡ option_map_or has_links (sifted p) false) part go
+pub links_else : (part : Operator) → IsNoRels part → IsNoJoin part → IsNoLookup part → IsNoProject part → has_links (plan_of part) ≡ option_map_or has_links (sifted (plan_of part)) false
+links_else part no_rels no_join no_lookup no_project = by_layer (λ p. has_links p ≡ option_map_or has_links (sifted p) false) part go
   where
     go : (layer : Operator-F Operator) → part ≡ roll-Operator layer → has_links (plan_from layer) ≡ option_map_or has_links (sifted (plan_from layer)) false
     go (Operator-F.Rels types orientation) is = absurd (no_rels types orientation (is ∙ rolls-Rels types orientation))
+    go (Operator-F.Join left right keys) is = absurd (no_join left right keys (is ∙ rolls-Join left right keys))
     go (Operator-F.Lookup below column attribute) is = absurd (no_lookup below column attribute (is ∙ rolls-Lookup below column attribute))
     go (Operator-F.Project below outputs) is = absurd (no_project below outputs (is ∙ rolls-Project below outputs))
     go Operator-F.Unit is = refl

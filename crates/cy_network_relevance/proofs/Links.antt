@@ -1,5 +1,5 @@
 -- What stands in the first columns of relationships and of trails.
-use Rattle.std.proofs.Common.{◌≡◌, ℕ, ◌==◌, ◌<◌, ◌≤◌, true, false, cond, List, [], ◌∷◌, ◌++◌, Option, None, Some, get_or, map, length, refl, sym, ap, ◌∙◌, inl, inr, arith}
+use Rattle.std.proofs.Common.{◌≡◌, ℕ, ◌==◌, ◌<◌, ◌≤◌, true, false, cond, List, [], ◌∷◌, ◌++◌, Option, None, Some, get_or, map, filter, length, refl, sym, ap, ◌∙◌, inl, inr, arith}
 use Rattle.std.specs.FinMap.Entries as entries
 use Rattle.std.specs.Prelude.{◌⊎◌, ◌&&◌, ◌||◌, option_map, slice_get}
 use Rattle.std.specs.List.{All}
@@ -28,7 +28,8 @@ use Rattle.cy_planner_algebra.specs.Plans as plan
 use Rattle.cy_planner_algebra.specs.Plans.{Output, Plan, computed, gathered}
 use Rattle.cy_planner_algebra.specs.Expressions as expressions
 use Rattle.cy_planner_algebra.specs.Expressions.{cell_at, output_cell, projected, relationships_at}
-use Rattle.cy_planner_algebra.specs.Meaning.{backwards, forwards, is_loop, rows_of, rows_of_rel, ways, with_attribute}
+use Rattle.cy_planner_algebra.specs.Keys.{meet}
+use Rattle.cy_planner_algebra.specs.Meaning.{backwards, forwards, is_loop, paired, rows_of, rows_of_rel, ways, with_attribute}
 use Rattle.cy_planner_algebra.proofs.Widths.{all_made, all_mapped}
 use Rattle.cy_network_relevance.specs.Trails.{has_links, has_lists, is_alone, is_at, is_list, keeps_links}
 
@@ -221,6 +222,10 @@ pub links : (graph : State) → IsGraph graph → (p : Plan) → has_links p ≡
 links graph is (plan.rels types orientation) has =
     all_made (IsThere graph.content.rels) (IsLink graph.content) (rows_of_rel types orientation) (λ e there. link_rel graph.content e there types orientation) graph.content.rels
     (each_there graph.content.rels is.rels_rising)
+links graph is (plan.join left right keys) has =
+    all_made (IsLink graph.content) (IsLink graph.content) (λ row. paired row (filter (meet keys row) (rows_of graph.content right)))
+    (λ row link. all_mapped (IsLink graph.content) (λ other. row ++ other) (λ other. longer_link graph.content row other link) (filter (meet keys row) (rows_of graph.content right)))
+    (rows_of graph.content left) (links graph is left has)
 links graph is (plan.semi left right keys keeping) has = All-filter _ (IsLink graph.content) (rows_of graph.content left) (links graph is left has)
 links graph is (plan.lookup p column attribute) has =
     All-map (IsLink graph.content) (with_attribute graph.content column attribute) (rows_of graph.content p)

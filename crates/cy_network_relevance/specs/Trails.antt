@@ -62,7 +62,7 @@ abbrev pub has_links : Plan → Bool
 has_links plan.unit = false
 has_links plan.nodes = false
 has_links (plan.rels types orientation) = true
-has_links (plan.join left right keys) = false
+has_links (plan.join left right keys) = has_links left
 has_links (plan.outer left right keys test) = false
 has_links (plan.semi left right keys keeping) = has_links left
 has_links (plan.lookup p column attribute) = has_links p

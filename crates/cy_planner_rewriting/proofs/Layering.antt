@@ -1,5 +1,5 @@
 -- Layers over plans.
-use Rattle.std.proofs.Common.{◌≡◌, Global, List, [], ◌∷◌, ◌++◌, Vec, map, refl, sym, ap, subst, ◌∙◌}
+use Rattle.std.proofs.Common.{◌≡◌, Global, List, [], ◌∷◌, ◌++◌, Vec, map, refl, sym, ap, subst, ◌∙◌, inl, inr}
 use Rattle.cy_trees.specs.TreeModels.{expression_of}
 use Rattle.cy_planner_algebra.specs.declared.operators.Output.{Output}
 use Rattle.cy_planner_algebra.specs.Plans as plan
@@ -12,7 +12,7 @@ use Rattle.cy_planner_rewriting.specs.internal.Columns.{IsMerged}
 use Rattle.cy_planner_rewriting.specs.internal.Layers.{AreInPlace, layered, over_layer}
 use Rattle.cy_planner_rewriting.specs.Rewritten.{IsRewritten}
 use Rattle.cy_planner_rewriting.proofs.Congruent.{equal_plans, over_different, over_distinct, over_filter, over_lookup, over_project, rewritten_again, same_plan}
-use Rattle.cy_planner_rewriting.proofs.Rules.{project_twice}
+use Rattle.cy_planner_rewriting.proofs.Rules.{project_of_picked, project_twice}
 
 -- several layers over others
 pub layers_over : (ls ms : List Layer) (p : Plan) → layered (ls ++ ms) p ≡ layered ls (layered ms p)
@@ -77,12 +77,16 @@ in_place_again ls ms others p first second well =
 -- one projection at the end in place of two
 pub both_in_place : (ls others : List Layer) (outer inner outputs : Vec Output Global) (p : Plan) → IsMerged (map output_of outer.items) (map output_of inner.items) (map output_of outputs.items)
     → AreInPlace (ls ++ layer.Project outputs ∷ []) others p p → AreInPlace (ls ++ layer.Project outer ∷ layer.Project inner ∷ []) others p p
-both_in_place ls others outer inner outputs p (columns, are, is) place =
+both_in_place ls others outer inner outputs p merged place =
     in_place_again (ls ++ layer.Project outer ∷ layer.Project inner ∷ []) (ls ++ layer.Project outputs ∷ []) others p
-    (lowest_in_place ls (layer.Project outer ∷ layer.Project inner ∷ []) (layer.Project outputs ∷ []) p p
-    (λ well. subst (λ (made : List plan.Output). IsRewritten (plan.project (plan.project p (map output_of inner.items)) (map output_of outer.items)) (plan.project p made)) (sym is)
-    (project_twice p (map output_of outer.items) (map output_of inner.items) columns are well)))
+    (lowest_in_place ls (layer.Project outer ∷ layer.Project inner ∷ []) (layer.Project outputs ∷ []) p p (λ well. one_for_both p (map output_of outer.items) (map output_of inner.items) (map output_of outputs.items) well merged))
     place
+  where
+    one_for_both : (q : Plan) (over under made : List plan.Output) → IsWellFormed (plan.project (plan.project q under) over) → IsMerged over under made
+        → IsRewritten (plan.project (plan.project q under) over) (plan.project q made)
+    one_for_both q over under made well (inl (columns, are, is)) =
+        subst (λ (os : List plan.Output). IsRewritten (plan.project (plan.project q under) over) (plan.project q os)) (sym is) (project_twice q over under columns are well)
+    one_for_both q over under made well (inr (columns, are, picks)) = project_of_picked q over under columns made are picks
 
 -- a layer put below others
 pub placed_below : (ls others : List Layer) (l : Layer) (p : Plan) → IsWellFormed (layered ls (over_layer l p)) → AreInPlace (ls ++ l ∷ []) others p p → IsRewritten (layered ls (over_layer l p)) (layered others p)

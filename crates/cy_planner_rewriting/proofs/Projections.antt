@@ -1,11 +1,13 @@
 -- Projections that take over columns, and projections of them.
-use Rattle.std.proofs.Common.{◌≡◌, ℕ, zero, suc, ◌+◌, ◌<◌, true, List, [], ◌∷◌, ◌++◌, length, map, drop, refl, sym, ap, subst, ◌∙◌, arith}
-use Rattle.std.specs.Prelude.{Option, Some, None, IsOk, nat_lt, slice_index_or}
+use Rattle.std.proofs.Common.{◌≡◌, ℕ, zero, suc, ◌+◌, ◌<◌, true, List, [], ◌∷◌, ◌++◌, length, map, drop, get_or, take, refl, sym, ap, subst, ◌∙◌, arith}
+use Rattle.std.specs.Prelude.{Option, Some, None, IsOk, nat_lt, slice_get, slice_index_or}
 use Rattle.std.specs.List.{All, AllByRecursion}
 use Rattle.std.specs.Option.{option_map_or}
 use Rattle.std.proofs.lemmas.Bool.{and_parts, eqb-true}
 use Rattle.std.proofs.lemmas.Bool.Decides.{nat_tests}
 use Rattle.std.proofs.lemmas.List.{drop_all, drop_more, length-map}
+use Rattle.std.proofs.lemmas.Option.{same_Some}
+use Rattle.std.proofs.Math.Seq.{take-suc}
 use Rattle.std.proofs.lemmas.List.Elements.{All-cons, All-head, All-nil, All-tail}
 use Rattle.cy_values.specs.declared.rows.Cell.{Cell}
 use Rattle.cy_values.specs.declared.rows.Cell.TheVariants as cell
@@ -20,7 +22,7 @@ use Rattle.cy_planner_algebra.specs.WellFormed.{IsColumn, IsOutputOver}
 use Rattle.cy_planner_rows.specs.Renumbered.{new_column}
 use Rattle.cy_planner_rows.proofs.RenumberedLemmas.{reads_inside, same_cell, same_reading}
 use Rattle.cy_planner_rows.specs.Columns.{taken_column}
-use Rattle.cy_planner_rewriting.specs.internal.Columns.{AreColumns, are_columns_from, is_column, renumbered_output}
+use Rattle.cy_planner_rewriting.specs.internal.Columns.{AreColumns, ArePicked, are_columns_from, is_column, renumbered_output}
 
 -- the variable that an output is
 pub output_known : (o : Output) (c : ℕ) → taken_column o ≡ Some c → (v : Variable) × (o ≡ computed (variable v)) × (v.column ≡ Some c)
@@ -145,3 +147,54 @@ all_over n columns (o ∷ outputs) inside each =
 
 pub as_many : (outputs : List Output) (columns : List ℕ) → AreColumns outputs columns → length columns ≡ length outputs
 as_many outputs columns is = sym (length-map columns Some) ∙ ap length (sym is) ∙ length-map outputs taken_column
+
+-- ---- columns of what a projection makes
+
+-- the first one, and the others
+first_picked : (outputs : List Output) (c : ℕ) (columns : List ℕ) (o : Output) (made : List Output) → ArePicked outputs (c ∷ columns) (o ∷ made) → slice_get outputs c ≡ Some o
+first_picked outputs c columns o made picks = cc
+
+others_picked : (outputs : List Output) (c : ℕ) (columns : List ℕ) (o : Output) (made : List Output) → ArePicked outputs (c ∷ columns) (o ∷ made) → ArePicked outputs columns made
+others_picked outputs c columns o made picks = cc
+
+picked_cell : (row : List Cell) (outputs : List Output) (c : ℕ) (o : Output) → slice_get outputs c ≡ Some o → output_cell row o ≡ cell_at (projected outputs row) c
+picked_cell row [] c o at = cc
+picked_cell row (p ∷ outputs) zero o at = ap (output_cell row) (sym (same_Some p o at))
+picked_cell row (p ∷ outputs) (suc c) o at = picked_cell row outputs c o at
+
+pub picked_cells : (row : List Cell) (outputs : List Output) (columns : List ℕ) (made : List Output) → ArePicked outputs columns made → projected made row ≡ map (cell_at (projected outputs row)) columns
+picked_cells row outputs [] [] picks = refl
+picked_cells row outputs [] (o ∷ made) picks = cc
+picked_cells row outputs (c ∷ columns) [] picks = cc
+picked_cells row outputs (c ∷ columns) (o ∷ made) picks =
+    λ i. picked_cell row outputs c o (first_picked outputs c columns o made picks) i ∷ picked_cells row outputs columns made (others_picked outputs c columns o made picks) i
+
+one_picked : (P : Output → Type 0) (outputs : List Output) (c : ℕ) (o : Output) → slice_get outputs c ≡ Some o → All P outputs → P o
+one_picked P [] c o at each = cc
+one_picked P (p ∷ outputs) zero o at each = subst P (same_Some p o at) (All-head P p outputs each)
+one_picked P (p ∷ outputs) (suc c) o at each = one_picked P outputs c o at (All-tail P p outputs each)
+
+pub all_picked : (P : Output → Type 0) (outputs : List Output) (columns : List ℕ) (made : List Output) → ArePicked outputs columns made → All P outputs → All P made
+all_picked P outputs [] [] picks each = All-nil P
+all_picked P outputs [] (o ∷ made) picks each = cc
+all_picked P outputs (c ∷ columns) [] picks each = All-nil P
+all_picked P outputs (c ∷ columns) (o ∷ made) picks each =
+    All-cons P o made (one_picked P outputs c o (first_picked outputs c columns o made picks) each) (all_picked P outputs columns made (others_picked outputs c columns o made picks) each)
+
+pub as_many_picked : (outputs : List Output) (columns : List ℕ) (made : List Output) → ArePicked outputs columns made → length made ≡ length columns
+as_many_picked outputs columns made picks = sym (length-map made Some) ∙ ap length (sym picks) ∙ length-map columns (slice_get outputs)
+
+-- one column more
+picked_longer : (outputs : List Output) (columns : List ℕ) (made : List Output) (c : ℕ) (o : Output) → ArePicked outputs columns made → slice_get outputs c ≡ Some o → ArePicked outputs (columns ++ c ∷ []) (made ++ o ∷ [])
+picked_longer outputs [] [] c o picks at = λ i. at i ∷ []
+picked_longer outputs [] (p ∷ made) c o picks at = cc
+picked_longer outputs (d ∷ columns) [] c o picks at = cc
+picked_longer outputs (d ∷ columns) (p ∷ made) c o picks at =
+    λ i. first_picked outputs d columns p made picks i ∷ picked_longer outputs columns made c o (others_picked outputs d columns p made picks) at i
+
+pub picked_next : (outputs : List Output) (columns : List ℕ) (i : ℕ) (made : List Output) (o : Output) → i < length columns → ArePicked outputs (take i columns) made → slice_get outputs (get_or columns i 0) ≡ Some o
+    → ArePicked outputs (take (i + 1) columns) (made ++ o ∷ [])
+picked_next outputs columns i made o less picks at =
+    subst (λ cs. ArePicked outputs cs (made ++ o ∷ []))
+    (sym (ap (λ n. take n columns) (let e : i + 1 ≡ suc i = omega arith in e) ∙ take-suc columns i 0 less))
+    (picked_longer outputs (take i columns) made (get_or columns i 0) o picks at)

@@ -11,14 +11,14 @@ use Rattle.cy_planner_algebra.specs.Expressions.{projected, relationships_at}
 use Rattle.cy_planner_algebra.specs.Keys.{meet}
 use Rattle.cy_planner_algebra.specs.Meaning.{paired, rows_of}
 use Rattle.cy_planner_algebra.specs.Parts.{parts}
-use Rattle.cy_planner_algebra.specs.Sure.{HasCells}
+use Rattle.cy_planner_algebra.specs.Sure.{HasCell, HasCells}
 use Rattle.cy_planner_algebra.specs.WellFormed.{IsOutputOver, IsWellFormed, greatest_width}
 use Rattle.cy_planner_algebra.specs.Within.{IsWithin}
 use Rattle.cy_planner_algebra.proofs.Widths.{wide_rows}
-use Rattle.cy_planner_rewriting.specs.internal.Columns.{AreColumns, are_columns_from, renumbered_output}
+use Rattle.cy_planner_rewriting.specs.internal.Columns.{AreColumns, ArePicked, are_columns_from, renumbered_output}
 use Rattle.cy_planner_rewriting.specs.Rewritten.{IsRewritten}
 use Rattle.cy_planner_rewriting.proofs.Congruent.{same_within}
-use Rattle.cy_planner_rewriting.proofs.Projections.{all_over, all_sure, as_many, columns_cells, columns_inside, first_cells, renumbered_cells}
+use Rattle.cy_planner_rewriting.proofs.Projections.{all_over, all_picked, all_sure, as_many, as_many_picked, columns_cells, columns_inside, first_cells, picked_cells, renumbered_cells}
 
 -- ---- a join with the empty row
 
@@ -103,6 +103,38 @@ module _ (p : Plan) (outer inner : List Output) (columns : List ℕ) (are : AreC
     bounded = λ graph tables each.
         All-cons (IsWithin graph tables) (plan.project p merged) (parts p)
         (same_within graph tables (plan.project (plan.project p inner) outer) (plan.project p merged) (merged_rows (rows_of graph p))
+        (All-head (IsWithin graph tables) (plan.project (plan.project p inner) outer) (plan.project p inner ∷ parts p) each))
+        (All-tail (IsWithin graph tables) (plan.project p inner) (parts p)
+        (All-tail (IsWithin graph tables) (plan.project (plan.project p inner) outer) (plan.project p inner ∷ parts p) each));
+  }
+
+-- ---- columns of a projection
+
+module _ (p : Plan) (outer inner : List Output) (columns : List ℕ) (made : List Output) (are : AreColumns outer columns) (picks : ArePicked inner columns made) where
+  picked_row : (row : List Cell) → projected made row ≡ projected outer (projected inner row)
+  picked_row row = picked_cells row inner columns made picks ∙ sym (columns_cells (projected inner row) outer columns are)
+
+  picked_rows : (rows : List (List Cell)) → map (projected made) rows ≡ map (projected outer) (map (projected inner) rows)
+  picked_rows [] = refl
+  picked_rows (row ∷ rows) = λ i. picked_row row i ∷ picked_rows rows i
+
+  picked_sure : (rows : List (List Cell)) → All (HasCells inner) rows → All (HasCells made) rows
+  picked_sure [] each = All-nil (HasCells made)
+  picked_sure (row ∷ rows) each =
+      All-cons (HasCells made) row rows (all_picked (HasCell row) inner columns made picks (All-head (HasCells inner) row rows each)) (picked_sure rows (All-tail (HasCells inner) row rows each))
+
+  as_wide_made : length made ≡ length outer
+  as_wide_made = as_many_picked inner columns made picks ∙ as_many outer columns are
+
+  pub project_of_picked : IsRewritten (plan.project (plan.project p inner) outer) (plan.project p made)
+  project_of_picked = record {
+    as_wide = as_wide_made;
+    well_formed = λ good. (good.0.0, all_picked (IsOutputOver (width p)) inner columns made picks good.0.1, subst (λ (n : ℕ). n ≤ greatest_width) (sym as_wide_made) good.2);
+    rows = λ graph. picked_rows (rows_of graph p);
+    sure = λ graph sure. (sure.0.0, picked_sure (rows_of graph p) sure.0.1);
+    bounded = λ graph tables each.
+        All-cons (IsWithin graph tables) (plan.project p made) (parts p)
+        (same_within graph tables (plan.project (plan.project p inner) outer) (plan.project p made) (picked_rows (rows_of graph p))
         (All-head (IsWithin graph tables) (plan.project (plan.project p inner) outer) (plan.project p inner ∷ parts p) each))
         (All-tail (IsWithin graph tables) (plan.project p inner) (parts p)
         (All-tail (IsWithin graph tables) (plan.project (plan.project p inner) outer) (plan.project p inner ∷ parts p) each));

@@ -1,5 +1,5 @@
 -- A base with look-ups on it, split.
-use Rattle.std.proofs.Common.{◌≡◌, Global, ℕ, ◌+◌, ◌<◌, ◌≤◌, List, [], Vec, length, map, sym, subst}
+use Rattle.std.proofs.Common.{◌≡◌, Global, ℕ, ◌+◌, ◌≤◌, List, [], Vec, length, map, sym, subst}
 use Rattle.std.specs.Prelude.{None, Option, Some}
 use Rattle.std.specs.Cmp.{IsTotalOrder}
 use Rattle.std.specs.List.{AllByRecursion}

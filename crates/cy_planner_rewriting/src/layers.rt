@@ -160,6 +160,20 @@ fn add_columns(
     }
 }
 
+/// Puts a projection that makes something below all: it is one with a projection above it that takes over columns alone.
+fn add_made(alloc: Global, layers: &mut Vec<Layer>, outputs: Vec<Output>) -> Result<(), Fault>
+    ensures { OnOk result ((p : Plan) → spec.AreInPlace (layers.old.items ++ layer.Project outputs ∷ []) layers.new.items p p) }
+{
+    match layers.pop() {
+        Some(Layer::Project(outer)) => add_second(alloc, layers, outer, outputs),
+        Some(lowest) => {
+            layers.push(lowest)?;
+            push(layers, Layer::Project(outputs))
+        }
+        None => push(layers, Layer::Project(outputs)),
+    }
+}
+
 /// Whether a projection below all can go up over the lowest layer, or be one with it.
 fn lets_up(layers: &[Layer]) -> bool {
     matches!(
@@ -181,7 +195,7 @@ pub(crate) fn add_projection(
     }
     match columns_of(alloc, outputs.as_slice())? {
         Some(columns) => add_columns(alloc, layers, outputs, columns.as_slice(), MOST_PASSED),
-        None => push(layers, Layer::Project(outputs)),
+        None => add_made(alloc, layers, outputs),
     }
 }
 

@@ -96,7 +96,65 @@ pub fn renumber_outputs(
     Ok(made)
 }
 
-/// One projection in place of two, if the inner one takes over columns alone. Fails only when out of memory.
+/// One projection in place of two, if the inner one takes over columns alone.
+fn renumbered(
+    alloc: Global,
+    outer: &[Output],
+    inner: &[Output],
+) -> Result<Option<Vec<Output>>, Fault>
+    ensures { IfOk result (λ made. IfSome made (λ outputs. spec.IsRenumbered (map output_of outer.now) (map output_of inner.now) (map output_of outputs.items))) }
+{
+    match columns_of(alloc, inner)? {
+        Some(columns) => Ok(Some(renumber_outputs(alloc, outer, columns.as_slice())?)),
+        None => Ok(None),
+    }
+}
+
+fn copy_output(alloc: Global, output: &Output) -> Result<Output, Fault>
+    ensures { IfOk result (λ o. output_of o ≡ output_of output.now) }
+{
+    match output {
+        Output::Cell(expression) => Ok(Output::Cell(expression.copy(alloc)?)),
+        Output::Rels(columns) => {
+            let mut others = Vec::with_capacity(alloc, columns.len())?;
+            others.extend_from_slice(columns)?;
+            Ok(Output::Rels(others))
+        }
+    }
+}
+
+/// What a projection makes in some columns.
+fn picked(
+    alloc: Global,
+    outputs: &[Output],
+    columns: &[usize],
+) -> Result<Option<Vec<Output>>, Fault>
+    ensures { IfOk result (λ made. IfSome made (λ others. spec.ArePicked (map output_of outputs.now) columns.now (map output_of others.items))) }
+{
+    let mut made = Vec::with_capacity(alloc, columns.len())?;
+    for column in columns {
+        match outputs.get(*column) {
+            Some(output) => made.push(copy_output(alloc, output)?)?,
+            None => return Ok(None),
+        }
+    }
+    Ok(Some(made))
+}
+
+/// One projection in place of two, if the outer one takes over columns alone, and no more than the inner one makes.
+fn taken(alloc: Global, outer: &[Output], inner: &[Output]) -> Result<Option<Vec<Output>>, Fault>
+    ensures { IfOk result (λ made. IfSome made (λ outputs. spec.IsTaken (map output_of outer.now) (map output_of inner.now) (map output_of outputs.items))) }
+{
+    if outer.len() > inner.len() {
+        return Ok(None);
+    }
+    match columns_of(alloc, outer)? {
+        Some(columns) => picked(alloc, inner, columns.as_slice()),
+        None => Ok(None),
+    }
+}
+
+/// One projection in place of two, if one of them takes over columns alone. Fails only when out of memory.
 pub(crate) fn merged(
     alloc: Global,
     outer: &[Output],
@@ -104,8 +162,8 @@ pub(crate) fn merged(
 ) -> Result<Option<Vec<Output>>, Fault>
     ensures { IfOk result (λ made. IfSome made (λ outputs. spec.IsMerged (map output_of outer.now) (map output_of inner.now) (map output_of outputs.items))) }
 {
-    match columns_of(alloc, inner)? {
-        Some(columns) => Ok(Some(renumber_outputs(alloc, outer, columns.as_slice())?)),
-        None => Ok(None),
+    match renumbered(alloc, outer, inner)? {
+        Some(outputs) => Ok(Some(outputs)),
+        None => taken(alloc, outer, inner),
     }
 }

@@ -12,19 +12,26 @@ use cy_trees::Expr;
 use cy_values::Fault;
 use std::alloc::Global;
 
-/// Whether an end of a relationship stands in a column of an operator's rows, each of which is made of a relationship.
-fn is_end(part: &Operator, column: usize) -> bool
+// How many operators are looked at below one for the relationships that its rows are made of: each condition looks anew.
+const MOST_BELOW: usize = 16;
+
+/// Whether an end of a relationship stands in a column of an operator's rows, each of which is made of a relationship that is found within so
+/// many operators.
+fn is_end(part: &Operator, column: usize, most: usize) -> bool
     ensures { IsTrue result → spec.IsEnd (plan_of part.now) column }
 {
+    let Some(fewer) = most.checked_sub(1) else {
+        return false;
+    };
     match part {
         Operator::Rels(_, _) => matches!(kind_of_rels(column), Some(Kind::Node)),
-        Operator::Lookup(below, _, _) => is_end(below, column),
+        Operator::Lookup(below, _, _) => is_end(below, column, fewer),
         Operator::Project(below, outputs) => match output_column(outputs, column) {
-            Some(other) => is_end(below, other),
+            Some(other) => is_end(below, other, fewer),
             None => false,
         },
         _ => match part.sifted() {
-            Some(below) => is_end(below, column),
+            Some(below) => is_end(below, column, fewer),
             None => false,
         },
     }
@@ -36,7 +43,7 @@ fn end_alone(part: &Operator, columns: &[usize]) -> Option<usize>
 {
     match columns {
         [column] => {
-            if is_end(part, *column) {
+            if is_end(part, *column, MOST_BELOW) {
                 Some(*column)
             } else {
                 None

@@ -3,3 +3,4 @@ pub mod ReadingLemmas
 pub mod KindLemmas
 pub mod SureLemmas
 pub mod LabelNames
+mod WholeSteps

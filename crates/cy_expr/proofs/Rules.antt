@@ -1,5 +1,5 @@
 -- Rules that the loops rest on.
-use Rattle.std.proofs.Common.{rules, ◌∙◌, ◌≢◌, ◌⊎◌, inl, inr, Vec, Global, ◌≡◌, ℕ, zero, suc, ◌+◌, ◌≤◌, ◌<◌, length, get_or, map, drop, drop-cons, add-one, List, [], ◌∷◌, ◌++◌, refl, sym, ap, eq-eqb, arith, append_assoc}
+use Rattle.std.proofs.Common.{rules, ◌∙◌, ◌≢◌, ◌⊎◌, inl, inr, Global, ◌≡◌, ℕ, zero, suc, ◌+◌, ◌≤◌, ◌<◌, length, get_or, map, drop, drop-cons, add-one, List, [], ◌∷◌, ◌++◌, refl, sym, ap, eq-eqb, arith, append_assoc}
 use Rattle.std.proofs.lemmas.Bool.{eqb-true}
 use Rattle.std.proofs.lemmas.List.{append-nil, drop_all}
 use Rattle.std.proofs.lemmas.Slice.Eq.{starts_is}
@@ -31,17 +31,15 @@ use Rattle.cy_expr.specs.internal.Membership.{equals_also, equals_more, membersh
 use Rattle.cy_expr.specs.declared.held.Held.{Held}
 use Rattle.cy_expr.specs.internal.Arms.{chosen}
 use Rattle.cy_expr.specs.internal.Lent.{GivesOrWants}
-use Rattle.cy_expr.specs.Evaluation.{as_cell, call_value, called, cell_of, cells_of, chain, outcomes_of_arms, property_exists, values_of}
+use Rattle.cy_expr.specs.Evaluation.{as_cell, call_value, called, cell_of, cells_of, chain, property_exists, values_of}
 use Rattle.std.specs.declared.boxed.Box.{Box}
-use Rattle.cy_trees.specs.Trees.{Name, Expression, null, property, list, case, call, Expressions, no_more, more, nothing, otherwise}
-use Rattle.cy_trees.specs.TreeModels.{arms_of, expression_of, expressions_from, link_of, links_from}
-use Rattle.cy_trees.specs.declared.expressions.Arm.{Arm}
+use Rattle.cy_trees.specs.Trees.{Name, Expression, null, property, list, call, Expressions, no_more, more}
+use Rattle.cy_trees.specs.TreeModels.{expression_of, expressions_from, link_of, links_from}
 use Rattle.cy_trees.specs.declared.expressions.Link.{Link}
 use Rattle.cy_trees.specs.declared.expressions.Expr as coded
 use Rattle.cy_trees.specs.declared.expressions.Comparator.{Comparator}
 use Rattle.cy_trees.specs.declared.expressions.Expr.{Expr, the_lemmas}
 use Rattle.cy_values.specs.declared.rows.Cell.{Cell}
-use Rattle.cy_values.specs.declared.rows.Cell.TheVariants as cell
 
 -- a whole number's distance from zero fits where its opposite does
 pub distance_fits : (n : ℤ) (r : Option ℤ) → FitsSigned w64 n → SomeIff r (FitsSigned w64 (neg_ℤ n)) (pos (unsigned_abs n)) → SomeIff r (FitsSigned w64 (pos (unsigned_abs n))) (pos (unsigned_abs n))
@@ -362,34 +360,6 @@ pub choice_chosen : (arms : List (Result Value EvalFault × Result Value EvalFau
     → as_cell (choice arms o) ≡ or_else (chosen arms) (as_cell o)
 choice_chosen [] o = refl
 choice_chosen (a ∷ arms) o = choice-step (on_one truth_of a.0) a.1 (choice arms o) o (chosen arms) (choice_chosen arms o)
-
--- a CASE as its arms and what stands after ELSE
-case_nothing_is : (arms : Vec Arm Global) → expression_of (coded.Case arms None) ≡ case (arms_of arms) nothing
-case_nothing_is arms = search (rules, the_lemmas)
-
-case_otherwise_is : (arms : Vec Arm Global) (e : Box Expr Global) → expression_of (coded.Case arms (Some e)) ≡ case (arms_of arms) (otherwise (expression_of e.value))
-case_otherwise_is arms e = search (rules, the_lemmas)
-
-pub case_nothing : (graph : Lookups) (row : List Cell) (arms : Vec Arm Global)
-    → cell_of graph row (expression_of (coded.Case arms None)) ≡ or_else (chosen (outcomes_of_arms graph row (arms_of arms))) (Ok (cell.Value value.Null))
-case_nothing graph row arms = rw (case_nothing_is arms) (choice_chosen (outcomes_of_arms graph row (arms_of arms)) (Ok value.Null))
-
-pub case_otherwise : (graph : Lookups) (row : List Cell) (arms : Vec Arm Global) (e : Box Expr Global)
-    → cell_of graph row (expression_of (coded.Case arms (Some e))) ≡ or_else (chosen (outcomes_of_arms graph row (arms_of arms))) (as_cell (on_one value_in_cell (cell_of graph row (expression_of e.value))))
-case_otherwise graph row arms e = rw (case_otherwise_is arms e) (choice_chosen (outcomes_of_arms graph row (arms_of arms)) (on_one value_in_cell (cell_of graph row (expression_of e.value))))
-
--- a condition that is true, or a fault, comes before ELSE
-pub case_chosen : (graph : Lookups) (row : List Cell) (arms : Vec Arm Global) (e : Option (Box Expr Global)) (c : Cell)
-    → chosen (outcomes_of_arms graph row (arms_of arms)) ≡ Ok (Some c) → cell_of graph row (expression_of (coded.Case arms e)) ≡ Ok c
-case_chosen graph row arms None c is = case_nothing graph row arms ∙ rw is refl
-case_chosen graph row arms (Some e) c is = case_otherwise graph row arms e ∙ rw is refl
-
-pub case_fault : (graph : Lookups) (row : List Cell) (arms : Vec Arm Global) (e : Option (Box Expr Global)) (fault : EvalFault)
-    → chosen (outcomes_of_arms graph row (arms_of arms)) ≡ Err fault → cell_of graph row (expression_of (coded.Case arms e)) ≡ Err fault
-case_fault graph row arms None fault is = case_nothing graph row arms ∙ rw is refl
-case_fault graph row arms (Some e) fault is = case_otherwise graph row arms e ∙ rw is refl
-
-pub ruleset case_steps = (case_nothing, case_otherwise, case_chosen, case_fault)
 
 -- exists asks for one property
 two_asked : (graph : Lookups) (row : List Cell) (e f : Expression) (es : Expressions) → property_exists graph row (more e (more f es)) ≡ Err WrongType

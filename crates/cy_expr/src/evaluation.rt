@@ -5,6 +5,7 @@ ghost use Rattle.std.specs.Prelude.{◌≡◌, ◌⊎◌, MatchResult, Ok, Err, 
 ghost use Rattle.cy_values.specs.Compare.{lent};
 ghost use Rattle.cy_trees.specs.Trees.{more, no_more};
 ghost use Rattle.cy_trees.specs.TreeModels.{expression_of, expressions_from, links_from, link_of, arms_from, arm_of};
+ghost use Rattle.cy_scope_kinds.specs.internal.ExpressionTrees.{otherwise_of};
 ghost use Rattle.cy_expr.specs.declared.faults.EvalFault.TheVariants.{NoMemory};
 ghost use Rattle.cy_expr.specs.Choice.{coalesce};
 ghost use Rattle.cy_expr.specs.Faults.{on_one, on_two};
@@ -48,7 +49,6 @@ pub(crate) fn evaluate<'a, G: Lookups>(
 
 /// The cell of an expression, by the expression's parts.
 #[cycle(evaluation)]
-#[tactic(auto, using(crate::proofs::Rules::case_steps))]
 fn evaluate_whole<'a, G: Lookups>(
     alloc: Global,
     expression: &'a Expr,
@@ -80,15 +80,10 @@ fn evaluate_whole<'a, G: Lookups>(
             evaluate_links(alloc, first, links, row, graph)
         }
         Expr::List(elements) => evaluate_list(alloc, elements, row, graph),
-        Expr::Case(arms, otherwise) => {
-            if let Some(outcome) = evaluate_arms(alloc, arms, row, graph)? {
-                return Ok(outcome);
-            }
-            match otherwise {
-                Some(otherwise) => evaluate(alloc, otherwise, row, graph)?.only_value(),
-                None => Ok(Held::lent(ValueRef::Null)),
-            }
-        }
+        Expr::Case(arms, otherwise) => match evaluate_arms(alloc, arms, row, graph)? {
+            Some(outcome) => Ok(outcome),
+            None => evaluate_otherwise(alloc, otherwise, row, graph),
+        },
         Expr::Call(name, _, arguments) => {
             evaluate_call(alloc, Function::named(name.as_str()), arguments, row, graph)
         }
@@ -198,6 +193,23 @@ fn evaluate_arms<'a, G: Lookups>(
         }
     }
     Ok(None)
+}
+
+/// The value of what stands after ELSE; null where nothing does.
+#[cycle(evaluation)]
+fn evaluate_otherwise<'a, G: Lookups>(
+    alloc: Global,
+    otherwise: &'a Option<Box<Expr>>,
+    row: &'a [Cell],
+    graph: &'a G,
+) -> Result<Held<'a>, EvalFault>
+    requires { All IsNumbered row.now }
+    ensures { GivesOrWants result (spec.as_cell (spec.outcome_of_else (G.lookups graph.now) row.now (otherwise_of otherwise.now))) }
+{
+    match otherwise {
+        Some(otherwise) => evaluate(alloc, otherwise, row, graph)?.only_value(),
+        None => Ok(Held::lent(ValueRef::Null)),
+    }
 }
 
 /// A call of the function that a name stands for, if it is one's.

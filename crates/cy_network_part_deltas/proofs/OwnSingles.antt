@@ -1,5 +1,5 @@
 -- What the parts with one part below them are asked, and what they give.
-use Rattle.std.proofs.Common.{◌≡◌, ℕ, ◌+◌, ◌≤◌, Bool, true, false, cond, refl, arith, inl, inr, List, [], ◌∷◌, ◌++◌, Option, Some, None, IfSome, filter, map, sym, ap, subst, ◌∙◌}
+use Rattle.std.proofs.Common.{◌≡◌, ℕ, ◌≤◌, Bool, true, false, cond, refl, arith, inl, inr, List, [], ◌∷◌, ◌++◌, Option, Some, None, IfSome, filter, map, sym, ap, subst, ◌∙◌}
 use Rattle.std.specs.Prelude.{flat_map}
 use Rattle.std.specs.List.{All}
 use Rattle.std.proofs.lemmas.List.Elements.{All-nil, All-tail}
@@ -16,11 +16,11 @@ use Rattle.cy_planner_algebra.specs.Plans as plan
 use Rattle.cy_planner_algebra.specs.Plans.{Output, Plan}
 use Rattle.cy_planner_algebra.specs.Parts.{parts}
 use Rattle.cy_planner_algebra.specs.Expressions.{holds, projected, relationships_at}
-use Rattle.cy_planner_algebra.specs.Meaning.{with_attribute}
+use Rattle.cy_planner_algebra.specs.Meaning.{each_once, with_attribute}
 use Rattle.cy_planner_algebra.specs.Sure.{HasCells, HasTruth, IsSure}
 use Rattle.cy_network_memory.specs.declared.memory.RowDelta.{RowDelta}
 use Rattle.cy_network_operators.specs.Deltas.{IsBounded, IsDelta, counts, counts_after, rows_at}
-use Rattle.cy_network_operators.proofs.PlanLemmas.{different_at, lookup_at, project_at}
+use Rattle.cy_network_operators.proofs.PlanLemmas.{different_at, filter_at, lookup_at, once_at, project_at}
 use Rattle.cy_network_touches.specs.Changes.{Touches}
 use Rattle.cy_network_parts.specs.Memories.{is_row_by_row, is_scan, none_where}
 use Rattle.cy_network_parts.specs.Upkeep.{IsDeltaOf, IsOwnBegun, IsOwnDone, IsStep, content_of, state_of}
@@ -44,6 +44,32 @@ pub filter_sure : (old : Option State) (now : State) (touches : Touches) (p : Pl
 filter_sure old now touches p test deltas step part =
     of_deltas (HasTruth test) (rows_at (content_of old) p) (rows_at (Some now.content) p) deltas part.delta
     (sure_filter old (old_graph old now touches step.change) p test step.sure) (sure_filter (Some now) step.change.graph_now p test step.sure)
+
+pub filter_done : (old : Option State) (now : State) (p : Plan) (test : Expression) (deltas made : List RowDelta) (columns : List (List ℕ)) (was staged : List Counts)
+    → ((before after : List (List Cell)) → IsDelta (counts before) (counts after) deltas → IsDelta (counts (filter (holds test) before)) (counts (filter (holds test) after)) made)
+    → (All IsBounded deltas → All IsBounded made) → IsOwnBegun old (plan.filter p test) columns was staged → IsDeltaOf old now p deltas → IsOwnDone old now (plan.filter p test) staged made
+filter_done old now p test deltas made columns was staged leads bounds begun part = record {
+  change = record {
+    delta =
+        subst (λ rows. IsDelta (counts rows) (counts (rows_at (Some now.content) (plan.filter p test))) made) (sym (filter_at (content_of old) p test))
+        (leads (rows_at (content_of old) p) (rows_at (Some now.content) p) part.delta);
+    bounded = bounds part.bounded;
+  };
+  holds = begun.settled;
+}
+
+pub distinct_done : (old : Option State) (now : State) (p : Plan) (deltas made : List RowDelta) (columns : List (List ℕ)) (was staged : List Counts)
+    → ((before after : List (List Cell)) → IsDelta (counts before) (counts after) deltas → IsDelta (counts (each_once before)) (counts (each_once after)) made)
+    → All IsBounded made → IsOwnBegun old (plan.distinct p) columns was staged → IsDeltaOf old now p deltas → IsOwnDone old now (plan.distinct p) staged made
+distinct_done old now p deltas made columns was staged leads bounds begun part = record {
+  change = record {
+    delta =
+        subst (λ rows. IsDelta (counts rows) (counts (rows_at (Some now.content) (plan.distinct p))) made) (sym (once_at (content_of old) p))
+        (leads (rows_at (content_of old) p) (rows_at (Some now.content) p) part.delta);
+    bounded = bounds;
+  };
+  holds = begun.settled;
+}
 
 pub different_done : (old : Option State) (now : State) (p : Plan) (cells : List ℕ) (deltas made : List RowDelta) (columns : List (List ℕ)) (was staged : List Counts)
     → ((before after : List (List Cell)) → IsDelta (counts before) (counts after) deltas

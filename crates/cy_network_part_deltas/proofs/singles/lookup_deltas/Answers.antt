@@ -127,70 +127,38 @@ lookup-requires g c =
       within = lookup_within old now touches (first_below p) c.args.asked.now.column c.args.asked.now.attribute.now c.args.deltas.items (g.M.Memory.key_columns m) (g.M.Memory.was m) (g.M.Memory.staged m) (still p c.args.asked.now.column c.args.asked.now.attribute.now c.requires.is c.requires.kept) f.1 f.2 fed.below;
     }
 
-pub returns-clause-done : goal.returns-clause-done
-returns-clause-done g c old fed = ends g.M.Memory.key_columns g.M.Memory.was g.M.Memory.staged g.M.Memory.step_count c.index-own-0.result c.args.own.now (plan_of c.args.part.now) c.args.asked.now.column c.args.asked.now.attribute.now c.args.deltas.items c.requires.is c.requires.kept
-    c.lookup.new.memory old c.args.sight.now.graph.now c.args.change.now fed c.in_ok-made.made.items c.in_ok-made.ensures.delta c.in_ok-made.ensures.bounded c.in_ok-made.ensures.staged
-
-pub returns-clause-was : goal.returns-clause-was
-returns-clause-was g c =
+pub returns : goal.returns
+returns g c =
     let own = c.args.own.now in
     let long : length own ≡ 1 = one_kept g.M.Memory.key_columns own (plan_of c.args.part.now) c.args.asked.now.column c.args.asked.now.attribute.now c.requires.is c.requires.kept c.requires.begun.1.own.keyed in
-    ap (map g.M.Memory.was) (set_one c.lookup.new.memory own long) ∙ ap (λ n. n ∷ []) c.lookup.ensures.was ∙ sym (ap (map g.M.Memory.was) (one_only c.index-own-0.result own long))
+    record {
+      done = λ old fed.
+          ends g.M.Memory.key_columns g.M.Memory.was g.M.Memory.staged g.M.Memory.step_count c.index-own-0.result c.args.own.now (plan_of c.args.part.now) c.args.asked.now.column c.args.asked.now.attribute.now c.args.deltas.items c.requires.is c.requires.kept
+          c.lookup.new.memory old c.args.sight.now.graph.now c.args.change.now fed c.in_ok-made.made.items c.in_ok-made.ensures.delta c.in_ok-made.ensures.bounded c.in_ok-made.ensures.staged;
+      too_many = tt;
+      was = ap (map g.M.Memory.was) (set_one c.lookup.new.memory own long) ∙ ap (λ n. n ∷ []) c.lookup.ensures.was ∙ sym (ap (map g.M.Memory.was) (one_only c.index-own-0.result own long));
+      columns = ap (map g.M.Memory.key_columns) (set_one c.lookup.new.memory own long) ∙ ap (λ n. n ∷ []) c.lookup.ensures.columns ∙ sym (ap (map g.M.Memory.key_columns) (one_only c.index-own-0.result own long));
+      grows = grown_of_one g.M.Memory.step_count own (set own 0 c.lookup.new.memory) (get_or own 0 c.index-own-0.result) c.lookup.new.memory (one_only c.index-own-0.result own long) (set_one c.lookup.new.memory own long) c.lookup.ensures.grows;
+      graph = c.lookup.ensures.graph;
+      steps = λ exact old fed.
+          steps g.M.Memory.key_columns g.M.Memory.was g.M.Memory.staged g.M.Memory.step_count c.index-own-0.result c.args.own.now (plan_of c.args.part.now) c.args.asked.now.column c.args.asked.now.attribute.now c.args.deltas.items c.requires.is c.requires.kept
+          c.lookup.new.memory old c.args.sight.now.graph.now c.args.change.now fed (λ first rows rows_now change same leads. c.in_ok-made.ensures.steps first rows rows_now change same leads exact);
+      reads = λ old fed.
+          reads g.M.Memory.key_columns g.M.Memory.was g.M.Memory.staged g.M.Memory.step_count c.index-own-0.result c.args.own.now (plan_of c.args.part.now) c.args.asked.now.column c.args.asked.now.attribute.now c.args.deltas.items c.requires.is c.requires.kept
+          c.lookup.new.memory old c.args.sight.now.graph.now c.args.change.now fed c.args.sight.now.reads c.lookup.new.sight.reads c.lookup.ensures.reads;
+    }
 
-pub returns-clause-columns : goal.returns-clause-columns
-returns-clause-columns g c =
+pub returns-in_err-made : goal.returns-in_err-made
+returns-in_err-made g c =
     let own = c.args.own.now in
     let long : length own ≡ 1 = one_kept g.M.Memory.key_columns own (plan_of c.args.part.now) c.args.asked.now.column c.args.asked.now.attribute.now c.requires.is c.requires.kept c.requires.begun.1.own.keyed in
-    ap (map g.M.Memory.key_columns) (set_one c.lookup.new.memory own long) ∙ ap (λ n. n ∷ []) c.lookup.ensures.columns ∙ sym (ap (map g.M.Memory.key_columns) (one_only c.index-own-0.result own long))
-
-pub returns-clause-grows : goal.returns-clause-grows
-returns-clause-grows g c =
-    let own = c.args.own.now in
-    let long : length own ≡ 1 = one_kept g.M.Memory.key_columns own (plan_of c.args.part.now) c.args.asked.now.column c.args.asked.now.attribute.now c.requires.is c.requires.kept c.requires.begun.1.own.keyed in
-    grown_of_one g.M.Memory.step_count own (set own 0 c.lookup.new.memory) (get_or own 0 c.index-own-0.result) c.lookup.new.memory (one_only c.index-own-0.result own long) (set_one c.lookup.new.memory own long) c.lookup.ensures.grows
-
-pub returns-clause-graph : goal.returns-clause-graph
-returns-clause-graph g c = c.lookup.ensures.graph
-
-pub returns-in_err-made-clause-was : goal.returns-in_err-made-clause-was
-returns-in_err-made-clause-was g c =
-    let own = c.args.own.now in
-    let long : length own ≡ 1 = one_kept g.M.Memory.key_columns own (plan_of c.args.part.now) c.args.asked.now.column c.args.asked.now.attribute.now c.requires.is c.requires.kept c.requires.begun.1.own.keyed in
-    ap (map g.M.Memory.was) (set_one c.lookup.new.memory own long) ∙ ap (λ n. n ∷ []) c.lookup.ensures.was ∙ sym (ap (map g.M.Memory.was) (one_only c.index-own-0.result own long))
-
-pub returns-in_err-made-clause-columns : goal.returns-in_err-made-clause-columns
-returns-in_err-made-clause-columns g c =
-    let own = c.args.own.now in
-    let long : length own ≡ 1 = one_kept g.M.Memory.key_columns own (plan_of c.args.part.now) c.args.asked.now.column c.args.asked.now.attribute.now c.requires.is c.requires.kept c.requires.begun.1.own.keyed in
-    ap (map g.M.Memory.key_columns) (set_one c.lookup.new.memory own long) ∙ ap (λ n. n ∷ []) c.lookup.ensures.columns ∙ sym (ap (map g.M.Memory.key_columns) (one_only c.index-own-0.result own long))
-
-pub returns-in_err-made-clause-grows : goal.returns-in_err-made-clause-grows
-returns-in_err-made-clause-grows g c =
-    let own = c.args.own.now in
-    let long : length own ≡ 1 = one_kept g.M.Memory.key_columns own (plan_of c.args.part.now) c.args.asked.now.column c.args.asked.now.attribute.now c.requires.is c.requires.kept c.requires.begun.1.own.keyed in
-    grown_of_one g.M.Memory.step_count own (set own 0 c.lookup.new.memory) (get_or own 0 c.index-own-0.result) c.lookup.new.memory (one_only c.index-own-0.result own long) (set_one c.lookup.new.memory own long) c.lookup.ensures.grows
-
-pub returns-in_err-made-clause-graph : goal.returns-in_err-made-clause-graph
-returns-in_err-made-clause-graph g c = c.lookup.ensures.graph
-
-pub returns-clause-steps : goal.returns-clause-steps
-returns-clause-steps g c exact old fed =
-    steps g.M.Memory.key_columns g.M.Memory.was g.M.Memory.staged g.M.Memory.step_count c.index-own-0.result c.args.own.now (plan_of c.args.part.now) c.args.asked.now.column c.args.asked.now.attribute.now c.args.deltas.items c.requires.is c.requires.kept
-    c.lookup.new.memory old c.args.sight.now.graph.now c.args.change.now fed (λ first rows rows_now change same leads. c.in_ok-made.ensures.steps first rows rows_now change same leads exact)
-
-pub returns-clause-reads : goal.returns-clause-reads
-returns-clause-reads g c old fed =
-    reads g.M.Memory.key_columns g.M.Memory.was g.M.Memory.staged g.M.Memory.step_count c.index-own-0.result c.args.own.now (plan_of c.args.part.now) c.args.asked.now.column c.args.asked.now.attribute.now c.args.deltas.items c.requires.is c.requires.kept
-    c.lookup.new.memory old c.args.sight.now.graph.now c.args.change.now fed c.args.sight.now.reads c.lookup.new.sight.reads c.lookup.ensures.reads
-
-pub returns-in_err-made-clause-done : goal.returns-in_err-made-clause-done
-returns-in_err-made-clause-done g c = IfOk-from_err c.from_residual.result _ c.from_residual.ensures.0
-
-pub returns-in_err-made-clause-too_many : goal.returns-in_err-made-clause-too_many
-returns-in_err-made-clause-too_many g c = if_memory _ c.from_residual.result c.from_residual.ensures.1
-
-pub returns-in_err-made-clause-steps : goal.returns-in_err-made-clause-steps
-returns-in_err-made-clause-steps g c = IfOk-from_err c.from_residual.result _ c.from_residual.ensures.0
-
-pub returns-in_err-made-clause-reads : goal.returns-in_err-made-clause-reads
-returns-in_err-made-clause-reads g c = IfOk-from_err c.from_residual.result _ c.from_residual.ensures.0
+    record {
+      done = IfOk-from_err c.from_residual.result _ c.from_residual.ensures.0;
+      too_many = if_memory _ c.from_residual.result c.from_residual.ensures.1;
+      was = ap (map g.M.Memory.was) (set_one c.lookup.new.memory own long) ∙ ap (λ n. n ∷ []) c.lookup.ensures.was ∙ sym (ap (map g.M.Memory.was) (one_only c.index-own-0.result own long));
+      columns = ap (map g.M.Memory.key_columns) (set_one c.lookup.new.memory own long) ∙ ap (λ n. n ∷ []) c.lookup.ensures.columns ∙ sym (ap (map g.M.Memory.key_columns) (one_only c.index-own-0.result own long));
+      grows = grown_of_one g.M.Memory.step_count own (set own 0 c.lookup.new.memory) (get_or own 0 c.index-own-0.result) c.lookup.new.memory (one_only c.index-own-0.result own long) (set_one c.lookup.new.memory own long) c.lookup.ensures.grows;
+      graph = c.lookup.ensures.graph;
+      steps = IfOk-from_err c.from_residual.result _ c.from_residual.ensures.0;
+      reads = IfOk-from_err c.from_residual.result _ c.from_residual.ensures.0;
+    }

@@ -1,5 +1,5 @@
 pub mod RowMaps
-pub mod HashMaps
+pub mod BucketMaps
 pub mod KeyHashes
 pub mod Soundness
 pub mod OwnRows

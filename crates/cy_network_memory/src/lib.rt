@@ -1,6 +1,7 @@
 //! Memories: rows with counts, as they were and as they are staged, found by a key.
 #![tactic(auto)]
 
+mod bucket_map;
 mod buckets;
 mod equality;
 mod faults;

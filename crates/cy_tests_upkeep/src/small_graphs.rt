@@ -1,4 +1,4 @@
-//! Sixty-five queries of views on all small graphs, twenty-three of them with paths as conditions and unions: a network that follows from
+//! Sixty-six queries of views on all small graphs, twenty-three of them with paths as conditions and unions: a network that follows from
 //! graph to graph has the rows that the query answers there.
 
 use crate::following::expect_query;
@@ -19,7 +19,8 @@ MATCH (n) DETACH DELETE n
 // This many graphs have two nodes, of two kinds of second ones, and two relationships, between any of them and the second one of two types.
 const SMALL_GRAPHS: u64 = 64;
 
-const QUERIES: &str = "\
+// Queries with patterns of single relationships.
+const PATTERNS: &str = "\
 MATCH (n) RETURN n
 MATCH (n:A) RETURN n.k AS k
 MATCH (n:A:B {k: 1}) RETURN n
@@ -38,18 +39,25 @@ MATCH (a), (b) RETURN a.k AS a, b.k AS b
 MATCH (a:A) MATCH (a)-[r]-(b) RETURN a, r, b
 MATCH (a)-->(b) WHERE a.k < b.k RETURN a, b
 MATCH (a)-->(b) WHERE b:B AND a.k = 1 RETURN a, b
-MATCH (a:A) MATCH (b {k: a.k}) RETURN a, b
+MATCH (a:A) MATCH (b {k: a.k}) RETURN a, b";
+
+// Queries with trails.
+const TRAILS: &str = "\
 MATCH (a)-[p*1..2]->(b) RETURN a, p, b
+MATCH (a)-[p*1..3]->(b) RETURN p
 MATCH (a)-[p*0..2]-(b:B) RETURN a, size(p) AS n, b
 MATCH (a:A)-[p*0..1 {k: 1}]->(b) RETURN a, p, b
 MATCH (a)-[p*0..0]->(b) RETURN a, p, b
 MATCH (a)-[p*1..2]->(b)-[s]->(c) RETURN p, s
+MATCH (a) OPTIONAL MATCH (a)-[p*1..2]->(b:A) RETURN a, p, b";
+
+// Queries with OPTIONAL MATCH, and with results of all kinds.
+const RESULTS: &str = "\
 MATCH (a:A) OPTIONAL MATCH (a)-[:T]->(b:B) RETURN a, b
 MATCH (a) OPTIONAL MATCH (a)-[r]->(b) WHERE b.k = 2 RETURN a, r, b
 OPTIONAL MATCH (n:C) RETURN n
 OPTIONAL MATCH (n:C) MATCH (n)-->(m) RETURN n, m
 MATCH (a) OPTIONAL MATCH (a)-->(b) OPTIONAL MATCH (b)-->(c) RETURN a, b, c
-MATCH (a) OPTIONAL MATCH (a)-[p*1..2]->(b:A) RETURN a, p, b
 MATCH (n) RETURN DISTINCT n.k AS k
 MATCH (a)-->(b) RETURN DISTINCT a, b
 MATCH (n) WITH n.k AS k RETURN k
@@ -148,8 +156,18 @@ fn expect_queries<M: Made + Listed>(
 }
 
 #[test]
-fn rows_on_small_graphs(rt: HostRuntime) -> Result<(), Fail> {
-    expect_queries::<KeyedMemory>(&rt, rt.alloc(), QUERIES)
+fn rows_of_patterns(rt: HostRuntime) -> Result<(), Fail> {
+    expect_queries::<KeyedMemory>(&rt, rt.alloc(), PATTERNS)
+}
+
+#[test]
+fn rows_of_trails(rt: HostRuntime) -> Result<(), Fail> {
+    expect_queries::<KeyedMemory>(&rt, rt.alloc(), TRAILS)
+}
+
+#[test]
+fn rows_of_results(rt: HostRuntime) -> Result<(), Fail> {
+    expect_queries::<KeyedMemory>(&rt, rt.alloc(), RESULTS)
 }
 
 #[test]

@@ -4,10 +4,11 @@ ghost use Rattle.std.specs.Prelude.{◌≡◌, ◌+◌, ◌-◌, ◌^◌, min, I
 ghost use Rattle.std.specs.Option.{option_copied};
 ghost use Rattle.cy_graph.specs.Graph.{node_at, rel_at, IsGraph};
 ghost use Rattle.cy_graph.specs.Touched.{before_image, AreTouched};
+ghost use Rattle.cy_index.specs.Index.{labelled_nodes};
 
 use crate::store::Store;
 use cy_graph::{GraphFault, Node, Rel, Touched};
-use cy_values::{NodeId, RelId};
+use cy_values::{Fault, NodeId, RelId};
 use std::alloc::Global;
 use std::marker::Model;
 
@@ -60,6 +61,13 @@ impl<'a> Sight<'a> {
     {
         self.reads = self.reads.saturating_add(1);
         self.store.rel(id)
+    }
+
+    /// The nodes with a label, by rising number. It looks into the index of labels and reads no entity. Fails only when out of memory.
+    pub fn labelled(&self, alloc: Global, label: &str) -> Result<Vec<NodeId>, Fault>
+        ensures { IfOk result (λ nodes. nodes.items ≡ labelled_nodes label.now self.now.graph.now.content) }
+    {
+        self.store.labelled(alloc, label)
     }
 
     /// How many reads there were. It stands still at the greatest u64.

@@ -1,3 +1,4 @@
 pub mod Places
 pub mod Networks
+pub mod Prepared
 pub mod internal

@@ -6,6 +6,7 @@ pub mod Held
 pub mod Opened
 pub mod Through
 pub mod Partway
+pub mod Shared
 pub mod Upwards
 pub mod Climbs
 pub mod Irrelevant

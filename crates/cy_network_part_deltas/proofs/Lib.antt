@@ -1,6 +1,7 @@
 pub mod Shifted
 pub mod OwnSingles
 pub mod OwnPairs
+pub mod OwnHeld
 pub mod OwnOuter
 pub mod OwnSemi
 pub mod PassageLemmas

@@ -14,7 +14,7 @@ use Rattle.cy_network_touches.specs.Changes.{Touches}
 use Rattle.cy_network_touches.specs.Work.{own_reads, own_steps}
 use Rattle.cy_network_parts.specs.Taken.{NoneFalls}
 use Rattle.cy_network_parts.specs.Upkeep.{HasTooMany, IsFed, IsFedByTwo, IsOwnDone, content_of}
-use Rattle.cy_network_part_deltas.specs.Images.{IsFedImages}
+use Rattle.cy_network_part_deltas.specs.Images.{IsFedHeld, IsFedImages}
 
 -- a change from one graph, or from nothing, to another, on which this holds
 abbrev pub OnSome : (Option State → State → Touches → Type 0) → Type 0
@@ -27,6 +27,10 @@ FedPairs key_columns was staged own p lefts rights old now touches = IsFedByTwo 
 -- what an operator with one operator below it is fed
 abbrev pub FedRows : {M : Type 0} → (M → List ℕ) → (M → Counts) → (M → Counts) → List M → Plan → List RowDelta → Option State → State → Touches → Type 0
 FedRows key_columns was staged own p deltas old now touches = IsFed old now touches p (map key_columns own) (map was own) (map staged own) deltas
+
+-- what a join is fed whose left rows another memory holds
+abbrev pub FedHeld : {M : Type 0} → (M → List ℕ) → (M → Counts) → (M → Counts) → M → List M → Plan → List RowDelta → List RowDelta → Option State → State → Touches → Type 0
+FedHeld key_columns was staged held own p lefts rights old now touches = IsFedHeld old now touches p (key_columns held) (was held) (staged held) (map key_columns own) (map was own) (map staged own) lefts rights
 
 -- what a projection is fed
 abbrev pub FedImages : {M : Type 0} → (M → List ℕ) → (M → Counts) → (M → Counts) → List M → Plan → List RowDelta → Option State → State → Touches → Type 0

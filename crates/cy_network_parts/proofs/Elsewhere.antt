@@ -1,12 +1,14 @@
 -- What each part is but a few.
-use Rattle.std.proofs.Common.{◌≡◌, false, refl, ◌∙◌}
+use Rattle.std.proofs.Common.{◌≡◌, ℕ, false, List, None, refl, ◌∙◌}
 use Rattle.cy_planner_algebra.specs.declared.operators.Operator.{Operator, roll-Operator}
 use Rattle.cy_planner_algebra.specs.declared.operators.Operator.TheOpen.{Operator-F}
-use Rattle.cy_planner_algebra.specs.declared.operators.Operator.TheVariants.{rolls-Unit, rolls-Project, rolls-Union}
+use Rattle.cy_planner_algebra.specs.declared.operators.Operator.TheVariants.{rolls-Unit, rolls-AllDifferent, rolls-Join, rolls-Project, rolls-Union}
+use Rattle.cy_planner_algebra.specs.Plans.{Plan}
 use Rattle.cy_planner_algebra.specs.PlanModels.{plan_of}
-use Rattle.cy_planner_algebra.proofs.Layers.{IsNoUnit, IsNoProject, IsNoUnion, by_layer, plan_from}
+use Rattle.cy_planner_algebra.proofs.Layers.{IsNoUnit, IsNoAllDifferent, IsNoJoin, IsNoProject, IsNoUnion, by_layer, plan_from}
 use Rattle.cy_network_parts.specs.KeptRows.{keeps_rows}
 use Rattle.cy_network_parts.specs.Parts.{is_unit}
+use Rattle.cy_network_parts.specs.internal.Held.{held_back, shared_back}
 
 -- another part than that of the empty row is none
 pub unit_else : (part : Operator) → IsNoUnit part → is_unit (plan_of part) ≡ false
@@ -24,5 +26,26 @@ kept_else part no_project no_union = by_layer (λ p. keeps_rows p ≡ false) par
     go : (layer : Operator-F Operator) → part ≡ roll-Operator layer → keeps_rows (plan_from layer) ≡ false
     go (Operator-F.Project below outputs) is = absurd (no_project below outputs (is ∙ rolls-Project below outputs))
     go (Operator-F.Union left right) is = absurd (no_union left right (is ∙ rolls-Union left right))
+    go Operator-F.Unit is = refl
+    go _ is = refl
+
+-- a join alone shares its left rows
+pub shared_else : (part : Operator) → IsNoJoin part → shared_back (plan_of part) ≡ None
+shared_else part no_join = by_layer (λ p. shared_back p ≡ None) part go
+  where
+    go : (layer : Operator-F Operator) → part ≡ roll-Operator layer → shared_back (plan_from layer) ≡ None
+    go (Operator-F.Join left right keys) is = absurd (no_join left right keys (is ∙ rolls-Join left right keys))
+    go Operator-F.Unit is = refl
+    go _ is = refl
+
+-- another operator than these has no memory of another one's left rows below it
+pub held_else : (table : Plan) (key : List ℕ) (part : Operator) (more : ℕ) → IsNoJoin part → IsNoUnion part → IsNoProject part → IsNoAllDifferent part → held_back table key (plan_of part) more ≡ None
+held_else table key part more no_join no_union no_project no_different = by_layer (λ p. held_back table key p more ≡ None) part go
+  where
+    go : (layer : Operator-F Operator) → part ≡ roll-Operator layer → held_back table key (plan_from layer) more ≡ None
+    go (Operator-F.Join left right keys) is = absurd (no_join left right keys (is ∙ rolls-Join left right keys))
+    go (Operator-F.Union left right) is = absurd (no_union left right (is ∙ rolls-Union left right))
+    go (Operator-F.Project below outputs) is = absurd (no_project below outputs (is ∙ rolls-Project below outputs))
+    go (Operator-F.AllDifferent below columns) is = absurd (no_different below columns (is ∙ rolls-AllDifferent below columns))
     go Operator-F.Unit is = refl
     go _ is = refl

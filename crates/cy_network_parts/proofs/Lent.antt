@@ -41,7 +41,7 @@ module _ {M : Type 0} (step_count : M → ℕ) where
   sum_one : (m : M) → sum_by step_count (m ∷ []) ≡ step_count m
   sum_one m = let n = sum_by-cons step_count m [] in omega (arith, n)
 
-  sum_two : (m n : M) → sum_by step_count (m ∷ n ∷ []) ≡ step_count m + step_count n
+  pub sum_two : (m n : M) → sum_by step_count (m ∷ n ∷ []) ≡ step_count m + step_count n
   sum_two m n = let a = sum_by-cons step_count m (n ∷ []) in let b = sum_one n in omega (arith, a, b)
 
   sum_three : (m n o : M) → sum_by step_count (m ∷ n ∷ o ∷ []) ≡ step_count m + step_count n + step_count o

@@ -3,6 +3,7 @@ pub mod Nothing
 pub mod ChainParts
 pub mod Popped
 pub mod Kept
+pub mod HeldTables
 pub mod CutChains
 pub mod KeepsRows
 pub mod Slices

@@ -2,10 +2,12 @@
 //! made, settled and abandoned, and how many steps they took.
 #![tactic(auto)]
 
+mod held;
 mod kept_columns;
 mod memories;
 mod parts;
 
+pub use held::shared_back;
 pub use memories::{
     abandon_all, add_memories, count_at_cut, keeps_rows, memory_count, next_count, own_count,
     settle_all, steps_taken,

@@ -1,0 +1,2 @@
+pub mod Same
+mod Elsewhere

@@ -1,5 +1,5 @@
 -- A mask has all that a plan reads where each entity whose bits are apart from it leaves the plan's parts as they are.
-use Rattle.std.proofs.Common.{◌≡◌, ℕ, List, [], ◌∷◌, Option}
+use Rattle.std.proofs.Common.{ℕ, List, [], ◌∷◌, Option}
 use Rattle.std.specs.List.{AllByRecursion}
 use Rattle.std.proofs.lemmas.List.Elements.{All-from_recursion}
 use Rattle.cy_graph.specs.declared.nodes.Node.{Node}

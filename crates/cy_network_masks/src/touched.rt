@@ -17,8 +17,8 @@ pub(crate) fn touched_nodes<'a>(change: &GraphChange<'a>, sight: &mut Sight<'a>)
 {
     let mut bits = NONE;
     for (number, was) in change.nodes() {
-        let now = sight.node(NodeId(*number));
-        let old = node_bits(*was);
+        let now = sight.node(NodeId(number));
+        let old = node_bits(was);
         let new = node_bits(now);
         let before = bits.with(old);
         bits = before.with(new);
@@ -33,8 +33,8 @@ pub(crate) fn touched_rels<'a>(change: &GraphChange<'a>, sight: &mut Sight<'a>) 
 {
     let mut bits = NONE;
     for (number, was) in change.rels() {
-        let now = sight.rel(RelId(*number));
-        let old = rel_bits(*was);
+        let now = sight.rel(RelId(number));
+        let old = rel_bits(was);
         let new = rel_bits(now);
         let before = bits.with(old);
         bits = before.with(new);

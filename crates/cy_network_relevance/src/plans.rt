@@ -62,8 +62,8 @@ fn changes_by_nodes<'a>(part: &Operator, change: &GraphChange<'a>, sight: &mut S
     ensures reads { sight.new.reads ≤ sight.old.reads + length change.now.nodes }
 {
     for (number, was) in change.nodes() {
-        let now = sight.node(NodeId(*number));
-        if !is_unchanged(part, &Entity::Node(*was, now)) {
+        let now = sight.node(NodeId(number));
+        if !is_unchanged(part, &Entity::Node(was, now)) {
             return true;
         }
     }
@@ -77,8 +77,8 @@ fn changes_by_rels<'a>(part: &Operator, change: &GraphChange<'a>, sight: &mut Si
     ensures reads { sight.new.reads ≤ sight.old.reads + length change.now.rels }
 {
     for (number, was) in change.rels() {
-        let now = sight.rel(RelId(*number));
-        if !is_unchanged(part, &Entity::Rel(*was, now)) {
+        let now = sight.rel(RelId(number));
+        if !is_unchanged(part, &Entity::Rel(was, now)) {
             return true;
         }
     }

@@ -19,7 +19,7 @@ use Rattle.cy_network_memory.specs.declared.memory.RowDelta.{RowDelta}
 use Rattle.cy_network_operators.specs.Deltas.{deltas_of}
 use Rattle.cy_network_touches.specs.declared.attributes.Attributes.{Attributes}
 use Rattle.cy_network_touches.specs.Changes.{IsChange, Touches}
-use Rattle.cy_network_touches.specs.internal.Attributes.{AreAttributes, reattributed, still, still_deltas, valued}
+use Rattle.cy_network_touches.specs.internal.Attributes.{AreAttributes, reattributed, still, valued}
 use Rattle.cy_network_touches.specs.Attributes.{node_attribute, rel_attribute}
 use Rattle.cy_network_touches.proofs.LookupLemmas.{at_node, at_rel, valued_is}
 

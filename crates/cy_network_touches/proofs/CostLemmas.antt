@@ -1,5 +1,5 @@
 -- How many rows name touched entities.
-use Rattle.std.proofs.Common.{◌≡◌, ℕ, ◌+◌, ◌<◌, ◌≤◌, Bool, true, false, cond, not, ◌||◌, ◌&&◌, List, [], ◌∷◌, ◌++◌, Option, None, Some, refl, sym, ap, subst, ◌∙◌, filter, length, map, is_some, slice_get, nat_eq, arith}
+use Rattle.std.proofs.Common.{◌≡◌, ℕ, ◌+◌, ◌<◌, ◌≤◌, Bool, true, false, cond, not, ◌||◌, ◌&&◌, List, [], ◌∷◌, ◌++◌, Option, None, Some, refl, sym, ap, subst, ◌∙◌, filter, length, is_some, slice_get, nat_eq, arith}
 use Rattle.std.specs.Prelude.{count_by, sum_by, unwrap_or}
 use Rattle.std.specs.List.{All, IsDistinct}
 use Rattle.std.specs.Map.{lookup, keys_of}
@@ -250,15 +250,15 @@ counted_there was deltas old new is delta row counted =
 pub few_steps : (old new records most : ℕ) → new ≤ old + 1 + records → records ≤ most → new ≤ old + 1 + most
 few_steps old new records most steps few = omega (arith, steps, few)
 
-pub fewer_left : {A B : Type 0} (v : A → B) (f : B → ℕ) (s t : List A) (x : A) (start so_far new all : ℕ) → s ≡ x ∷ t → so_far + (length (map v s) + sum_by f (map v s)) ≤ start + all
-    → new ≤ so_far + 1 + f (v x) → new + (length (map v t) + sum_by f (map v t)) ≤ start + all
-fewer_left v f s t x start so_far new all is before one =
-    let lengths : length (map v s) ≡ length (v x ∷ map v t) = ap (λ xs. length (map v xs)) is in
-    let sums : sum_by f (map v s) ≡ f (v x) + sum_by f (map v t) = ap (λ xs. sum_by f (map v xs)) is ∙ sum_by-cons f (v x) (map v t) in
+pub fewer_left : {A : Type 0} (f : A → ℕ) (s t : List A) (x : A) (start so_far new all : ℕ) → s ≡ x ∷ t → so_far + (length s + sum_by f s) ≤ start + all
+    → new ≤ so_far + 1 + f x → new + (length t + sum_by f t) ≤ start + all
+fewer_left f s t x start so_far new all is before one =
+    let lengths : length s ≡ length (x ∷ t) = ap (λ xs. length xs) is in
+    let sums : sum_by f s ≡ f x + sum_by f t = ap (sum_by f) is ∙ sum_by-cons f x t in
     omega (arith, lengths, sums, before, one)
 
-pub none_left : {A B : Type 0} (v : A → B) (f : B → ℕ) (s : List A) (new bound : ℕ) → new + (length (map v s) + sum_by f (map v s)) ≤ bound → new ≤ bound
-none_left v f s new bound before = omega (arith, before)
+pub none_left : {A : Type 0} (f : A → ℕ) (s : List A) (new bound : ℕ) → new + (length s + sum_by f s) ≤ bound → new ≤ bound
+none_left f s new bound before = omega (arith, before)
 
 pub all_steps : (start staged nodes rels node_count rel_count node_sum rel_sum named : ℕ) → staged ≤ start → nodes ≤ staged + (node_count + node_sum) → rels ≤ nodes + (rel_count + rel_sum) → node_sum + rel_sum ≤ named
     → rels ≤ start + node_count + rel_count + named

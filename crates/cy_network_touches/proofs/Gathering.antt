@@ -1,14 +1,14 @@
 -- What is gathered of the touched entities leads from the one graph to the other.
 use Rattle.std.proofs.Common.{◌≡◌, ◌≢◌, ℕ, Bool, true, false, cond, List, [], ◌∷◌, ◌++◌, Option, None, Some, IfSome, IsSome, Contains, map, inl, inr, refl, sym, ap, subst, ◌∙◌, nat_eq, arith}
 use Rattle.std.specs.Prelude.{unwrap_or}
-use Rattle.std.specs.List.{IsDistinct}
+use Rattle.std.specs.List.{AllByRecursion, IsDistinct}
 use Rattle.std.specs.Map.{keys_of, lookup}
+use Rattle.std.proofs.lemmas.Map.Keys.{IsDistinct-cons, IsDistinct-head, IsDistinct-tail}
 use Rattle.std.proofs.lemmas.Map.Made.{Contains-tail, lookup-map_values}
 use Rattle.std.specs.Option.{option_map}
 use Rattle.std.specs.declared.cmp.Ordering.{Ordering}
-use Rattle.std.specs.Ordering.{eq_by_cmp, is_eq, nat_cmp}
+use Rattle.std.specs.Ordering.{eq_by_cmp}
 use Rattle.std.specs.FinMap.Entries as entries
-use Rattle.std.proofs.lemmas.Bool.Decides.{nat_tests}
 use Rattle.std.proofs.lemmas.Bool.{false≢true, true≢false}
 use Rattle.std.proofs.lemmas.List.Elements.{Contains-append_right}
 use Rattle.cy_values.specs.declared.numbers.NodeId.{NodeId}
@@ -23,8 +23,9 @@ use Rattle.cy_graph.specs.Touched.{Old, BeforeImage, AreTouched, value_of}
 use Rattle.cy_graph.proofs.Same.{same_node, node_itself, same_rel, rel_itself}
 use Rattle.cy_graph.proofs.Touching.{same_nodes, same_rels}
 use Rattle.cy_network_touches.specs.Changes.{IsChange, IsImage, Touches, before_change, image_at}
-use Rattle.cy_network_touches.specs.internal.Images.{come, node_of_old, rel_of_old, node_noted, rel_noted, nodes_noted, rels_noted}
-use Rattle.cy_network_touches.proofs.Keys.{same_number, number_itself}
+use Rattle.cy_network_touches.specs.internal.Images.{node_of_old, rel_of_old, node_noted, rel_noted, nodes_noted, rels_noted}
+use Rattle.cy_network_touches.specs.internal.Sources.{none_was}
+use Rattle.cy_network_touches.proofs.Keys.{none_once, number_itself, rising_once, same_by_order, same_number}
 
 -- one more at the end
 pub nodes_more : (n : ℕ) (es : List BeforeImage) (e : BeforeImage) (found : Option (Option Node)) → nodes_noted n (es ++ e ∷ []) found ≡ node_noted n e (nodes_noted n es found)
@@ -218,44 +219,31 @@ added g key number value old new is =
 
 -- ---- all entities of a graph, of which none was there
 
-one_choice : {A : Type 0} (b : Bool) (x : A) → cond b x x ≡ x
-one_choice true x = refl
-one_choice false x = refl
-
-come_stays : {K V W : Type 0} (number_of : K → ℕ) (number : ℕ) (es : List (K × V)) → come {W = W} number_of number es (Some None) ≡ Some None
-come_stays number_of number [] = refl
-come_stays {W = W} number_of number (e ∷ es) =
-    ap (come {W = W} number_of number es) (one_choice (nat_eq (number_of e.0) number) (Some None)) ∙ come_stays {W = W} number_of number es
-
-come_mapped : {K V X W : Type 0} (number_of : K → ℕ) (number : ℕ) (g : Option X → Option W) → g None ≡ None → (es : List (K × V)) (found : Option (Option X))
-    → option_map g (come number_of number es found) ≡ come number_of number es (option_map g found)
-come_mapped number_of number g none [] found = refl
-come_mapped {W = W} number_of number g none (e ∷ es) found =
-    come_mapped number_of number g none es (cond (nat_eq (number_of e.0) number) (Some None) found) ∙ ap (come {W = W} number_of number es) (step (nat_eq (number_of e.0) number))
+-- an entity is touched exactly where a look-up finds it
+pub found_all : {K V W : Type 0} (R : K → K → Ordering) (number_of : K → ℕ) → ((j k : K) → eq_by_cmp R j k ≡ nat_eq (number_of j) (number_of k)) → (q : K) (es : List (K × V))
+    → image_at {V = W} (number_of q) (none_was number_of es) ≡ option_map (λ v. None) (entries.find R q es)
+found_all R number_of same q [] = refl
+found_all {W = W} R number_of same q (e ∷ es) =
+    ap (λ b. cond b (Some None) (image_at {V = W} (number_of q) (none_was number_of es))) (sym (same q e.0)) ∙ step (eq_by_cmp R q e.0) (found_all {W = W} R number_of same q es)
   where
-    step : (b : Bool) → option_map g (cond b (Some None) found) ≡ cond b (Some None) (option_map g found)
-    step true = ap Some none
-    step false = refl
-
--- the same where the values are seen by others
-pub seen_come : {K V X W : Type 0} (number_of : K → ℕ) (g : Option X → Option W) → g None ≡ None → (es : List (K × V)) (noted : List (ℕ × Option X))
-    → ((n : ℕ) → image_at n noted ≡ come number_of n es None) → (n : ℕ) → image_at n (map (λ e. (e.0, g e.1)) noted) ≡ come number_of n es None
-seen_come number_of g none es noted is n = lookup-map_values g (nat_eq n) noted ∙ ap (option_map g) (is n) ∙ come_mapped number_of n g none es None
-
--- an entity comes exactly where a look-up finds it
-found_come : {K V W : Type 0} (R : K → K → Ordering) (number_of : K → ℕ) (q : K) → ((k : K) → eq_by_cmp R q k ≡ nat_eq (number_of k) (number_of q)) → (es : List (K × V))
-    → come {W = W} number_of (number_of q) es None ≡ option_map (λ v. None) (entries.find R q es)
-found_come R number_of q same [] = refl
-found_come {W = W} R number_of q same (e ∷ es) =
-    ap (λ b. come {W = W} number_of (number_of q) es (cond b (Some None) None)) (sym (same e.0)) ∙ step (eq_by_cmp R q e.0) (found_come {W = W} R number_of q same es)
-  where
-    step : (b : Bool) → come {W = W} number_of (number_of q) es None ≡ option_map (λ v. None) (entries.find R q es)
-        → come {W = W} number_of (number_of q) es (cond b (Some None) None) ≡ option_map (λ v. None) (cond b (Some e.1) (entries.find R q es))
-    step true rest = come_stays {W = W} number_of (number_of q) es
+    step : (b : Bool) → image_at {V = W} (number_of q) (none_was number_of es) ≡ option_map (λ v. None) (entries.find R q es)
+        → cond b (Some None) (image_at {V = W} (number_of q) (none_was number_of es)) ≡ option_map (λ v. None) (cond b (Some e.1) (entries.find R q es))
+    step true rest = refl
     step false rest = rest
 
-by_number : (m n : ℕ) → is_eq (nat_cmp m n) ≡ nat_eq n m
-by_number m n = grind (arith, nat_tests)
+-- keys that stand once have numbers that do
+numbers_apart : {K V : Type 0} (W : Type 0) (R : K → K → Ordering) (number_of : K → ℕ) → ((j k : K) → eq_by_cmp R j k ≡ nat_eq (number_of j) (number_of k)) → (q : K) (es : List (K × V))
+    → AllByRecursion (λ k. eq_by_cmp R q k ≡ false) (keys_of es) → AllByRecursion (λ n. nat_eq (number_of q) n ≡ false) (keys_of (none_was {W = W} number_of es))
+numbers_apart W R number_of same q [] each = tt
+numbers_apart W R number_of same q (e ∷ es) each = (sym (same q e.0) ∙ each.0, numbers_apart W R number_of same q es each.1)
+
+numbers_once : {K V : Type 0} (W : Type 0) (R : K → K → Ordering) (number_of : K → ℕ) → ((j k : K) → eq_by_cmp R j k ≡ nat_eq (number_of j) (number_of k)) → (es : List (K × V))
+    → IsDistinct (eq_by_cmp R) (keys_of es) → IsDistinct nat_eq (keys_of (none_was {W = W} number_of es))
+numbers_once W R number_of same [] once = none_once nat_eq
+numbers_once W R number_of same (e ∷ es) once =
+    IsDistinct-cons nat_eq (number_of e.0) (keys_of (none_was {W = W} number_of es))
+    (numbers_apart W R number_of same e.0 es (IsDistinct-head (eq_by_cmp R) e.0 (keys_of es) once))
+    (numbers_once W R number_of same es (IsDistinct-tail (eq_by_cmp R) e.0 (keys_of es) once))
 
 image_come : {V : Type 0} (now : Option V) (o : Option (Option V)) → o ≡ option_map (λ v. None) now → IsImage None now o
 image_come {V = V} None o is = subst (IsImage {V = V} None None) (sym is) refl
@@ -276,16 +264,26 @@ empty_graph = record {
   rel_range = (omega arith, omega arith);
 }
 
-pub all_come : (now : State) → IsGraph now → (touches : Touches)
-    → ((n : ℕ) → image_at n touches.nodes ≡ come (λ (k : NodeId). k.0) n now.content.nodes None) → ((n : ℕ) → image_at n touches.rels ≡ come (λ (k : RelId). k.0) n now.content.rels None)
-    → IsDistinct nat_eq (keys_of touches.nodes) → IsDistinct nat_eq (keys_of touches.rels) → IsChange (empty_state 1 1) now touches
-all_come now graph touches nodes rels nodes_once rels_once = record {
+node_found : (now : State) (id : NodeId) → image_at id.0 (none_was {W = Node} (λ (k : NodeId). k.0) now.content.nodes) ≡ option_map (λ v. None) (node_at id now)
+node_found now id = found_all node_order (λ (k : NodeId). k.0) (λ j k. same_by_order j.0 k.0) id now.content.nodes
+
+rel_found : (now : State) (id : RelId) → image_at id.0 (none_was {W = Rel} (λ (k : RelId). k.0) now.content.rels) ≡ option_map (λ v. None) (rel_at id now)
+rel_found now id = found_all rel_order (λ (k : RelId). k.0) (λ j k. same_by_order j.0 k.0) id now.content.rels
+
+-- so what stands under the number of one that was looked up
+pub node_image : (now : State) (id : NodeId) (found : Option Node) → found ≡ node_at id now → option_map (λ v. None) found ≡ image_at id.0 (none_was {W = Node} (λ (k : NodeId). k.0) now.content.nodes)
+node_image now id found is = ap (option_map (λ v. None)) is ∙ sym (node_found now id)
+
+pub rel_image : (now : State) (id : RelId) (found : Option Rel) → found ≡ rel_at id now → option_map (λ v. None) found ≡ image_at id.0 (none_was {W = Rel} (λ (k : RelId). k.0) now.content.rels)
+rel_image now id found is = ap (option_map (λ v. None)) is ∙ sym (rel_found now id)
+
+pub all_come : (now : State) → IsGraph now
+    → IsChange (empty_state 1 1) now (record { nodes = none_was (λ (k : NodeId). k.0) now.content.nodes; rels = none_was (λ (k : RelId). k.0) now.content.rels })
+all_come now graph = record {
   graph_before = empty_graph;
   graph_now = graph;
-  nodes_once = nodes_once;
-  rels_once = rels_once;
-  nodes = λ id. image_come (node_at id now) (image_at id.0 touches.nodes)
-      (nodes id.0 ∙ found_come node_order (λ (k : NodeId). k.0) id (λ k. by_number id.0 k.0) now.content.nodes);
-  rels = λ id. image_come (rel_at id now) (image_at id.0 touches.rels)
-      (rels id.0 ∙ found_come rel_order (λ (k : RelId). k.0) id (λ k. by_number id.0 k.0) now.content.rels);
+  nodes_once = numbers_once Node node_order (λ (k : NodeId). k.0) (λ j k. same_by_order j.0 k.0) now.content.nodes (rising_once node_order now.content.nodes graph.rising);
+  rels_once = numbers_once Rel rel_order (λ (k : RelId). k.0) (λ j k. same_by_order j.0 k.0) now.content.rels (rising_once rel_order now.content.rels graph.rels_rising);
+  nodes = λ id. image_come (node_at id now) (image_at id.0 (none_was (λ (k : NodeId). k.0) now.content.nodes)) (node_found now id);
+  rels = λ id. image_come (rel_at id now) (image_at id.0 (none_was (λ (k : RelId). k.0) now.content.rels)) (rel_found now id);
 }

@@ -41,7 +41,7 @@ module _ {K V : Type 0} (eq : K → K → Bool) where
           λ i. (key i, e.1) ∷ none i
       step rest false is = rest
 
-none_once : {K : Type 0} (eq : K → K → Bool) → IsDistinct eq []
+pub none_once : {K : Type 0} (eq : K → K → Bool) → IsDistinct eq []
 unfolding IsDistinct
 none_once eq = tt
 

@@ -2,3 +2,4 @@
 pub mod Attributes
 pub mod Images
 pub mod Named
+pub mod Sources

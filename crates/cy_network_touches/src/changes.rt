@@ -1,37 +1,41 @@
-//! What an open change of the store touched, found by number.
+//! What a change of the store touched, found by number.
 
-ghost use Rattle.std.specs.Prelude.{◌≡◌, ℕ, [], None, IfOk, OnOk, IsSome, map, length, nat_eq};
+ghost use Rattle.std.specs.Prelude.{◌≡◌, IfOk, IsSome};
 ghost use Rattle.std.specs.Option.{option_copied, option_map};
-ghost use Rattle.std.specs.List.{IsDistinct};
-ghost use Rattle.std.specs.Map.{keys_of};
-ghost use Rattle.cy_graph.specs.Graph.{IsGraph, empty_state};
-ghost use Rattle.cy_graph.specs.Touched.{before_image, old_value};
+ghost use Rattle.cy_graph.specs.Graph.{empty_state};
 ghost use Rattle.cy_network_touches.specs.Changes.{IsChange, before_change, image_at};
-ghost use Rattle.cy_network_touches.specs.internal.Images.{come, node_of_old, rel_of_old, node_noted, rel_noted};
 
-use cy_graph::{Node, Rel, Touched, Was};
+use crate::noted::Noted;
+use crate::touched::{NodesLeft, RelsLeft, TouchedNodes, TouchedRels};
+use cy_graph::{Node, Rel};
 use cy_index::{Sight, Store};
-use cy_values::{Entity, Fault, NodeId, RelId};
-use indexmap::{IndexMap, map};
+use cy_values::{Fault, NodeId, RelId};
 use std::alloc::Global;
 use std::marker::Model;
 
-/// The entities whose value differs from when the open change began, each under its number with the value that it had, if it was
+/// Where the touched entities are found.
+#[derive(Drop)]
+enum Source<'a> {
+    /// Each that an open change touched is noted.
+    Noted(Noted<'a>),
+    /// Each of a store is touched, and none was there.
+    All(&'a Store),
+}
+
+/// The entities whose value differs from when a change began, each under its number with the value that it had, if it was
 /// there. It is made once for all operators of a plan. It lends from the store and not from the sight, which can be read on beside it.
 #[derive(Drop)]
 pub struct GraphChange<'a> {
-    nodes: IndexMap<u64, Option<&'a Node>>,
-    rels: IndexMap<u64, Option<&'a Rel>>,
+    source: Source<'a>,
 }
 
 impl<'a> Model for GraphChange<'a> {
-    ghost use Rattle.std.specs.Prelude.{map};
-    ghost use Rattle.std.specs.Option.{option_copied};
     ghost use Rattle.cy_network_touches.specs.Changes.{Touches};
+    ghost use Rattle.cy_network_touches.specs.internal.Sources.{touches_in};
 
     ghost Value = { Touches };
 
-    ghost view = { λ c. record { nodes = map (λ e. (e.0, option_copied e.1)) c.nodes.entries; rels = map (λ e. (e.0, option_copied e.1)) c.rels.entries } };
+    ghost view = { λ c. touches_in c.source };
 }
 
 impl<'a> GraphChange<'a> {
@@ -40,133 +44,65 @@ impl<'a> GraphChange<'a> {
         requires { IsSome sight.now.graph.was }
         ensures change { IfOk result (λ change. IsChange (before_change sight.now.graph) sight.now.graph.now change) }
     {
-        let Ok(touched) = sight.touched(alloc) else {
-            return Err(Fault::NoMemory);
-        };
-        let mut change = GraphChange::empty(alloc);
-        for entity in touched {
-            change.add(entity)?;
-        }
-        change.once();
-        Ok(change)
+        Ok(GraphChange {
+            source: Source::Noted(Noted::new(alloc, sight)?),
+        })
     }
 
-    /// What leads from a graph without anything to that of a store: each entity is touched, and none was there. Fails only when out
-    /// of memory.
-    pub fn of_all(alloc: Global, store: &'a Store) -> Result<Self, Fault>
-        ensures { IfOk result (λ change. IsChange (empty_state 1 1) store.now.graph.now change) }
+    /// What leads from a graph without anything to that of a store: each entity is touched, and none was there. It takes no memory,
+    /// however large the store is.
+    pub fn of_all(store: &'a Store) -> Self
+        ensures { IsChange (empty_state 1 1) store.now.graph.now result }
     {
-        let change = GraphChange {
-            nodes: nodes_of(alloc, store)?,
-            rels: rels_of(alloc, store)?,
-        };
-        change.once();
-        Ok(change)
-    }
-
-    // Nothing is touched.
-    fn empty(alloc: Global) -> Self
-        ensures nodes { result.nodes ≡ [] }
-        ensures rels { result.rels ≡ [] }
-    {
+        store.laws();
         GraphChange {
-            nodes: IndexMap::new(alloc),
-            rels: IndexMap::new(alloc),
+            source: Source::All(store),
         }
-    }
-
-    // One more entity is touched. Fails only when out of memory.
-    fn add(&mut self, touched: Touched<'a>) -> Result<(), Fault>
-        ensures nodes { OnOk result ((number : ℕ) → image_at number self.new.nodes ≡ node_noted number (before_image touched.entry) (image_at number self.old.nodes)) }
-        ensures rels { OnOk result ((number : ℕ) → image_at number self.new.rels ≡ rel_noted number (before_image touched.entry) (image_at number self.old.rels)) }
-    {
-        match touched.entity {
-            Entity::Node(id) => {
-                self.nodes.insert(id.0, node_of(touched.was))?;
-            }
-            Entity::Rel(id) => {
-                self.rels.insert(id.0, rel_of(touched.was))?;
-            }
-        }
-        Ok(())
-    }
-
-    // Each number stands once.
-    fn once(&self)
-        ensures nodes { IsDistinct nat_eq (keys_of self.now.nodes) }
-        ensures rels { IsDistinct nat_eq (keys_of self.now.rels) }
-    {
-        let _unique = (self.nodes.len(), self.rels.len());
     }
 
     /// The value that a touched node had, if it was there; nothing of a node that isn't touched.
     pub fn node_was(&self, id: NodeId) -> Option<Option<&'a Node>>
         ensures { option_map option_copied result ≡ image_at id.0 self.now.nodes }
     {
-        self.nodes.get(&id.0).copied()
+        match &self.source {
+            Source::Noted(noted) => noted.node_was(id),
+            Source::All(store) => match store.node(id) {
+                Some(_) => Some(None),
+                None => None,
+            },
+        }
     }
 
     /// The value that a touched relationship had, if it was there; nothing of a relationship that isn't touched.
     pub fn rel_was(&self, id: RelId) -> Option<Option<&'a Rel>>
         ensures { option_map option_copied result ≡ image_at id.0 self.now.rels }
     {
-        self.rels.get(&id.0).copied()
+        match &self.source {
+            Source::Noted(noted) => noted.rel_was(id),
+            Source::All(store) => match store.rel(id) {
+                Some(_) => Some(None),
+                None => None,
+            },
+        }
     }
 
-    /// The touched nodes, each under its number with the value that it had, if it was there.
-    pub fn nodes(&self) -> map::Iter<'_, u64, Option<&'a Node>>
-        ensures { map (λ e. (e.0, option_copied e.1)) result ≡ self.now.nodes }
+    /// The touched nodes, each with its number and with the value that it had, if it was there.
+    pub fn nodes(&self) -> TouchedNodes<'_, 'a>
+        ensures { result ≡ self.now.nodes }
     {
-        self.nodes.iter()
+        TouchedNodes::new(match &self.source {
+            Source::Noted(noted) => NodesLeft::Noted(noted.nodes()),
+            Source::All(store) => NodesLeft::All(store.nodes()),
+        })
     }
 
-    /// The touched relationships, each under its number with the value that it had, if it was there.
-    pub fn rels(&self) -> map::Iter<'_, u64, Option<&'a Rel>>
-        ensures { map (λ e. (e.0, option_copied e.1)) result ≡ self.now.rels }
+    /// The touched relationships, each with its number and with the value that it had, if it was there.
+    pub fn rels(&self) -> TouchedRels<'_, 'a>
+        ensures { result ≡ self.now.rels }
     {
-        self.rels.iter()
-    }
-}
-
-// All nodes of a store, none of which was there. Fails only when out of memory.
-fn nodes_of<'a>(alloc: Global, store: &'a Store) -> Result<IndexMap<u64, Option<&'a Node>>, Fault>
-    ensures nodes { IfOk result (λ nodes. (number : ℕ) → image_at number nodes.entries ≡ come (λ k. k.0) number store.now.graph.now.content.nodes None) }
-    ensures graph { OnOk result (IsGraph store.now.graph.now) }
-{
-    let mut nodes = IndexMap::new(alloc);
-    for (id, _) in store.nodes() {
-        nodes.insert(id.0, None)?;
-    }
-    Ok(nodes)
-}
-
-// All relationships of a store, none of which was there. Fails only when out of memory.
-fn rels_of<'a>(alloc: Global, store: &'a Store) -> Result<IndexMap<u64, Option<&'a Rel>>, Fault>
-    ensures rels { IfOk result (λ rels. (number : ℕ) → image_at number rels.entries ≡ come (λ k. k.0) number store.now.graph.now.content.rels None) }
-{
-    let mut rels = IndexMap::new(alloc);
-    for (id, _) in store.rels() {
-        rels.insert(id.0, None)?;
-    }
-    Ok(rels)
-}
-
-// The node that a value is.
-fn node_of<'a>(was: Option<Was<'a>>) -> Option<&'a Node>
-    ensures { option_copied result ≡ node_of_old (option_map old_value was.entry) }
-{
-    match was {
-        Some(Was::Node(node)) => Some(node),
-        _ => None,
-    }
-}
-
-// The relationship that a value is.
-fn rel_of<'a>(was: Option<Was<'a>>) -> Option<&'a Rel>
-    ensures { option_copied result ≡ rel_of_old (option_map old_value was.entry) }
-{
-    match was {
-        Some(Was::Rel(rel)) => Some(rel),
-        _ => None,
+        TouchedRels::new(match &self.source {
+            Source::Noted(noted) => RelsLeft::Noted(noted.rels()),
+            Source::All(store) => RelsLeft::All(store.rels()),
+        })
     }
 }

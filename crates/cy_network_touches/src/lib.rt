@@ -7,7 +7,10 @@ mod changes;
 pub mod cost_laws;
 pub mod laws;
 mod lookups;
+mod noted;
+mod touched;
 
 pub use attributes::{node_value, rel_value};
 pub use changes::GraphChange;
 pub use lookups::{ColumnAttribute, lookup};
+pub use touched::{TouchedNodes, TouchedRels};

@@ -34,8 +34,3 @@ nodes_noted number (e ∷ es) found = nodes_noted number es (node_noted number e
 abbrev pub rels_noted : ℕ → List BeforeImage → Option (Option Rel) → Option (Option Rel)
 rels_noted number [] found = found
 rels_noted number (e ∷ es) found = rels_noted number es (rel_noted number e found)
-
--- what stands under a number once each entity of a list, of which none was there, was noted under its own
-abbrev pub come : {K V W : Type 0} → (K → ℕ) → ℕ → List (K × V) → Option (Option W) → Option (Option W)
-come number_of number [] found = found
-come number_of number (e ∷ es) found = come number_of number es (if nat_eq (number_of e.0) number then Some None else found)

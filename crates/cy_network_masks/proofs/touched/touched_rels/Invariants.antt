@@ -1,5 +1,4 @@
-use Rattle.std.proofs.Common.{◌≡◌, map}
-use Rattle.std.specs.Option.{option_copied}
+use Rattle.std.proofs.Common.{◌≡◌}
 use Rattle.cy_network_masks.specs.Masks.{with_rels}
 use Rattle.cy_network_masks.specs.Names.{no_bits}
 use Rattle.cy_network_masks.proofs.touched.touched_rels.Given as goal
@@ -7,6 +6,6 @@ use Rattle.cy_network_masks.proofs.touched.touched_rels.Given as goal
 -- what is left settles the bits
 abbrev pub invariant-loop-number : goal.invariant-loop-number
 invariant-loop-number l = record {
-  bits : with_rels l.initial.sight.graph.now l.bits (map (λ e. (e.0, option_copied e.1)) l.number-iterator) ≡ with_rels l.initial.sight.graph.now no_bits l.change.rels;
+  bits : with_rels l.initial.sight.graph.now l.bits l.number-iterator ≡ with_rels l.initial.sight.graph.now no_bits l.change.rels;
   graph : l.sight.graph ≡ l.initial.sight.graph;
 }

@@ -1,7 +1,6 @@
-use Rattle.std.proofs.Common.{◌≡◌, ℕ, List, Option, length, map, refl, sym, ap, subst, ◌∙◌, Bor, arith}
+use Rattle.std.proofs.Common.{◌≡◌, ℕ, Option, length, refl, sym, ap, subst, ◌∙◌, arith}
 use Rattle.std.specs.List.{All}
 use Rattle.std.specs.Option.{option_copied}
-use Rattle.std.proofs.lemmas.List.{length-map}
 use Rattle.std.proofs.lemmas.List.Elements.{All-cons, All-nil}
 use Rattle.cy_graph.specs.declared.nodes.Node.{Node}
 use Rattle.cy_graph.specs.Graph.{Versions, node_at}
@@ -19,10 +18,8 @@ Unchanged graph p e = IsNodeUnchanged e.1 (node_at (record { 0 = e.0 }) graph.no
 pub loop-number-init : goal.loop-number-init
 loop-number-init c =
     let P = Unchanged c.args.sight.now.graph (plan_of c.args.part.now) in
-    let iterator = c.into_iter-number-iterator.result in
-    let all : map (λ (e : ℕ × Option (Bor Node)). (e.0, option_copied e.1)) iterator ≡ c.args.change.now.nodes =
-    ap (map (λ (e : ℕ × Option (Bor Node)). (e.0, option_copied e.1))) c.into_iter-number-iterator.ensures.into_iter_gives ∙ c.nodes-number-items.ensures in
-    let many : length iterator ≡ length c.args.change.now.nodes = sym (length-map iterator (λ (e : ℕ × Option (Bor Node)). (e.0, option_copied e.1))) ∙ ap length all in
+    let all = c.into_iter-number-iterator.ensures.into_iter_gives ∙ c.nodes-number-items.ensures in
+    let many : length c.into_iter-number-iterator.result ≡ length c.args.change.now.nodes = ap length all in
     record { unchanged = λ more. subst (All P) all more; graph = refl; reads = omega (arith, many) }
 
 pub loop-number-preserved : goal.loop-number-preserved
@@ -31,19 +28,19 @@ loop-number-preserved c =
     let P = Unchanged c.args.sight.now.graph p in
     let so_far = c.loop-number.invariant in
     let steps = c.in-Some.ensures.steps in
-    let here : ℕ × Option Node = (c.in-Some.number.now, option_copied c.in-Some.was.now) in
-    let now = c.node-now.ensures.node ∙ ap (λ (g : Versions). node_at (record { 0 = c.in-Some.number.now }) g.now) so_far.graph in
-    let kept : P here = subst (λ (o : Option Node). IsNodeUnchanged (option_copied c.in-Some.was.now) o p) now (c.is_unchanged.ensures c.if-not-is_unchanged.false) in
+    let here : ℕ × Option Node = (c.in-Some.number, option_copied c.in-Some.was) in
+    let now = c.node-now.ensures.node ∙ ap (λ (g : Versions). node_at (record { 0 = c.in-Some.number }) g.now) so_far.graph in
+    let kept : P here = subst (λ (o : Option Node). IsNodeUnchanged (option_copied c.in-Some.was) o p) now (c.is_unchanged.ensures c.if-not-is_unchanged.false) in
     record {
       unchanged = λ more.
           so_far.unchanged
-          (subst (λ (es : List (ℕ × Option (Bor Node))). All P (map (λ e. (e.0, option_copied e.1)) es)) (sym steps) (All-cons P here (map (λ e. (e.0, option_copied e.1)) c.next.new.self) kept more));
+          (subst (All P) (sym steps) (All-cons P here c.next.new.self kept more));
       graph = ap (λ (s : SightState). s.graph) c.node-now.ensures.read ∙ so_far.graph;
-      reads = one_less c.loop-number.number-iterator c.next.new.self (c.in-Some.number.now, c.in-Some.was.now) c.args.sight.now.reads c.loop-number.sight.reads c.node-now.new.self.reads _ steps so_far.reads
+      reads = one_less c.loop-number.number-iterator c.next.new.self (c.in-Some.number, option_copied c.in-Some.was) c.args.sight.now.reads c.loop-number.sight.reads c.node-now.new.self.reads _ steps so_far.reads
           (one_read c.loop-number.sight c.node-now.new.self c.node-now.ensures.read);
     }
 
 pub returns-clause-unchanged : goal.returns-clause-unchanged
 returns-clause-unchanged c = λ no.
     let P = Unchanged c.args.sight.now.graph (plan_of c.args.part.now) in
-    c.loop-number.invariant.unchanged (subst (λ (es : List (ℕ × Option (Bor Node))). All P (map (λ e. (e.0, option_copied e.1)) es)) (sym c.in-None.ensures.steps.0) (All-nil P))
+    c.loop-number.invariant.unchanged (subst (All P) (sym c.in-None.ensures.steps.0) (All-nil P))

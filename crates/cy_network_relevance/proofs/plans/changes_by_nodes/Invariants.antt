@@ -1,7 +1,6 @@
 -- Where it is so of all that are left, it is of all; each touched entity is read once.
-use Rattle.std.proofs.Common.{◌≡◌, ℕ, ◌≤◌, ◌+◌, Option, length, map}
+use Rattle.std.proofs.Common.{◌≡◌, ℕ, ◌≤◌, ◌+◌, Option, length}
 use Rattle.std.specs.List.{All}
-use Rattle.std.specs.Option.{option_copied}
 use Rattle.cy_graph.specs.declared.nodes.Node.{Node}
 use Rattle.cy_graph.specs.Graph.{node_at}
 use Rattle.cy_planner_algebra.specs.PlanModels.{plan_of}
@@ -10,7 +9,7 @@ use Rattle.cy_network_relevance.proofs.plans.changes_by_nodes.Given as goal
 
 abbrev pub invariant-loop-number : goal.invariant-loop-number
 invariant-loop-number l = record {
-  unchanged : All (λ (e : ℕ × Option Node). IsNodeUnchanged e.1 (node_at (record { 0 = e.0 }) l.initial.sight.graph.now) (plan_of l.part)) (map (λ e. (e.0, option_copied e.1)) l.number-iterator)
+  unchanged : All (λ (e : ℕ × Option Node). IsNodeUnchanged e.1 (node_at (record { 0 = e.0 }) l.initial.sight.graph.now) (plan_of l.part)) l.number-iterator
       → All (λ (e : ℕ × Option Node). IsNodeUnchanged e.1 (node_at (record { 0 = e.0 }) l.initial.sight.graph.now) (plan_of l.part)) l.change.nodes;
   graph : l.sight.graph ≡ l.initial.sight.graph;
   reads : l.sight.reads + length l.number-iterator ≤ l.initial.sight.reads + length l.change.nodes;

@@ -1,8 +1,6 @@
-use Rattle.std.proofs.Common.{◌≡◌, ℕ, ◌+◌, ◌-◌, ◌^◌, ◌≤◌, min, List, ◌∷◌, ◌++◌, Option, map, sym, ap, subst, ◌∙◌, Bor, arith}
+use Rattle.std.proofs.Common.{◌≡◌, ℕ, ◌+◌, ◌-◌, ◌^◌, ◌≤◌, min, List, ◌++◌, Option, map, sym, ap, subst, ◌∙◌, arith}
 use Rattle.std.specs.Prelude.{flat_map}
-use Rattle.std.specs.List.{All}
 use Rattle.std.specs.Option.{option_copied}
-use Rattle.std.proofs.lemmas.List.Elements.{All-head, All-tail}
 use Rattle.cy_values.specs.declared.rows.Cell.{Cell}
 use Rattle.cy_graph.specs.declared.nodes.Node.{Node}
 use Rattle.cy_graph.specs.Graph.{Versions, node_at}
@@ -12,18 +10,11 @@ use Rattle.cy_planner_algebra.specs.PlanModels.{plan_of}
 use Rattle.cy_network_operators.specs.Deltas.{deltas_of}
 use Rattle.cy_network_sources.specs.internal.Through.{IsNodeFit, node_made, recounted}
 use Rattle.cy_network_touches.proofs.AttributeLemmas.{one_less, walked}
-use Rattle.cy_network_sources.proofs.ScanDeltas.{node_under}
+use Rattle.cy_network_sources.proofs.ScanDeltas.{first_of_all, node_under}
 use Rattle.cy_network_sources.proofs.scanning.scan_nodes.Goals as goal
 
 abbrev IsFitAt : Versions → List Plan → ℕ × Option Node → Type 0
 IsFitAt graph ps e = IsNodeFit ps e.0 e.1 × IsNodeFit ps e.0 (node_under graph.now e.0)
-
--- what is known of all that are left is known of the next, and of those after it
-next_fit : (P : ℕ × Option Node → Type 0) (left rest : List (ℕ × Option (Bor Node))) (x : ℕ × Option (Bor Node)) → left ≡ x ∷ rest
-    → All P (map (λ e. (e.0, option_copied e.1)) left) → P (x.0, option_copied x.1) × All P (map (λ e. (e.0, option_copied e.1)) rest)
-next_fit P left rest x is all =
-    let opened : All P ((x.0, option_copied x.1) ∷ map (λ e. (e.0, option_copied e.1)) rest) = subst (λ (es : List (ℕ × Option (Bor Node))). All P (map (λ e. (e.0, option_copied e.1)) es)) is all in
-    (All-head P (x.0, option_copied x.1) (map (λ e. (e.0, option_copied e.1)) rest) opened, All-tail P (x.0, option_copied x.1) (map (λ e. (e.0, option_copied e.1)) rest) opened)
 
 one_read : (old new : SightState) → new ≡ record old { reads = min (old.reads + 1) (2 ^ 64 - 1) } → new.reads ≤ old.reads + 1
 one_read old new is = let reads : new.reads ≡ min (old.reads + 1) (2 ^ 64 - 1) = ap (λ (s : SightState). s.reads) is in omega (arith, reads)
@@ -31,39 +22,39 @@ one_read old new is = let reads : new.reads ≡ min (old.reads + 1) (2 ^ 64 - 1)
 pub add_node-requires-clause-old : goal.add_node-requires-clause-old
 add_node-requires-clause-old c =
     let ps = map (λ part. plan_of part.now) c.args.parts.now in
-    c.with_label-old.ensures.fit ps c.in-Some.number.now
-    (next_fit (IsFitAt c.args.sight.now.graph ps) c.loop-number.number-iterator c.next.new.self (c.in-Some.number.now, c.in-Some.was.now) c.in-Some.ensures.steps c.loop-number.invariant.fit).0.0
+    c.with_label-old.ensures.fit ps c.in-Some.number
+    (first_of_all (IsFitAt c.args.sight.now.graph ps) c.loop-number.number-iterator c.next.new.self (c.in-Some.number, option_copied c.in-Some.was) c.in-Some.ensures.steps c.loop-number.invariant.fit).0.0
 
 pub add_node-requires-clause-new : goal.add_node-requires-clause-new
 add_node-requires-clause-new c =
     let ps = map (λ part. plan_of part.now) c.args.parts.now in
-    c.with_label-new.ensures.fit ps c.in-Some.number.now
-    (subst (IsNodeFit ps c.in-Some.number.now)
-    (sym (c.node.ensures.node ∙ ap (λ (g : Versions). node_at (record { 0 = c.in-Some.number.now }) g.now) c.loop-number.invariant.graph))
-    (next_fit (IsFitAt c.args.sight.now.graph ps) c.loop-number.number-iterator c.next.new.self (c.in-Some.number.now, c.in-Some.was.now) c.in-Some.ensures.steps c.loop-number.invariant.fit).0.1)
+    c.with_label-new.ensures.fit ps c.in-Some.number
+    (subst (IsNodeFit ps c.in-Some.number)
+    (sym (c.node.ensures.node ∙ ap (λ (g : Versions). node_at (record { 0 = c.in-Some.number }) g.now) c.loop-number.invariant.graph))
+    (first_of_all (IsFitAt c.args.sight.now.graph ps) c.loop-number.number-iterator c.next.new.self (c.in-Some.number, option_copied c.in-Some.was) c.in-Some.ensures.steps c.loop-number.invariant.fit).0.1)
 
 pub loop-number-preserved : goal.loop-number-preserved
 loop-number-preserved c =
     let ps = map (λ part. plan_of part.now) c.args.parts.now in
     let so_far = c.loop-number.invariant in
     let steps = c.in-Some.ensures.steps in
-    let now = c.node.ensures.node ∙ ap (λ (g : Versions). node_at (record { 0 = c.in-Some.number.now }) g.now) so_far.graph in
+    let now = c.node.ensures.node ∙ ap (λ (g : Versions). node_at (record { 0 = c.in-Some.number }) g.now) so_far.graph in
     record {
       made = λ row.
           walked (λ (e : ℕ × Option Node). recounted (node_made ps e.0 e.1) (node_made ps e.0 (node_at (record { 0 = e.0 }) c.args.sight.now.graph.now)) row)
-          (c.in-Some.number.now, option_copied c.in-Some.was.now) (map (λ e. (e.0, option_copied e.1)) c.next.new.self)
+          (c.in-Some.number, option_copied c.in-Some.was) c.next.new.self
           (deltas_of row c.loop-number.deltas.items) (deltas_of row c.add_node.new.deltas.items) _
           (c.in_ok-add_node.ensures.made row
-          ∙ ap (λ (rows : List (List Cell)). deltas_of row c.loop-number.deltas.items ++ recounted rows (node_made ps c.in-Some.number.now (option_copied c.with_label-new.result)) row)
-          (c.with_label-old.ensures.made ps c.in-Some.number.now c.needed_label-label.ensures)
-          ∙ ap (λ (rows : List (List Cell)). deltas_of row c.loop-number.deltas.items ++ recounted (node_made ps c.in-Some.number.now (option_copied c.in-Some.was.now)) rows row)
-          (c.with_label-new.ensures.made ps c.in-Some.number.now c.needed_label-label.ensures ∙ ap (node_made ps c.in-Some.number.now) now))
+          ∙ ap (λ (rows : List (List Cell)). deltas_of row c.loop-number.deltas.items ++ recounted rows (node_made ps c.in-Some.number (option_copied c.with_label-new.result)) row)
+          (c.with_label-old.ensures.made ps c.in-Some.number c.needed_label-label.ensures)
+          ∙ ap (λ (rows : List (List Cell)). deltas_of row c.loop-number.deltas.items ++ recounted (node_made ps c.in-Some.number (option_copied c.in-Some.was)) rows row)
+          (c.with_label-new.ensures.made ps c.in-Some.number c.needed_label-label.ensures ∙ ap (node_made ps c.in-Some.number) now))
           (ap (λ left. deltas_of row c.loop-number.deltas.items
-          ++ flat_map (λ (e : ℕ × Option Node). recounted (node_made ps e.0 e.1) (node_made ps e.0 (node_at (record { 0 = e.0 }) c.args.sight.now.graph.now)) row) (map (λ e. (e.0, option_copied e.1)) left)) (sym steps)
+          ++ flat_map (λ (e : ℕ × Option Node). recounted (node_made ps e.0 e.1) (node_made ps e.0 (node_at (record { 0 = e.0 }) c.args.sight.now.graph.now)) row) left) (sym steps)
           ∙ so_far.made row);
-      fit = (next_fit (IsFitAt c.args.sight.now.graph ps) c.loop-number.number-iterator c.next.new.self (c.in-Some.number.now, c.in-Some.was.now) steps so_far.fit).1;
+      fit = (first_of_all (IsFitAt c.args.sight.now.graph ps) c.loop-number.number-iterator c.next.new.self (c.in-Some.number, option_copied c.in-Some.was) steps so_far.fit).1;
       bounded = c.in_ok-add_node.ensures.bounded so_far.bounded;
       graph = ap (λ (s : SightState). s.graph) c.node.ensures.read ∙ so_far.graph;
-      reads = one_less c.loop-number.number-iterator c.next.new.self (c.in-Some.number.now, c.in-Some.was.now) c.args.sight.now.reads c.loop-number.sight.reads c.node.new.self.reads _ steps so_far.reads
+      reads = one_less c.loop-number.number-iterator c.next.new.self (c.in-Some.number, option_copied c.in-Some.was) c.args.sight.now.reads c.loop-number.sight.reads c.node.new.self.reads _ steps so_far.reads
           (one_read c.loop-number.sight c.node.new.self c.node.ensures.read);
     }

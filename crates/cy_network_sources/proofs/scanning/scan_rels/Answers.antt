@@ -1,8 +1,6 @@
-use Rattle.std.proofs.Common.{◌≡◌, ℕ, ◌+◌, ◌-◌, ◌^◌, ◌≤◌, min, List, ◌∷◌, ◌++◌, Option, map, sym, ap, subst, ◌∙◌, Bor, arith}
+use Rattle.std.proofs.Common.{◌≡◌, ℕ, ◌+◌, ◌-◌, ◌^◌, ◌≤◌, min, List, ◌++◌, Option, map, sym, ap, subst, ◌∙◌, arith}
 use Rattle.std.specs.Prelude.{flat_map}
-use Rattle.std.specs.List.{All}
 use Rattle.std.specs.Option.{option_copied}
-use Rattle.std.proofs.lemmas.List.Elements.{All-head, All-tail}
 use Rattle.cy_graph.specs.declared.nodes.Rel.{Rel}
 use Rattle.cy_graph.specs.Graph.{Versions, rel_at}
 use Rattle.cy_index.specs.Index.{SightState}
@@ -13,18 +11,11 @@ use Rattle.cy_trees.specs.Trees.{Name}
 use Rattle.cy_planner_algebra.specs.declared.operators.Orientation.{Orientation}
 use Rattle.cy_network_sources.specs.internal.Through.{IsRelFit, recounted, rel_made}
 use Rattle.cy_network_touches.proofs.AttributeLemmas.{one_less, walked}
-use Rattle.cy_network_sources.proofs.ScanDeltas.{rel_under}
+use Rattle.cy_network_sources.proofs.ScanDeltas.{first_of_all, rel_under}
 use Rattle.cy_network_sources.proofs.scanning.scan_rels.Goals as goal
 
 abbrev IsFitAt : List Name → Orientation → Versions → List Plan → ℕ × Option Rel → Type 0
 IsFitAt types orientation graph ps e = IsRelFit types orientation ps e.0 e.1 × IsRelFit types orientation ps e.0 (rel_under graph.now e.0)
-
--- what is known of all that are left is known of the next, and of those after it
-next_fit : (P : ℕ × Option Rel → Type 0) (left rest : List (ℕ × Option (Bor Rel))) (x : ℕ × Option (Bor Rel)) → left ≡ x ∷ rest
-    → All P (map (λ e. (e.0, option_copied e.1)) left) → P (x.0, option_copied x.1) × All P (map (λ e. (e.0, option_copied e.1)) rest)
-next_fit P left rest x is all =
-    let opened : All P ((x.0, option_copied x.1) ∷ map (λ e. (e.0, option_copied e.1)) rest) = subst (λ (es : List (ℕ × Option (Bor Rel))). All P (map (λ e. (e.0, option_copied e.1)) es)) is all in
-    (All-head P (x.0, option_copied x.1) (map (λ e. (e.0, option_copied e.1)) rest) opened, All-tail P (x.0, option_copied x.1) (map (λ e. (e.0, option_copied e.1)) rest) opened)
 
 one_read : (old new : SightState) → new ≡ record old { reads = min (old.reads + 1) (2 ^ 64 - 1) } → new.reads ≤ old.reads + 1
 one_read old new is = let reads : new.reads ≡ min (old.reads + 1) (2 ^ 64 - 1) = ap (λ (s : SightState). s.reads) is in omega (arith, reads)
@@ -32,34 +23,34 @@ one_read old new is = let reads : new.reads ≡ min (old.reads + 1) (2 ^ 64 - 1)
 pub add_rel-requires-clause-old : goal.add_rel-requires-clause-old
 add_rel-requires-clause-old c =
     let ps = map (λ part. plan_of part.now) c.args.scan.now.parts.now in
-    (next_fit (IsFitAt c.args.scan.now.types.now c.args.scan.now.orientation c.args.sight.now.graph ps) c.loop-number.number-iterator c.next.new.self (c.in-Some.number.now, c.in-Some.was.now) c.in-Some.ensures.steps c.loop-number.invariant.fit).0.0
+    (first_of_all (IsFitAt c.args.scan.now.types.now c.args.scan.now.orientation c.args.sight.now.graph ps) c.loop-number.number-iterator c.next.new.self (c.in-Some.number, option_copied c.in-Some.was) c.in-Some.ensures.steps c.loop-number.invariant.fit).0.0
 
 pub add_rel-requires-clause-new : goal.add_rel-requires-clause-new
 add_rel-requires-clause-new c =
     let ps = map (λ part. plan_of part.now) c.args.scan.now.parts.now in
-    subst (IsRelFit c.args.scan.now.types.now c.args.scan.now.orientation ps c.in-Some.number.now)
-    (sym (c.rel-new.ensures.rel ∙ ap (λ (g : Versions). rel_at (record { 0 = c.in-Some.number.now }) g.now) c.loop-number.invariant.graph))
-    (next_fit (IsFitAt c.args.scan.now.types.now c.args.scan.now.orientation c.args.sight.now.graph ps) c.loop-number.number-iterator c.next.new.self (c.in-Some.number.now, c.in-Some.was.now) c.in-Some.ensures.steps c.loop-number.invariant.fit).0.1
+    subst (IsRelFit c.args.scan.now.types.now c.args.scan.now.orientation ps c.in-Some.number)
+    (sym (c.rel-new.ensures.rel ∙ ap (λ (g : Versions). rel_at (record { 0 = c.in-Some.number }) g.now) c.loop-number.invariant.graph))
+    (first_of_all (IsFitAt c.args.scan.now.types.now c.args.scan.now.orientation c.args.sight.now.graph ps) c.loop-number.number-iterator c.next.new.self (c.in-Some.number, option_copied c.in-Some.was) c.in-Some.ensures.steps c.loop-number.invariant.fit).0.1
 
 pub loop-number-preserved : goal.loop-number-preserved
 loop-number-preserved c =
     let ps = map (λ part. plan_of part.now) c.args.scan.now.parts.now in
     let so_far = c.loop-number.invariant in
     let steps = c.in-Some.ensures.steps in
-    let now = c.rel-new.ensures.rel ∙ ap (λ (g : Versions). rel_at (record { 0 = c.in-Some.number.now }) g.now) so_far.graph in
+    let now = c.rel-new.ensures.rel ∙ ap (λ (g : Versions). rel_at (record { 0 = c.in-Some.number }) g.now) so_far.graph in
     record {
       made = λ row.
           walked (λ (e : ℕ × Option Rel). recounted (rel_made c.args.scan.now.types.now c.args.scan.now.orientation ps e.0 e.1) (rel_made c.args.scan.now.types.now c.args.scan.now.orientation ps e.0 (rel_at (record { 0 = e.0 }) c.args.sight.now.graph.now)) row)
-          (c.in-Some.number.now, option_copied c.in-Some.was.now) (map (λ e. (e.0, option_copied e.1)) c.next.new.self)
+          (c.in-Some.number, option_copied c.in-Some.was) c.next.new.self
           (deltas_of row c.loop-number.deltas.items) (deltas_of row c.add_rel.new.deltas.items) _
           (c.in_ok-add_rel.ensures.made row
-          ∙ ap (λ (o : Option Rel). deltas_of row c.loop-number.deltas.items ++ recounted (rel_made c.args.scan.now.types.now c.args.scan.now.orientation ps c.in-Some.number.now (option_copied c.in-Some.was.now)) (rel_made c.args.scan.now.types.now c.args.scan.now.orientation ps c.in-Some.number.now o) row) now)
+          ∙ ap (λ (o : Option Rel). deltas_of row c.loop-number.deltas.items ++ recounted (rel_made c.args.scan.now.types.now c.args.scan.now.orientation ps c.in-Some.number (option_copied c.in-Some.was)) (rel_made c.args.scan.now.types.now c.args.scan.now.orientation ps c.in-Some.number o) row) now)
           (ap (λ left. deltas_of row c.loop-number.deltas.items
-          ++ flat_map (λ (e : ℕ × Option Rel). recounted (rel_made c.args.scan.now.types.now c.args.scan.now.orientation ps e.0 e.1) (rel_made c.args.scan.now.types.now c.args.scan.now.orientation ps e.0 (rel_at (record { 0 = e.0 }) c.args.sight.now.graph.now)) row) (map (λ e. (e.0, option_copied e.1)) left)) (sym steps)
+          ++ flat_map (λ (e : ℕ × Option Rel). recounted (rel_made c.args.scan.now.types.now c.args.scan.now.orientation ps e.0 e.1) (rel_made c.args.scan.now.types.now c.args.scan.now.orientation ps e.0 (rel_at (record { 0 = e.0 }) c.args.sight.now.graph.now)) row) left) (sym steps)
           ∙ so_far.made row);
-      fit = (next_fit (IsFitAt c.args.scan.now.types.now c.args.scan.now.orientation c.args.sight.now.graph ps) c.loop-number.number-iterator c.next.new.self (c.in-Some.number.now, c.in-Some.was.now) steps so_far.fit).1;
+      fit = (first_of_all (IsFitAt c.args.scan.now.types.now c.args.scan.now.orientation c.args.sight.now.graph ps) c.loop-number.number-iterator c.next.new.self (c.in-Some.number, option_copied c.in-Some.was) steps so_far.fit).1;
       bounded = c.in_ok-add_rel.ensures.bounded so_far.bounded;
       graph = ap (λ (s : SightState). s.graph) c.rel-new.ensures.read ∙ so_far.graph;
-      reads = one_less c.loop-number.number-iterator c.next.new.self (c.in-Some.number.now, c.in-Some.was.now) c.args.sight.now.reads c.loop-number.sight.reads c.rel-new.new.self.reads _ steps so_far.reads
+      reads = one_less c.loop-number.number-iterator c.next.new.self (c.in-Some.number, option_copied c.in-Some.was) c.args.sight.now.reads c.loop-number.sight.reads c.rel-new.new.self.reads _ steps so_far.reads
           (one_read c.loop-number.sight c.rel-new.new.self c.rel-new.ensures.read);
     }

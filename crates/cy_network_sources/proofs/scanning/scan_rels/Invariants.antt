@@ -2,7 +2,6 @@
 use Rattle.std.proofs.Common.{◌≡◌, ℕ, ◌≤◌, ◌+◌, ◌++◌, List, Option, length, map}
 use Rattle.std.specs.Prelude.{flat_map}
 use Rattle.std.specs.List.{All}
-use Rattle.std.specs.Option.{option_copied}
 use Rattle.cy_values.specs.declared.rows.Cell.{Cell}
 use Rattle.cy_graph.specs.declared.nodes.Rel.{Rel}
 use Rattle.cy_graph.specs.Graph.{rel_at}
@@ -15,11 +14,11 @@ abbrev pub invariant-loop-number : goal.invariant-loop-number
 invariant-loop-number l = record {
   made : (row : List Cell) → deltas_of row l.deltas.items
       ++ flat_map (λ (e : ℕ × Option Rel). recounted (rel_made l.scan.types.now l.scan.orientation (map (λ part. plan_of part.now) l.scan.parts.now) e.0 e.1)
-      (rel_made l.scan.types.now l.scan.orientation (map (λ part. plan_of part.now) l.scan.parts.now) e.0 (rel_at (record { 0 = e.0 }) l.initial.sight.graph.now)) row) (map (λ e. (e.0, option_copied e.1)) l.number-iterator)
+      (rel_made l.scan.types.now l.scan.orientation (map (λ part. plan_of part.now) l.scan.parts.now) e.0 (rel_at (record { 0 = e.0 }) l.initial.sight.graph.now)) row) l.number-iterator
       ≡ flat_map (λ (e : ℕ × Option Rel). recounted (rel_made l.scan.types.now l.scan.orientation (map (λ part. plan_of part.now) l.scan.parts.now) e.0 e.1)
       (rel_made l.scan.types.now l.scan.orientation (map (λ part. plan_of part.now) l.scan.parts.now) e.0 (rel_at (record { 0 = e.0 }) l.initial.sight.graph.now)) row) l.change.rels;
   fit : All (λ (e : ℕ × Option Rel). IsRelFit l.scan.types.now l.scan.orientation (map (λ part. plan_of part.now) l.scan.parts.now) e.0 e.1
-      × IsRelFit l.scan.types.now l.scan.orientation (map (λ part. plan_of part.now) l.scan.parts.now) e.0 (rel_at (record { 0 = e.0 }) l.initial.sight.graph.now)) (map (λ e. (e.0, option_copied e.1)) l.number-iterator);
+      × IsRelFit l.scan.types.now l.scan.orientation (map (λ part. plan_of part.now) l.scan.parts.now) e.0 (rel_at (record { 0 = e.0 }) l.initial.sight.graph.now)) l.number-iterator;
   bounded : All IsBounded l.deltas.items;
   graph : l.sight.graph ≡ l.initial.sight.graph;
   reads : l.sight.reads + length l.number-iterator ≤ l.initial.sight.reads + length l.change.rels;

@@ -1,7 +1,6 @@
 -- what the entities so far make, with what is still to be made; each is read once, and the memory is as it was
-use Rattle.std.proofs.Common.{◌≡◌, ◌≤◌, ◌+◌, true, ◌++◌, ◌∷◌, [], List, ℕ, Option, length, map}
+use Rattle.std.proofs.Common.{◌≡◌, ◌≤◌, ◌+◌, true, ◌++◌, ◌∷◌, [], List, ℕ, Option, length}
 use Rattle.std.specs.Prelude.{flat_map, sum_by}
-use Rattle.std.specs.Option.{option_copied}
 use Rattle.cy_values.specs.declared.rows.Cell.{Cell}
 use Rattle.cy_values.specs.declared.rows.Cell.TheVariants as cell
 use Rattle.cy_graph.specs.declared.nodes.Rel.{Rel}
@@ -13,18 +12,18 @@ use Rattle.cy_network_touches.specs.internal.Attributes.{still}
 use Rattle.cy_network_touches.specs.internal.Named.{AreAmong, with_key}
 use Rattle.cy_network_touches.proofs.lookups.add_at_rels.Given as goal
 
-abbrev pub invariant-loop-touched : goal.invariant-loop-touched
-invariant-loop-touched g l = record {
+abbrev pub invariant-loop-number : goal.invariant-loop-number
+invariant-loop-number g l = record {
   made : (before : State) (column : ℕ) → IsChange before l.initial.sight.graph.now l.change → g.M.Memory.key_columns l.initial.memory ≡ column ∷ [] → (row : List Cell)
       → deltas_of row l.made.items
-      ++ flat_map (λ (e : ℕ × Option Rel). still before.content l.initial.sight.graph.now.content column l.attribute (g.M.Memory.was l.initial.memory) (g.M.Memory.staged l.initial.memory) (cell.Rel (record { 0 = e.0 })) row) (map (λ e. (e.0, option_copied e.1)) l.touched-iterator)
+      ++ flat_map (λ (e : ℕ × Option Rel). still before.content l.initial.sight.graph.now.content column l.attribute (g.M.Memory.was l.initial.memory) (g.M.Memory.staged l.initial.memory) (cell.Rel (record { 0 = e.0 })) row) l.number-iterator
       ≡ deltas_of row l.initial.made.items
       ++ flat_map (λ (e : ℕ × Option Rel). still before.content l.initial.sight.graph.now.content column l.attribute (g.M.Memory.was l.initial.memory) (g.M.Memory.staged l.initial.memory) (cell.Rel (record { 0 = e.0 })) row) l.change.rels;
   read : IsRead g.M.Memory.key_columns g.M.Memory.was g.M.Memory.staged g.M.Memory.step_count l.initial.memory l.memory;
   graph : l.sight.graph ≡ l.initial.sight.graph;
-  reads : l.sight.reads + length l.touched-iterator ≤ l.initial.sight.reads + length l.change.rels;
+  reads : l.sight.reads + length l.number-iterator ≤ l.initial.sight.reads + length l.change.rels;
   steps : (column : ℕ) (rows : List (List Cell)) → g.M.Memory.key_columns l.initial.memory ≡ column ∷ [] → AreAmong (g.M.Memory.was l.initial.memory) (g.M.Memory.staged l.initial.memory) rows → g.M.Memory.EXACT ≡ true
       → g.M.Memory.step_count l.memory
-      + (length {A = ℕ × Option Rel} (map (λ e. (e.0, option_copied e.1)) l.touched-iterator) + sum_by (λ (e : ℕ × Option Rel). with_key (column ∷ []) (cell.Rel (record { 0 = e.0 }) ∷ []) rows) (map (λ e. (e.0, option_copied e.1)) l.touched-iterator))
+      + (length l.number-iterator + sum_by (λ (e : ℕ × Option Rel). with_key (column ∷ []) (cell.Rel (record { 0 = e.0 }) ∷ []) rows) l.number-iterator)
       ≤ g.M.Memory.step_count l.initial.memory + (length l.change.rels + sum_by (λ (e : ℕ × Option Rel). with_key (column ∷ []) (cell.Rel (record { 0 = e.0 }) ∷ []) rows) l.change.rels);
 }

@@ -3,7 +3,7 @@ use Rattle.std.proofs.Common.{◌≡◌, ℕ, None, map}
 use Rattle.cy_graph.specs.Touched.{before_image}
 use Rattle.cy_network_touches.specs.Changes.{image_at}
 use Rattle.cy_network_touches.specs.internal.Images.{nodes_noted, rels_noted}
-use Rattle.cy_network_touches.proofs.changes.GraphChange.new.Given as goal
+use Rattle.cy_network_touches.proofs.noted.Noted.new.Given as goal
 
 abbrev pub invariant-loop-entity : goal.invariant-loop-entity
 invariant-loop-entity l = record {

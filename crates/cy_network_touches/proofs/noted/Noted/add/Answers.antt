@@ -5,7 +5,7 @@ use Rattle.cy_graph.specs.Touched.{old_value}
 use Rattle.cy_network_touches.specs.Changes.{Touches, image_at}
 use Rattle.cy_network_touches.specs.internal.Images.{node_noted, rel_noted}
 use Rattle.cy_network_touches.proofs.Gathering.{added}
-use Rattle.cy_network_touches.proofs.changes.GraphChange.add.Goals as goal
+use Rattle.cy_network_touches.proofs.noted.Noted.add.Goals as goal
 
 pub returns-in_ok-insert-in-Node-clause-nodes : goal.returns-in_ok-insert-in-Node-clause-nodes
 returns-in_ok-insert-in-Node-clause-nodes c = λ number.

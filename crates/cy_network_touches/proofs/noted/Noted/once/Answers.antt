@@ -4,7 +4,7 @@ use Rattle.std.specs.Map.{keys_of}
 use Rattle.std.specs.Option.{option_copied}
 use Rattle.std.proofs.lemmas.Map.Made.{keys_of-map_values}
 use Rattle.cy_network_touches.specs.Changes.{Touches}
-use Rattle.cy_network_touches.proofs.changes.GraphChange.once.Goals as goal
+use Rattle.cy_network_touches.proofs.noted.Noted.once.Goals as goal
 
 pub returns-clause-nodes : goal.returns-clause-nodes
 returns-clause-nodes c =

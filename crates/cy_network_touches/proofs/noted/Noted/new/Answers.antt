@@ -5,7 +5,7 @@ use Rattle.std.proofs.lemmas.Iterator.Adapters.{YieldsList-from_vec}
 use Rattle.cy_graph.specs.Touched.{before_image}
 use Rattle.cy_network_touches.specs.internal.Images.{node_noted, nodes_noted, rel_noted, rels_noted}
 use Rattle.cy_network_touches.proofs.Gathering.{gathered, nodes_more, rels_more}
-use Rattle.cy_network_touches.proofs.changes.GraphChange.new.Goals as goal
+use Rattle.cy_network_touches.proofs.noted.Noted.new.Goals as goal
 
 pub loop-entity-preserved : goal.loop-entity-preserved
 loop-entity-preserved c = record {

@@ -43,7 +43,7 @@ pub fn lowest_deltas<'a>(
     if is_unit(part) {
         return unit_deltas(alloc, from_nothing);
     }
-    scan(alloc, scanned, change, sight)
+    scan(alloc, scanned, from_nothing, change, sight)
 }
 
 // The empty row is there as soon as there is a graph. Fails only when out of memory.

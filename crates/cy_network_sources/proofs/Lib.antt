@@ -10,3 +10,4 @@ pub mod ThroughScans
 pub mod SameEnds
 pub mod TypeTests
 pub mod Elsewhere
+pub mod FirstScans

@@ -39,7 +39,7 @@ if_some_then P Q (Some x) each is = each x is
 if_some_then P Q None each is = tt
 
 module _ (before now : State) (touches : Touches) (ps : List Plan) (leaf p : Plan) (over : IsScanOver before now touches ps leaf p) where
-  column : (c : ℕ) × (scan_column p ≡ Some c)
+  pub column : (c : ℕ) × (scan_column p ≡ Some c)
   column = some_of (scan_column p) over.scan.column
 
   pub nodes_fit : leaf ≡ plan.nodes → All (λ (e : ℕ × Option Node). IsNodeFit ps e.0 e.1 × IsNodeFit ps e.0 (node_under now e.0)) touches.nodes

@@ -1,7 +1,7 @@
 use Rattle.std.proofs.Common.{◌≡◌, ℕ, ◌+◌, ◌≤◌, ◌⊎◌, inl, inr, Bool, true, false, cond, List, [], ◌∷◌, Option, Some, None, is_none, refl, sym, ap, subst, ◌∙◌, arith, true≢false}
 use Rattle.std.proofs.lemmas.List.Elements.{All-cons, All-nil}
 use Rattle.cy_values.specs.declared.rows.Cell.{Cell}
-use Rattle.cy_graph.specs.Graph.{State}
+use Rattle.cy_graph.specs.Graph.{State, empty_state}
 use Rattle.cy_planner_algebra.specs.Plans as plan
 use Rattle.cy_planner_algebra.specs.Plans.{Plan}
 use Rattle.cy_planner_algebra.specs.PlanModels.{plan_of}
@@ -9,7 +9,8 @@ use Rattle.cy_network_memory.specs.declared.memory.RowDelta.{RowDelta}
 use Rattle.cy_network_operators.specs.Deltas.{IsBounded, counts, rows_at, row_delta_between, deltas_of}
 use Rattle.cy_network_parts.specs.Memories.{is_scan}
 use Rattle.cy_network_parts.specs.Parts.{is_unit}
-use Rattle.cy_network_parts.specs.Upkeep.{IsDeltaOf, state_of}
+use Rattle.cy_network_touches.specs.Changes.{IsChange, Touches}
+use Rattle.cy_network_parts.specs.Upkeep.{IsDeltaOf, IsStep, state_of}
 use Rattle.cy_network_parts.proofs.Outcomes.{if_ok_more, if_ok_two}
 use Rattle.cy_network_parts.proofs.Scanned.{chain_scan, is_scan_of, reads_within, scan_delta}
 use Rattle.cy_network_part_deltas.proofs.leaves.lowest_deltas.Goals as goal
@@ -51,12 +52,21 @@ returns-then-is_unit-clause-delta c =
     if_ok_more _ _ c.unit_deltas.result c.unit_deltas.ensures
     (λ deltas made old first step. unit_done (plan_of c.args.part.now) c.args.from_nothing old c.args.sight.now.graph.now deltas.items is first made)
 
+-- where there was no graph before, all of it comes
+change_from : (old : Option State) (now : State) (touches : Touches) (p : Plan) (from_nothing : Bool) → from_nothing ≡ is_none old → from_nothing ≡ true → IsStep old now touches p
+    → IsChange (empty_state 1 1) now touches
+change_from None now touches p from_nothing same first step = step.change
+change_from (Some s) now touches p from_nothing same first step = absurd (true≢false (sym first ∙ same))
+
 pub scan-requires : goal.scan-requires
 scan-requires c =
     let p = plan_of c.args.part.now in
     let old = c.requires.begun.0 in
     let is = other_is p (sym c.is_unit.ensures ∙ c.if-is_unit.false) c.requires.lowest in
-    record { scan = (state_of old, (p, is_scan_of old c.args.sight.now.graph.now c.args.change.now _ p c.requires.scanned is c.requires.begun.1.1)) }
+    record {
+      scan = (state_of old, (p, is_scan_of old c.args.sight.now.graph.now c.args.change.now _ p c.requires.scanned is c.requires.begun.1.1));
+      nothing = λ first. change_from old c.args.sight.now.graph.now c.args.change.now p c.args.from_nothing c.requires.begun.1.0 first c.requires.begun.1.1;
+    }
 
 pub returns-clause-delta : goal.returns-clause-delta
 returns-clause-delta c =

@@ -1,4 +1,6 @@
 pub mod Passes
+pub mod Same
+pub mod OtherTables
 pub mod Nothing
 pub mod ChainParts
 pub mod Popped

@@ -4,6 +4,8 @@ pub mod Counted
 pub mod Limits
 pub mod Memories
 pub mod Parts
+pub mod Shared
+pub mod Tables
 pub mod Taken
 pub mod Upkeep
 pub mod internal

@@ -14,7 +14,7 @@ use Rattle.cy_network_merges.specs.Merges.{AreBounded, all_columns}
 use Rattle.cy_network_sources.specs.Scans.{kept_at, scan_column}
 use Rattle.cy_network_outer.specs.Outer.{numbers_of_partners}
 use Rattle.cy_network_merges.specs.Semi.{numbers_of_keys}
-use Rattle.cy_network_tables.specs.Held.{is_shared}
+use Rattle.cy_network_parts.specs.Shared.{is_shared}
 
 -- an operator is a scan: what changes of its rows comes from the touched entities alone
 abbrev pub is_scan : Plan → Bool

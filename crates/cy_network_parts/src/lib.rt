@@ -6,6 +6,7 @@ mod held;
 mod kept_columns;
 mod memories;
 mod parts;
+mod tables;
 
 pub use held::shared_back;
 pub use memories::{

@@ -9,7 +9,7 @@ use Rattle.cy_planner_algebra.specs.Plans as plan
 use Rattle.cy_planner_algebra.specs.Plans.{Output, Plan}
 use Rattle.cy_planner_algebra.specs.PlanModels.{plan_of}
 use Rattle.cy_planner_algebra.proofs.Layers.{IsNoProject, IsNoRels, by_layer, plan_from}
-use Rattle.cy_network_tables.specs.Tables.{is_rels, is_table, same_table}
+use Rattle.cy_network_parts.specs.Tables.{is_rels, is_table, same_table}
 
 -- an operator that gives no relationships gives none of these types, and no projection of it is a table
 pub rels_else : (types : List Name) (way : Orientation) (part : Operator) → IsNoRels part → is_rels types way (plan_of part) ≡ false

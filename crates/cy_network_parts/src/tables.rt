@@ -4,14 +4,14 @@ ghost use Rattle.std.specs.Prelude.{◌≡◌, map};
 ghost use Rattle.std.specs.Str.{bytes_eq};
 ghost use Rattle.cy_planner_algebra.specs.Plans as plan;
 ghost use Rattle.cy_planner_algebra.specs.PlanModels.{output_of, plan_of};
-ghost use Rattle.cy_network_tables.specs.Tables as spec;
+ghost use Rattle.cy_network_parts.specs.Tables as spec;
 
 use cy_planner_algebra::{KeyColumns, Operator, Orientation, Output};
 use cy_trees::Expr;
 use cy_values::Text;
 
 /// Whether two operators are the same table of relationships: all of some types, each with some of its columns.
-pub fn same_table(table: &Operator, other: &Operator) -> bool
+pub(crate) fn same_table(table: &Operator, other: &Operator) -> bool
     ensures { result ≡ spec.same_table (plan_of table.now) (plan_of other.now) }
 {
     match table {
@@ -113,7 +113,7 @@ fn same_column(column: Option<usize>, other: Option<usize>) -> bool
 }
 
 /// Whether the left columns of two lists of keys are the same, in their order.
-pub fn same_columns(left: &[KeyColumns], right: &[KeyColumns]) -> bool
+pub(crate) fn same_columns(left: &[KeyColumns], right: &[KeyColumns]) -> bool
     ensures { result ≡ spec.same_columns (map (λ k. k.left) left.now) (map (λ k. k.left) right.now) }
 {
     let mut others = right.iter();

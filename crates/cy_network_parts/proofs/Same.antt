@@ -10,7 +10,7 @@ use Rattle.cy_planner_algebra.specs.declared.operators.Orientation.{Orientation}
 use Rattle.cy_planner_algebra.specs.declared.operators.Orientation.TheVariants as orientation
 use Rattle.cy_planner_algebra.specs.Plans as plan
 use Rattle.cy_planner_algebra.specs.Plans.{Output, Plan, computed}
-use Rattle.cy_network_tables.specs.Tables.{is_rels, is_table, same_column, same_columns, same_names, same_orientation, same_output, same_outputs, same_table}
+use Rattle.cy_network_parts.specs.Tables.{is_rels, is_table, same_column, same_columns, same_names, same_orientation, same_output, same_outputs, same_table}
 
 pub both : (a b : Bool) → (a && b) ≡ true → (a ≡ true) × (b ≡ true)
 both true b h = (refl, h)

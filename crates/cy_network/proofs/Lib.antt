@@ -7,6 +7,7 @@ pub mod Opened
 pub mod Through
 pub mod Partway
 pub mod Shared
+pub mod Sides
 pub mod Upwards
 pub mod Climbs
 pub mod Irrelevant

@@ -1,5 +1,5 @@
 -- What the memories of a plan hold, and the counts of its rows, once a change went through it.
-use Rattle.std.proofs.Common.{◌≡◌, ℕ, ◌+◌, ◌-◌, ◌*◌, ◌≤◌, List, [], ◌∷◌, ◌++◌, Option, Some, map, min, sym, subst, ◌∙◌, arith}
+use Rattle.std.proofs.Common.{◌≡◌, ℕ, ◌+◌, ◌-◌, ◌*◌, ◌≤◌, List, Option, Some, map, min, sym, subst, ◌∙◌, arith}
 use Rattle.cy_graph.specs.Graph.{Content, State}
 use Rattle.cy_network_memory.specs.Counts.{Counts}
 use Rattle.cy_planner_algebra.specs.Plans.{Plan}

@@ -9,6 +9,7 @@ pub mod laws;
 mod memories;
 mod pairs;
 mod passages;
+mod sides;
 
 pub use deltas::add_row_delta;
 pub use distinct_rows::distinct;
@@ -17,3 +18,4 @@ pub use joins::{join_held, join_through};
 pub use memories::{records_with, stage_deltas};
 pub use pairs::{appended, followed_by, preceded_by, product};
 pub use passages::{Passage, Unchanged};
+pub use sides::SideDeltas;

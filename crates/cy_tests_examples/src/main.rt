@@ -1,30 +1,11 @@
 //! Runs the sessions of the transcripts again, and reports where what is written is something else, and where a view isn't what
-//! its query gives. Tests beside it have what no transcript holds of sessions: calls of the engine, bags and feeds, invalid UTF-8, very long
-//! lines, lines that are cut short, options, and streams that fail or are interrupted.
+//! its query gives.
 #![tactic(auto)]
 
 ghost use Rattle.std.specs.Prelude.{◌≤◌};
 
-#[cfg(test)]
-mod cuts;
-#[cfg(test)]
-mod engine;
-#[cfg(test)]
-mod feeds;
-#[cfg(test)]
-mod followers;
-#[cfg(test)]
-mod lines;
-#[cfg(test)]
-mod options;
 mod replay;
-#[cfg(test)]
-mod stops;
-#[cfg(test)]
-mod streams;
 mod transcript;
-#[cfg(test)]
-mod upkeep;
 mod views;
 
 use crate::replay::{Way, difference};

@@ -1,5 +1,6 @@
 //! The calls of an engine, with ample memory.
 
+use crate::trials::{Trial, expect_of_new};
 use cy_engine::{Engine, answer_all};
 use cy_values::{Cell, Row, Value};
 use std::alloc::Global;
@@ -26,9 +27,12 @@ const LINES: [&str; 6] = [
     "CREATE (:A {k: 7})",
 ];
 
-// The lines are answered, but for the fourth, and the view has the rows that they leave. (An engine is borrowed by what may fail:
-// the proof of each exit of a function that owns one takes minutes.)
-fn expect_answers(rt: &impl Abort, alloc: Global, engine: &mut Engine) -> Result<(), Fail> {
+// The lines are answered, but for the fourth, and the view has the rows that they leave.
+pub(crate) fn expect_answers(
+    rt: &impl Abort,
+    alloc: Global,
+    engine: &mut Engine,
+) -> Result<(), Fail> {
     let answers = answer_all(alloc, engine, &LINES).ok().ok_or("answers")?;
     assert!(rt; answers.len() == 6);
     for (number, answer) in answers.iter().enumerate() {
@@ -42,12 +46,11 @@ fn expect_answers(rt: &impl Abort, alloc: Global, engine: &mut Engine) -> Result
 
 #[test]
 fn answers_lines(rt: HostRuntime) -> Result<(), Fail> {
-    let mut engine = Engine::new(rt.alloc(), 64);
-    expect_answers(&rt, rt.alloc(), &mut engine)
+    expect_of_new(&rt, rt.alloc(), 64, Trial::Answers)
 }
 
 // An entry is there until the next line.
-fn expect_entries(rt: &impl Abort, engine: &mut Engine) -> Result<(), Fail> {
+pub(crate) fn expect_entries(rt: &impl Abort, engine: &mut Engine) -> Result<(), Fail> {
     assert!(rt; engine.line(":view v MATCH (n:A) RETURN n.k").is_ok());
     assert!(rt; engine.line("CREATE (:A {k: 7})").is_ok());
     let entry = engine.last("v").ok_or("entry")?;
@@ -60,6 +63,5 @@ fn expect_entries(rt: &impl Abort, engine: &mut Engine) -> Result<(), Fail> {
 
 #[test]
 fn lends_the_last_entry(rt: HostRuntime) -> Result<(), Fail> {
-    let mut engine = Engine::new(rt.alloc(), 64);
-    expect_entries(&rt, &mut engine)
+    expect_of_new(&rt, rt.alloc(), 64, Trial::Entries)
 }

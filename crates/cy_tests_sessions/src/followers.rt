@@ -2,6 +2,7 @@
 
 ghost use Rattle.std.specs.Prelude.{◌≤◌};
 
+use crate::trials::{Trial, expect_of_new};
 use cy_bags::Change;
 use cy_engine::{Engine, Fault, Reply};
 use cy_values::{Duplicate, Row};
@@ -155,7 +156,7 @@ fn send(rt: &impl Abort, engine: &mut Engine, line: Option<&&str>) {
 }
 
 // The four send their lines in this order.
-fn expect_followed(
+pub(crate) fn expect_followed(
     rt: &impl Abort,
     alloc: Global,
     engine: &mut Engine,
@@ -178,15 +179,6 @@ fn expect_followed(
     Ok(())
 }
 
-// The four send their lines in this order to an engine of their own.
-fn follow(rt: &impl Abort, alloc: Global, history: usize, order: u32) -> Result<(), Fail>
-    requires from { 1 ≤ history }
-    requires to { history ≤ 4096 }
-{
-    let mut engine = Engine::new(alloc, history);
-    expect_followed(rt, alloc, &mut engine, order)
-}
-
 // In every order, each follower has what the view is. Answers how many orders there are.
 fn orders_followed(rt: &impl Abort, alloc: Global, history: usize) -> Result<u32, Fail>
     requires from { 1 ≤ history }
@@ -195,7 +187,7 @@ fn orders_followed(rt: &impl Abort, alloc: Global, history: usize) -> Result<u32
     let mut count = 0u32;
     for order in 0..ORDERS {
         if is_order(order) {
-            follow(rt, alloc, history, order)?;
+            expect_of_new(rt, alloc, history, Trial::Followed(order))?;
             count = count.saturating_add(1);
         }
     }

@@ -24,6 +24,8 @@ mod stops;
 #[cfg(test)]
 mod streams;
 #[cfg(test)]
+mod trials;
+#[cfg(test)]
 mod upkeep;
 
 use crate::script::{AnswerWriter, ScriptReader};

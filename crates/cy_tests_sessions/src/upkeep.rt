@@ -1,5 +1,6 @@
 //! How views are kept up: the weight of their queries, rows that count too often, and steps.
 
+use crate::trials::{Trial, expect_of_new};
 use cy_engine::{Engine, Fault, Reply};
 use std::alloc::Global;
 use std::fmt::Write;
@@ -17,7 +18,11 @@ fn view_of_items(alloc: Global, items: u16) -> Result<String, Fail> {
 }
 
 // A query may weigh 512: its two clauses, its place and 509 items.
-fn expect_weights(rt: &impl Abort, alloc: Global, engine: &mut Engine) -> Result<(), Fail> {
+pub(crate) fn expect_weights(
+    rt: &impl Abort,
+    alloc: Global,
+    engine: &mut Engine,
+) -> Result<(), Fail> {
     let refused = engine.line(view_of_items(alloc, 510)?.as_str());
     assert!(rt; matches!(refused, Err(Fault::PlanTooLarge)));
     assert!(rt; engine.line(view_of_items(alloc, 509)?.as_str()).is_ok());
@@ -27,8 +32,7 @@ fn expect_weights(rt: &impl Abort, alloc: Global, engine: &mut Engine) -> Result
 
 #[test]
 fn weighs_queries(rt: HostRuntime) -> Result<(), Fail> {
-    let mut engine = Engine::new(rt.alloc(), 64);
-    expect_weights(&rt, rt.alloc(), &mut engine)
+    expect_of_new(&rt, rt.alloc(), 64, Trial::Weights)
 }
 
 const EIGHT: &str =
@@ -68,7 +72,7 @@ fn expect_no_view(rt: &impl Abort, engine: &mut Engine) {
     assert!(rt; matches!(engine.rows("w"), Err(Fault::NoSuchView)));
 }
 
-fn expect_limit(rt: &impl Abort, engine: &mut Engine) -> Result<(), Fail> {
+pub(crate) fn expect_limit(rt: &impl Abort, engine: &mut Engine) -> Result<(), Fail> {
     expect_counts(rt, engine)?;
     expect_no_view(rt, engine);
     Ok(())
@@ -76,8 +80,7 @@ fn expect_limit(rt: &impl Abort, engine: &mut Engine) -> Result<(), Fail> {
 
 #[test]
 fn counts_to_the_limit(rt: HostRuntime) -> Result<(), Fail> {
-    let mut engine = Engine::new(rt.alloc(), 64);
-    expect_limit(&rt, &mut engine)
+    expect_of_new(&rt, rt.alloc(), 64, Trial::Limit)
 }
 
 // The steps of the one view there is.
@@ -92,7 +95,7 @@ fn steps(engine: &mut Engine) -> Option<u64> {
 }
 
 // What a line takes in a view doesn't rise with the nodes that it has nothing to do with. A command leaves the number as it was.
-fn expect_steps(rt: &impl Abort, engine: &mut Engine, others: u64) -> Result<(), Fail> {
+pub(crate) fn expect_steps(rt: &impl Abort, engine: &mut Engine, others: u64) -> Result<(), Fail> {
     assert!(rt;
         engine
             .line(":view v MATCH (a:A) OPTIONAL MATCH (a)-[:T]->(b:B) RETURN a, b")
@@ -114,12 +117,10 @@ fn expect_steps(rt: &impl Abort, engine: &mut Engine, others: u64) -> Result<(),
 
 #[test]
 fn takes_few_steps(rt: HostRuntime) -> Result<(), Fail> {
-    let mut engine = Engine::new(rt.alloc(), 64);
-    expect_steps(&rt, &mut engine, 1_000)
+    expect_of_new(&rt, rt.alloc(), 64, Trial::Steps(1_000))
 }
 
 #[test]
 fn takes_as_few_among_more_nodes(rt: HostRuntime) -> Result<(), Fail> {
-    let mut engine = Engine::new(rt.alloc(), 64);
-    expect_steps(&rt, &mut engine, 2_000)
+    expect_of_new(&rt, rt.alloc(), 64, Trial::Steps(2_000))
 }

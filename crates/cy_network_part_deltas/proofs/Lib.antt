@@ -1,4 +1,5 @@
 pub mod Shifted
+pub mod Formed
 pub mod OwnSingles
 pub mod OwnPairs
 pub mod OwnHeld

@@ -23,7 +23,7 @@ use Rattle.cy_network_operators.specs.Deltas.{IsBounded, IsDelta, counts, counts
 use Rattle.cy_network_operators.proofs.PlanLemmas.{different_at, filter_at, lookup_at, once_at, project_at}
 use Rattle.cy_network_touches.specs.Changes.{Touches}
 use Rattle.cy_network_parts.specs.Memories.{is_row_by_row, is_scan, none_where}
-use Rattle.cy_network_parts.specs.Upkeep.{IsDeltaOf, IsOwnBegun, IsOwnDone, IsStep, content_of, state_of}
+use Rattle.cy_network_parts.specs.Upkeep.{IsDeltaOf, IsFed, IsOwnBegun, IsOwnDone, IsStep, content_of, state_of}
 use Rattle.cy_network_operators.specs.Passing.{left_of, row_delta_if}
 use Rattle.cy_planner_algebra.proofs.Counts.{count_passing}
 use Rattle.cy_network_parts.specs.Parts.{first_below}
@@ -150,22 +150,21 @@ left_images columns outputs (s ∷ deltas) = by (keeps columns s.row) (left_imag
     by true more = ap (λ xs. image (projected outputs) s ∷ xs) more
     by false more = more
 
-module _ (old : Option State) (now : State) (touches : Touches) (p : Plan) (outputs : List Output) (deltas : List RowDelta) (key : List ℕ) (was staged : Counts)
-    (kept : is_row_by_row p outputs ≡ false) (step : IsStep old now touches (plan.project p outputs)) (begun : IsOwnBegun old (plan.project p outputs) (key ∷ []) (was ∷ []) (staged ∷ []))
-    (part : IsDeltaOf old now p deltas) where
+module _ {old : Option State} {now : State} {touches : Touches} {p : Plan} {outputs : List Output} {deltas : List RowDelta} {key : List ℕ} {was staged : Counts}
+    (fed : IsFed old now touches (plan.project p outputs) (key ∷ []) (was ∷ []) (staged ∷ []) deltas) (kept : is_row_by_row p outputs ≡ false) where
   project_held : was ≡ counts (rows_at (content_of old) (plan.project p outputs))
   project_held = same_at was (was ∷ []) (counts (rows_at (content_of old) (plan.project p outputs)) ∷ []) 0
-      (begun.held ∙ ap (λ so. none_where so (counts (rows_at (content_of old) (plan.project p outputs)) ∷ [])) kept)
+      (fed.own.held ∙ ap (λ so. none_where so (counts (rows_at (content_of old) (plan.project p outputs)) ∷ [])) kept)
 
   pub project_settled : staged ≡ was
   project_settled = same_at staged (staged ∷ []) (counts (rows_at (content_of old) (plan.project p outputs)) ∷ []) 0
-      (begun.settled ∙ ap (λ so. none_where so (counts (rows_at (content_of old) (plan.project p outputs)) ∷ [])) kept) ∙ sym project_held
+      (fed.own.settled ∙ ap (λ so. none_where so (counts (rows_at (content_of old) (plan.project p outputs)) ∷ [])) kept) ∙ sym project_held
 
   pub project_within : AreBounded was
-  project_within = subst AreBounded (sym project_held) (own_within (content_of old) (plan.project p outputs) begun.within)
+  project_within = subst AreBounded (sym project_held) (own_within (content_of old) (plan.project p outputs) fed.own.within)
 
   pub project_change : IsProjectChange outputs was deltas (rows_at (content_of old) p) (rows_at (Some now.content) p)
-  project_change = record { delta = part.delta; held = project_held ∙ ap counts (project_at (content_of old) p outputs) }
+  project_change = record { delta = fed.below.delta; held = project_held ∙ ap counts (project_at (content_of old) p outputs) }
 
   pub project_done : (made : List RowDelta) (staged_now : Counts)
       → IsDelta (counts (map (projected outputs) (rows_at (content_of old) p))) (counts (map (projected outputs) (rows_at (Some now.content) p))) made
@@ -180,19 +179,19 @@ module _ (old : Option State) (now : State) (touches : Touches) (p : Plan) (outp
 
 -- ---- look-ups
 
-module _ (old : Option State) (now : State) (touches : Touches) (p : Plan) (column : ℕ) (attribute : Attribute) (deltas : List RowDelta) (key : List ℕ) (was staged : Counts)
-    (kept : is_scan (plan.lookup p column attribute) ≡ false) (step : IsStep old now touches (plan.lookup p column attribute)) (begun : IsOwnBegun old (plan.lookup p column attribute) (key ∷ []) (was ∷ []) (staged ∷ [])) (part : IsDeltaOf old now p deltas) where
+module _ {old : Option State} {now : State} {touches : Touches} {p : Plan} {column : ℕ} {attribute : Attribute} {deltas : List RowDelta} {key : List ℕ} {was staged : Counts}
+    (fed : IsFed old now touches (plan.lookup p column attribute) (key ∷ []) (was ∷ []) (staged ∷ []) deltas) (kept : is_scan (plan.lookup p column attribute) ≡ false) where
   pub lookup_keyed : key ≡ column ∷ []
-  lookup_keyed = same_at key (key ∷ []) ((column ∷ []) ∷ []) 0 (begun.keyed ∙ ap (λ so. none_where so ((column ∷ []) ∷ [])) kept)
+  lookup_keyed = same_at key (key ∷ []) ((column ∷ []) ∷ []) 0 (fed.own.keyed ∙ ap (λ so. none_where so ((column ∷ []) ∷ [])) kept)
 
   pub lookup_held : was ≡ counts (rows_at (content_of old) p)
-  lookup_held = same_at was (was ∷ []) (counts (rows_at (content_of old) p) ∷ []) 0 (begun.held ∙ ap (λ so. none_where so (counts (rows_at (content_of old) p) ∷ [])) kept)
+  lookup_held = same_at was (was ∷ []) (counts (rows_at (content_of old) p) ∷ []) 0 (fed.own.held ∙ ap (λ so. none_where so (counts (rows_at (content_of old) p) ∷ [])) kept)
 
   pub lookup_settled : staged ≡ was
-  lookup_settled = same_at staged (staged ∷ []) (counts (rows_at (content_of old) p) ∷ []) 0 (begun.settled ∙ ap (λ so. none_where so (counts (rows_at (content_of old) p) ∷ [])) kept) ∙ sym lookup_held
+  lookup_settled = same_at staged (staged ∷ []) (counts (rows_at (content_of old) p) ∷ []) 0 (fed.own.settled ∙ ap (λ so. none_where so (counts (rows_at (content_of old) p) ∷ [])) kept) ∙ sym lookup_held
 
   pub lookup_leads : IsDelta was (counts_after deltas was) deltas
-  lookup_leads = held_delta was (rows_at (content_of old) p) (rows_at (Some now.content) p) deltas lookup_held part.delta
+  lookup_leads = held_delta was (rows_at (content_of old) p) (rows_at (Some now.content) p) deltas lookup_held fed.below.delta
 
   pub lookup_counted : (row : List Cell) → was row ≡ count_of row (rows_at (content_of old) p)
   lookup_counted row = ap (λ f. f row) lookup_held
@@ -200,7 +199,7 @@ module _ (old : Option State) (now : State) (touches : Touches) (p : Plan) (colu
   pub lookup_within : (row : List Cell) → was row ≤ greatest_count
   lookup_within =
       subst AreBounded (sym lookup_held)
-      (own_within (content_of old) p (All-tail (λ part. AreBounded (counts (rows_at (content_of old) part))) (plan.lookup p column attribute) (parts p) begun.within))
+      (own_within (content_of old) p (All-tail (λ part. AreBounded (counts (rows_at (content_of old) part))) (plan.lookup p column attribute) (parts p) fed.own.within))
 
   pub lookup_done : (made : List RowDelta) (staged_now : Counts)
       → IsDelta (counts (map (with_attribute (state_of old).content column attribute) (rows_at (content_of old) p))) (counts (map (with_attribute now.content column attribute) (rows_at (Some now.content) p))) made
@@ -212,6 +211,6 @@ module _ (old : Option State) (now : State) (touches : Touches) (p : Plan) (colu
           (ap (λ content. map (with_attribute content column attribute) (rows_at (content_of old) p)) (sym (old_content old)) ∙ sym (lookup_at (content_of old) p column attribute)) leads;
       bounded = bounds;
     };
-    holds = ap (λ n. n ∷ []) (holds_now ∙ after_is was (rows_at (content_of old) p) (rows_at (Some now.content) p) deltas lookup_held part.delta)
+    holds = ap (λ n. n ∷ []) (holds_now ∙ after_is was (rows_at (content_of old) p) (rows_at (Some now.content) p) deltas lookup_held fed.below.delta)
         ∙ sym (ap (λ so. none_where so (counts (rows_at (Some now.content) p) ∷ [])) kept);
   }

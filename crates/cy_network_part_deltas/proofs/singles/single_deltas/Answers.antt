@@ -1,4 +1,4 @@
-use Rattle.std.proofs.Common.{◌≡◌, ℕ, ◌+◌, ◌≤◌, Bool, List, Option, Some, Result, Ok, filter, map, refl, ap, sym, subst, ◌∙◌, arith}
+use Rattle.std.proofs.Common.{◌≡◌, ℕ, ◌+◌, ◌≤◌, List, Option, Some, Result, Ok, filter, map, refl, ap, sym, subst, ◌∙◌, arith}
 use Rattle.std.specs.Prelude.{IsErr, IsErrAnd, sum_by}
 use Rattle.std.specs.declared.alloc.Global.{Global}
 use Rattle.std.specs.declared.vec.Vec.{Vec}
@@ -22,6 +22,7 @@ use Rattle.cy_planner_algebra.specs.Expressions.{holds, relationships_at}
 use Rattle.cy_planner_algebra.specs.Meaning.{each_once}
 use Rattle.cy_planner_algebra.specs.Sure.{HasTruth}
 use Rattle.cy_planner_algebra.specs.PlanModels.{plan_of, plan_step}
+use Rattle.cy_network_memory.specs.declared.memory.Memory.{Ghosts}
 use Rattle.cy_network_memory.specs.declared.memory.RowDelta.{RowDelta}
 use Rattle.cy_network_operators.specs.Deltas.{IsBounded, IsDelta, counts, rows_at}
 use Rattle.cy_network_touches.specs.Changes.{Touches}
@@ -30,7 +31,7 @@ use Rattle.cy_network_parts.specs.Upkeep.{IsFed, IsOwnDone, content_of}
 use Rattle.cy_network_parts.proofs.Outcomes.{if_err_more, if_ok_from, if_ok_more}
 use Rattle.cy_network_parts.proofs.Refusals.{if_memory}
 use Rattle.cy_network_parts.proofs.Taken.{grown_none}
-use Rattle.cy_network_part_deltas.specs.KeptUp.{IsKeptUpReading}
+use Rattle.cy_network_part_deltas.specs.KeptUp.{FedRows, IsKeptUpReading}
 use Rattle.cy_network_part_deltas.proofs.OwnSingles.{different_done, distinct_done, filter_done, filter_sure}
 use Rattle.cy_network_part_deltas.proofs.Shifted.{row_delta_numbers}
 use Rattle.cy_network_part_deltas.proofs.Elsewhere.{single_else}
@@ -74,35 +75,33 @@ made_distinct old now touches part p deltas made columns was staged is leads bou
 no_less : (m n : ℕ) → m ≤ m + n
 no_less m n = omega arith
 
-kept_nothing : {M : Type 0} (exact : Bool) (key_columns : M → List ℕ) (was staged : M → Counts) (step_count : M → ℕ) (p : Plan) (touches : Touches) (Fed : Option State → State → Touches → Type 0)
-    (own : List M) (sight : SightState) (made : Vec RowDelta Global) → ((old : Option State) → Fed old sight.graph.now touches → IsOwnDone old sight.graph.now p (map staged own) made.items)
-    → IsKeptUpReading exact key_columns was staged step_count p touches Fed own own sight sight (Ok made)
-kept_nothing exact key_columns was staged step_count p touches Fed own sight made done = record {
+kept_nothing : {M C : Type 0} (memory : Ghosts M C) (p : Plan) (touches : Touches) (deltas : List RowDelta) (own : List M) (sight : SightState) (made : Vec RowDelta Global)
+    → ((old : Option State) → FedRows memory own p deltas old sight.graph.now touches → IsOwnDone old sight.graph.now p (map memory.staged own) made.items)
+    → IsKeptUpReading memory p touches deltas own own sight sight (Ok made)
+kept_nothing memory p touches deltas own sight made done = record {
   done = done;
   too_many = tt;
   was = refl;
   columns = refl;
-  grows = grown_none step_count own;
+  grows = grown_none memory.step_count own;
   graph = refl;
-  steps = λ is old fed. no_less (sum_by step_count own) (own_steps (rows_at (content_of old)) (rows_at (Some sight.graph.now.content)) touches p);
+  steps = λ is old fed. no_less (sum_by memory.step_count own) (own_steps (rows_at (content_of old)) (rows_at (Some sight.graph.now.content)) touches p);
   reads = λ old fed. no_less sight.reads (own_reads (rows_at (content_of old)) (rows_at (Some sight.graph.now.content)) touches p);
 }
 
-kept_refused : {M : Type 0} (exact : Bool) (key_columns : M → List ℕ) (was staged : M → Counts) (step_count : M → ℕ) (p : Plan) (touches : Touches) (Fed : Option State → State → Touches → Type 0)
-    (own : List M) (sight : SightState) (result : Result (Vec RowDelta Global) MemoryFault) → IsErr result → IsErrAnd result (λ fault. fault ≡ NoMemory)
-    → IsKeptUpReading exact key_columns was staged step_count p touches Fed own own sight sight result
-kept_refused exact key_columns was staged step_count p touches Fed own sight result refused memory = record {
+kept_refused : {M C : Type 0} (memory : Ghosts M C) (p : Plan) (touches : Touches) (deltas : List RowDelta) (own : List M) (sight : SightState) (result : Result (Vec RowDelta Global) MemoryFault)
+    → IsErr result → IsErrAnd result (λ fault. fault ≡ NoMemory) → IsKeptUpReading memory p touches deltas own own sight sight result
+kept_refused memory p touches deltas own sight result refused none = record {
   done = IfOk-from_err result _ refused;
-  too_many = if_memory _ result memory;
+  too_many = if_memory _ result none;
   was = refl;
   columns = refl;
-  grows = grown_none step_count own;
+  grows = grown_none memory.step_count own;
   graph = refl;
   steps = IfOk-from_err result _ refused;
   reads = IfOk-from_err result _ refused;
 }
 
--- src/singles.rt:56:41
 pub filter-requires-clause-sure : goal.filter-requires-clause-sure
 filter-requires-clause-sure g c =
     let p = plan_of c.in-Filter.field-0.value in
@@ -111,7 +110,6 @@ filter-requires-clause-sure g c =
     given_sure c.requires.begun.0 c.args.sight.now.graph.now c.args.change.now (plan_of c.args.part.now) p test c.args.deltas.items
     (map g.M.Memory.key_columns c.args.own.now) (map g.M.Memory.was c.args.own.now) (map g.M.Memory.staged c.args.own.now) is c.requires.begun.1
 
--- src/singles.rt:56:41
 pub filter-requires-clause-numbered : goal.filter-requires-clause-numbered
 filter-requires-clause-numbered g c =
     let p = plan_of c.in-Filter.field-0.value in
@@ -141,13 +139,13 @@ pub returns-in_ok-filter-in-Filter : goal.returns-in_ok-filter-in-Filter
 returns-in_ok-filter-in-Filter g c =
     let is : plan_of c.args.part.now ≡ plan.filter (plan_of c.in-Filter.field-0.value) (expression_of c.in-Filter.test) =
     ap plan_of (c.in-Filter.is ∙ sym (rolls-Filter c.in-Filter.field-0 c.in-Filter.test)) ∙ fold-roll-Operator Plan plan_step _ in
-    kept_nothing _ _ _ _ _ _ _ _ _ _ _
+    kept_nothing _ _ _ _ _ _ _
     (λ old fed. made_filtered old c.args.sight.now.graph.now c.args.change.now (plan_of c.args.part.now) (plan_of c.in-Filter.field-0.value) (expression_of c.in-Filter.test) c.args.deltas.items c.in_ok-filter-in-Filter.field-0.items
     (map g.M.Memory.key_columns c.args.own.now) (map g.M.Memory.was c.args.own.now) (map g.M.Memory.staged c.args.own.now) is c.in_ok-filter-in-Filter.ensures.kept c.in_ok-filter-in-Filter.ensures.bounded fed)
 
 pub returns-in_err-filter-in-Filter : goal.returns-in_err-filter-in-Filter
 returns-in_err-filter-in-Filter g c =
-    kept_refused _ _ _ _ _ _ _ _ _ _ c.from_residual.result c.from_residual.ensures.0 c.from_residual.ensures.1
+    kept_refused _ _ _ _ _ _ c.from_residual.result c.from_residual.ensures.0 c.from_residual.ensures.1
 
 pub returns-in_ok-all_different-in-AllDifferent : goal.returns-in_ok-all_different-in-AllDifferent
 returns-in_ok-all_different-in-AllDifferent g c =
@@ -155,25 +153,25 @@ returns-in_ok-all_different-in-AllDifferent g c =
     let cells = c.in-AllDifferent.columns.items in
     let is : plan_of c.args.part.now ≡ plan.all_different p cells =
     ap plan_of (c.in-AllDifferent.is ∙ sym (rolls-AllDifferent c.in-AllDifferent.field-0 c.in-AllDifferent.columns)) ∙ fold-roll-Operator Plan plan_step _ in
-    kept_nothing _ _ _ _ _ _ _ _ _ _ _
+    kept_nothing _ _ _ _ _ _ _
     (λ old fed. made_different old c.args.sight.now.graph.now c.args.change.now (plan_of c.args.part.now) p cells c.deref-in-AllDifferent.result.now c.args.deltas.items c.in_ok-all_different-in-AllDifferent.field-0.items
     (map g.M.Memory.key_columns c.args.own.now) (map g.M.Memory.was c.args.own.now) (map g.M.Memory.staged c.args.own.now) is c.deref-in-AllDifferent.ensures.value
     c.in_ok-all_different-in-AllDifferent.ensures.kept c.in_ok-all_different-in-AllDifferent.ensures.bounded fed)
 
 pub returns-in_err-all_different-in-AllDifferent : goal.returns-in_err-all_different-in-AllDifferent
 returns-in_err-all_different-in-AllDifferent g c =
-    kept_refused _ _ _ _ _ _ _ _ _ _ c.from_residual-in_err-all_different-in-AllDifferent.result c.from_residual-in_err-all_different-in-AllDifferent.ensures.0 c.from_residual-in_err-all_different-in-AllDifferent.ensures.1
+    kept_refused _ _ _ _ _ _ c.from_residual-in_err-all_different-in-AllDifferent.result c.from_residual-in_err-all_different-in-AllDifferent.ensures.0 c.from_residual-in_err-all_different-in-AllDifferent.ensures.1
 
 pub returns-in_ok-distinct-in-Distinct : goal.returns-in_ok-distinct-in-Distinct
 returns-in_ok-distinct-in-Distinct g c =
     let is : plan_of c.args.part.now ≡ plan.distinct (plan_of c.in-Distinct.field-0.value) = ap plan_of (c.in-Distinct.is ∙ sym (rolls-Distinct c.in-Distinct.field-0)) ∙ fold-roll-Operator Plan plan_step _ in
-    kept_nothing _ _ _ _ _ _ _ _ _ _ _
+    kept_nothing _ _ _ _ _ _ _
     (λ old fed. made_distinct old c.args.sight.now.graph.now c.args.change.now (plan_of c.args.part.now) (plan_of c.in-Distinct.field-0.value) c.args.deltas.items c.in_ok-distinct-in-Distinct.field-0.items
     (map g.M.Memory.key_columns c.args.own.now) (map g.M.Memory.was c.args.own.now) (map g.M.Memory.staged c.args.own.now) is c.in_ok-distinct-in-Distinct.ensures.once c.in_ok-distinct-in-Distinct.ensures.bounded fed)
 
 pub returns-in_err-distinct-in-Distinct : goal.returns-in_err-distinct-in-Distinct
 returns-in_err-distinct-in-Distinct g c =
-    kept_refused _ _ _ _ _ _ _ _ _ _ c.from_residual-in_err-distinct-in-Distinct.result c.from_residual-in_err-distinct-in-Distinct.ensures.0 c.from_residual-in_err-distinct-in-Distinct.ensures.1
+    kept_refused _ _ _ _ _ _ c.from_residual-in_err-distinct-in-Distinct.result c.from_residual-in_err-distinct-in-Distinct.ensures.0 c.from_residual-in_err-distinct-in-Distinct.ensures.1
 
 pub unreachable-requires : goal.unreachable-requires
 unreachable-requires g c = single_else c.args.part.now c.in_default.not-Lookup c.in_default.not-Filter c.in_default.not-AllDifferent c.in_default.not-Project c.in_default.not-Distinct c.requires.single

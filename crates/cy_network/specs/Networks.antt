@@ -6,6 +6,7 @@ use Rattle.cy_values.specs.declared.rows.Cell.{Cell}
 use Rattle.cy_bags.specs.declared.changes.Change.{Change}
 use Rattle.cy_bags.specs.Difference.{IsDifference}
 use Rattle.cy_graph.specs.Graph.{Content}
+use Rattle.cy_network_memory.specs.declared.memory.Memory.{Ghosts}
 use Rattle.cy_network_memory.specs.Counts.{Counts}
 use Rattle.cy_planner_algebra.specs.declared.operators.Operator.{Operator}
 use Rattle.cy_planner_algebra.specs.Plans.{Plan}
@@ -92,3 +93,15 @@ pub record IsPrepared (before after : Content) (n : NetworkState) : Type 0 where
   pub change : Change
   pub pending : n.pending ≡ Some change
   pub difference : IsDifference (rows_of before n.plan) (rows_of after n.plan) change
+
+-- the network, as the code holds it, stands for the graph, by what its memories say of themselves
+abbrev pub Stands : {M C : Type 0} → Ghosts M C → Content → Network M C → Type 0
+Stands memory graph n = StandsFor graph (state_of memory.key_columns memory.was memory.staged memory.step_count n)
+
+-- and is prepared from one graph to another
+abbrev pub StandsPrepared : {M C : Type 0} → Ghosts M C → Content → Content → Network M C → Type 0
+StandsPrepared memory before after n = IsPrepared before after (state_of memory.key_columns memory.was memory.staged memory.step_count n)
+
+-- no memory of it took a step
+abbrev pub TookNoStep : {M C : Type 0} → Ghosts M C → Network M C → Network M C → Type 0
+TookNoStep memory old new = map memory.step_count new.memories.items ≡ map memory.step_count old.memories.items

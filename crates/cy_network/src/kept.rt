@@ -1,14 +1,12 @@
 //! Where the rows of a network stand with their counts.
 
-ghost use Rattle.std.specs.Prelude.{◌≡◌, ◌≤◌, List, [], IfOk, length, map};
-ghost use Rattle.cy_values.specs.declared.rows.Cell.{Cell};
-ghost use Rattle.cy_bags.specs.Difference.{IsDifference};
+ghost use Rattle.std.specs.Prelude.{◌≡◌, ◌≤◌, IfOk, length, map};
 ghost use Rattle.cy_network_memory.specs.Listings.{IsListing};
-ghost use Rattle.cy_network_operators.specs.Deltas.{IsDelta, counts};
 ghost use Rattle.cy_network_parts.specs.Counted.{ArePositive, counted, written};
 ghost use Rattle.cy_planner_algebra.specs.PlanModels.{plan_of};
 ghost use Rattle.cy_planner_algebra.specs.WellFormed.{IsWellFormed};
 ghost use Rattle.cy_network.specs.Places as places;
+ghost use Rattle.cy_network.specs.internal.Roots.{AreDeltas, CountsRowsBy, IsDifferenceBy, LeaveRowsBy};
 
 use crate::pending::{change_of, prepared, rows_from};
 use crate::rows::{table_rows, write_counts};
@@ -43,7 +41,7 @@ impl Rows {
     ) -> Result<Rows, Fault>
         requires { IsWellFormed (plan_of root.now) }
         ensures place { IfOk result (λ rows. place_in rows ≡ place_of (plan_of root.now)) }
-        ensures counts { IfOk result (λ rows. place_in rows ≡ in_table → (after : List (List Cell)) → IsDelta (counts []) (counts after) deltas.items → counted (entries_in rows) ≡ counts after) }
+        ensures counts { IfOk result (λ rows. place_in rows ≡ in_table → CountsRowsBy deltas.items (entries_in rows)) }
         ensures positive { IfOk result (λ rows. ArePositive (entries_in rows)) }
     {
         match root {
@@ -66,7 +64,7 @@ impl Rows {
     // A table of rows, where there were none before and these come. Fails only when out of memory.
     fn table(alloc: Global, deltas: Vec<RowDelta>) -> Result<Rows, Fault>
         ensures place { IfOk result (λ rows. place_in rows ≡ in_table) }
-        ensures counts { IfOk result (λ rows. (after : List (List Cell)) → IsDelta (counts []) (counts after) deltas.items → counted (entries_in rows) ≡ counts after) }
+        ensures counts { IfOk result (λ rows. CountsRowsBy deltas.items (entries_in rows)) }
         ensures positive { IfOk result (λ rows. ArePositive (entries_in rows)) }
     {
         let rows = rows_from(alloc, deltas)?;
@@ -80,9 +78,9 @@ impl Rows {
         alloc: Global,
         deltas: Vec<RowDelta>,
     ) -> Result<(Vec<(Row, u64)>, Change), Fault>
-        requires { (before : List (List Cell)) × ((after : List (List Cell)) × IsDelta (counts before) (counts after) deltas.items) }
-        ensures leaves { IfOk result (λ made. place_in self.old ≡ in_table → (before after : List (List Cell)) → IsDelta (counts before) (counts after) deltas.items → written made.0.items (counts before) ≡ counts after) }
-        ensures difference { IfOk result (λ made. (before after : List (List Cell)) → IsDelta (counts before) (counts after) deltas.items → IsDifference before after made.1) }
+        requires { AreDeltas deltas.items }
+        ensures leaves { IfOk result (λ made. place_in self.old ≡ in_table → LeaveRowsBy deltas.items made.0.items) }
+        ensures difference { IfOk result (λ made. IsDifferenceBy deltas.items made.1) }
         ensures room { IfOk result (λ made. length made.0.items ≤ room_in self.new) }
         ensures entries { entries_in self.new ≡ entries_in self.old }
         ensures place { place_in self.new ≡ place_in self.old }

@@ -1,12 +1,9 @@
 //! What is pending: by how much rows count less and more after a change.
 
-ghost use Rattle.std.specs.Prelude.{◌≡◌, ◌≤◌, List, [], IfOk, flat_map, length, map};
+ghost use Rattle.std.specs.Prelude.{◌≡◌, ◌≤◌, [], IfOk, flat_map, length, map};
 ghost use Rattle.indexmap.specs.IndexMap.{spare};
-ghost use Rattle.cy_values.specs.declared.rows.Cell.{Cell};
-ghost use Rattle.cy_bags.specs.Difference.{IsDifference};
-ghost use Rattle.cy_network_operators.specs.Deltas.{IsDelta, counts};
-ghost use Rattle.cy_network_parts.specs.Counted.{ArePositive, counted, written};
-ghost use Rattle.cy_network.specs.internal.Roots.{excess};
+ghost use Rattle.cy_network_parts.specs.Counted.{ArePositive};
+ghost use Rattle.cy_network.specs.internal.Roots.{AreDeltas, CountsRowsBy, IsDifferenceBy, LeaveRowsBy, excess};
 
 use crate::rows::{sorted, write_counts};
 use cy_bags::Change;
@@ -28,8 +25,8 @@ pub(crate) fn nothing(alloc: Global) -> Change
 
 /// What rows change, as a change. Fails only when out of memory.
 pub(crate) fn pending_change(alloc: Global, deltas: &[RowDelta]) -> Result<Change, Fault>
-    requires { (before : List (List Cell)) × ((after : List (List Cell)) × IsDelta (counts before) (counts after) deltas.now) }
-    ensures { IfOk result (λ change. (before after : List (List Cell)) → IsDelta (counts before) (counts after) deltas.now → IsDifference before after change) }
+    requires { AreDeltas deltas.now }
+    ensures { IfOk result (IsDifferenceBy deltas.now) }
 {
     let removed = sorted(losses(alloc, deltas)?)?;
     let added = sorted(gains(alloc, deltas)?)?;
@@ -73,8 +70,8 @@ fn gains(alloc: Global, deltas: &[RowDelta]) -> Result<Vec<(Row, u64)>, Fault>
 
 /// What rows change, as a change: they go over into it. Fails only when out of memory.
 pub(crate) fn change_of(alloc: Global, deltas: Vec<RowDelta>) -> Result<Change, Fault>
-    requires { (before : List (List Cell)) × ((after : List (List Cell)) × IsDelta (counts before) (counts after) deltas.items) }
-    ensures { IfOk result (λ change. (before after : List (List Cell)) → IsDelta (counts before) (counts after) deltas.items → IsDifference before after change) }
+    requires { AreDeltas deltas.items }
+    ensures { IfOk result (IsDifferenceBy deltas.items) }
 {
     let pairs = losses_and_gains(alloc, deltas)?;
     let removed = sorted(pairs.0)?;
@@ -119,7 +116,7 @@ pub(crate) fn counts_after(alloc: Global, deltas: Vec<RowDelta>) -> Result<Vec<(
 
 /// Rows with their counts, where there were none before. Fails only when out of memory.
 pub(crate) fn rows_from(alloc: Global, deltas: Vec<RowDelta>) -> Result<IndexMap<Row, u64>, Fault>
-    ensures counts { IfOk result (λ rows. (after : List (List Cell)) → IsDelta (counts []) (counts after) deltas.items → counted rows.entries ≡ counts after) }
+    ensures counts { IfOk result (λ rows. CountsRowsBy deltas.items rows.entries) }
     ensures positive { IfOk result (λ rows. ArePositive rows.entries) }
 {
     let next = counts_after(alloc, deltas)?;
@@ -134,9 +131,9 @@ pub(crate) fn prepared(
     deltas: Vec<RowDelta>,
     rows: &mut IndexMap<Row, u64>,
 ) -> Result<(Vec<(Row, u64)>, Change), Fault>
-    requires { (before : List (List Cell)) × ((after : List (List Cell)) × IsDelta (counts before) (counts after) deltas.items) }
-    ensures leaves { IfOk result (λ made. (before after : List (List Cell)) → IsDelta (counts before) (counts after) deltas.items → written made.0.items (counts before) ≡ counts after) }
-    ensures difference { IfOk result (λ made. (before after : List (List Cell)) → IsDelta (counts before) (counts after) deltas.items → IsDifference before after made.1) }
+    requires { AreDeltas deltas.items }
+    ensures leaves { IfOk result (λ made. LeaveRowsBy deltas.items made.0.items) }
+    ensures difference { IfOk result (λ made. IsDifferenceBy deltas.items made.1) }
     ensures room { IfOk result (λ made. length made.0.items ≤ spare rows.new) }
     ensures entries { rows.new.entries ≡ rows.old.entries }
 {

@@ -11,3 +11,4 @@ pub mod Passed
 pub mod JoinLemmas
 pub mod PlanLemmas
 pub mod StepLemmas
+pub mod Joining

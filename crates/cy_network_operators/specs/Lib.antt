@@ -1,4 +1,5 @@
 pub mod OperatorCosts
 pub mod Deltas
 pub mod Passing
+pub mod Joins
 pub mod internal

@@ -14,7 +14,7 @@ mod sides;
 pub use deltas::add_row_delta;
 pub use distinct_rows::distinct;
 pub use filters::{all_different, filter};
-pub use joins::{join_held, join_through};
+pub use joins::{join_left_held, join_right_held, join_through};
 pub use memories::{records_with, stage_deltas};
 pub use pairs::{appended, followed_by, preceded_by, product};
 pub use passages::{Passage, Unchanged};

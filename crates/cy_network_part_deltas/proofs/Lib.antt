@@ -1,8 +1,8 @@
 pub mod Shifted
 pub mod Formed
 pub mod OwnSingles
-pub mod OwnPairs
-pub mod OwnHeld
+pub mod OwnJoins
+pub mod OwnUnions
 pub mod OwnOuter
 pub mod OwnSemi
 pub mod PassageLemmas

@@ -21,6 +21,14 @@ use Rattle.cy_network_touches.specs.Changes.{IsChange, Touches}
 use Rattle.cy_network_parts.specs.Upkeep.{IsDeltaOf, content_of, state_of}
 use Rattle.cy_network_parts.proofs.Steps.{old_graph}
 
+-- what holds of counts holds of the same counts
+pub by_two : (P : Counts → Counts → Type 0) (a b x y : Counts) → x ≡ a → y ≡ b → P a b → P x y
+by_two P a b x y first second holds = subst (λ n. P n y) (sym first) (subst (λ n. P a n) (sym second) holds)
+
+pub by_four : (P : Counts → Counts → Counts → Counts → Type 0) (a b c d x y z w : Counts) → x ≡ a → y ≡ b → z ≡ c → w ≡ d → P a b c d → P x y z w
+by_four P a b c d x y z w first second third fourth holds =
+    by_two (λ m n. P m n z w) a b x y first second (by_two (λ m n. P a b m n) c d z w third fourth holds)
+
 -- what holds of all rows holds of each that counts
 pub of_counted : (P : List Cell → Type 0) (rows : List (List Cell)) → All P rows → (row : List Cell) → 0 < count_of row rows → P row
 of_counted P [] all row some = absurd (omega (arith, some))

@@ -17,6 +17,7 @@ use Rattle.cy_network_touches.specs.Changes.{Touches}
 use Rattle.cy_network_touches.specs.Work.{own_reads, own_steps}
 use Rattle.cy_network_parts.specs.Taken.{NoneFalls}
 use Rattle.cy_network_parts.specs.Upkeep.{HasTooMany, IsFed, IsFedByTwo, IsOwnDone, content_of}
+use Rattle.cy_network_part_deltas.specs.declared.pairs.HeldDeltas.{HeldDeltas}
 use Rattle.cy_network_part_deltas.specs.Images.{IsFedHeld, IsFedImages, IsOwnDoneThrough}
 
 -- a change from one graph, or from nothing, to another, on which this holds
@@ -33,10 +34,10 @@ FedPairs memory own p deltas old now touches = IsFedByTwo old now touches p (map
 abbrev pub FedRows : {M C : Type 0} → Ghosts M C → List M → Plan → List RowDelta → Option State → State → Touches → Type 0
 FedRows memory own p deltas old now touches = IsFed old now touches p (map memory.key_columns own) (map memory.was own) (map memory.staged own) deltas
 
--- what a join is fed whose left rows another memory holds
-abbrev pub FedHeld : {M C : Type 0} → Ghosts M C → M → List M → Plan → SideDeltas → Option State → State → Touches → Type 0
+-- what a join is fed of whose inputs another memory holds the rows of one
+abbrev pub FedHeld : {M C : Type 0} → Ghosts M C → M → List M → Plan → HeldDeltas → Option State → State → Touches → Type 0
 FedHeld memory held own p deltas old now touches =
-    IsFedHeld old now touches p (memory.key_columns held) (memory.was held) (memory.staged held) (map memory.key_columns own) (map memory.was own) (map memory.staged own) deltas.left.items deltas.right.items
+    IsFedHeld deltas.side old now touches p (memory.key_columns held) (memory.was held) (memory.staged held) (map memory.key_columns own) (map memory.was own) (map memory.staged own) deltas.deltas.left.items deltas.deltas.right.items
 
 -- what a projection is fed
 abbrev pub FedImages : {M C : Type 0} → Ghosts M C → List M → Plan → List RowDelta → Option State → State → Touches → Type 0
@@ -70,9 +71,9 @@ AreRowsKeptUp memory p deltas own own_now result = IsKeptUp memory p (FedRows me
 abbrev pub AreImagesKeptUp : {M C : Type 0} → Ghosts M C → Plan → List RowDelta → List M → List M → Result (Vec RowDelta Global) MemoryFault → Type 0
 AreImagesKeptUp memory p images own own_now result = IsKeptUp memory p (FedImages memory own p images) (λ old now. IsOwnDone old now p) own own_now result
 
--- A join is kept up whose left rows another memory holds, and that one is only read: what comes of it through other operators is right, and the exact steps of both
+-- A join is kept up where another memory holds the rows of one of its inputs, and that one is only read: what comes of it through other operators is right, and the exact steps of both
 -- are no more than the join may cost.
-pub record IsHeldKeptUp {M C : Type 0} (memory : Ghosts M C) (through : List RowDelta → List RowDelta) (p : Plan) (deltas : SideDeltas) (held held_now : M) (own own_now : List M)
+pub record IsHeldKeptUp {M C : Type 0} (memory : Ghosts M C) (through : List RowDelta → List RowDelta) (p : Plan) (deltas : HeldDeltas) (held held_now : M) (own own_now : List M)
     (result : Result (Vec RowDelta Global) MemoryFault) : Type 0 where
   pub kept : IsKeptUp memory p (FedHeld memory held own p deltas) (λ old now. IsOwnDoneThrough through old now p) own own_now result
   pub read : IsRead memory.key_columns memory.was memory.staged memory.step_count held held_now

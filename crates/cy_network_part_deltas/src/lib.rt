@@ -7,6 +7,6 @@ mod passages;
 mod singles;
 
 pub use leaves::lowest_deltas;
-pub use pairs::{pair_deltas, pairs_held, pairs_through};
+pub use pairs::{HeldDeltas, pair_deltas, pairs_held, pairs_through};
 pub use passages::passage_start;
 pub use singles::{image_deltas, single_deltas};

@@ -1,11 +1,13 @@
 pub mod Passes
+pub mod SameConditions
 pub mod Same
-pub mod OtherTables
+pub mod OtherPlans
 pub mod Nothing
 pub mod ChainParts
 pub mod Popped
 pub mod Kept
 pub mod HeldTables
+pub mod HeldSearch
 pub mod CutChains
 pub mod KeepsRows
 pub mod Slices

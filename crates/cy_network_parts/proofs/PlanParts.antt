@@ -158,7 +158,10 @@ own_few (plan.project p outputs) = let n = length-append (keys p) (own_keys (pla
 own_few (plan.union left right) = let n = length-append (keys left ++ keys right) (own_keys (plan.union left right)) in omega (arith, n)
 own_few _ = omega arith
 
--- and those of the right one of two parts are some of the others
+-- and those of the part below it, or of the right one of two, are some of the others
+pub first_few : (p : Plan) → below_count p ≡ 1 → length (keys (first_below p)) + length (own_keys p) ≤ length (keys p)
+first_few p alone = let n = ap length (over_one p alone).of_keys ∙ length-append (keys (first_below p)) (own_keys p) in omega (arith, n)
+
 pub second_few : (p : Plan) → below_count p ≡ 2 → length (keys (second_below p)) + length (own_keys p) ≤ length (keys p)
 second_few p pair =
     let facts = over_two p pair in

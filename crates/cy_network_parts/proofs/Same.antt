@@ -1,33 +1,21 @@
--- What is the same, is one.
-use Rattle.std.proofs.Common.{◌≡◌, ℕ, zero, suc, ◌<◌, Bool, true, false, ◌&&◌, List, [], ◌∷◌, Option, None, Some, drop, length, map, nat_eq, refl, sym, ap, ◌∙◌, arith}
+-- Plans that are the same, are one.
+use Rattle.std.proofs.Common.{◌≡◌, ℕ, zero, suc, true, false, ◌&&◌, ◌==◌, ◌<◌, List, [], ◌∷◌, drop, length, nat_eq, refl, sym, ap, ◌∙◌, arith}
 use Rattle.std.specs.Str.{bytes_eq}
 use Rattle.std.specs.Cmp.Lexicographic.{same_text}
 use Rattle.std.proofs.lemmas.Bool.{eqb-true, false≢true}
 use Rattle.cy_trees.specs.Trees.{Name, variable}
-use Rattle.cy_trees.specs.declared.expressions.Variable.{Variable}
+use Rattle.cy_planner_algebra.specs.declared.operators.Attribute.{Attribute}
+use Rattle.cy_planner_algebra.specs.declared.operators.Attribute.TheVariants as attribute
 use Rattle.cy_planner_algebra.specs.declared.operators.KeyColumns.{KeyColumns}
 use Rattle.cy_planner_algebra.specs.declared.operators.Orientation.{Orientation}
 use Rattle.cy_planner_algebra.specs.declared.operators.Orientation.TheVariants as orientation
 use Rattle.cy_planner_algebra.specs.Plans as plan
 use Rattle.cy_planner_algebra.specs.Plans.{Output, Plan, computed}
-use Rattle.cy_network_parts.specs.Tables.{is_rels, is_table, same_column, same_columns, same_names, same_orientation, same_output, same_outputs, same_table}
-
-pub both : (a b : Bool) → (a && b) ≡ true → (a ≡ true) × (b ≡ true)
-both true b h = (refl, h)
-both false b h = absurd (false≢true h)
-
-column_is : (a b : Option ℕ) → same_column a b ≡ true → a ≡ b
-column_is None None same = refl
-column_is None (Some d) same = absurd (false≢true same)
-column_is (Some c) None same = absurd (false≢true same)
-column_is (Some c) (Some d) same = ap Some (eqb-true c d same)
-
-variable_is : (v w : Variable) → (bytes_eq v.name w.name && same_column v.column w.column) ≡ true → v ≡ w
-variable_is v w same =
-    let parts = both (bytes_eq v.name w.name) (same_column v.column w.column) same in
-    let name = same_text v.name w.name (sym parts.0) in
-    let column = column_is v.column w.column parts.1 in
-    λ i. record { name = name i; column = column i }
+use Rattle.cy_network_parts.specs.declared.held.Side.{Side}
+use Rattle.cy_network_parts.specs.Shared.{columns_at}
+use Rattle.cy_network_parts.specs.SameConditions.{same_condition}
+use Rattle.cy_network_parts.specs.SamePlans.{most_deep, same_attribute, same_columns, same_keys, same_names, same_orientation, same_output, same_outputs, same_plan}
+use Rattle.cy_network_parts.proofs.SameConditions.{both, condition_is, variable_is}
 
 output_is : (o p : Output) → same_output o p ≡ true → o ≡ p
 output_is (computed (variable v)) (computed (variable w)) same = ap (λ u. computed (variable u)) (variable_is v w same)
@@ -55,6 +43,57 @@ orientation_is orientation.Directed orientation.Either same = absurd (false≢tr
 orientation_is orientation.Either orientation.Directed same = absurd (false≢true same)
 orientation_is orientation.Either orientation.Either same = refl
 
+attribute_is : (a b : Attribute) → same_attribute a b ≡ true → a ≡ b
+attribute_is (attribute.Property key) (attribute.Property other) same = ap attribute.Property (same_text key other (sym same))
+attribute_is attribute.RelType attribute.RelType same = refl
+attribute_is attribute.Labels attribute.Labels same = refl
+attribute_is _ _ same = absurd (false≢true same)
+
+key_is : (k l : KeyColumns) → (k.left == l.left && k.right == l.right) ≡ true → k ≡ l
+key_is k l same =
+    let parts = both (k.left == l.left) (k.right == l.right) same in
+    let left = eqb-true k.left l.left parts.0 in
+    let right = eqb-true k.right l.right parts.1 in
+    λ i. record { left = left i; right = right i }
+
+keys_are : (ks ls : List KeyColumns) → same_keys ks ls ≡ true → ks ≡ ls
+keys_are [] [] same = refl
+keys_are [] (l ∷ ls) same = absurd (false≢true same)
+keys_are (k ∷ ks) [] same = absurd (false≢true same)
+keys_are (k ∷ ks) (l ∷ ls) same =
+    let parts = both (k.left == l.left && k.right == l.right) (same_keys ks ls) same in
+    ap (λ m. m ∷ ks) (key_is k l parts.0) ∙ ap (λ ms. l ∷ ms) (keys_are ks ls parts.1)
+
+-- plans that are the same
+pub plan_is : (deep : ℕ) (p q : Plan) → same_plan deep p q ≡ true → p ≡ q
+plan_is zero p q same = absurd (false≢true same)
+plan_is (suc deep) plan.nodes plan.nodes same = refl
+plan_is (suc deep) (plan.rels types way) (plan.rels others other) same =
+    let parts = both (same_names types others) (same_orientation way other) same in
+    ap (λ xs. plan.rels xs way) (names_are types others parts.0) ∙ ap (plan.rels others) (orientation_is way other parts.1)
+plan_is (suc deep) (plan.project p outputs) (plan.project q others) same =
+    let parts = both (same_plan deep p q) (same_outputs outputs others) same in
+    ap (λ r. plan.project r outputs) (plan_is deep p q parts.0) ∙ ap (plan.project q) (outputs_are outputs others parts.1)
+plan_is (suc deep) (plan.lookup p column attribute) (plan.lookup q other wanted) same =
+    let parts = both (same_plan deep p q && column == other) (same_attribute attribute wanted) same in
+    let first = both (same_plan deep p q) (column == other) parts.0 in
+    ap (λ r. plan.lookup r column attribute) (plan_is deep p q first.0) ∙ ap (λ c. plan.lookup q c attribute) (eqb-true column other first.1) ∙ ap (plan.lookup q other) (attribute_is attribute wanted parts.1)
+plan_is (suc deep) (plan.filter p test) (plan.filter q other) same =
+    let parts = both (same_plan deep p q) (same_condition most_deep test other) same in
+    ap (λ r. plan.filter r test) (plan_is deep p q parts.0) ∙ ap (plan.filter q) (condition_is most_deep test other parts.1)
+plan_is (suc deep) (plan.join left right keys) (plan.join first second others) same =
+    let parts = both (same_plan deep left first && same_plan deep right second) (same_keys keys others) same in
+    let inputs = both (same_plan deep left first) (same_plan deep right second) parts.0 in
+    ap (λ r. plan.join r right keys) (plan_is deep left first inputs.0) ∙ ap (λ r. plan.join first r keys) (plan_is deep right second inputs.1) ∙ ap (plan.join first second) (keys_are keys others parts.1)
+plan_is (suc deep) _ _ same = absurd (false≢true same)
+
+-- no keys are left of others while some are left of these
+pub sooner_unlike : (keys others : List KeyColumns) (i : ℕ) → i < length keys → length others ≡ 0 → same_keys (drop i keys) others ≡ false
+sooner_unlike [] others i less none = absurd (omega (arith, less))
+sooner_unlike (k ∷ keys) (o ∷ others) i less none = absurd (omega (arith, none))
+sooner_unlike (k ∷ keys) [] zero less none = refl
+sooner_unlike (k ∷ keys) [] (suc i) less none = sooner_unlike keys [] i (omega (arith, less)) none
+
 -- columns that are the same
 pub columns_are : (cs ds : List ℕ) → same_columns cs ds ≡ true → cs ≡ ds
 columns_are [] [] same = refl
@@ -64,26 +103,9 @@ columns_are (c ∷ cs) (d ∷ ds) same =
     let parts = both (nat_eq c d) (same_columns cs ds) same in
     ap (λ q. q ∷ cs) (eqb-true c d parts.0) ∙ ap (λ qs. d ∷ qs) (columns_are cs ds parts.1)
 
-rels_are : (types : List Name) (way : Orientation) (p : Plan) → is_rels types way p ≡ true → plan.rels types way ≡ p
-rels_are types way (plan.rels others other) same =
-    let parts = both (same_names types others) (same_orientation way other) same in
-    ap (λ xs. plan.rels xs way) (names_are types others parts.0) ∙ ap (plan.rels others) (orientation_is way other parts.1)
-rels_are types way _ same = absurd (false≢true same)
-
-table_is : (types : List Name) (way : Orientation) (outputs : List Output) (p : Plan) → is_table types way outputs p ≡ true → plan.project (plan.rels types way) outputs ≡ p
-table_is types way outputs (plan.project p columns) same =
-    let parts = both (is_rels types way p) (same_outputs outputs columns) same in
-    ap (λ q. plan.project q outputs) (rels_are types way p parts.0) ∙ ap (plan.project p) (outputs_are outputs columns parts.1)
-table_is types way outputs _ same = absurd (false≢true same)
-
--- tables that are the same
-pub same_plan : (p q : Plan) → same_table p q ≡ true → p ≡ q
-same_plan (plan.project (plan.rels types way) outputs) q same = table_is types way outputs q same
-same_plan _ q same = absurd (false≢true same)
-
 -- no columns are left of others while some are left of these
-pub sooner_over : (keys others : List KeyColumns) (i : ℕ) → i < length keys → length others ≡ 0 → same_columns (map (λ k. k.left) (drop i keys)) (map (λ k. k.left) others) ≡ false
-sooner_over [] others i less none = absurd (omega (arith, less))
-sooner_over (k ∷ keys) (o ∷ others) i less none = absurd (omega (arith, none))
-sooner_over (k ∷ keys) [] zero less none = refl
-sooner_over (k ∷ keys) [] (suc i) less none = sooner_over keys [] i (omega (arith, less)) none
+pub sooner_over : (side : Side) (keys others : List KeyColumns) (i : ℕ) → i < length keys → length others ≡ 0 → same_columns (columns_at side (drop i keys)) (columns_at side others) ≡ false
+sooner_over side [] others i less none = absurd (omega (arith, less))
+sooner_over side (k ∷ keys) (o ∷ others) i less none = absurd (omega (arith, none))
+sooner_over side (k ∷ keys) [] zero less none = refl
+sooner_over side (k ∷ keys) [] (suc i) less none = sooner_over side keys [] i (omega (arith, less)) none

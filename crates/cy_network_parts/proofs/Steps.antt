@@ -173,16 +173,16 @@ module _ {M : Type 0} (key_columns : M → List ℕ) (was staged : M → Counts)
 -- ---- what is counted
 
 module _ {M : Type 0} (step_count : M → ℕ) (number : Plan → ℕ) (p : Plan) where
-  pub steps_two : (memories lefts rights own memories_new lefts_new rights_new rights_last own_new : List M) → memories ≡ (lefts ++ rights) ++ own
-      → memories_new ≡ (lefts_new ++ rights_last) ++ own_new → below_count p ≡ 2 → sum_by step_count lefts_new ≤ sum_by step_count lefts + in_all number (first_below p)
+  pub steps_two : (memories lefts rights own memories_new lefts_new rights_new below_last own_new : List M) → memories ≡ (lefts ++ rights) ++ own
+      → memories_new ≡ below_last ++ own_new → below_count p ≡ 2 → sum_by step_count lefts_new ≤ sum_by step_count lefts + in_all number (first_below p)
       → sum_by step_count rights_new ≤ sum_by step_count rights + in_all number (second_below p)
-      → sum_by step_count rights_last + sum_by step_count own_new ≤ sum_by step_count rights_new + sum_by step_count own + number p
+      → sum_by step_count below_last + sum_by step_count own_new ≤ sum_by step_count (lefts_new ++ rights_new) + sum_by step_count own + number p
       → sum_by step_count memories_new ≤ sum_by step_count memories + in_all number p
-  steps_two memories lefts rights own memories_new lefts_new rights_new rights_last own_new is is_new pair first second third =
+  steps_two memories lefts rights own memories_new lefts_new rights_new below_last own_new is is_new pair first second third =
       let a = ap (sum_by step_count) is ∙ sum_by-append step_count (lefts ++ rights) own in
       let c = sum_by-append step_count lefts rights in
-      let b = ap (sum_by step_count) is_new ∙ sum_by-append step_count (lefts_new ++ rights_last) own_new in
-      let d = sum_by-append step_count lefts_new rights_last in
+      let b = ap (sum_by step_count) is_new ∙ sum_by-append step_count below_last own_new in
+      let d = sum_by-append step_count lefts_new rights_new in
       let sums = (over_two p pair).sums number in
       omega (arith, a, b, c, d, sums, first, second, third)
 

@@ -5,7 +5,8 @@ pub mod Limits
 pub mod Memories
 pub mod Parts
 pub mod Shared
-pub mod Tables
+pub mod SameConditions
+pub mod SamePlans
 pub mod Taken
 pub mod Upkeep
 pub mod internal

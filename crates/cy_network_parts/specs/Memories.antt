@@ -14,7 +14,7 @@ use Rattle.cy_network_merges.specs.Merges.{AreBounded, all_columns}
 use Rattle.cy_network_sources.specs.Scans.{kept_at, scan_column}
 use Rattle.cy_network_outer.specs.Outer.{numbers_of_partners}
 use Rattle.cy_network_merges.specs.Semi.{numbers_of_keys}
-use Rattle.cy_network_parts.specs.Shared.{is_shared}
+use Rattle.cy_network_parts.specs.Shared.{left_held, right_held}
 
 -- an operator is a scan: what changes of its rows comes from the touched entities alone
 abbrev pub is_scan : Plan → Bool
@@ -69,12 +69,13 @@ keys (plan.project p outputs) = keys p ++ own_keys (plan.project p outputs)
 keys (plan.distinct p) = keys p
 keys (plan.union left right) = (keys left ++ keys right) ++ own_keys (plan.union left right)
 
--- what the memories of an operator count, where the rows of each operator are given; that of the left side of a join nothing, where another one holds its rows
+-- what the memories of an operator count, where the rows of each operator are given; that of a side of a join nothing, where another one holds its rows
 abbrev pub own_contents : (Plan → List (List Cell)) → Plan → List Counts
 own_contents rows plan.unit = []
 own_contents rows plan.nodes = []
 own_contents rows (plan.rels types orientation) = []
-own_contents rows (plan.join left right ks) = (if is_shared left right ks then no_rows else counts (rows left)) ∷ counts (rows right) ∷ []
+own_contents rows (plan.join left right ks) =
+    (if left_held (plan.join left right ks) then no_rows else counts (rows left)) ∷ (if right_held (plan.join left right ks) then no_rows else counts (rows right)) ∷ []
 own_contents rows (plan.outer left right ks test) = counts (rows left) ∷ counts (rows right) ∷ numbers_of_partners ks test (rows left) (rows right) ∷ []
 own_contents rows (plan.semi left right ks keeping) = counts (rows left) ∷ numbers_of_keys ks (rows right) ∷ []
 own_contents rows (plan.lookup p column attribute) = none_where (is_scan (plan.lookup p column attribute)) (counts (rows p) ∷ [])

@@ -3,6 +3,8 @@ use Rattle.std.specs.Prelude.{◌≡◌, ◌≢◌, ℕ, ◌<◌, ◌⊎◌, Boo
 use Rattle.std.specs.List.{All}
 use Rattle.cy_planner_algebra.specs.Plans as plan
 use Rattle.cy_planner_algebra.specs.Plans.{Plan}
+use Rattle.cy_network_parts.specs.declared.held.Side.{Side}
+use Rattle.cy_network_parts.specs.declared.held.Side.TheVariants.{Left, Right}
 use Rattle.cy_network_parts.specs.Memories.{is_scan}
 
 -- how many operators stand right below an operator
@@ -64,6 +66,11 @@ second_below (plan.all_different p columns) = p
 second_below (plan.project p outputs) = p
 second_below (plan.distinct p) = p
 second_below (plan.union left right) = right
+
+-- the one at a side
+abbrev pub input_at : Side → Plan → Plan
+input_at Left p = first_below p
+input_at Right p = second_below p
 
 -- the operators from an operator of a plan down to the first one that has no operator below it, or two
 abbrev pub chain : Plan → List Plan

@@ -6,9 +6,10 @@ mod held;
 mod kept_columns;
 mod memories;
 mod parts;
-mod tables;
+mod same_conditions;
+mod same_plans;
 
-pub use held::shared_back;
+pub use held::{HeldInput, Side, shared_input};
 pub use memories::{
     abandon_all, add_memories, count_at_cut, keeps_rows, memory_count, next_count, own_count,
     settle_all, steps_taken,

@@ -1,6 +1,0 @@
-use Rattle.std.proofs.Common.{sym, ◌∙◌}
-use Rattle.cy_network_parts.proofs.Same.{sooner_over}
-use Rattle.cy_network_parts.proofs.tables.same_columns.Goals as goal
-
-pub returns-in_default : goal.returns-in_default
-returns-in_default c = sym (sooner_over c.args.left.now c.loop-key.others.rest.now c.loop-key.key-index c.loop-key-test.true c.in_default.ensures.steps.0) ∙ c.loop-key.invariant

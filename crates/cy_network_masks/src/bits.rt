@@ -25,7 +25,8 @@ pub(crate) const LOWEST: Bits = Bits {
 impl Bits {
     /// Whether two have bits in common in each of the words.
     pub(crate) fn meets(self, other: Bits) -> bool
-        ensures { result ≡ false → AreBitsApart self other }
+        ensures apart { result ≡ false → AreBitsApart self other }
+        ensures met { AreBitsApart self other → result ≡ false }
     {
         self.first & other.first != 0 && self.second & other.second != 0
     }

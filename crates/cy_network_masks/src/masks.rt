@@ -42,7 +42,8 @@ impl Mask {
 
     /// Whether two have bits in common in both words of nodes, or in both of relationships.
     pub fn meets(self, other: Mask) -> bool
-        ensures { result ≡ false → AreApart self other }
+        ensures apart { result ≡ false → AreApart self other }
+        ensures met { AreApart self other → result ≡ false }
     {
         self.nodes.meets(other.nodes) || self.rels.meets(other.rels)
     }

@@ -5,4 +5,4 @@ use Rattle.cy_engine_views.proofs.Still.{still_rows}
 use Rattle.cy_engine_views.proofs.rows.QueryRows.may_change.Goals as goal
 
 pub returns : goal.returns
-returns c = λ no before now touches change is. still_rows c.args.self.now before now touches change (subst (λ (m : Mask). AreApart c.args.self.now.reads m) is (c.meets.ensures no))
+returns c = λ no before now touches change is. still_rows c.args.self.now before now touches change (subst (λ (m : Mask). AreApart c.args.self.now.reads m) is (c.meets.ensures.apart no))

@@ -7,6 +7,7 @@ pub mod Printed
 pub mod PrintedHeadline
 pub mod Replies
 pub mod Runs
+pub mod Sinks
 pub mod Standard
 pub mod Streams
 pub mod Words

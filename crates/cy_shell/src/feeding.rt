@@ -1,6 +1,7 @@
 //! The entries of a line, printed after its answer.
 
 ghost use Rattle.std.specs.Prelude.{◌≡◌, true, false, OnOk, OnErr};
+ghost use Rattle.cy_shell.specs.Sinks.{HandsAllOn};
 ghost use Rattle.cy_shell.specs.Streams.{Extends};
 ghost use Rattle.cy_shell.specs.internal.Feeding.{WritesFeed, BeginsFeed};
 
@@ -21,7 +22,7 @@ pub(crate) fn write_feed<W: Sink>(
 ) -> Result<(), Failed>
     requires { W.has_failed sink.old ≡ false }
     ensures written { OnOk result (WritesFeed entries.now (W.written sink.old) (W.written sink.new)) }
-    ensures handed { OnOk result (W.handed_on sink.old ≡ W.written sink.old → W.handed_on sink.new ≡ W.written sink.new) }
+    ensures handed { OnOk result (HandsAllOn W.Sink sink.old sink.new) }
     ensures keeps { Extends (W.handed_on sink.old) (W.handed_on sink.new) }
     ensures works { OnOk result (W.has_failed sink.new ≡ false) }
     ensures begun { OnErr result (BeginsFeed entries.now (W.written sink.old) (W.written sink.new)) }

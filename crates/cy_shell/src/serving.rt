@@ -5,6 +5,7 @@ ghost use Rattle.cy_shell.specs.internal.Lines.{buffered};
 ghost use Rattle.cy_shell.specs.Runs.{input_limit, WritesAll, StopsReading, StopsWriting, beginning};
 ghost use Rattle.cy_shell.specs.PrintedHeadline.{AnswersAll, AnswersRead, AnswersBegun};
 ghost use Rattle.cy_shell.specs.internal.Serving.{serving};
+ghost use Rattle.cy_shell.specs.Sinks.{HandsAllOn};
 ghost use Rattle.cy_shell.specs.Streams.{TakesFront};
 ghost use Rattle.cy_shell.specs.declared.serving.RunFault.TheVariants.{Memory};
 
@@ -110,7 +111,7 @@ pub fn run<R: Source, W: Sink>(
     ensures write_works { result ≡ Err RunFault.Write → R.has_failed source.new ≡ false }
 
     // Else all that was written was handed on, if all before it was.
-    ensures handed { result ≢ Err RunFault.Write → W.handed_on sink.old ≡ W.written sink.old → W.handed_on sink.new ≡ W.written sink.new }
+    ensures handed { result ≢ Err RunFault.Write → HandsAllOn W.Sink sink.old sink.new }
 
     // The headline holds of what is written: of all lines at the end of the input, of those that were read whole where the source failed or
     // 2^62 bytes were read, and of those that had ended before the last read where the sink failed.
@@ -158,7 +159,7 @@ fn serve<R: Source, W: Sink>(
         StopsWriting (serving session.old.engine session.old.feed) input (R.remaining source.new) (R.taken source.new) (W.written sink.old) (W.written sink.new) (W.handed_on sink.old) (W.handed_on sink.new)) }
     ensures write_fails { result ≡ Err RunFault.Write → W.has_failed sink.new ≡ true }
     ensures write_works { result ≡ Err RunFault.Write → R.has_failed source.new ≡ false }
-    ensures handed { result ≢ Err RunFault.Write → W.handed_on sink.old ≡ W.written sink.old → W.handed_on sink.new ≡ W.written sink.new }
+    ensures handed { result ≢ Err RunFault.Write → HandsAllOn W.Sink sink.old sink.new }
     ensures no_memory { result ≢ Err RunFault.Memory }
 {
     let mut total = 0;

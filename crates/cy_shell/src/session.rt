@@ -5,6 +5,7 @@ ghost use Rattle.cy_shell.specs.Lines.{ended_lines, begun_line, unless_empty};
 ghost use Rattle.cy_shell.specs.internal.Lines.{buffered};
 ghost use Rattle.cy_shell.specs.Printed.{fed};
 ghost use Rattle.cy_shell.specs.Runs.{WritesRun, WritesBeginning, beginning};
+ghost use Rattle.cy_shell.specs.Sinks.{HandsAllOn};
 ghost use Rattle.cy_shell.specs.Streams.{Extends};
 ghost use Rattle.cy_shell.specs.internal.Serving.{serving};
 
@@ -52,7 +53,7 @@ impl Session {
         ensures line { OnOk result ((begun : List ℕ) → self.old.line ≡ buffered begun → self.new.line ≡ buffered (begun_line begun piece.now)) }
         ensures served { OnOk result ((begun : List ℕ) → self.old.line ≡ buffered begun
             → WritesRun (serving self.old.engine self.old.feed) (ended_lines begun piece.now) (serving self.new.engine self.new.feed) (W.written sink.old) (W.written sink.new)) }
-        ensures handed { OnOk result (W.handed_on sink.old ≡ W.written sink.old → W.handed_on sink.new ≡ W.written sink.new) }
+        ensures handed { OnOk result (HandsAllOn W.Sink sink.old sink.new) }
         ensures keeps { Extends (W.handed_on sink.old) (W.handed_on sink.new) }
         ensures works { OnOk result (W.has_failed sink.new ≡ false) }
         ensures broken_off { OnErr result ((begun : List ℕ) → self.old.line ≡ buffered begun
@@ -75,7 +76,7 @@ impl Session {
         requires { W.has_failed sink.old ≡ false }
         ensures served { OnOk result ((begun : List ℕ) → self.old.line ≡ buffered begun
             → WritesRun (serving self.old.engine self.old.feed) (unless_empty begun) (serving self.new.engine self.new.feed) (W.written sink.old) (W.written sink.new)) }
-        ensures handed { OnOk result (W.handed_on sink.old ≡ W.written sink.old → W.handed_on sink.new ≡ W.written sink.new) }
+        ensures handed { OnOk result (HandsAllOn W.Sink sink.old sink.new) }
         ensures keeps { Extends (W.handed_on sink.old) (W.handed_on sink.new) }
         ensures works { OnOk result (W.has_failed sink.new ≡ false) }
         ensures broken_off { OnErr result ((begun : List ℕ) → self.old.line ≡ buffered begun
@@ -94,7 +95,7 @@ impl Session {
         ensures line { self.new.line ≡ buffered [] }
         ensures served { OnOk result ((line : List ℕ) → self.old.line ≡ buffered line
             → WritesRun (serving self.old.engine self.old.feed) (line ∷ []) (serving self.new.engine self.new.feed) (W.written sink.old) (W.written sink.new)) }
-        ensures handed { OnOk result (W.handed_on sink.old ≡ W.written sink.old → W.handed_on sink.new ≡ W.written sink.new) }
+        ensures handed { OnOk result (HandsAllOn W.Sink sink.old sink.new) }
         ensures keeps { Extends (W.handed_on sink.old) (W.handed_on sink.new) }
         ensures works { OnOk result (W.has_failed sink.new ≡ false) }
         ensures broken_off { OnErr result ((line : List ℕ) → self.old.line ≡ buffered line

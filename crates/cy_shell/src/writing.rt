@@ -1,6 +1,7 @@
 //! Writing whole texts.
 
 ghost use Rattle.std.specs.Prelude.{◌≡◌, true, false, OnOk, OnErr};
+ghost use Rattle.cy_shell.specs.Sinks.{HandsAllOn};
 ghost use Rattle.cy_shell.specs.Streams.{Extends, appended};
 ghost use Rattle.cy_shell.specs.internal.Writing.{AppendsFront};
 
@@ -10,7 +11,7 @@ use crate::streams::{Failed, Sink};
 pub(crate) fn write_text<W: Sink>(sink: &mut W, text: &[u8]) -> Result<(), Failed>
     requires { W.has_failed sink.old ≡ false }
     ensures written { OnOk result (W.written sink.new ≡ appended (W.written sink.old) text.now) }
-    ensures handed { OnOk result (W.handed_on sink.old ≡ W.written sink.old → W.handed_on sink.new ≡ W.written sink.new) }
+    ensures handed { OnOk result (HandsAllOn W.Sink sink.old sink.new) }
     ensures keeps { Extends (W.handed_on sink.old) (W.handed_on sink.new) }
     ensures works { OnOk result (W.has_failed sink.new ≡ false) }
     ensures front { OnErr result (AppendsFront (W.written sink.old) (W.written sink.new) text.now) }

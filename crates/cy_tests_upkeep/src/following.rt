@@ -8,7 +8,7 @@ ghost use Rattle.cy_graph.specs.Graph.{Content};
 ghost use Rattle.cy_network_touches.specs.Changes.{before_change};
 ghost use Rattle.cy_planner_algebra.specs.Sure.{IsSure};
 ghost use Rattle.cy_planner_algebra.specs.PlanModels.{plan_of};
-ghost use Rattle.cy_network.specs.Networks.{HasRows, IsPrepared, StandsFor, state_of};
+ghost use Rattle.cy_network.specs.Networks.{HasRows, Stands, StandsPrepared, state_of};
 
 use cy_bags::counted_in_order;
 use cy_index::Store;
@@ -53,7 +53,7 @@ fn built<M: Made + Listed>(
     query: &ViewQuery,
     store: &Store,
 ) -> Result<Network<M>, Fail>
-    ensures { IfOk result (λ network. StandsFor store.now.graph.now.content (state_of M.key_columns M.was M.staged M.step_count network)) }
+    ensures { IfOk result (λ network. Stands M.Memory store.now.graph.now.content network) }
 {
     match Network::build(alloc, plan(alloc, query)?, store) {
         Err(MemoryFault::NoMemory) => Ok(Network::build(alloc, plan(alloc, query)?, store)?),
@@ -143,8 +143,8 @@ fn prepared_by_change<M: Made + Listed>(
     store: &Store,
 ) -> Result<(), Fail>
     requires open { IsSome store.now.graph.was }
-    requires stands { StandsFor (before_change store.now.graph).content (state_of M.key_columns M.was M.staged M.step_count network.old) }
-    ensures { OnOk result (IsPrepared (before_change store.now.graph).content store.now.graph.now.content (state_of M.key_columns M.was M.staged M.step_count network.new)) }
+    requires stands { Stands M.Memory (before_change store.now.graph).content network.old }
+    ensures { OnOk result (StandsPrepared M.Memory (before_change store.now.graph).content store.now.graph.now.content network.new) }
 {
     let mut sight = store.sight();
     let change = GraphChange::new(alloc, &sight)?;
@@ -162,8 +162,8 @@ fn prepared_again<M: Made + Listed>(
     steps: u64,
 ) -> Result<(), Fail>
     requires open { IsSome store.now.graph.was }
-    requires stands { StandsFor (before_change store.now.graph).content (state_of M.key_columns M.was M.staged M.step_count network.old) }
-    ensures { OnOk result (IsPrepared (before_change store.now.graph).content store.now.graph.now.content (state_of M.key_columns M.was M.staged M.step_count network.new)) }
+    requires stands { Stands M.Memory (before_change store.now.graph).content network.old }
+    ensures { OnOk result (StandsPrepared M.Memory (before_change store.now.graph).content store.now.graph.now.content network.new) }
 {
     if rows_text(alloc, network)?.as_str() != rows || network.steps() != steps {
         return Err(Fail::from("changed by a refusal"));
@@ -179,8 +179,8 @@ fn prepared<M: Made + Listed>(
     store: &Store,
 ) -> Result<(), Fail>
     requires open { IsSome store.now.graph.was }
-    requires stands { StandsFor (before_change store.now.graph).content (state_of M.key_columns M.was M.staged M.step_count network.old) }
-    ensures { OnOk result (IsPrepared (before_change store.now.graph).content store.now.graph.now.content (state_of M.key_columns M.was M.staged M.step_count network.new)) }
+    requires stands { Stands M.Memory (before_change store.now.graph).content network.old }
+    ensures { OnOk result (StandsPrepared M.Memory (before_change store.now.graph).content store.now.graph.now.content network.new) }
 {
     let (rows, steps) = (rows_text(alloc, network)?, network.steps());
     let mut sight = store.sight();
@@ -201,8 +201,8 @@ fn abandoned_text<M: Made + Listed>(
     store: &Store,
 ) -> Result<String, Fail>
     requires open { IsSome store.now.graph.was }
-    requires stands { StandsFor (before_change store.now.graph).content (state_of M.key_columns M.was M.staged M.step_count network.old) }
-    ensures { OnOk result (StandsFor (before_change store.now.graph).content (state_of M.key_columns M.was M.staged M.step_count network.new)) }
+    requires stands { Stands M.Memory (before_change store.now.graph).content network.old }
+    ensures { OnOk result (Stands M.Memory (before_change store.now.graph).content network.new) }
 {
     let rows = rows_text(alloc, network)?;
     prepared(alloc, network, store)?;
@@ -226,9 +226,9 @@ fn changed<M: Made + Listed>(
     line: &str,
 ) -> Result<String, Fail>
     requires closed { IsNone store.old.graph.was }
-    requires stands { StandsFor store.old.graph.now.content (state_of M.key_columns M.was M.staged M.step_count network.old) }
+    requires stands { Stands M.Memory store.old.graph.now.content network.old }
     ensures closed { OnOk result (IsNone store.new.graph.was) }
-    ensures stands { OnOk result (StandsFor store.new.graph.now.content (state_of M.key_columns M.was M.staged M.step_count network.new)) }
+    ensures stands { OnOk result (Stands M.Memory store.new.graph.now.content network.new) }
 {
     executed(alloc, store, line)?;
     let first = abandoned_text(alloc, network, store)?;
@@ -276,9 +276,9 @@ fn expect_line<M: Made + Listed>(
     case: &str,
 ) -> Result<(), Fail>
     requires closed { IsNone store.old.graph.was }
-    requires stands { StandsFor store.old.graph.now.content (state_of M.key_columns M.was M.staged M.step_count network.old) }
+    requires stands { Stands M.Memory store.old.graph.now.content network.old }
     ensures closed { OnOk result (IsNone store.new.graph.was) }
-    ensures stands { OnOk result (StandsFor store.new.graph.now.content (state_of M.key_columns M.was M.staged M.step_count network.new)) }
+    ensures stands { OnOk result (Stands M.Memory store.new.graph.now.content network.new) }
 {
     let (line, wanted) = case.split_once(" =>").unwrap_or((case, ""));
     let mut text = changed(alloc, network, store, line)?;
@@ -304,7 +304,7 @@ fn expect_lines<M: Made + Listed>(
     lines: &str,
 ) -> Result<(), Fail>
     requires closed { IsNone store.old.graph.was }
-    requires stands { StandsFor store.old.graph.now.content (state_of M.key_columns M.was M.staged M.step_count network.old) }
+    requires stands { Stands M.Memory store.old.graph.now.content network.old }
 {
     for case in lines.lines() {
         expect_line(rt, alloc, query, network, store, case)?;

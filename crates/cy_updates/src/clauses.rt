@@ -1,6 +1,6 @@
 //! Updating clauses, each from a graph and a table to a graph and a table.
 
-ghost use Rattle.std.specs.Prelude.{◌≡◌, true, map, IfOk, IsSome};
+ghost use Rattle.std.specs.Prelude.{◌≡◌, true, map, IsSome};
 ghost use Rattle.cy_trees.specs.Trees as trees;
 ghost use Rattle.cy_trees.specs.TreeModels.{clause_of, path_of, remove_item_of, set_item_of};
 ghost use Rattle.cy_scope.specs.Views.{is_update};
@@ -8,7 +8,7 @@ ghost use Rattle.cy_oneshot_meaning.specs.Queries.{columns_after};
 ghost use Rattle.cy_oneshot_meaning.specs.Reading.{AreInGraph};
 ghost use Rattle.cy_updates_meaning.specs.Statements.{rows_taken, updated};
 ghost use Rattle.cy_updates_meaning.specs.internal.Answers.{IsAnswer, graph_table};
-ghost use Rattle.cy_updates_meaning.specs.internal.Gone.{AreGone};
+ghost use Rattle.cy_updates.specs.internal.Reached.{CountsGone, HasColumns};
 
 use cy_index::Store;
 use cy_oneshot::{Table, add_names};
@@ -37,8 +37,8 @@ pub(crate) fn update(
     requires updates { is_update (clause_of clause.now) ≡ true }
     requires there { AreInGraph store.old.graph.now.content table.rows.items }
     ensures meaning { IsAnswer result (λ after. graph_table store.new.graph.now after.table.rows.items) (updated store.old.graph.now (clause_of clause.now) table.rows.items) }
-    ensures columns { IfOk result (λ after. after.table.columns.items ≡ columns_after table.columns.items (clause_of clause.now)) }
-    ensures gone { IfOk result (λ after. AreGone store.old.graph.now store.new.graph.now after.gone.nodes after.gone.rels) }
+    ensures columns { HasColumns result (columns_after table.columns.items (clause_of clause.now)) }
+    ensures gone { CountsGone store.old.graph.now store.new.graph.now result }
     ensures open { store.new.graph.was ≡ store.old.graph.was }
     ensures indexes { store.new.chosen ≡ store.old.chosen }
 {
@@ -58,8 +58,8 @@ fn take_rows(
     requires updates { is_update (clause_of clause.now) ≡ true }
     requires there { AreInGraph store.old.graph.now.content table.rows.items }
     ensures meaning { IsAnswer result (λ after. graph_table store.new.graph.now after.table.rows.items) (rows_taken store.old.graph.now (clause_of clause.now) table.rows.items) }
-    ensures columns { IfOk result (λ after. after.table.columns.items ≡ columns_after table.columns.items (clause_of clause.now)) }
-    ensures gone { IfOk result (λ after. AreGone store.old.graph.now store.new.graph.now after.gone.nodes after.gone.rels) }
+    ensures columns { HasColumns result (columns_after table.columns.items (clause_of clause.now)) }
+    ensures gone { CountsGone store.old.graph.now store.new.graph.now result }
     ensures open { store.new.graph.was ≡ store.old.graph.was }
     ensures indexes { store.new.chosen ≡ store.old.chosen }
 {
@@ -94,8 +94,8 @@ fn create_on(
     requires open { IsSome store.old.graph.was }
     requires there { AreInGraph store.old.graph.now.content table.rows.items }
     ensures meaning { IsAnswer result (λ after. graph_table store.new.graph.now after.table.rows.items) (rows_taken store.old.graph.now (trees.create (map path_of paths.now)) table.rows.items) }
-    ensures columns { IfOk result (λ after. after.table.columns.items ≡ columns_after table.columns.items (trees.create (map path_of paths.now))) }
-    ensures gone { IfOk result (λ after. AreGone store.old.graph.now store.new.graph.now after.gone.nodes after.gone.rels) }
+    ensures columns { HasColumns result (columns_after table.columns.items (trees.create (map path_of paths.now))) }
+    ensures gone { CountsGone store.old.graph.now store.new.graph.now result }
     ensures open { store.new.graph.was ≡ store.old.graph.was }
     ensures indexes { store.new.chosen ≡ store.old.chosen }
 {
@@ -119,8 +119,8 @@ fn set_on(
     requires open { IsSome store.old.graph.was }
     requires there { AreInGraph store.old.graph.now.content table.rows.items }
     ensures meaning { IsAnswer result (λ after. graph_table store.new.graph.now after.table.rows.items) (rows_taken store.old.graph.now (trees.set (map set_item_of items.now)) table.rows.items) }
-    ensures columns { IfOk result (λ after. after.table.columns.items ≡ table.columns.items) }
-    ensures gone { IfOk result (λ after. AreGone store.old.graph.now store.new.graph.now after.gone.nodes after.gone.rels) }
+    ensures columns { HasColumns result table.columns.items }
+    ensures gone { CountsGone store.old.graph.now store.new.graph.now result }
     ensures open { store.new.graph.was ≡ store.old.graph.was }
     ensures indexes { store.new.chosen ≡ store.old.chosen }
 {
@@ -139,8 +139,8 @@ fn remove_on(
     requires open { IsSome store.old.graph.was }
     requires there { AreInGraph store.old.graph.now.content table.rows.items }
     ensures meaning { IsAnswer result (λ after. graph_table store.new.graph.now after.table.rows.items) (rows_taken store.old.graph.now (trees.remove (map remove_item_of items.now)) table.rows.items) }
-    ensures columns { IfOk result (λ after. after.table.columns.items ≡ table.columns.items) }
-    ensures gone { IfOk result (λ after. AreGone store.old.graph.now store.new.graph.now after.gone.nodes after.gone.rels) }
+    ensures columns { HasColumns result table.columns.items }
+    ensures gone { CountsGone store.old.graph.now store.new.graph.now result }
     ensures open { store.new.graph.was ≡ store.old.graph.was }
     ensures indexes { store.new.chosen ≡ store.old.chosen }
 {
@@ -158,8 +158,8 @@ fn delete_on(
 ) -> Result<Updated, UpdateFault>
     requires open { IsSome store.old.graph.was }
     ensures meaning { IsAnswer result (λ after. graph_table store.new.graph.now after.table.rows.items) (rows_taken store.old.graph.now (trees.delete clause.now.detach clause.now.variables.items) table.rows.items) }
-    ensures columns { IfOk result (λ after. after.table.columns.items ≡ table.columns.items) }
-    ensures gone { IfOk result (λ after. AreGone store.old.graph.now store.new.graph.now after.gone.nodes after.gone.rels) }
+    ensures columns { HasColumns result table.columns.items }
+    ensures gone { CountsGone store.old.graph.now store.new.graph.now result }
     ensures open { store.new.graph.was ≡ store.old.graph.was }
     ensures indexes { store.new.chosen ≡ store.old.chosen }
 {

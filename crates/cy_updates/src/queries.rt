@@ -12,9 +12,8 @@ ghost use Rattle.cy_updates_meaning.specs.declared.faults.UpdateFault.TheVariant
 ghost use Rattle.cy_updates_meaning.specs.Counts.{Counts};
 ghost use Rattle.cy_updates_meaning.specs.Faults.{each_in_turn};
 ghost use Rattle.cy_updates_meaning.specs.Statements as spec;
-ghost use Rattle.cy_updates_meaning.specs.internal.Gone.{AreGone};
 ghost use Rattle.cy_updates.specs.internal.Queries.{IsQueryDone};
-ghost use Rattle.cy_updates.specs.internal.Reached.{IsNext, IsNextInOrder, IsReached, opening, progress};
+ghost use Rattle.cy_updates.specs.internal.Reached.{CountsGone, HasColumns, IsNext, IsNextInOrder, IsReached, opening, progress};
 
 use crate::clauses::{Updated, update, with_none_gone};
 use cy_index::Store;
@@ -37,8 +36,8 @@ pub(crate) fn execute_query(
     requires graph { IsGraph store.old.graph.now }
     requires checked { IsChecked (single (query_of query.now)) }
     ensures meaning { IsQueryDone result store.old.graph.now (query_of query.now) store.new.graph.now }
-    ensures columns { IfOk result (λ after. after.table.columns.items ≡ spec.columns_of (query_of query.now ∷ [])) }
-    ensures gone { IfOk result (λ after. AreGone store.old.graph.now store.new.graph.now after.gone.nodes after.gone.rels) }
+    ensures columns { HasColumns result (spec.columns_of (query_of query.now ∷ [])) }
+    ensures gone { CountsGone store.old.graph.now store.new.graph.now result }
     ensures open { store.new.graph.was ≡ store.old.graph.was }
     ensures indexes { store.new.chosen ≡ store.old.chosen }
 {
@@ -91,8 +90,8 @@ fn after_clause(
     requires width { AllByRecursion (λ row. length row ≡ length table.columns.items) table.rows.items }
     ensures meaning { IsNext result store.old.graph.now table.columns.items table.rows.items (clause_of clause.now) (map clause_of others.now) store.new.graph.now }
     ensures ordered { IsTrue (scopes.is_return (clause_of clause.now)) → IsNextInOrder result store.new.graph.now (λ counts. spec.after_clause (clause_of clause.now) (progress store.old.graph.now table.rows.items counts)) }
-    ensures columns { IfOk result (λ after. after.table.columns.items ≡ columns_after table.columns.items (clause_of clause.now)) }
-    ensures gone { IfOk result (λ after. AreGone store.old.graph.now store.new.graph.now after.gone.nodes after.gone.rels) }
+    ensures columns { HasColumns result (columns_after table.columns.items (clause_of clause.now)) }
+    ensures gone { CountsGone store.old.graph.now store.new.graph.now result }
     ensures open { store.new.graph.was ≡ store.old.graph.was }
     ensures indexes { store.new.chosen ≡ store.old.chosen }
 {

@@ -1,5 +1,5 @@
 -- How far the clauses of a query have been executed.
-use Rattle.std.specs.Prelude.{◌≡◌, ◌⊎◌, ◌≤◌, Bool, true, [], ◌∷◌, List, length, map, None, IsTrue, Result, Ok, Err, MatchResult, if◌then◌else◌}
+use Rattle.std.specs.Prelude.{◌≡◌, ◌⊎◌, ◌≤◌, Bool, true, [], ◌∷◌, List, length, map, None, IsTrue, Result, Ok, Err, MatchResult, if◌then◌else◌, IfOk}
 use Rattle.std.specs.List.{AllByRecursion}
 use Rattle.cy_values.specs.declared.rows.Cell.{Cell}
 use Rattle.cy_trees.specs.Trees.{Name, Clause, unwind, Query}
@@ -20,6 +20,13 @@ use Rattle.cy_updates_meaning.specs.Counts.{Counts}
 use Rattle.cy_updates_meaning.specs.Faults.{◌>>=◌, each_in_turn}
 use Rattle.cy_updates_meaning.specs.internal.Gone.{AreGone}
 use Rattle.cy_updates_meaning.specs.Statements.{Progress, after_clause}
+
+-- where clauses were executed, from one graph to another, they count what they removed, and give these columns
+abbrev pub CountsGone : State → State → Result Updated UpdateFault → Type 0
+CountsGone before after result = IfOk result (λ done. AreGone before after done.gone.nodes done.gone.rels)
+
+abbrev pub HasColumns : Result Updated UpdateFault → List Name → Type 0
+HasColumns result columns = IfOk result (λ done. done.table.columns.items ≡ columns)
 
 -- how far a statement has come: a graph, rows, and counts
 abbrev pub progress : State → List (List Cell) → Counts → Progress

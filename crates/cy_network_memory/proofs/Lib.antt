@@ -11,6 +11,7 @@ pub mod Finding
 pub mod Replacing
 pub mod Leaving
 pub mod LookUps
+pub mod Changes
 pub mod Groups
 pub mod RowLists
 pub mod ListedRows

@@ -7,8 +7,8 @@ use std::process::Abort;
 use std::test::Fail;
 
 // Calls of a memory of rows of two numbers, of which the first is the key. `stage` adds to the count of a row, and gives the number of
-// its fault. `look` gives how many rows of a key there are, how often they counted and how often they will, `counts` the latter two of one row,
-// and `counted` how many rows counted, and how often in all. `steps` are those of a memory whose steps are exact, and those of a list: one for each
+// its fault. `look` gives how many rows of a key there are, how often they counted and how often they will, `changes` the same of the rows that the open
+// change changes, `counts` the latter two of one row, and `counted` how many rows counted, and how often in all. `steps` are those of a memory whose steps are exact, and those of a list: one for each
 // look-up, and one for each row that it goes over to stage another, passes over or takes; where it is asked how often a row counts, as many as a
 // look-up that gives it takes, or more.
 const CALLS: &str = "\
@@ -20,12 +20,15 @@ counted => 0 0
 stage 1 6 3 => ok
 stage 2 5 1 => ok
 look 1 => 2 0 5
+changes => 3 0 6
 settle => ok
+changes => 0 0 0
 look 1 => 2 5 5
 look 2 => 1 1 1
 counted => 3 6
 stage 2 5 7 => ok
 look 2 => 1 1 8
+changes => 1 1 8
 counts 2 5 => 1 8
 counted => 3 6
 abandon => ok
@@ -81,6 +84,17 @@ fn look<M: Memory>(alloc: Global, memory: &mut M, key: &Row) -> Result<String, F
     Ok(format!(in alloc; "{rows} {before} {after}")?)
 }
 
+// How many rows the open change changes, and the sums of their counts.
+fn changes<M: Memory>(alloc: Global, memory: &M) -> Result<String, Fail> {
+    let (mut rows, mut before, mut after) = (0u64, 0u64, 0u64);
+    for record in memory.changes(alloc)? {
+        rows = rows.saturating_add(1);
+        before = before.saturating_add(record.before);
+        after = after.saturating_add(record.after);
+    }
+    Ok(format!(in alloc; "{rows} {before} {after}")?)
+}
+
 // How often a row counted, and how often it will.
 fn counts<M: Memory>(alloc: Global, memory: &mut M, row: &Row) -> Result<String, Fail> {
     let (before, after) = memory.counts(row);
@@ -115,6 +129,7 @@ fn called<M: Listed>(alloc: Global, memory: &mut M, words: &[&str]) -> Result<St
             counts(alloc, memory, &row)
         }
         ["counted"] => counted(alloc, memory),
+        ["changes"] => changes(alloc, memory),
         ["settle"] => {
             memory.settle();
             Ok(format!(in alloc; "ok")?)

@@ -8,6 +8,8 @@ pub mod Through
 pub mod Partway
 pub mod Shared
 pub mod Sides
+pub mod ReadOff
+pub mod Inputs
 pub mod Upwards
 pub mod Climbs
 pub mod Irrelevant

@@ -2,3 +2,4 @@
 pub mod Roots
 pub mod Passages
 pub mod KeptUp
+pub mod Inputs

@@ -8,6 +8,7 @@ use Rattle.cy_planner_algebra.specs.PlanModels.{plan_of}
 use Rattle.cy_planner_algebra.proofs.Layers.{IsNoUnit, IsNoAllDifferent, IsNoFilter, IsNoJoin, IsNoLookup, IsNoProject, IsNoUnion, by_layer, plan_from}
 use Rattle.cy_network_parts.specs.KeptRows.{keeps_rows}
 use Rattle.cy_network_parts.specs.Parts.{is_unit}
+use Rattle.cy_network_parts.specs.Shared.{own_joins}
 use Rattle.cy_network_parts.specs.internal.Held.{left_back, right_back, shared_input}
 
 -- another part than that of the empty row is none
@@ -26,6 +27,15 @@ kept_else part no_project no_union = by_layer (λ p. keeps_rows p ≡ false) par
     go : (layer : Operator-F Operator) → part ≡ roll-Operator layer → keeps_rows (plan_from layer) ≡ false
     go (Operator-F.Project below outputs) is = absurd (no_project below outputs (is ∙ rolls-Project below outputs))
     go (Operator-F.Union left right) is = absurd (no_union left right (is ∙ rolls-Union left right))
+    go Operator-F.Unit is = refl
+    go _ is = refl
+
+-- another one than a join counts for none
+pub joins_else : (part : Operator) → IsNoJoin part → 0 ≡ own_joins (plan_of part)
+joins_else part no_join = by_layer (λ p. 0 ≡ own_joins p) part go
+  where
+    go : (layer : Operator-F Operator) → part ≡ roll-Operator layer → 0 ≡ own_joins (plan_from layer)
+    go (Operator-F.Join left right keys) is = absurd (no_join left right keys (is ∙ rolls-Join left right keys))
     go Operator-F.Unit is = refl
     go _ is = refl
 

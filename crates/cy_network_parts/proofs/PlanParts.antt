@@ -1,7 +1,8 @@
 -- A part of a plan and the parts right below it.
 use Rattle.std.proofs.Common.{◌≡◌, ℕ, ◌+◌, ◌<◌, ◌≤◌, Bool, true, false, not, List, [], ◌∷◌, ◌++◌, length, refl, sym, ap, subst, ◌∙◌, arith}
-use Rattle.std.proofs.lemmas.List.{append-nil, length-append}
+use Rattle.std.proofs.lemmas.List.{append-nil, length-append, length-map}
 use Rattle.cy_values.specs.declared.rows.Cell.{Cell}
+use Rattle.cy_network_memory.specs.Counts.{Counts, no_rows}
 use Rattle.cy_planner_algebra.specs.Plans as plan
 use Rattle.cy_planner_algebra.specs.Plans.{Plan, width}
 use Rattle.cy_planner_algebra.specs.Parts.{parts}
@@ -10,8 +11,10 @@ use Rattle.cy_planner_algebra.specs.WellFormed.{IsWellFormed}
 use Rattle.cy_network_relevance.specs.Lists.{are_apart}
 use Rattle.cy_network_operators.specs.Deltas.{counts}
 use Rattle.cy_network_merges.specs.Merges.{all_columns}
-use Rattle.cy_network_parts.specs.Memories.{contents, is_row_by_row, is_scan, keys, none_where, own_contents, own_keys}
+use Rattle.cy_network_parts.specs.Inputs.{below_contents}
+use Rattle.cy_network_parts.specs.Memories.{contents, emptied_where, is_row_by_row, is_scan, keys, none_where, own_contents, own_keys}
 use Rattle.cy_network_parts.specs.Parts.{below_count, first_below, second_below}
+use Rattle.cy_network_parts.specs.Shared.{left_held, right_held}
 use Rattle.cy_network_touches.specs.Work.{in_all}
 
 -- what a part with one part below it is made of
@@ -39,7 +42,7 @@ over_one _ h = absurd (omega (arith, h))
 -- what a part with two parts below it is made of
 pub record IsOverTwo (p : Plan) : Type 0 where
   pub of_keys : keys p ≡ (keys (first_below p) ++ keys (second_below p)) ++ own_keys p
-  pub of_contents : (rows : Plan → List (List Cell)) → contents rows p ≡ (contents rows (first_below p) ++ contents rows (second_below p)) ++ own_contents rows p
+  pub of_contents : (rows : Plan → List (List Cell)) → contents rows p ≡ below_contents rows p ++ own_contents rows p
   pub of_parts : parts p ≡ p ∷ parts (first_below p) ++ parts (second_below p)
   pub well_formed_first : IsWellFormed p → IsWellFormed (first_below p)
   pub well_formed_second : IsWellFormed p → IsWellFormed (second_below p)
@@ -114,9 +117,17 @@ two : {A B : Type 0} (xs ys zs : List A) (us vs ws : List B) → length xs ≡ l
     → length ((xs ++ ys) ++ zs) ≡ length ((us ++ vs) ++ ws)
 two xs ys zs us vs ws first second third = one (xs ++ ys) zs (us ++ vs) ws (one xs ys us vs first second) third
 
+-- memories that count nothing are as many
+pub emptied_long : (so : Bool) (counted : List Counts) → length (emptied_where so counted) ≡ length counted
+emptied_long true counted = length-map counted (λ _. no_rows)
+emptied_long false counted = refl
+
 -- and so has a plan
 pub all_long : (rows : Plan → List (List Cell)) (p : Plan) → length (contents rows p) ≡ length (keys p)
-all_long rows (plan.join left right ks) = two (contents rows left) (contents rows right) (own_contents rows (plan.join left right ks)) (keys left) (keys right) (own_keys (plan.join left right ks)) (all_long rows left) (all_long rows right) refl
+all_long rows (plan.join left right ks) =
+    let p = plan.join left right ks in
+    two (emptied_where (left_held p) (contents rows left)) (emptied_where (right_held p) (contents rows right)) (own_contents rows p) (keys left) (keys right) (own_keys p)
+    (emptied_long (left_held p) (contents rows left) ∙ all_long rows left) (emptied_long (right_held p) (contents rows right) ∙ all_long rows right) refl
 all_long rows (plan.outer left right ks test) = two (contents rows left) (contents rows right) (own_contents rows (plan.outer left right ks test)) (keys left) (keys right) (own_keys (plan.outer left right ks test)) (all_long rows left) (all_long rows right) refl
 all_long rows (plan.semi left right ks keeping) = two (contents rows left) (contents rows right) (own_contents rows (plan.semi left right ks keeping)) (keys left) (keys right) (own_keys (plan.semi left right ks keeping)) (all_long rows left) (all_long rows right) refl
 all_long rows (plan.lookup p column attribute) = one (contents rows p) (own_contents rows (plan.lookup p column attribute)) (keys p) (own_keys (plan.lookup p column attribute)) (all_long rows p) (own_long rows (plan.lookup p column attribute))

@@ -1,5 +1,5 @@
 -- What is asked of a part of a plan, and what it gives, put together from what is so of the parts below it.
-use Rattle.std.proofs.Common.{◌≡◌, ℕ, ◌+◌, ◌<◌, ◌≤◌, Bool, List, [], ◌++◌, Option, Some, None, IfSome, length, map, refl, sym, ap, subst, ◌∙◌, arith}
+use Rattle.std.proofs.Common.{◌≡◌, ℕ, ◌+◌, ◌<◌, ◌≤◌, Bool, false, List, [], ◌++◌, Option, Some, None, IfSome, is_none, length, map, refl, sym, ap, subst, ◌∙◌, arith}
 use Rattle.std.specs.Prelude.{sum_by}
 use Rattle.std.specs.List.{All, Any}
 use Rattle.std.proofs.lemmas.List.{map-append}
@@ -18,13 +18,16 @@ use Rattle.cy_network_memory.specs.declared.memory.RowDelta.{RowDelta}
 use Rattle.cy_network_operators.specs.Deltas.{content_at, counts, rows_at}
 use Rattle.cy_network_operators.proofs.DeltaLemmas.{after_bounded}
 use Rattle.cy_network_touches.specs.Changes.{IsChange, Touches}
-use Rattle.cy_network_parts.specs.Memories.{AreWithin, contents, keys, own_contents, own_keys}
+use Rattle.cy_network_parts.specs.Inputs.{below_contents}
+use Rattle.cy_network_parts.specs.Memories.{AreWithin, contents, emptied_where, keys, own_contents, own_keys}
 use Rattle.cy_network_parts.specs.Limits.{HasTooManyRows}
 use Rattle.cy_network_parts.specs.Parts.{below_count, first_below, second_below}
-use Rattle.cy_network_parts.specs.Upkeep.{HasTooMany, IsDeltaOf, IsOwnBegun, IsOwnDone, content_of, state_of}
+use Rattle.cy_network_parts.specs.Shared.{left_held, right_held}
+use Rattle.cy_network_parts.specs.Upkeep.{HasTooMany, IsDeltaOf, IsOwnBegun, IsOwnDone, IsStep, content_of, state_of}
 use Rattle.cy_network_parts.specs.internal.Upkeep.{IsBegun, IsDone}
 use Rattle.cy_network_touches.specs.Work.{in_all}
-use Rattle.cy_network_parts.proofs.PlanParts.{all_long, over_one, over_two, own_long}
+use Rattle.cy_network_parts.proofs.HeldInputs.{sides_are}
+use Rattle.cy_network_parts.proofs.PlanParts.{over_one, over_two, own_long}
 use Rattle.cy_network_parts.proofs.Slices.{all_left, all_right, any_first, any_later, any_left, any_right, same_mapped}
 
 -- the graph that a change leads from, if there is one
@@ -125,49 +128,73 @@ module _ {M : Type 0} (key_columns : M → List ℕ) (was staged : M → Counts)
   abbrev pub IsOwnBegunBy : List M → Type 0
   IsOwnBegunBy own = IsOwnBegun old p (map key_columns own) (map was own) (map staged own)
 
-  pub begun_two : (memories lefts rights own : List M) → memories ≡ (lefts ++ rights) ++ own → below_count p ≡ 2 → length own ≡ length (own_keys p)
-      → length rights ≡ length (keys (second_below p)) → IsBegunBy p memories → IsBegunBy (first_below p) lefts × IsBegunBy (second_below p) rights × IsOwnBegunBy own
-  begun_two memories lefts rights own is pair long right_long begun =
+  -- its memories are those of the parts below it, and its own
+  pub begun_below : (memories below own : List M) → memories ≡ below ++ own → below_count p ≡ 2 → length own ≡ length (own_keys p) → IsBegunBy p memories
+      → (map key_columns below ≡ keys (first_below p) ++ keys (second_below p)) × ((map was below ≡ below_contents (rows_at (content_of old)) p)
+      × ((map staged below ≡ below_contents (rows_at (content_of old)) p) × IsOwnBegunBy own))
+  begun_below memories below own is pair long begun =
       let facts = over_two p pair in
       let rows = rows_at (content_of old) in
-      let ks = same_mapped key_columns (lefts ++ rights) own (keys (first_below p) ++ keys (second_below p)) (own_keys p) (ap (map key_columns) (sym is) ∙ begun.held.keyed ∙ facts.of_keys) long in
-      let ws = same_mapped was (lefts ++ rights) own (contents rows (first_below p) ++ contents rows (second_below p)) (own_contents rows p) (ap (map was) (sym is) ∙ begun.held.held ∙ facts.of_contents rows) (long ∙ sym (own_long rows p)) in
-      let ss = same_mapped staged (lefts ++ rights) own (contents rows (first_below p) ++ contents rows (second_below p)) (own_contents rows p) (ap (map staged) (sym is) ∙ begun.held.settled ∙ facts.of_contents rows) (long ∙ sym (own_long rows p)) in
-      let k = same_mapped key_columns lefts rights (keys (first_below p)) (keys (second_below p)) ks.0 right_long in
-      let w = same_mapped was lefts rights (contents rows (first_below p)) (contents rows (second_below p)) ws.0 (right_long ∙ sym (all_long rows (second_below p))) in
-      let s = same_mapped staged lefts rights (contents rows (first_below p)) (contents rows (second_below p)) ss.0 (right_long ∙ sym (all_long rows (second_below p))) in
-      let within = All-tail (Within (content_of old)) p (parts (first_below p) ++ parts (second_below p)) (subst (All (Within (content_of old))) facts.of_parts begun.held.within) in (
-        record {
-          first = begun.first;
-          step = record { change = begun.step.change; well_formed = facts.well_formed_first begun.step.well_formed; sure = facts.sure_first begun.step.sure };
-          held = record { keyed = k.0; held = w.0; settled = s.0; within = all_left (Within (content_of old)) (parts (first_below p)) (parts (second_below p)) within };
-        },
-        record {
-          first = begun.first;
-          step = record { change = begun.step.change; well_formed = facts.well_formed_second begun.step.well_formed; sure = facts.sure_second begun.step.sure };
-          held = record { keyed = k.1; held = w.1; settled = s.1; within = all_right (Within (content_of old)) (parts (first_below p)) (parts (second_below p)) within };
-        },
-        record { keyed = ks.1; held = ws.1; settled = ss.1; within = begun.held.within },
-      )
+      let own_counted = long ∙ sym (own_long rows p) in
+      let ks = same_mapped key_columns below own (keys (first_below p) ++ keys (second_below p)) (own_keys p) (ap (map key_columns) (sym is) ∙ begun.held.keyed ∙ facts.of_keys) long in
+      let ws = same_mapped was below own (below_contents rows p) (own_contents rows p) (ap (map was) (sym is) ∙ begun.held.held ∙ facts.of_contents rows) own_counted in
+      let ss = same_mapped staged below own (below_contents rows p) (own_contents rows p) (ap (map staged) (sym is) ∙ begun.held.settled ∙ facts.of_contents rows) own_counted in
+      (ks.0, (ws.0, (ss.0, record { keyed = ks.1; held = ws.1; settled = ss.1; within = begun.held.within })))
 
-  pub done_two : (memories lefts rights own : List M) (left_deltas right_deltas made : List RowDelta) → memories ≡ (lefts ++ rights) ++ own → below_count p ≡ 2 → AreWithin (content_of old) p
-      → IsDone old now (first_below p) (map staged lefts) left_deltas → IsDone old now (second_below p) (map staged rights) right_deltas → IsOwnDone old now p (map staged own) made
-      → IsDone old now p (map staged memories) made
-  done_two memories lefts rights own left_deltas right_deltas made is pair within left_done right_done own_done =
+  -- a part right below whose rows no other one holds is begun
+  module _ (lefts rights : List M) (pair : below_count p ≡ 2) (right_long : length rights ≡ length (keys (second_below p))) (first : from_nothing ≡ is_none old) (step : IsStep old now touches p)
+      (within : AreWithin (content_of old) p) (keyed : map key_columns (lefts ++ rights) ≡ keys (first_below p) ++ keys (second_below p))
+      (held : map was (lefts ++ rights) ≡ below_contents (rows_at (content_of old)) p) (settled : map staged (lefts ++ rights) ≡ below_contents (rows_at (content_of old)) p) where
+    below_within : All (Within (content_of old)) (parts (first_below p) ++ parts (second_below p))
+    below_within = All-tail (Within (content_of old)) p (parts (first_below p) ++ parts (second_below p)) (subst (All (Within (content_of old))) (over_two p pair).of_parts within)
+
+    pub begun_first : left_held p ≡ false → IsBegunBy (first_below p) lefts
+    begun_first unheld =
+        let facts = over_two p pair in
+        let rows = rows_at (content_of old) in
+        let whole = ap (λ so. emptied_where so (contents rows (first_below p))) unheld in
+        record {
+          first = first;
+          step = record { change = step.change; well_formed = facts.well_formed_first step.well_formed; sure = facts.sure_first step.sure };
+          held = record {
+            keyed = (same_mapped key_columns lefts rights (keys (first_below p)) (keys (second_below p)) keyed right_long).0;
+            held = (sides_are rows p was lefts rights held right_long).0 ∙ whole;
+            settled = (sides_are rows p staged lefts rights settled right_long).0 ∙ whole;
+            within = all_left (Within (content_of old)) (parts (first_below p)) (parts (second_below p)) below_within;
+          };
+        }
+
+    pub begun_second : right_held p ≡ false → IsBegunBy (second_below p) rights
+    begun_second unheld =
+        let facts = over_two p pair in
+        let rows = rows_at (content_of old) in
+        let whole = ap (λ so. emptied_where so (contents rows (second_below p))) unheld in
+        record {
+          first = first;
+          step = record { change = step.change; well_formed = facts.well_formed_second step.well_formed; sure = facts.sure_second step.sure };
+          held = record {
+            keyed = (same_mapped key_columns lefts rights (keys (first_below p)) (keys (second_below p)) keyed right_long).1;
+            held = (sides_are rows p was lefts rights held right_long).1 ∙ whole;
+            settled = (sides_are rows p staged lefts rights settled right_long).1 ∙ whole;
+            within = all_right (Within (content_of old)) (parts (first_below p)) (parts (second_below p)) below_within;
+          };
+        }
+
+  pub done_two : (memories below own : List M) (made : List RowDelta) → memories ≡ below ++ own → below_count p ≡ 2 → AreWithin (content_of old) p
+      → map staged below ≡ below_contents (rows_at (Some now.content)) p → AreWithin (Some now.content) (first_below p) → AreWithin (Some now.content) (second_below p)
+      → IsOwnDone old now p (map staged own) made → IsDone old now p (map staged memories) made
+  done_two memories below own made is pair within below_done left_within right_within own_done =
       let facts = over_two p pair in
       let rows = rows_at (Some now.content) in
       record {
         change = own_done.change;
         holds =
-            ap (map staged) is
-            ∙ map-append staged (lefts ++ rights) own
-            ∙ ap (λ xs. xs ++ map staged own) (map-append staged lefts rights ∙ ap (λ xs. xs ++ map staged rights) left_done.holds ∙ ap (λ xs. contents rows (first_below p) ++ xs) right_done.holds)
-            ∙ ap (λ xs. (contents rows (first_below p) ++ contents rows (second_below p)) ++ xs) own_done.holds
+            ap (map staged) is ∙ map-append staged below own ∙ ap (λ xs. xs ++ map staged own) below_done ∙ ap (λ xs. below_contents rows p ++ xs) own_done.holds
             ∙ sym (facts.of_contents rows);
         within =
             subst (All (Within (Some now.content))) (sym facts.of_parts)
             (All-cons (Within (Some now.content)) p (parts (first_below p) ++ parts (second_below p)) (now_within old now p made within own_done.change)
-            (All-append (Within (Some now.content)) (parts (first_below p)) (parts (second_below p)) left_done.within right_done.within));
+            (All-append (Within (Some now.content)) (parts (first_below p)) (parts (second_below p)) left_within right_within));
       }
 
 -- ---- what is counted

@@ -1,6 +1,8 @@
 pub mod KeptRows
+pub mod Added
 pub mod Chains
 pub mod Counted
+pub mod Inputs
 pub mod Limits
 pub mod Memories
 pub mod Parts

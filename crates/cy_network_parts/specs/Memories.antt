@@ -85,12 +85,17 @@ own_contents rows (plan.project p outputs) = none_where (is_row_by_row p outputs
 own_contents rows (plan.distinct p) = []
 own_contents rows (plan.union left right) = none_where (are_apart left right) (counts (rows (plan.union left right)) ∷ [])
 
--- what all memories of a plan count
+-- nothing, for each of these, where this is so
+abbrev pub emptied_where : Bool → List Counts → List Counts
+emptied_where so counted = if so then map (λ _. no_rows) counted else counted
+
+-- What all memories of a plan count. Where another join holds the rows of an input, the memories of that input count nothing: it isn't gone through.
 abbrev pub contents : (Plan → List (List Cell)) → Plan → List Counts
 contents rows plan.unit = []
 contents rows plan.nodes = []
 contents rows (plan.rels types orientation) = []
-contents rows (plan.join left right ks) = (contents rows left ++ contents rows right) ++ own_contents rows (plan.join left right ks)
+contents rows (plan.join left right ks) =
+    (emptied_where (left_held (plan.join left right ks)) (contents rows left) ++ emptied_where (right_held (plan.join left right ks)) (contents rows right)) ++ own_contents rows (plan.join left right ks)
 contents rows (plan.outer left right ks test) = (contents rows left ++ contents rows right) ++ own_contents rows (plan.outer left right ks test)
 contents rows (plan.semi left right ks keeping) = (contents rows left ++ contents rows right) ++ own_contents rows (plan.semi left right ks keeping)
 contents rows (plan.lookup p column attribute) = contents rows p ++ own_contents rows (plan.lookup p column attribute)

@@ -67,6 +67,11 @@ second_below (plan.project p outputs) = p
 second_below (plan.distinct p) = p
 second_below (plan.union left right) = right
 
+-- the side across
+abbrev pub other_side : Side → Side
+other_side Left = Right
+other_side Right = Left
+
 -- the one at a side
 abbrev pub input_at : Side → Plan → Plan
 input_at Left p = first_below p

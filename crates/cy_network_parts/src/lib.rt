@@ -8,6 +8,7 @@ mod memories;
 mod parts;
 mod same_conditions;
 mod same_plans;
+mod sizes;
 
 pub use held::{HeldInput, Side, shared_input};
 pub use memories::{

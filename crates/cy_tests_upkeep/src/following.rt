@@ -8,7 +8,8 @@ ghost use Rattle.cy_graph.specs.Graph.{Content};
 ghost use Rattle.cy_network_touches.specs.Changes.{before_change};
 ghost use Rattle.cy_planner_algebra.specs.Sure.{IsSure};
 ghost use Rattle.cy_planner_algebra.specs.PlanModels.{plan_of};
-ghost use Rattle.cy_network.specs.Networks.{HasRows, Stands, StandsPrepared, state_of};
+ghost use Rattle.cy_network.specs.Networks.{HasRows, Stands, state_of};
+ghost use Rattle.cy_network.specs.Prepared.{IsPreparedFor};
 
 use cy_bags::counted_in_order;
 use cy_index::Store;
@@ -144,7 +145,7 @@ fn prepared_by_change<M: Made + Listed>(
 ) -> Result<(), Fail>
     requires open { IsSome store.now.graph.was }
     requires stands { Stands M.Memory (before_change store.now.graph).content network.old }
-    ensures { OnOk result (StandsPrepared M.Memory (before_change store.now.graph).content store.now.graph.now.content network.new) }
+    ensures { OnOk result (IsPreparedFor M.Memory store.now.graph network.new) }
 {
     let mut sight = store.sight();
     let change = GraphChange::new(alloc, &sight)?;
@@ -163,7 +164,7 @@ fn prepared_again<M: Made + Listed>(
 ) -> Result<(), Fail>
     requires open { IsSome store.now.graph.was }
     requires stands { Stands M.Memory (before_change store.now.graph).content network.old }
-    ensures { OnOk result (StandsPrepared M.Memory (before_change store.now.graph).content store.now.graph.now.content network.new) }
+    ensures { OnOk result (IsPreparedFor M.Memory store.now.graph network.new) }
 {
     if rows_text(alloc, network)?.as_str() != rows || network.steps() != steps {
         return Err(Fail::from("changed by a refusal"));
@@ -180,7 +181,7 @@ fn prepared<M: Made + Listed>(
 ) -> Result<(), Fail>
     requires open { IsSome store.now.graph.was }
     requires stands { Stands M.Memory (before_change store.now.graph).content network.old }
-    ensures { OnOk result (StandsPrepared M.Memory (before_change store.now.graph).content store.now.graph.now.content network.new) }
+    ensures { OnOk result (IsPreparedFor M.Memory store.now.graph network.new) }
 {
     let (rows, steps) = (rows_text(alloc, network)?, network.steps());
     let mut sight = store.sight();

@@ -29,6 +29,13 @@ impl Pair {
     }
 }
 
+// One of the chosen pairs, and its place among them.
+#[derive(Clone, Copy)]
+struct PlacedPair<'a> {
+    place: usize,
+    pair: &'a Pair,
+}
+
 /// What a node is looked up by.
 #[derive(Debug, Drop, PartialEq, Eq)]
 pub(crate) enum Key {
@@ -90,7 +97,8 @@ pub(crate) fn push_label_keys(
 {
     keys.push(Key::Label(label.copy(alloc)?))?;
     for (place, pair) in chosen.iter().enumerate() {
-        push_key_by_label(alloc, keys, place, pair, label.as_str(), props)?;
+        let placed = PlacedPair { place, pair };
+        push_key_by_label(alloc, keys, &placed, label.as_str(), props)?;
     }
     Ok(())
 }
@@ -114,13 +122,13 @@ fn push_prop_key(
 fn push_key_by_label(
     alloc: Global,
     keys: &mut Vec<Key>,
-    place: usize,
-    pair: &Pair,
+    placed: &PlacedPair<'_>,
     label: &str,
     props: &Props,
 ) -> Result<(), Fault>
-    ensures { OnOk result ((k : Key) → among k keys.new.items ≡ (among k keys.old.items || is_here place (λ v. by_label label.now props.now v pair.now) k)) }
+    ensures { OnOk result ((k : Key) → among k keys.new.items ≡ (among k keys.old.items || is_here placed.now.place (λ v. by_label label.now props.now v placed.now.pair.now) k)) }
 {
+    let PlacedPair { place, pair } = *placed;
     if pair.label.as_str() == label {
         push_prop_key(alloc, keys, place, props.get(pair.key.as_str()))
     } else {
@@ -132,14 +140,14 @@ fn push_key_by_label(
 fn push_key_by_value(
     alloc: Global,
     keys: &mut Vec<Key>,
-    place: usize,
-    pair: &Pair,
+    placed: &PlacedPair<'_>,
     labels: &Labels,
     key: &str,
     value: Option<&Value>,
 ) -> Result<(), Fault>
-    ensures { OnOk result ((k : Key) → among k keys.new.items ≡ (among k keys.old.items || is_here place (λ v. by_value labels.now key.now (option_copied value.entry) v pair.now) k)) }
+    ensures { OnOk result ((k : Key) → among k keys.new.items ≡ (among k keys.old.items || is_here placed.now.place (λ v. by_value labels.now key.now (option_copied value.entry) v placed.now.pair.now) k)) }
 {
+    let PlacedPair { place, pair } = *placed;
     let meant = pair.key.as_str() == key && labels.get(pair.label.as_str()).is_some();
     if meant {
         push_prop_key(alloc, keys, place, value)
@@ -190,7 +198,8 @@ pub(crate) fn value_keys(
 {
     let mut keys = Vec::new(alloc);
     for (place, pair) in chosen.iter().enumerate() {
-        push_key_by_value(alloc, &mut keys, place, pair, labels, key, value)?;
+        let placed = PlacedPair { place, pair };
+        push_key_by_value(alloc, &mut keys, &placed, labels, key, value)?;
     }
     Ok(keys)
 }

@@ -15,7 +15,7 @@ returns-clause-made g c =
     makes row
     ∙ ap (λ made. deltas_of row c.args.made.now.items ++ made)
     (ap (λ (columns : List ℕ). still_deltas columns was staged (c.args.entity ∷ []) c.in_ok-values.values row) keys
-    ∙ still_by_graphs before.content c.args.sight.now.graph.now.content column c.args.attribute.now was staged c.args.entity c.in_ok-values.values (c.in_ok-values.ensures.values before change) row))
+    ∙ still_by_graphs before.content c.args.sight.now.graph.now.content column c.args.changing.now.attribute.now was staged c.args.entity c.in_ok-values.values (c.in_ok-values.ensures.values before change) row))
     c.add_still.ensures.made
 
 pub returns-clause-steps : goal.returns-clause-steps

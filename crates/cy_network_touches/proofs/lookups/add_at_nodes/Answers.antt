@@ -21,13 +21,13 @@ loop-number-preserved g c =
     let so_far = c.loop-number.invariant in
     record {
       made = λ before column change keys row.
-          walked (λ (e : ℕ × Option Node). still before.content c.args.sight.now.graph.now.content column c.args.attribute.now was staged (cell.Node (record { 0 = e.0 })) row)
+          walked (λ (e : ℕ × Option Node). still before.content c.args.sight.now.graph.now.content column c.args.changing.now.attribute.now was staged (cell.Node (record { 0 = e.0 })) row)
           (c.in-Some.number, option_copied c.in-Some.field-0-1) c.next.new.self
           (deltas_of row c.loop-number.made.items) (deltas_of row c.add_at.new.made.items) _
-          (one_entity c.args.change.now c.args.attribute.now (cell.Node (record { 0 = c.in-Some.number })) c.args.sight.now.graph c.loop-number.sight.graph
+          (one_entity c.args.changing.now.change.now c.args.changing.now.attribute.now (cell.Node (record { 0 = c.in-Some.number })) c.args.sight.now.graph c.loop-number.sight.graph
           columns (g.M.Memory.key_columns c.loop-number.memory) was (g.M.Memory.was c.loop-number.memory) staged (g.M.Memory.staged c.loop-number.memory)
           so_far.graph so_far.read.columns so_far.read.was so_far.read.staged c.loop-number.made.items c.add_at.new.made.items c.in_ok-add_at.ensures.made before column change keys row)
-          (ap (λ left. deltas_of row c.loop-number.made.items ++ flat_map (λ (e : ℕ × Option Node). still before.content c.args.sight.now.graph.now.content column c.args.attribute.now was staged (cell.Node (record { 0 = e.0 })) row) left) (sym c.in-Some.ensures.steps)
+          (ap (λ left. deltas_of row c.loop-number.made.items ++ flat_map (λ (e : ℕ × Option Node). still before.content c.args.sight.now.graph.now.content column c.args.changing.now.attribute.now was staged (cell.Node (record { 0 = e.0 })) row) left) (sym c.in-Some.ensures.steps)
           ∙ so_far.made before column change keys row);
       read = read_then so_far.read c.add_at.ensures.read;
       graph = c.add_at.ensures.graph ∙ so_far.graph;
@@ -45,7 +45,7 @@ returns-clause-made g c =
     let staged = g.M.Memory.staged c.args.memory.now in
     λ before column change keys row.
     sym (append-nil (deltas_of row c.loop-number.made.items))
-    ∙ ap (λ left. deltas_of row c.loop-number.made.items ++ flat_map (λ (e : ℕ × Option Node). still before.content c.args.sight.now.graph.now.content column c.args.attribute.now was staged (cell.Node (record { 0 = e.0 })) row) left) (sym c.in-None.ensures.steps.0)
+    ∙ ap (λ left. deltas_of row c.loop-number.made.items ++ flat_map (λ (e : ℕ × Option Node). still before.content c.args.sight.now.graph.now.content column c.args.changing.now.attribute.now was staged (cell.Node (record { 0 = e.0 })) row) left) (sym c.in-None.ensures.steps.0)
     ∙ c.loop-number.invariant.made before column change keys row
 
 pub returns-clause-steps : goal.returns-clause-steps
@@ -57,8 +57,8 @@ pub returns-then-all_new-clause-made : goal.returns-then-all_new-clause-made
 returns-then-all_new-clause-made g c = λ before column change keys row.
     sym (append-nil (deltas_of row c.args.made.now.items))
     ∙ ap (λ made. deltas_of row c.args.made.now.items ++ made)
-    (sym (none_stay before.content c.args.sight.now.graph.now.content column c.args.attribute.now (g.M.Memory.was c.args.memory.now) (g.M.Memory.staged c.args.memory.now)
-    (λ (e : ℕ × Option Node). cell.Node (record { 0 = e.0 })) row (c.requires.new c.if-all_new.true) c.args.change.now.nodes))
+    (sym (none_stay before.content c.args.sight.now.graph.now.content column c.args.changing.now.attribute.now (g.M.Memory.was c.args.memory.now) (g.M.Memory.staged c.args.memory.now)
+    (λ (e : ℕ × Option Node). cell.Node (record { 0 = e.0 })) row (c.requires.new c.if-all_new.true) c.args.changing.now.change.now.nodes))
 
 pub returns-then-all_new-clause-steps : goal.returns-then-all_new-clause-steps
 returns-then-all_new-clause-steps g c = λ column rows keys among exact. omega arith

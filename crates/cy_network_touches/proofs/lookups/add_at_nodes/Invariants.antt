@@ -14,16 +14,16 @@ use Rattle.cy_network_touches.proofs.lookups.add_at_nodes.Given as goal
 
 abbrev pub invariant-loop-number : goal.invariant-loop-number
 invariant-loop-number g l = record {
-  made : (before : State) (column : ℕ) → IsChange before l.initial.sight.graph.now l.change → g.M.Memory.key_columns l.initial.memory ≡ column ∷ [] → (row : List Cell)
+  made : (before : State) (column : ℕ) → IsChange before l.initial.sight.graph.now l.changing.change.now → g.M.Memory.key_columns l.initial.memory ≡ column ∷ [] → (row : List Cell)
       → deltas_of row l.made.items
-      ++ flat_map (λ (e : ℕ × Option Node). still before.content l.initial.sight.graph.now.content column l.attribute (g.M.Memory.was l.initial.memory) (g.M.Memory.staged l.initial.memory) (cell.Node (record { 0 = e.0 })) row) l.number-iterator
+      ++ flat_map (λ (e : ℕ × Option Node). still before.content l.initial.sight.graph.now.content column l.changing.attribute.now (g.M.Memory.was l.initial.memory) (g.M.Memory.staged l.initial.memory) (cell.Node (record { 0 = e.0 })) row) l.number-iterator
       ≡ deltas_of row l.initial.made.items
-      ++ flat_map (λ (e : ℕ × Option Node). still before.content l.initial.sight.graph.now.content column l.attribute (g.M.Memory.was l.initial.memory) (g.M.Memory.staged l.initial.memory) (cell.Node (record { 0 = e.0 })) row) l.change.nodes;
+      ++ flat_map (λ (e : ℕ × Option Node). still before.content l.initial.sight.graph.now.content column l.changing.attribute.now (g.M.Memory.was l.initial.memory) (g.M.Memory.staged l.initial.memory) (cell.Node (record { 0 = e.0 })) row) l.changing.change.now.nodes;
   read : IsRead g.M.Memory.key_columns g.M.Memory.was g.M.Memory.staged g.M.Memory.step_count l.initial.memory l.memory;
   graph : l.sight.graph ≡ l.initial.sight.graph;
-  reads : l.sight.reads + length l.number-iterator ≤ l.initial.sight.reads + length l.change.nodes;
+  reads : l.sight.reads + length l.number-iterator ≤ l.initial.sight.reads + length l.changing.change.now.nodes;
   steps : (column : ℕ) (rows : List (List Cell)) → g.M.Memory.key_columns l.initial.memory ≡ column ∷ [] → AreAmong (g.M.Memory.was l.initial.memory) (g.M.Memory.staged l.initial.memory) rows → g.M.Memory.EXACT ≡ true
       → g.M.Memory.step_count l.memory
       + (length l.number-iterator + sum_by (λ (e : ℕ × Option Node). with_key (column ∷ []) (cell.Node (record { 0 = e.0 }) ∷ []) rows) l.number-iterator)
-      ≤ g.M.Memory.step_count l.initial.memory + (length l.change.nodes + sum_by (λ (e : ℕ × Option Node). with_key (column ∷ []) (cell.Node (record { 0 = e.0 }) ∷ []) rows) l.change.nodes);
+      ≤ g.M.Memory.step_count l.initial.memory + (length l.changing.change.now.nodes + sum_by (λ (e : ℕ × Option Node). with_key (column ∷ []) (cell.Node (record { 0 = e.0 }) ∷ []) rows) l.changing.change.now.nodes);
 }

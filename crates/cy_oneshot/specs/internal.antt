@@ -1,4 +1,6 @@
 -- What proofs alone need.
 pub mod Conditions
+pub mod Matches
 pub mod Names
 pub mod Reached
+pub mod Tables

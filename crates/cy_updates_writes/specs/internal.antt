@@ -2,3 +2,4 @@
 pub mod Entities
 pub mod Creating
 pub mod Deleting
+pub mod Properties

@@ -1,6 +1,6 @@
 //! DELETE: one set of all that goes, and one test of it (openCypher 9, DELETE; which relationship is reported: own).
 
-ghost use Rattle.std.specs.Prelude.{◌≡◌, ◌+◌, ◌++◌, ◌∷◌, ◌&&◌, ◌||◌, List, None, [], filter, flat_map, length, map, option_to_list, slice_get, IfErr, IfOk, IsSome, OnOk};
+ghost use Rattle.std.specs.Prelude.{◌≡◌, ◌++◌, ◌∷◌, ◌&&◌, ◌||◌, List, None, [], filter, flat_map, map, option_to_list, slice_get, IfErr, IfOk, IsSome, OnOk};
 ghost use Rattle.cy_values.specs.declared.numbers.NodeId.{NodeId};
 ghost use Rattle.cy_values.specs.declared.numbers.RelId.{RelId};
 ghost use Rattle.cy_graph.specs.Graph.{rels_with};
@@ -11,7 +11,7 @@ ghost use Rattle.cy_updates_meaning.specs.Deleting as spec;
 ghost use Rattle.cy_updates_meaning.specs.Values.{named_by};
 ghost use Rattle.cy_updates_meaning.specs.internal.Answers.{IsAnswer};
 ghost use Rattle.cy_updates_meaning.specs.internal.Gone.{AreGone};
-ghost use Rattle.cy_updates_writes.specs.internal.Deleting.{AreAmong, is_node_among, is_rel_among, lesser_of, lies_among, nodes_among, rels_among, rels_at, without_nodes, without_rels};
+ghost use Rattle.cy_updates_writes.specs.internal.Deleting.{AreAmong, AreNodesGone, AreRelsGone, AreSameNodes, is_rel_among, lesser_of, lies_among, nodes_among, rels_among, rels_at, without_nodes, without_rels};
 
 use crate::naming::entity_of;
 use cy_graph::RelsAt;
@@ -111,7 +111,7 @@ fn push_variable(named: &mut Named, variable: &Variable, row: &Row) -> Result<()
 
 // What goes: what is named, each node once, and with DETACH each relationship at a node of it.
 fn all_going(store: &Store, detach: bool, named: Named) -> Result<Named, UpdateFault>
-    ensures nodes { IfOk result (λ going. (id : NodeId) → is_node_among going.nodes.items id ≡ is_node_among named.nodes.items id) }
+    ensures nodes { IfOk result (λ going. AreSameNodes going.nodes.items named.nodes.items) }
     ensures rels { IfOk result (λ going. AreAmong (λ e. is_rel_among named.rels.items e.0 || (detach && lies_among named.nodes.items e)) going.rels.items store.now.graph.now.content.rels) }
     ensures memory { IfErr result (λ why. why ≡ NoMemory) }
 {
@@ -127,7 +127,7 @@ fn all_going(store: &Store, detach: bool, named: Named) -> Result<Named, UpdateF
 
 // With the relationships at the nodes.
 fn with_rels_at(store: &Store, named: Named) -> Result<Named, UpdateFault>
-    ensures nodes { IfOk result (λ going. (id : NodeId) → is_node_among going.nodes.items id ≡ is_node_among named.nodes.items id) }
+    ensures nodes { IfOk result (λ going. AreSameNodes going.nodes.items named.nodes.items) }
     ensures rels { IfOk result (λ going. AreAmong (λ e. is_rel_among named.rels.items e.0 || lies_among named.nodes.items e) going.rels.items store.now.graph.now.content.rels) }
     ensures memory { IfErr result (λ why. why ≡ NoMemory) }
 {
@@ -140,7 +140,7 @@ fn with_rels_at(store: &Store, named: Named) -> Result<Named, UpdateFault>
 
 // The nodes, each once, so that the relationships at one that is named often are gone through once.
 fn each_once(mut nodes: Vec<NodeId>) -> Vec<NodeId>
-    ensures { (id : NodeId) → is_node_among result.items id ≡ is_node_among nodes.items id }
+    ensures { AreSameNodes result.items nodes.items }
 {
     nodes.sort_unstable();
     nodes.dedup();
@@ -182,7 +182,7 @@ fn push_numbers(rels: RelsAt<'_>, ids: &mut Vec<RelId>) -> Result<(), UpdateFaul
 fn remove_rels(store: &mut Store, mut ids: Vec<RelId>) -> Result<u64, UpdateFault>
     requires open { IsSome store.old.graph.was }
     ensures removed { OnOk result (store.new.graph.now ≡ without_rels ids.items store.old.graph.now) }
-    ensures count { IfOk result (λ gone. gone + length store.new.graph.now.content.rels ≡ length store.old.graph.now.content.rels) }
+    ensures count { IfOk result (λ gone. AreRelsGone gone store.old.graph.now store.new.graph.now) }
     ensures memory { IfErr result (λ why. why ≡ NoMemory) }
     ensures open { store.new.graph.was ≡ store.old.graph.was }
     ensures indexes { store.new.chosen ≡ store.old.chosen }
@@ -200,7 +200,7 @@ fn remove_rels(store: &mut Store, mut ids: Vec<RelId>) -> Result<u64, UpdateFaul
 fn remove_rel(store: &mut Store, id: RelId) -> Result<u64, UpdateFault>
     requires open { IsSome store.old.graph.was }
     ensures removed { OnOk result ((ids : List RelId) → without_rels ids store.new.graph.now ≡ without_rels (ids ++ id ∷ []) store.old.graph.now) }
-    ensures count { IfOk result (λ gone. gone + length store.new.graph.now.content.rels ≡ length store.old.graph.now.content.rels) }
+    ensures count { IfOk result (λ gone. AreRelsGone gone store.old.graph.now store.new.graph.now) }
     ensures memory { IfErr result (λ why. why ≡ NoMemory) }
     ensures open { store.new.graph.was ≡ store.old.graph.was }
     ensures indexes { store.new.chosen ≡ store.old.chosen }
@@ -241,7 +241,7 @@ fn remove_nodes(store: &mut Store, mut ids: Vec<NodeId>) -> Result<u64, UpdateFa
     requires open { IsSome store.old.graph.was }
     requires alone { filter (lies_among ids.items) store.old.graph.now.content.rels ≡ [] }
     ensures removed { OnOk result (store.new.graph.now ≡ without_nodes ids.items store.old.graph.now) }
-    ensures count { IfOk result (λ gone. gone + length store.new.graph.now.content.nodes ≡ length store.old.graph.now.content.nodes) }
+    ensures count { IfOk result (λ gone. AreNodesGone gone store.old.graph.now store.new.graph.now) }
     ensures rels { OnOk result (store.new.graph.now.content.rels ≡ store.old.graph.now.content.rels) }
     ensures memory { IfErr result (λ why. why ≡ NoMemory) }
     ensures open { store.new.graph.was ≡ store.old.graph.was }
@@ -261,7 +261,7 @@ fn remove_node(store: &mut Store, id: NodeId) -> Result<u64, UpdateFault>
     requires open { IsSome store.old.graph.was }
     requires alone { slice_get (rels_with id store.old.graph.now.content.rels) 0 ≡ None }
     ensures removed { OnOk result ((ids : List NodeId) → without_nodes ids store.new.graph.now ≡ without_nodes (ids ++ id ∷ []) store.old.graph.now) }
-    ensures count { IfOk result (λ gone. gone + length store.new.graph.now.content.nodes ≡ length store.old.graph.now.content.nodes) }
+    ensures count { IfOk result (λ gone. AreNodesGone gone store.old.graph.now store.new.graph.now) }
     ensures rels { OnOk result (store.new.graph.now.content.rels ≡ store.old.graph.now.content.rels) }
     ensures memory { IfErr result (λ why. why ≡ NoMemory) }
     ensures open { store.new.graph.was ≡ store.old.graph.was }

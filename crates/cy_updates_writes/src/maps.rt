@@ -1,7 +1,7 @@
 //! What expressions give properties, and what properties keep of it (openCypher 9, Setting properties; what can be stored, and
 //! faults: own).
 
-ghost use Rattle.std.specs.Prelude.{◌≡◌, Ok, Err, IfErr, IfOk, IfSome, IsTrue, MatchResult, OnOk, Some, map, not};
+ghost use Rattle.std.specs.Prelude.{◌≡◌, Ok, Err, IfErr, IfOk, IfSome, IsTrue, MatchResult, OnOk, map, not};
 ghost use Rattle.std.specs.BTreeMap.{IsOrdered};
 ghost use Rattle.std.specs.List.{list_all};
 ghost use Rattle.cy_trees.specs.TreeModels.{entry_of, expression_of, properties_of};
@@ -14,6 +14,7 @@ ghost use Rattle.cy_updates_meaning.specs.declared.faults.UpdateFault.TheVariant
 ghost use Rattle.cy_updates_meaning.specs.Values as spec;
 ghost use Rattle.cy_updates_meaning.specs.Values.{settable, unless_null};
 ghost use Rattle.cy_updates_meaning.specs.internal.Answers.{IsAnswer};
+ghost use Rattle.cy_updates_writes.specs.internal.Properties.{ArePropertiesOf};
 ghost use Rattle.cy_values.specs.Compare.{value_in, is_null};
 
 use cy_expr::eval_value;
@@ -97,7 +98,7 @@ fn properties(
     entries: &[MapEntry],
 ) -> Result<Props, UpdateFault>
     requires { IsRowThere store.now.graph.now.content row.now }
-    ensures answer { IsAnswer result (λ props. props) (spec.map_properties store.now.graph.now row.now (Some (map entry_of entries.now))) }
+    ensures answer { ArePropertiesOf result store.now.graph.now row.now (map entry_of entries.now) }
     ensures storable { IfOk result (λ props. IsStorable props) }
 {
     if entries.len() <= FEW {
@@ -115,7 +116,7 @@ fn few_properties(
     entries: &[MapEntry],
 ) -> Result<Props, UpdateFault>
     requires { IsRowThere store.now.graph.now.content row.now }
-    ensures answer { IsAnswer result (λ props. props) (spec.map_properties store.now.graph.now row.now (Some (map entry_of entries.now))) }
+    ensures answer { ArePropertiesOf result store.now.graph.now row.now (map entry_of entries.now) }
     ensures storable { IfOk result (λ props. IsStorable props) }
 {
     let mut props = TextMap::with_capacity(alloc, entries.len())?;
@@ -152,7 +153,7 @@ fn many_properties(
     entries: &[MapEntry],
 ) -> Result<Props, UpdateFault>
     requires { IsRowThere store.now.graph.now.content row.now }
-    ensures answer { IsAnswer result (λ props. props) (spec.map_properties store.now.graph.now row.now (Some (map entry_of entries.now))) }
+    ensures answer { ArePropertiesOf result store.now.graph.now row.now (map entry_of entries.now) }
     ensures storable { IfOk result (λ props. IsStorable props) }
 {
     let mut props = BTreeMap::new(alloc);

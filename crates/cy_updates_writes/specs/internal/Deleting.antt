@@ -1,5 +1,5 @@
 -- The set that DELETE removes, as two lists of numbers.
-use Rattle.std.specs.Prelude.{◌≡◌, ◌==◌, Bool, not, ◌||◌, List, [], ◌∷◌, ◌++◌, filter, flat_map, nat_le, Option, None, Some, if◌then◌else◌}
+use Rattle.std.specs.Prelude.{◌≡◌, ℕ, ◌+◌, ◌==◌, Bool, not, ◌||◌, List, [], ◌∷◌, ◌++◌, filter, flat_map, length, nat_le, Option, None, Some, if◌then◌else◌}
 use Rattle.std.specs.List.{AllByRecursion, list_any}
 use Rattle.cy_values.specs.declared.numbers.NodeId.{NodeId}
 use Rattle.cy_values.specs.declared.numbers.RelId.{RelId}
@@ -28,6 +28,10 @@ is_node_among ids id = list_any (λ (other : NodeId). id.0 == other.0) ids
 abbrev pub is_rel_among : List RelId → RelId → Bool
 is_rel_among ids id = list_any (λ (other : RelId). id.0 == other.0) ids
 
+-- these nodes are those, however often each stands among them
+abbrev pub AreSameNodes : List NodeId → List NodeId → Type 0
+AreSameNodes these those = (id : NodeId) → is_node_among these id ≡ is_node_among those id
+
 -- a relationship lies at one of the nodes
 abbrev pub lies_among : List NodeId → RelId × Rel → Bool
 lies_among ids e = is_node_among ids e.1.source || is_node_among ids e.1.target
@@ -38,6 +42,13 @@ without_rels ids graph = with_rels (filter (λ (e : RelId × Rel). not (is_rel_a
 
 abbrev pub without_nodes : List NodeId → State → State
 without_nodes ids graph = with_nodes (filter (λ (e : NodeId × Node). not (is_node_among ids e.0)) graph.content.nodes) graph
+
+-- so many relationships went, and so many nodes
+abbrev pub AreRelsGone : ℕ → State → State → Type 0
+AreRelsGone gone before after = gone + length after.content.rels ≡ length before.content.rels
+
+abbrev pub AreNodesGone : ℕ → State → State → Type 0
+AreNodesGone gone before after = gone + length after.content.nodes ≡ length before.content.nodes
 
 -- the relationships at these nodes: those that lead from one, and those that lead to it
 abbrev pub rels_at : List NodeId → List (RelId × Rel) → List RelId

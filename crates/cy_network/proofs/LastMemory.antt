@@ -14,7 +14,7 @@ use Rattle.cy_network_parts.specs.KeptRows.{keeps_rows}
 use Rattle.cy_network_parts.specs.Memories.{contents, is_row_by_row, none_where}
 use Rattle.cy_planner_algebra.specs.Meaning.{rows_of}
 use Rattle.cy_planner_algebra.specs.Plans as plan
-use Rattle.cy_planner_algebra.specs.Plans.{Output, Plan}
+use Rattle.cy_planner_algebra.specs.Plans.{Plan}
 use Rattle.cy_planner_algebra.proofs.Counts.{count_once}
 use Rattle.cy_network.specs.Places.{Place, in_memory, in_table, last_of, once_each, once_in_memory, place_of, place_where, rows_by}
 

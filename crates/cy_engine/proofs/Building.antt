@@ -19,7 +19,7 @@ use Rattle.cy_engine.specs.Faults.{of_update}
 use Rattle.cy_engine.specs.declared.faults.Fault.{Fault}
 use Rattle.cy_engine.specs.declared.faults.Fault.TheVariants as fault
 use Rattle.cy_engine.specs.Headline.{Builds, Leads, Moment, moment_of}
-use Rattle.cy_engine.specs.Requests.{Asks, Request, StatementOf, ViewOf, RowsOf, SinceOf, DropOf, IndexOf, Refused, request}
+use Rattle.cy_engine.specs.Requests.{Asks, Request, StatementOf, ViewOf, RowsOf, SinceOf, ListOfSteps, DropOf, IndexOf, Refused, request}
 use Rattle.cy_engine.specs.Runs.{Event, Run}
 use Rattle.cy_engine.specs.State.{EngineState}
 use Rattle.cy_engine_views.specs.RegisteredViews.{Entries, View}
@@ -116,6 +116,7 @@ module _ (line : List ℕ) (old : EngineState) (answer : Answer) (entries : Entr
   answers_leads tokens made (ViewOf name ts) of (inr (why, unspelt, a)) = refused_leads (fault.Parse why) a.answered a.state
   answers_leads tokens made (RowsOf name) of a = shows_leads name (rows_verdict name old) a
   answers_leads tokens made (SinceOf name tick) of a = tells_leads name tick (since_verdict name tick old) a
+  answers_leads tokens made ListOfSteps of a = as_answered _ a.replied.answered (moment_left a.replied.state) (λ same. same)
   answers_leads tokens made (DropOf name) of a = drops_leads (rows_verdict name old) a
   answers_leads tokens made (IndexOf label key) of a = indexes_leads (index_verdict label key old) a
   answers_leads tokens made (Refused why) of a = refused_leads why a.answered a.state

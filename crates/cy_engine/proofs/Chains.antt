@@ -1,24 +1,23 @@
 -- Runs, step by step.
-use Rattle.std.proofs.Common.{◌≡◌, ℕ, List, [], ◌∷◌, ◌++◌, map, refl, sym, ap, subst, ◌∙◌, inl}
+use Rattle.std.proofs.Common.{◌≡◌, ℕ, List, [], ◌∷◌, ◌++◌, refl, sym, ap, subst, ◌∙◌, inl}
+use Rattle.std.proofs.lemmas.List.{map-append}
 use Rattle.cy_graph.specs.Graph.{Content}
-use Rattle.cy_engine.specs.Runs.{Event, Run, Runs, last_entries}
-use Rattle.cy_engine.specs.Model.{Machine, state_of}
-use Rattle.cy_engine.specs.State.{EngineState}
+use Rattle.cy_engine.specs.KeptRuns.{KeptRun}
+use Rattle.cy_engine.specs.KeptStep.{KeptState, KeptStep, kept_state_of}
+use Rattle.cy_engine.specs.Runs.{Event, Run, last_entries}
+use Rattle.cy_engine.specs.Model.{Machine}
+use Rattle.cy_engine.specs.internal.Stages.{RunsKept}
 use Rattle.cy_engine_views.specs.RegisteredViews.{AreEntries, Entries, View}
-use Rattle.cy_engine.specs.EngineStep.{Answer, EngineStep}
+use Rattle.cy_engine.specs.EngineStep.{Answer}
 
 -- where the content stays, no view gets an entry
 pub nothing_changed : (views : List View) (content : Content) (tick : ℕ) → AreEntries views content content tick []
 nothing_changed [] content tick = refl
 nothing_changed (view ∷ views) content tick = inl ((λ row. refl), nothing_changed views content tick)
 
-run_append : (old mid new : EngineState) (events : List Event) (e : Event) → Run old events mid → EngineStep mid e.line e.answer e.entries new → Run old (events ++ e ∷ []) new
-run_append old mid new [] e run step = (new, subst (λ (s : EngineState). EngineStep s e.line e.answer e.entries new) run step, refl)
+run_append : (old mid new : KeptState) (events : List Event) (e : Event) → KeptRun old events mid → KeptStep mid e.line e.answer e.entries new → KeptRun old (events ++ e ∷ []) new
+run_append old mid new [] e run step = (new, subst (λ (s : KeptState). KeptStep s e.line e.answer e.entries new) run step, refl)
 run_append old mid new (f ∷ events) e (next, first, run) step = (next, first, run_append next mid new events e run step)
-
-mapped : {A : Type 0} (f : Event → A) (events : List Event) (e : Event) → map f (events ++ e ∷ []) ≡ map f events ++ f e ∷ []
-mapped f [] e = refl
-mapped f (d ∷ events) e = ap (λ xs. f d ∷ xs) (mapped f events e)
 
 last_of : (entries : Entries) (events : List Event) (e : Event) → last_entries entries (events ++ e ∷ []) ≡ e.entries
 last_of entries [] e = refl
@@ -26,12 +25,17 @@ last_of entries (d ∷ events) e = last_of d.entries events e
 
 -- a run goes on by one line
 pub runs_more : (old mid new : Machine) (lines : List (List ℕ)) (answers : List Answer) (line : List ℕ) (answer : Answer)
-    → Runs old mid lines answers → EngineStep (state_of mid) line answer new.entries (state_of new) → Runs old new (lines ++ line ∷ []) (answers ++ answer ∷ [])
+    → RunsKept old mid lines answers → KeptStep (kept_state_of mid) line answer new.entries (kept_state_of new) → RunsKept old new (lines ++ line ∷ []) (answers ++ answer ∷ [])
 runs_more old mid new lines answers line answer runs step =
     let e : Event = record { line = line; answer = answer; entries = new.entries } in record {
       events = runs.events ++ e ∷ [];
-      lines_are = mapped (λ (x : Event). x.line) runs.events e ∙ ap (λ (xs : List (List ℕ)). xs ++ line ∷ []) runs.lines_are;
-      answers_are = mapped (λ (x : Event). x.answer) runs.events e ∙ ap (λ (xs : List Answer). xs ++ answer ∷ []) runs.answers_are;
-      run = run_append (state_of old) (state_of mid) (state_of new) runs.events e runs.run step;
+      lines_are = map-append (λ (x : Event). x.line) runs.events (e ∷ []) ∙ ap (λ (xs : List (List ℕ)). xs ++ line ∷ []) runs.lines_are;
+      answers_are = map-append (λ (x : Event). x.answer) runs.events (e ∷ []) ∙ ap (λ (xs : List Answer). xs ++ answer ∷ []) runs.answers_are;
+      run = run_append (kept_state_of old) (kept_state_of mid) (kept_state_of new) runs.events e runs.run step;
       entries_are = sym (last_of old.entries runs.events e);
     }
+
+-- what the lines of a run mean
+pub run_of_kept : (old new : KeptState) (events : List Event) → KeptRun old events new → Run old.engine events new.engine
+run_of_kept old new [] same = ap (λ (s : KeptState). s.engine) same
+run_of_kept old new (e ∷ events) (mid, step, run) = (mid.engine, step.step, run_of_kept mid new events run)

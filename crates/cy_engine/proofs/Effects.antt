@@ -15,7 +15,7 @@ use Rattle.cy_index.specs.declared.keys.Pair.{Pair}
 use Rattle.cy_engine.specs.Faults.{of_update}
 use Rattle.cy_engine.specs.declared.faults.Fault.{Fault}
 use Rattle.cy_engine.specs.declared.faults.Fault.TheVariants.{NoSuchView}
-use Rattle.cy_engine.specs.Requests.{Request, StatementOf, ViewOf, RowsOf, SinceOf, DropOf, IndexOf, request}
+use Rattle.cy_engine.specs.Requests.{Request, StatementOf, ViewOf, RowsOf, SinceOf, ListOfSteps, DropOf, IndexOf, request}
 use Rattle.cy_engine.specs.State.{EngineState, view_at}
 use Rattle.cy_engine_views.specs.RegisteredViews.{AreEntries, Entries, View}
 use Rattle.cy_engine.specs.EngineStep.{Answer, IsExecuted, IsMade, IsDropped, IsIndexed, Executes, Makes, Drops, Indexes, Shows, ShowsAnswer, AnswersSince, Answers, Lexed, EngineStep}
@@ -96,6 +96,7 @@ module _ (old : EngineState) (answer : Answer) (entries : Entries) (new : Engine
   answers_effects line (ViewOf name tokens) (inr (why, unspelt, a)) = inl (a.state, a.no_entries)
   answers_effects line (RowsOf name) a = shows_effects name (rows_verdict name old) a
   answers_effects line (SinceOf name tick) a = tells_effects name tick (since_verdict name tick old) a
+  answers_effects line ListOfSteps a = inl (a.replied.state, a.replied.no_entries)
   answers_effects line (DropOf name) a = drops_effects name a
   answers_effects line (IndexOf label key) a = indexes_effects (index_verdict label key old) a
   answers_effects line _ a = inl (a.state, a.no_entries)

@@ -14,9 +14,8 @@ use Rattle.cy_oneshot_meaning.specs.Queries.{statement_columns, statement_rows}
 use Rattle.cy_bags.specs.declared.changes.Entry.{Entry}
 use Rattle.cy_feeds.specs.Feeds.{History, new_history}
 use Rattle.cy_engine.specs.declared.replies.Reply.TheVariants as reply
-use Rattle.cy_engine.specs.Headline.{AreItsEntries, AsksForView, HeadlineHolds, IsItsEntry, IsMaintained, Leads, Moment, AnswersWithHeadline, counts_in, entries_of, followed, moment_of, with_entries, with_entry}
-use Rattle.cy_engine.specs.Model.{Machine, state_of}
-use Rattle.cy_engine.specs.Runs.{Event, OnlySo, Run, Runs, accepted}
+use Rattle.cy_engine.specs.Headline.{AreItsEntries, AsksForView, HeadlineHolds, IsItsEntry, IsMaintained, Leads, Moment, counts_in, entries_of, followed, moment_of, with_entries, with_entry}
+use Rattle.cy_engine.specs.Runs.{Event, OnlySo, Run, accepted}
 use Rattle.cy_engine.specs.State.{EngineState, empty_engine}
 use Rattle.cy_engine_views.specs.RegisteredViews.{AreEntries, Entries, View, entry_at, fed, rows_of, without}
 use Rattle.cy_engine.specs.EngineStep.{Answer, EngineStep}
@@ -265,10 +264,3 @@ module _ (have : HaveRows) (no_trace : (old new : EngineState) (events : List Ev
       made : (view : View) → Kept (empty_engine history) events now view ⊎ IsMaintained (moment_of (empty_engine history)) history events now view → IsMaintained (moment_of (empty_engine history)) history events now view
       made view (inl kept) = absurd kept.there
       made view (inr was) = was
-
--- lines that a new engine answers have it
-pub serves : HeadlineHolds → (old new : Machine) (lines : List (List ℕ)) (answers : List Answer) → Runs old new lines answers → AnswersWithHeadline old new lines answers
-serves holds old new lines answers runs = record {
-  run = runs;
-  headline = λ history is. holds history runs.events (state_of new) (subst (λ (m : Machine). Run (state_of m) runs.events (state_of new)) is runs.run);
-}

@@ -8,6 +8,8 @@ pub mod EachEntry
 pub mod Effects
 pub mod Following
 pub mod FromTokens
+pub mod Keeping
+pub mod KeptRuns
 pub mod Limits
 pub mod Lines
 pub mod Making
@@ -15,6 +17,7 @@ pub mod Names
 pub mod OneAnswer
 pub mod Polls
 pub mod Queries
+pub mod Refusals
 pub mod Since
 pub mod StatementEnds
 pub mod StepNames
@@ -27,3 +30,4 @@ pub mod Traces
 pub mod WorkedLines
 pub mod WorkedRows
 pub mod WorkedRun
+pub mod WorkedUpkeep

@@ -15,7 +15,8 @@ use Rattle.cy_network.specs.Networks.{HasTooManyRows}
 use Rattle.cy_network_parts.proofs.Steps.{own_within}
 use Rattle.cy_engine_views.specs.declared.registered.Registered.{Registered}
 use Rattle.cy_engine_views.specs.declared.views.Views.{Views}
-use Rattle.cy_engine_views.specs.Upkeep.{Registry, Rests, SomeHasTooManyRows, StandFor, StandsFor, held, network_of, upkeep_in, upkeep_of, view_of, views_in}
+use Rattle.cy_engine_views.specs.HeldViews.{view_of}
+use Rattle.cy_engine_views.specs.Upkeep.{Registry, Rests, SomeHasTooManyRows, StandFor, StandsFor, held, network_of, upkeep_in, upkeep_of, views_in}
 use Rattle.cy_engine_views.specs.RegisteredViews.{rows_of}
 use Rattle.cy_engine_views.proofs.Served.{same_rows}
 use Rattle.cy_engine.specs.EngineStep.{AreBounded}

@@ -18,7 +18,7 @@ use Rattle.cy_engine.specs.declared.faults.Fault.{Fault}
 use Rattle.cy_engine.specs.declared.faults.Fault.TheVariants as fault
 use Rattle.cy_engine.specs.declared.replies.Reply.TheVariants as reply
 use Rattle.cy_engine.specs.Headline.{AsksForView}
-use Rattle.cy_engine.specs.Requests.{Asks, Request, StatementOf, ViewOf, RowsOf, SinceOf, DropOf, IndexOf, Refused, request}
+use Rattle.cy_engine.specs.Requests.{Asks, Request, StatementOf, ViewOf, RowsOf, SinceOf, ListOfSteps, DropOf, IndexOf, Refused, request}
 use Rattle.cy_engine.specs.State.{EngineState}
 use Rattle.cy_engine_views.specs.RegisteredViews.{Entries, View}
 use Rattle.cy_engine.specs.EngineStep.{Answer, Answers, Executes, Drops, ShowsAnswer, Indexes, IsMade, Lexed, Makes, Shows, EngineStep, AnswersSince}
@@ -105,6 +105,7 @@ module _ (line : List ℕ) (old : EngineState) (answer : Answer) (entries : Entr
   answers_asked tokens lexed (ViewOf name ts) is (inr (why, unspelt, a)) = refused_asked (fault.Parse why) a.answered
   answers_asked tokens lexed (RowsOf name) is a = shows_asked name (rows_verdict name old) a
   answers_asked tokens lexed (SinceOf name tick) is a = tells_asked name tick (since_verdict name tick old) a
+  answers_asked tokens lexed ListOfSteps is a = otherwise _ a.replied.answered (λ same. cc)
   answers_asked tokens lexed (DropOf name) is a = drops_asked (rows_verdict name old) a
   answers_asked tokens lexed (IndexOf label key) is a = indexes_asked (index_verdict label key old) a
   answers_asked tokens lexed (Refused why) is a = refused_asked why a.answered

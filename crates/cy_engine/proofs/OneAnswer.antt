@@ -1,6 +1,5 @@
 -- What becomes of a line is determined.
-use Rattle.std.proofs.Common.{◌≡◌, ℕ, Bool, true, false, cond, not, List, [], ◌∷◌, ◌++◌, map, Result, Ok, Err, refl, sym, ap, subst, ◌∙◌, inl, inr}
-use Rattle.std.specs.Str.{bytes_eq}
+use Rattle.std.proofs.Common.{◌≡◌, ℕ, true, false, List, [], ◌∷◌, map, Result, Ok, Err, refl, sym, ap, subst, ◌∙◌, inl, inr}
 use Rattle.std.specs.Prelude.{IsTrue}
 use Rattle.std.specs.Cmp.{IsTotalOrder}
 use Rattle.cy_lexer.specs.declared.faults.LexFault.{LexFault}
@@ -12,10 +11,8 @@ use Rattle.cy_values.specs.declared.rows.Cell.{Cell}
 use Rattle.cy_values.specs.Bag.{IsSurplus}
 use Rattle.cy_values.specs.Order.{row_cmp}
 use Rattle.cy_values.proofs.Identity.{same_rows}
-use Rattle.cy_graph.specs.Graph.{Content, State}
+use Rattle.cy_graph.specs.Graph.{Content}
 use Rattle.cy_parser.specs.declared.faults.ParseFault.{ParseFault}
-use Rattle.cy_planner_algebra.specs.Plans as plan
-use Rattle.cy_engine_views.specs.Upkeep.{AreKeptUp, Upkeep}
 use Rattle.cy_index.specs.declared.keys.Pair.{Pair}
 use Rattle.cy_bags.specs.declared.changes.Change.{Change}
 use Rattle.cy_bags.specs.declared.changes.Entry.{Entry}
@@ -28,51 +25,30 @@ use Rattle.cy_engine.specs.declared.replies.Reply.{Reply}
 use Rattle.cy_engine.specs.declared.replies.Reply.TheVariants as reply
 use Rattle.cy_bags.specs.Difference.{IsDifference}
 use Rattle.cy_engine.specs.Requests.{Request, Nothing, StatementOf, ViewOf, RowsOf, SinceOf, ListOfViews, ListOfSteps, DropOf, IndexOf, Refused, request}
-use Rattle.cy_engine.specs.Runs.{Agree, IsBound, is_choice, is_want, seen_answer}
-use Rattle.cy_engine.specs.State.{EngineState, seen, unplanned}
-use Rattle.cy_engine_views.specs.RegisteredViews.{AreEntries, Entries, IsEntry, View, fed, listed, rows_of, without}
-use Rattle.cy_engine.specs.EngineStep.{Answer, AreRows, IsRefused, IsReplied, Executes, KeepsUp, Lacks, Makes, Drops, Indexes, Shows, ShowsAnswer, AnswersSince, Answers, Lexed, EngineStep, unkept}
-use Rattle.cy_engine.specs.Verdicts.{Executed, index_verdict, rows_verdict, same_content, since_verdict, statement_verdict, view_verdict}
+use Rattle.cy_engine.specs.Runs.{Agree, IsBound, IsDetermined, is_choice, is_want, seen_answer}
+use Rattle.cy_engine.specs.State.{EngineState}
+use Rattle.cy_engine_views.specs.RegisteredViews.{AreEntries, Entries, IsEntry, View, fed, listed, rows_of}
+use Rattle.cy_engine.specs.EngineStep.{Answer, AreRows, IsListOfSteps, IsRefused, IsReplied, Executes, Lacks, Makes, Drops, Indexes, Shows, ShowsAnswer, AnswersSince, Answers, Lexed}
+use Rattle.cy_engine.specs.Verdicts.{Executed, index_verdict, rows_verdict, since_verdict, statement_verdict, view_verdict}
 use Rattle.cy_bags.proofs.Surpluses.{same_pairs}
 
 abbrev IsOne : Type 0
 IsOne = (line : List ℕ) (tokens : List Token) (statement other : Statement) → SpellsStatement line statement tokens → SpellsStatement line other tokens → statement ≡ other
 
--- ---- how views are kept up, but for plans and numbers
+-- ---- the numbers of steps
 
-kept_alike : (before after : State) (us next : List Upkeep) → AreKeptUp before after us next → map unplanned next ≡ map unplanned us
-kept_alike before after [] next is = ap (map unplanned) is
-kept_alike before after (u ∷ us) next (steps, others, is, within, rest) = ap (map unplanned) is ∙ ap (λ vs. unplanned u ∷ vs) (kept_alike before after us others rest)
-
-kept_up : (b : Bool) (before after : State) (us next : List Upkeep) → KeepsUp b before after us next → map unplanned next ≡ map unplanned us
-kept_up true before after us next is = ap (map unplanned) is
-kept_up false before after us next is = kept_alike before after us next is
-
-last_unplanned : (us : List Upkeep) (u : Upkeep) → map unplanned (us ++ u ∷ []) ≡ map unplanned us ++ unplanned u ∷ []
-last_unplanned [] u = refl
-last_unplanned (v ∷ us) u = ap (λ vs. unplanned v ∷ vs) (last_unplanned us u)
-
-unkept_unplanned : (name : List ℕ) (us : List Upkeep) → map unplanned (unkept name us) ≡ unkept name (map unplanned us)
-unkept_unplanned name [] = refl
-unkept_unplanned name (u ∷ us) =
-    elim (bytes_eq name u.name) as (λ b. map unplanned (cond (not b) (u ∷ unkept name us) (unkept name us)) ≡ cond (not b) (unplanned u ∷ unkept name (map unplanned us)) (unkept name (map unplanned us))) [
-      | true ↦ unkept_unplanned name us
-      | false ↦ ap (λ vs. unplanned u ∷ vs) (unkept_unplanned name us)
-    ]
-
--- the name of a view with the number of its steps, without that number, and at once
-abbrev numbered : Upkeep → List ℕ × ℕ
-numbered u = (u.name, u.steps)
-
+-- a view's name with no number of steps
 abbrev unnumbered : List ℕ × ℕ → List ℕ × ℕ
 unnumbered s = (s.0, 0)
 
-abbrev only_named : Upkeep → List ℕ × ℕ
-only_named u = (u.name, 0)
+abbrev only_named : List ℕ → List ℕ × ℕ
+only_named name = (name, 0)
 
-steps_seen : (us : List Upkeep) → map unnumbered (map numbered us) ≡ map only_named (map unplanned us)
+steps_seen : (steps : List (List ℕ × ℕ)) → map unnumbered steps ≡ map only_named (map (λ s. s.0) steps)
 steps_seen [] = refl
-steps_seen (u ∷ us) = ap (λ xs. only_named u ∷ xs) (steps_seen us)
+steps_seen (s ∷ steps) = ap (λ (xs : List (List ℕ × ℕ)). only_named s.0 ∷ xs) (steps_seen steps)
+
+-- ---- from one state
 
 module _ (total : IsTotalOrder row_cmp) where
   surplus_one : (more less : List (List Cell)) (ps qs : List (List Cell × ℕ)) → IsSurplus more less ps → IsSurplus more less qs → ps ≡ qs
@@ -103,118 +79,88 @@ module _ (total : IsTotalOrder row_cmp) where
   rows_one : (state : EngineState) (view : View) (rows more : List (List Cell × ℕ)) → AreRows state view rows → AreRows state view more → rows ≡ more
   rows_one state view rows more a b = same_pairs total same_rows rows more a.canonical b.canonical (λ row. a.bag row ∙ sym (b.bag row))
 
-  -- from states that differ in how views are kept up alone
-  module _ (one : IsOne) (old : EngineState) (us : List Upkeep) (names : map unplanned us ≡ map unplanned old.upkeep) (answer again : Answer) (entries more : Entries) (new other : EngineState) where
-    abbrev twin : EngineState
-    twin = record old { upkeep = us }
-
+  module _ (one : IsOne) (old : EngineState) (answer again : Answer) (entries more : Entries) (new other : EngineState) where
     abbrev Same : Type 0
-    Same = Agree answer again × (entries ≡ more) × (seen new ≡ seen other)
+    Same = Agree answer again × (entries ≡ more) × (new ≡ other)
 
-    alike : seen twin ≡ seen old
-    alike = λ i. record old { upkeep = names i }
+    refused_one : (why : Fault) → IsRefused why old answer entries new → IsRefused why old again more other → Same
+    refused_one why a b = (inl (ap seen_answer (a.answered ∙ sym b.answered)), a.no_entries ∙ sym b.no_entries, a.state ∙ sym b.state)
 
-    same_left : new ≡ old → other ≡ twin → seen new ≡ seen other
-    same_left left right = ap seen left ∙ sym alike ∙ sym (ap seen right)
+    replied_one : (r s : Reply) → seen_answer (Ok r) ≡ seen_answer (Ok s) → IsReplied r old answer entries new → IsReplied s old again more other → Same
+    replied_one r s same a b = (inl (ap seen_answer a.answered ∙ same ∙ sym (ap seen_answer b.answered)), a.no_entries ∙ sym b.no_entries, a.state ∙ sym b.state)
 
-    refused_one : (why : Fault) → IsRefused why old answer entries new → IsRefused why twin again more other → Same
-    refused_one why a b = (inl (ap seen_answer (a.answered ∙ sym b.answered)), a.no_entries ∙ sym b.no_entries, same_left a.state b.state)
-
-    replied_one : (r s : Reply) → seen_answer (Ok r) ≡ seen_answer (Ok s) → IsReplied r old answer entries new → IsReplied s twin again more other → Same
-    replied_one r s same a b = (inl (ap seen_answer a.answered ∙ same ∙ sym (ap seen_answer b.answered)), a.no_entries ∙ sym b.no_entries, same_left a.state b.state)
-
-    executes_one : (v : Result Executed Fault) → Executes v old answer entries new → Executes v twin again more other → Same
+    executes_one : (v : Result Executed Fault) → Executes v old answer entries new → Executes v old again more other → Same
     executes_one (Err why) a b = refused_one why a b
     executes_one (Ok executed) a b =
-        let kept_so : entries ≡ more = entries_one old.views old.graph.content executed.outcome.graph.content executed.tick entries more a.entries_are b.entries_are in
-        let kept : map unplanned new.upkeep ≡ map unplanned other.upkeep =
-        kept_up (same_content old.graph.content executed.outcome.graph.content) old.graph executed.outcome.graph old.upkeep new.upkeep a.upkeep ∙ sym names
-        ∙ sym (kept_up (same_content old.graph.content executed.outcome.graph.content) old.graph executed.outcome.graph us other.upkeep b.upkeep)
-        in (
+        let same : entries ≡ more = entries_one old.views old.graph.content executed.outcome.graph.content executed.tick entries more a.entries_are b.entries_are in (
           inl (ap seen_answer (a.answered ∙ sym b.answered)),
-          kept_so,
-          ap seen a.state
-              ∙ (λ i. record old { graph = executed.outcome.graph; views = map (fed (kept_so i)) old.views; upkeep = kept i; tick = executed.tick })
-              ∙ sym (ap seen b.state),
+          same,
+          a.state ∙ (λ i. record old { graph = executed.outcome.graph; views = map (fed (same i)) old.views; tick = executed.tick }) ∙ sym b.state,
         )
 
-    makes_one : (v : Result View Fault) → Makes v old answer entries new → Makes v twin again more other → Same
+    makes_one : (v : Result View Fault) → Makes v old answer entries new → Makes v old again more other → Same
     makes_one (Err why) a b = refused_one why a b
-    makes_one (Ok view) a b =
-        let kept : map unplanned (old.upkeep ++ (record { name = view.name; plan = a.plan; steps = 0 }) ∷ []) ≡ map unplanned (us ++ (record { name = view.name; plan = b.plan; steps = 0 }) ∷ []) =
-        last_unplanned old.upkeep (record { name = view.name; plan = a.plan; steps = 0 }) ∙ (λ i. sym names i ++ unplanned (record { name = view.name; plan = plan.unit; steps = 0 }) ∷ [])
-        ∙ sym (last_unplanned us (record { name = view.name; plan = b.plan; steps = 0 }))
-        in (
-          inl (ap seen_answer (a.answered ∙ sym b.answered)),
-          a.no_entries ∙ sym b.no_entries,
-          ap seen a.state ∙ (λ i. record old { views = old.views ++ view ∷ []; upkeep = kept i; tick = view.made }) ∙ sym (ap seen b.state),
-        )
+    makes_one (Ok view) a b = (inl (ap seen_answer (a.answered ∙ sym b.answered)), a.no_entries ∙ sym b.no_entries, a.state ∙ sym b.state)
 
-    drops_one : (v : Result View Fault) → Drops v old answer entries new → Drops v twin again more other → Same
+    drops_one : (v : Result View Fault) → Drops v old answer entries new → Drops v old again more other → Same
     drops_one (Err why) a b = refused_one why a b
-    drops_one (Ok view) a b =
-        let kept : map unplanned (unkept view.name old.upkeep) ≡ map unplanned (unkept view.name us) =
-        unkept_unplanned view.name old.upkeep ∙ ap (unkept view.name) (sym names) ∙ sym (unkept_unplanned view.name us)
-        in (
-          inl (ap seen_answer (a.answered ∙ sym b.answered)),
-          a.no_entries ∙ sym b.no_entries,
-          ap seen a.state ∙ (λ i. record old { views = without view.name old.views; upkeep = kept i }) ∙ sym (ap seen b.state),
-        )
+    drops_one (Ok view) a b = (inl (ap seen_answer (a.answered ∙ sym b.answered)), a.no_entries ∙ sym b.no_entries, a.state ∙ sym b.state)
 
-    indexes_one : (v : Result Pair Fault) → Indexes v old answer entries new → Indexes v twin again more other → Same
+    indexes_one : (v : Result Pair Fault) → Indexes v old answer entries new → Indexes v old again more other → Same
     indexes_one (Err why) a b = refused_one why a b
-    indexes_one (Ok pair) a b = (
-      inl (ap seen_answer (a.answered ∙ sym b.answered)),
-      a.no_entries ∙ sym b.no_entries,
-      ap seen a.state ∙ (λ i. record old { indexes = old.indexes ++ pair ∷ []; upkeep = sym names i }) ∙ sym (ap seen b.state),
-    )
+    indexes_one (Ok pair) a b = (inl (ap seen_answer (a.answered ∙ sym b.answered)), a.no_entries ∙ sym b.no_entries, a.state ∙ sym b.state)
 
-    shows_one : (name : List ℕ) (v : Result View Fault) → Shows name v old answer entries new → Shows name v twin again more other → Same
+    shows_one : (name : List ℕ) (v : Result View Fault) → Shows name v old answer entries new → Shows name v old again more other → Same
     shows_one name (Err why) a b = refused_one why a b
     shows_one name (Ok view) (rows, are, a) (rows_2, are_2, b) =
         replied_one (reply.Rows rows old.tick name) (reply.Rows rows_2 old.tick name) (ap (λ (r : List (List Cell × ℕ)). let x : Answer = Ok (reply.Rows r old.tick name) in x) (rows_one old view rows rows_2 are are_2)) a b
 
-    tells_one : (name : List ℕ) (tick : ℕ) (v : Result View Fault) → AnswersSince name tick v old answer entries new → AnswersSince name tick v twin again more other → Same
+    tells_one : (name : List ℕ) (tick : ℕ) (v : Result View Fault) → AnswersSince name tick v old answer entries new → AnswersSince name tick v old again more other → Same
     tells_one name tick (Err why) a b = refused_one why a b
     tells_one name tick (Ok view) a b = from (answer_since tick view.feed) a b
       where
-        from : (told : feeds.Answer) → ShowsAnswer name view told old answer entries new → ShowsAnswer name view told twin again more other → Same
+        from : (told : feeds.Answer) → ShowsAnswer name view told old answer entries new → ShowsAnswer name view told old again more other → Same
         from (Since changes) a b = replied_one (reply.Entries changes old.tick name) (reply.Entries changes old.tick name) refl a b
         from Lagged a b = shows_one name (Ok view) a b
+
+    -- numbers of steps are listed for the same names
+    steps_one : IsListOfSteps old answer entries new → IsListOfSteps old again more other → Same
+    steps_one a b =
+        replied_one (reply.Steps a.steps) (reply.Steps b.steps)
+        (ap (λ (xs : List (List ℕ × ℕ)). let x : Answer = Ok (reply.Steps xs) in x) (steps_seen a.steps ∙ ap (map only_named) (a.named ∙ sym b.named) ∙ sym (steps_seen b.steps)))
+        a.replied b.replied
 
     parsers : (a : Answer) (why : Fault) → a ≡ Err why → is_choice (Err why) ≡ true → IsTrue (is_choice a)
     parsers a why is known = ap is_choice is ∙ known
 
-    unspelt_one : (why why_2 : ParseFault) → IsRefused (fault.Parse why) old answer entries new → IsRefused (fault.Parse why_2) twin again more other → Same
+    unspelt_one : (why why_2 : ParseFault) → IsRefused (fault.Parse why) old answer entries new → IsRefused (fault.Parse why_2) old again more other → Same
     unspelt_one why why_2 a b = (
       inr (parsers answer (fault.Parse why) a.answered refl, parsers again (fault.Parse why_2) b.answered refl),
       a.no_entries ∙ sym b.no_entries,
-      same_left a.state b.state,
+      a.state ∙ sym b.state,
     )
 
-    answers_one : (line : List ℕ) (asked : Request) → Answers line asked old answer entries new → Answers line asked twin again more other → Same
+    answers_one : (line : List ℕ) (asked : Request) → Answers line asked old answer entries new → Answers line asked old again more other → Same
     answers_one line Nothing a b = replied_one reply.Nothing reply.Nothing refl a b
     answers_one line (StatementOf tokens) (inl (tree, spelt, a)) (inl (tree_2, spelt_2, b)) =
-        executes_one (statement_verdict tree old) a (subst (λ (t : Statement). Executes (statement_verdict t twin) twin again more other) (one line tokens tree_2 tree spelt_2 spelt) b)
+        executes_one (statement_verdict tree old) a (subst (λ (t : Statement). Executes (statement_verdict t old) old again more other) (one line tokens tree_2 tree spelt_2 spelt) b)
     answers_one line (StatementOf tokens) (inl (tree, spelt, a)) (inr (why, unspelt, b)) = absurd (unspelt.unspelt tree spelt)
     answers_one line (StatementOf tokens) (inr (why, unspelt, a)) (inl (tree, spelt, b)) = absurd (unspelt.unspelt tree spelt)
     answers_one line (StatementOf tokens) (inr (why, unspelt, a)) (inr (why_2, unspelt_2, b)) = unspelt_one why why_2 a b
     answers_one line (ViewOf name tokens) (inl (tree, spelt, a)) (inl (tree_2, spelt_2, b)) =
-        makes_one (view_verdict tree name old) a (subst (λ (t : Statement). Makes (view_verdict t name twin) twin again more other) (one line tokens tree_2 tree spelt_2 spelt) b)
+        makes_one (view_verdict tree name old) a (subst (λ (t : Statement). Makes (view_verdict t name old) old again more other) (one line tokens tree_2 tree spelt_2 spelt) b)
     answers_one line (ViewOf name tokens) (inl (tree, spelt, a)) (inr (why, unspelt, b)) = absurd (unspelt.unspelt tree spelt)
     answers_one line (ViewOf name tokens) (inr (why, unspelt, a)) (inl (tree, spelt, b)) = absurd (unspelt.unspelt tree spelt)
     answers_one line (ViewOf name tokens) (inr (why, unspelt, a)) (inr (why_2, unspelt_2, b)) = unspelt_one why why_2 a b
     answers_one line (RowsOf name) a b = shows_one name (rows_verdict name old) a b
     answers_one line (SinceOf name tick) a b = tells_one name tick (since_verdict name tick old) a b
     answers_one line ListOfViews a b = replied_one (reply.Views (map listed old.views)) (reply.Views (map listed old.views)) refl a b
-    answers_one line ListOfSteps a b =
-        replied_one (reply.Steps (map numbered old.upkeep)) (reply.Steps (map numbered us))
-        (ap (λ (xs : List (List ℕ × ℕ)). let x : Answer = Ok (reply.Steps xs) in x) (steps_seen old.upkeep ∙ ap (map only_named) (sym names) ∙ sym (steps_seen us))) a b
+    answers_one line ListOfSteps a b = steps_one a b
     answers_one line (DropOf name) a b = drops_one (rows_verdict name old) a b
     answers_one line (IndexOf label key) a b = indexes_one (index_verdict label key old) a b
     answers_one line (Refused why) a b = refused_one why a b
 
-    lexed_one : (line : List ℕ) (lexed : Result (List Token) LexFault) → Lexed line lexed old answer entries new → Lexed line lexed twin again more other → Same
+    lexed_one : (line : List ℕ) (lexed : Result (List Token) LexFault) → Lexed line lexed old answer entries new → Lexed line lexed old again more other → Same
     lexed_one line (Err why) a b = refused_one (fault.Lex why) a b
     lexed_one line (Ok tokens) a b = answers_one line (request line tokens) a b
 
@@ -222,20 +168,7 @@ module _ (total : IsTotalOrder row_cmp) where
   no_lack line state answer why (inl (is, short, some)) answered bound = let wrong : true ≡ false = sym (ap is_want (answered ∙ ap Err is)) ∙ bound in cc
   no_lack line state answer why (inr (is, many)) answered bound = let wrong : true ≡ false = sym (ap is_want (answered ∙ ap Err is)) ∙ bound in cc
 
-  pub step_one : IsOne → (old twin new other : EngineState) (line : List ℕ) (answer again : Answer) (entries more : Entries) → seen twin ≡ seen old → EngineStep old line answer entries new → EngineStep twin line again more other
-      → IsBound answer → IsBound again → Agree answer again × (entries ≡ more) × (seen new ≡ seen other)
-  step_one one old second new other line answer again entries more like (inl (why, lacks, a)) b bound bound_2 = absurd (no_lack line old answer why lacks a.answered bound)
-  step_one one old second new other line answer again entries more like (inr a) (inl (why, lacks, b)) bound bound_2 = absurd (no_lack line second again why lacks b.answered bound_2)
-  step_one one old second new other line answer again entries more like (inr a) (inr b) bound bound_2 =
-      lexed_one one old second.upkeep (ap (λ (s : EngineState). s.upkeep) like) answer again entries more new other line (tokens_of line) a
-      (subst (λ (s : EngineState). Lexed line (tokens_of line) s again more other) second_is b)
-    where
-      second_is : second ≡ record old { upkeep = second.upkeep }
-      second_is = λ i. record {
-        graph = ap (λ (s : EngineState). s.graph) like i;
-        indexes = ap (λ (s : EngineState). s.indexes) like i;
-        views = ap (λ (s : EngineState). s.views) like i;
-        upkeep = second.upkeep;
-        tick = ap (λ (s : EngineState). s.tick) like i;
-        history = ap (λ (s : EngineState). s.history) like i;
-      }
+  pub step_one : IsOne → IsDetermined
+  step_one one old new other line answer again entries more (inl (why, lacks, a)) b bound bound_2 = absurd (no_lack line old answer why lacks a.answered bound)
+  step_one one old new other line answer again entries more (inr a) (inl (why, lacks, b)) bound bound_2 = absurd (no_lack line old again why lacks b.answered bound_2)
+  step_one one old new other line answer again entries more (inr a) (inr b) bound bound_2 = lexed_one one old answer again entries more new other line (tokens_of line) a b

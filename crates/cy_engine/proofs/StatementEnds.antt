@@ -7,21 +7,24 @@ use Rattle.cy_trees.specs.Trees.{Statement}
 use Rattle.cy_updates_meaning.specs.Statements.{Outcome, statement_outcome}
 use Rattle.cy_network_touches.specs.Changes.{before_change}
 use Rattle.cy_engine_views.specs.declared.views.Views.{Views}
-use Rattle.cy_engine_views.specs.Upkeep.{AreKeptUp, Held, SomeHasTooManyRows, StandFor, Upkeep, held_in, upkeep_in, upkeep_of, view_of, views_in}
-use Rattle.cy_engine_views.specs.RegisteredViews.{Entries, View, fed}
+use Rattle.cy_engine_views.specs.HeldViews.{Held, view_of}
+use Rattle.cy_engine_views.specs.Upkeep.{AreKeptUp, StandFor, Upkeep, held_in, upkeep_in, upkeep_of, views_in}
+use Rattle.cy_engine_views.specs.RegisteredViews.{AreEntries, Entries, View, fed}
 use Rattle.cy_engine.specs.declared.engine.Effect.{Effect}
 use Rattle.cy_engine.specs.declared.faults.Fault.{Fault}
 use Rattle.cy_engine.specs.declared.replies.Reply.{Reply}
 use Rattle.cy_engine.specs.declared.replies.Reply.TheVariants as reply
-use Rattle.cy_engine.specs.Model.{machine_of, state_of}
 use Rattle.cy_engine.specs.Requests.{StatementOf}
-use Rattle.cy_engine.specs.State.{EngineState, last_tick}
-use Rattle.cy_engine.specs.EngineStep.{AreBounded, StatementHasTooMany, changed_by}
+use Rattle.cy_engine.specs.State.{last_tick}
+use Rattle.cy_engine.specs.EngineStep.{WouldExecute, changed_by}
+use Rattle.cy_engine.specs.KeptStep.{HasTooMany, IsKeptUp, KeepsUp, KeptState, kept_state_of}
 use Rattle.cy_engine.specs.Verdicts.{same_content, scope_verdict, tick_after}
+use Rattle.cy_engine.specs.Fields.{machine_of}
 use Rattle.cy_engine.specs.internal.Representation.{IsAtRest}
-use Rattle.cy_engine.specs.internal.Stages.{AnswersOrWants, HasNoEffect, HasTree, IsEffect}
+use Rattle.cy_engine.specs.internal.Stages.{AnswersKept, HasNoEffect, HasTree, IsEffect}
 use Rattle.cy_engine.proofs.Chains.{nothing_changed}
 use Rattle.cy_engine.proofs.Contents.{content_decides}
+use Rattle.cy_engine.proofs.Keeping.{keeps_refused, keeps_said}
 use Rattle.cy_engine.proofs.Limits.{stand_bounded, stand_within}
 use Rattle.cy_engine.proofs.Steps.{carry_late, executed, statement_executed, statement_refused}
 
@@ -46,85 +49,75 @@ tick_stays before after tick same = rw same refl
 module _ (line : List ℕ) (tokens : List Token) (store : StoreState) (views : Views) (tick history : ℕ) (last : Entries) (resolved : Statement) (outcome : Outcome)
     (tree : HasTree line tokens (λ tree. scope_verdict tree ≡ Ok resolved)) (means : statement_outcome store.graph.now resolved ≡ Ok outcome)
     (answer : Reply) (answered : answer ≡ reply.Statement (changed_by outcome.counts) outcome.columns outcome.rows) where
-  abbrev start : EngineState
-  start = state_of (machine_of store views tick history last)
+  abbrev start : KeptState
+  start = kept_state_of (machine_of store views tick history last)
 
   abbrev before : State
   before = store.graph.now
 
   -- the store once the change is committed
   module _ (ended : StoreState) (graph : ended.graph.now ≡ outcome.graph) (indexes : ended.chosen ≡ store.chosen) where
-    -- the views that stand for its graph
-    module _ (left : Views) (next : ℕ) (stand : StandFor left outcome.graph.content next) where
-      abbrev on_graph : StandFor left ended.graph.now.content next
-      on_graph = subst (λ (g : State). StandFor left g.content next) (sym graph) stand
+    abbrev ended_with : Views → ℕ → KeptState
+    ended_with left next = kept_state_of (machine_of ended left next history last)
 
-      left_bounded : AreBounded ended.graph.now.content (views_in left)
-      left_bounded = stand_bounded left ended.graph.now.content next on_graph
-
-      left_within : SomeHasTooManyRows ended.graph.now.content (upkeep_in left) → ⊥
-      left_within = stand_within left ended.graph.now.content next on_graph
+    -- the statement is executed, and leaves views that stand for its graph
+    kept_up : (left : Views) (next : ℕ) (entries : Entries) → StandFor left outcome.graph.content next → tick_after before.content outcome.graph.content tick ≡ Ok next
+        → AreEntries (views_in views) before.content outcome.graph.content next entries → views_in left ≡ map (fed entries) (views_in views)
+        → KeepsUp (same_content before.content outcome.graph.content) before outcome.graph (upkeep_in views) (upkeep_in left)
+        → AnswersKept line (StatementOf tokens) start (Ok answer) entries (ended_with left next)
+    kept_up left next entries stand ticks entries_are fed_so keeps =
+        let stand_so : StandFor left ended.graph.now.content next = subst (λ (g : State). StandFor left g.content next) (sym graph) stand in
+        let is : IsKeptUp start (ended_with left next) = record {
+          upkeep = subst (λ (g : State). KeepsUp (same_content before.content g.content) before g (upkeep_in views) (upkeep_in left)) (sym graph) keeps;
+          within = stand_within left ended.graph.now.content next stand_so;
+        } in
+        record {
+          answers = statement_executed line tokens start.engine (Ok answer) entries (ended_with left next).engine resolved (record { outcome = outcome; tick = next }) tree
+              (executed resolved before tick outcome next means ticks)
+              (record {
+                answered = ap Ok answered;
+                entries_are = entries_are;
+                bounded = stand_bounded left ended.graph.now.content next stand_so;
+                state = λ i. record { graph = graph i; indexes = indexes i; views = fed_so i; tick = next; history = history };
+              });
+          upkeep = keeps_said (HasTooMany line (StatementOf tokens) start) answer (reply.Statement (changed_by outcome.counts) outcome.columns outcome.rows) start (ended_with left next) answered is;
+        }
 
     -- nothing changes in the content
     pub kept_done : (entries : Entries) → entries ≡ [] → same_content before.content outcome.graph.content ≡ true → (left : Views) → held_in left ≡ held_in views → StandFor left outcome.graph.content tick
-        → AnswersOrWants line (StatementOf tokens) start (Ok answer) entries (state_of (machine_of ended left tick history last))
+        → AnswersKept line (StatementOf tokens) start (Ok answer) entries (ended_with left tick)
     kept_done entries none same left held stand =
-        statement_executed line tokens start (Ok answer) entries (state_of (machine_of ended left tick history last)) resolved (record { outcome = outcome; tick = tick }) tree
-        (executed resolved before tick outcome tick means (tick_stays before outcome.graph tick same))
-        (record {
-          answered = ap Ok answered;
-          entries_are = rw (none, sym ((content_decides before.content outcome.graph.content).0 same)) (nothing_changed (views_in views) before.content tick);
-          upkeep = rw same (ap (map upkeep_of) held);
-          bounded = left_bounded left tick stand;
-          within = left_within left tick stand;
-          state = λ i. record {
-            graph = graph i;
-            indexes = indexes i;
-            views = (ap (map view_of) held ∙ sym (ap (λ (es : Entries). map (fed es) (views_in views)) none ∙ none_fed (views_in views))) i;
-            upkeep = upkeep_in left;
-            tick = tick;
-            history = history;
-          };
-        })
+        kept_up left tick entries stand (tick_stays before outcome.graph tick same)
+        (rw (none, sym ((content_decides before.content outcome.graph.content).0 same)) (nothing_changed (views_in views) before.content tick))
+        (ap (map view_of) held ∙ sym (ap (λ (es : Entries). map (fed es) (views_in views)) none ∙ none_fed (views_in views)))
+        (rw same (ap (map upkeep_of) held))
 
     -- the content differs
     pub changed_done : (effect : Effect) (ready left : Views) → IsEffect views ready before outcome.graph tick effect → views_in left ≡ map (fed effect.entries) (views_in ready)
         → AreKeptUp before outcome.graph (upkeep_in ready) (upkeep_in left) → StandFor left outcome.graph.content effect.tick
-        → AnswersOrWants line (StatementOf tokens) start (Ok answer) effect.entries (state_of (machine_of ended left effect.tick history last))
+        → AnswersKept line (StatementOf tokens) start (Ok answer) effect.entries (ended_with left effect.tick)
     changed_done effect ready left does fed_so kept stand =
-        statement_executed line tokens start (Ok answer) effect.entries (state_of (machine_of ended left effect.tick history last)) resolved (record { outcome = outcome; tick = effect.tick }) tree
-        (executed resolved before tick outcome effect.tick means (rw does.differs does.ticks))
-        (record {
-          answered = ap Ok answered;
-          entries_are = does.entries_are;
-          upkeep = rw does.differs (subst (λ (us : List Upkeep). AreKeptUp before outcome.graph us (upkeep_in left)) (ap (map upkeep_of) does.held) kept);
-          bounded = left_bounded left effect.tick stand;
-          within = left_within left effect.tick stand;
-          state = λ i. record {
-            graph = graph i;
-            indexes = indexes i;
-            views = (fed_so ∙ ap (λ (hs : List Held). map (fed effect.entries) (map view_of hs)) does.held) i;
-            upkeep = upkeep_in left;
-            tick = effect.tick;
-            history = history;
-          };
-        })
+        kept_up left effect.tick effect.entries stand (rw does.differs does.ticks) does.entries_are
+        (fed_so ∙ ap (λ (hs : List Held). map (fed effect.entries) (map view_of hs)) does.held)
+        (rw does.differs (subst (λ (us : List Upkeep). AreKeptUp before outcome.graph us (upkeep_in left)) (ap (map upkeep_of) does.held) kept))
 
   -- ---- a statement that isn't executed, since its change has no effect
 
-  pub no_effect : (entries : Entries) → entries ≡ [] → (new : EngineState) → new ≡ start → (why : Fault) → HasNoEffect (upkeep_in views) before outcome.graph tick why
-      → AnswersOrWants line (StatementOf tokens) start (Err why) entries new
+  pub no_effect : (entries : Entries) → entries ≡ [] → (new : KeptState) → new ≡ start → (why : Fault) → HasNoEffect (upkeep_in views) before outcome.graph tick why
+      → AnswersKept line (StatementOf tokens) start (Err why) entries new
   no_effect entries none new same why (inl wants) = statement_refused line tokens start entries new none same resolved why tree (inl wants)
   no_effect entries none new same why (inr (inl late)) = statement_refused line tokens start entries new none same resolved why tree (inr (carry_late resolved before tick outcome why means late))
   no_effect entries none new same why (inr (inr (is, (next, rises, many)))) =
-      let has : StatementHasTooMany line tokens start = record {
+      let would : WouldExecute line tokens start.engine = record {
         tree = tree.tree;
         executed = record { outcome = outcome; tick = next };
         spelt = tree.spelt;
         verdict = rw tree.that (executed resolved before tick outcome next means rises);
-        many = many;
       } in
-      inr (inl (has, record { answered = ap Err is; no_entries = none; state = same }))
+      record {
+        answers = inr (inl (would, record { answered = ap Err is; no_entries = none; state = ap (λ (s : KeptState). s.engine) same }));
+        upkeep = keeps_refused (HasTooMany line (StatementOf tokens) start) why start new (ap (λ (s : KeptState). s.upkeep) same) (λ _. record { would = would; many = many });
+      }
 
 -- ---- what holds between lines holds again
 

@@ -10,9 +10,9 @@ use Rattle.cy_feeds.specs.Feeds.{answer_since}
 use Rattle.cy_index.specs.declared.keys.Pair.{Pair}
 use Rattle.cy_engine.specs.declared.faults.Fault.{Fault}
 use Rattle.cy_engine.specs.declared.replies.Reply.{Reply}
-use Rattle.cy_engine.specs.Requests.{Request, StatementOf, ViewOf, RowsOf, SinceOf, DropOf, IndexOf, request}
-use Rattle.cy_engine.specs.Runs.{Event, Run, Agree, IsBound, IsDetermined, OnlySo, accepted, accepted_before, is_choice, is_want, seen_answer, seen_event}
-use Rattle.cy_engine.specs.State.{EngineState, seen}
+use Rattle.cy_engine.specs.Requests.{Request, StatementOf, ViewOf, RowsOf, SinceOf, ListOfSteps, DropOf, IndexOf, request}
+use Rattle.cy_engine.specs.Runs.{Event, Run, Agree, IsBound, IsDetermined, RefusedLinesLeaveNoTrace, accepted, accepted_before, is_choice, is_want, seen_answer, seen_event}
+use Rattle.cy_engine.specs.State.{EngineState}
 use Rattle.cy_engine_views.specs.RegisteredViews.{Entries, View}
 use Rattle.cy_engine.specs.EngineStep.{Answer, Executes, Makes, Drops, Indexes, Shows, ShowsAnswer, AnswersSince, Answers, Lexed, EngineStep}
 use Rattle.cy_engine.specs.Verdicts.{Executed, index_verdict, rows_verdict, since_verdict, statement_verdict, view_verdict}
@@ -59,6 +59,7 @@ module _ (old : EngineState) (answer : Answer) (entries : Entries) (new : Engine
   answers_left line (ViewOf name tokens) (inr (parsed, unspelt, a)) = a.state
   answers_left line (RowsOf name) a = shows_left name (rows_verdict name old) a
   answers_left line (SinceOf name tick) a = tells_left name tick (since_verdict name tick old) a
+  answers_left line ListOfSteps a = a.replied.state
   answers_left line (DropOf name) a = drops_left (rows_verdict name old) a
   answers_left line (IndexOf label key) a = indexes_left (index_verdict label key old) a
   answers_left line _ a = a.state
@@ -98,23 +99,23 @@ heads : (e f : Event) (es fs : List Event) → map (λ (x : Event). x.line) (f �
 heads e f es fs is = (cc, cc)
 
 module _ (determined : IsDetermined) where
-  runs_one : (old twin new other : EngineState) (es fs : List Event) → seen twin ≡ seen old → Run old es new → Run twin fs other → map (λ (x : Event). x.line) fs ≡ map (λ (x : Event). x.line) es
-      → AllByRecursion (λ (x : Event). is_ok x.answer) es → AllByRecursion (λ (x : Event). IsBound x.answer) fs → (map seen_event fs ≡ map seen_event es) × (seen other ≡ seen new)
-  runs_one old twin new other [] [] alike run again lines ok room = (refl, ap seen again ∙ alike ∙ sym (ap seen run))
-  runs_one old twin new other [] (f ∷ fs) alike run again lines ok room = absurd (cc)
-  runs_one old twin new other (e ∷ es) [] alike run again lines ok room = absurd (cc)
-  runs_one old twin new other (e ∷ es) (f ∷ fs) alike (mid, step, run) (mid_2, step_2, again) lines ok room =
+  runs_one : (old new other : EngineState) (es fs : List Event) → Run old es new → Run old fs other → map (λ (x : Event). x.line) fs ≡ map (λ (x : Event). x.line) es
+      → AllByRecursion (λ (x : Event). is_ok x.answer) es → AllByRecursion (λ (x : Event). IsBound x.answer) fs → (map seen_event fs ≡ map seen_event es) × (other ≡ new)
+  runs_one old new other [] [] run again lines ok room = (refl, again ∙ sym run)
+  runs_one old new other [] (f ∷ fs) run again lines ok room = absurd (cc)
+  runs_one old new other (e ∷ es) [] run again lines ok room = absurd (cc)
+  runs_one old new other (e ∷ es) (f ∷ fs) (mid, step, run) (mid_2, step_2, again) lines ok room =
       let line = heads e f es fs lines in
-      let step_of_e : EngineStep twin e.line f.answer f.entries mid_2 = subst (λ (l : List ℕ). EngineStep twin l f.answer f.entries mid_2) line.0 step_2 in
-      let one = determined old twin mid mid_2 e.line e.answer f.answer e.entries f.entries alike step step_of_e (is_bound e.answer ok.0) room.0 in
+      let step_of_e : EngineStep old e.line f.answer f.entries mid_2 = subst (λ (l : List ℕ). EngineStep old l f.answer f.entries mid_2) line.0 step_2 in
+      let one = determined old mid mid_2 e.line e.answer f.answer e.entries f.entries step step_of_e (is_bound e.answer ok.0) room.0 in
       let answer : seen_answer e.answer ≡ seen_answer f.answer = no_parser e.answer f.answer ok.0 one.0 in
       let entries : e.entries ≡ f.entries = one.1 in
-      let rest = runs_one mid mid_2 new other es fs (sym one.2) run again line.1 ok.1 room.1 in
+      let rest = runs_one mid new other es fs run (subst (λ (s : EngineState). Run s fs other) (sym one.2) again) line.1 ok.1 room.1 in
       let event : seen_event f ≡ seen_event e = λ i. record { line = line.0 i; answer = sym answer i; entries = sym entries i } in
       ((λ i. event i ∷ rest.0 i), rest.1)
 
-  pub traces : (old new : EngineState) (events : List Event) → Run old events new → OnlySo old (accepted events) new
+  pub traces : RefusedLinesLeaveNoTrace
   traces old new events run = record {
     run = run_accepted old new events run;
-    only = λ other alone again lines bound. runs_one old old new other (accepted events) alone refl (run_accepted old new events run) again lines (all_accepted events) bound;
+    only = λ other alone again lines bound. runs_one old new other (accepted events) alone (run_accepted old new events run) again lines (all_accepted events) bound;
   }

@@ -28,14 +28,17 @@ use Rattle.cy_engine.specs.declared.replies.Reply.TheVariants as reply
 use Rattle.cy_engine.specs.Faults.{code_of, offset_of}
 use Rattle.cy_feeds.specs.Feeds.{new_history}
 use Rattle.cy_engine.specs.Requests.{request, StatementOf, ViewOf, RowsOf, IndexOf, Refused, without_end}
-use Rattle.cy_engine.specs.Model.{machine_of, new_machine, state_of}
-use Rattle.cy_engine.specs.State.{EngineState, last_tick, seen, view_at}
+use Rattle.cy_engine.specs.KeptStep.{kept_state_of, unkept}
+use Rattle.cy_engine.specs.Model.{new_machine}
+use Rattle.cy_engine.specs.State.{EngineState, last_tick, view_at}
+use Rattle.cy_engine.specs.Fields.{machine_of}
 use Rattle.cy_planner_algebra.specs.Plans as plan
 use Rattle.cy_engine_views.specs.declared.views.Views.{Views}
 use Rattle.cy_engine_views.specs.Upkeep.{Upkeep, held_in, upkeep_in, views_in}
 use Rattle.cy_engine_views.specs.RegisteredViews.{Entries, View, entry_at, rows_of}
 use Rattle.cy_engine.specs.Headline.{entries_of}
-use Rattle.cy_engine.specs.Runs.{Event, accepted}
+use Rattle.cy_engine.specs.EngineStep.{Answer}
+use Rattle.cy_engine.specs.Runs.{Event, accepted, seen_answer}
 use Rattle.cy_engine.specs.Verdicts.{execution_verdict, statement_verdict, query_verdict, rows_verdict, since_verdict, index_verdict, view_verdict}
 use Rattle.cy_engine.proofs.WorkedLines.{mark, letter, create_tree, create_tokens, view_line, view_tokens, query_tokens, query_tree, rows_line, rows_tokens, set_tree, bare_tree}
 
@@ -162,11 +165,8 @@ last_tick_stays = refl
 abbrev view : View
 view = record { name = codes "v"; query = keys; made = 2; feed = new_history 64 2 }
 
-abbrev kept_with : ℕ → Upkeep
-kept_with steps = record { name = codes "v"; plan = plan.unit; steps = steps }
-
 abbrev with_view : EngineState
-with_view = record { graph = three; indexes = (record { label = codes "A"; key = codes "k" }) ∷ []; views = view ∷ []; upkeep = kept_with 3 ∷ []; tick = 2; history = 64 }
+with_view = record { graph = three; indexes = (record { label = codes "A"; key = codes "k" }) ∷ []; views = view ∷ []; tick = 2; history = 64 }
 
 -- `MATCH (n:A) SET m.k = 9`
 unknown_variable : (state : EngineState) → statement_verdict (set_tree (codes "m") (integer (pos 9))) state ≡ Err (fault.Scope scope.UnknownVariable)
@@ -209,14 +209,27 @@ another_index = refl
 new_engine : (views : Views) → held_in views ≡ [] → machine_of (record { graph = record { now = empty_state 1 1; was = None }; chosen = [] }) views 0 64 [] ≡ new_machine 64
 new_engine views none = λ i. record { graph = empty_state 1 1; indexes = []; views = none i; tick = 0; history = 64; entries = [] }
 
--- one with nodes, an index and a view
-engine_with_view : (views : Views) → views_in views ≡ view ∷ [] → upkeep_in views ≡ kept_with 3 ∷ []
-    → state_of (machine_of (record { graph = record { now = three; was = None }; chosen = with_view.indexes }) views 2 64 []) ≡ with_view
-engine_with_view views is kept = λ i. record { graph = three; indexes = with_view.indexes; views = is i; upkeep = kept i; tick = 2; history = 64 }
+-- one with nodes, an index and a view, which is kept up by a plan with a number of steps
+abbrev kept_with : List ℕ → ℕ → Upkeep
+kept_with name steps = record { name = name; plan = plan.unit; steps = steps }
+
+engine_with_view : (views : Views) → views_in views ≡ view ∷ [] → upkeep_in views ≡ kept_with (codes "v") 3 ∷ []
+    → kept_state_of (machine_of (record { graph = record { now = three; was = None }; chosen = with_view.indexes }) views 2 64 []) ≡ record { engine = with_view; upkeep = kept_with (codes "v") 3 ∷ [] }
+engine_with_view views is kept = λ i. record { engine = record { graph = three; indexes = with_view.indexes; views = is i; tick = 2; history = 64 }; upkeep = kept i }
+
+-- the upkeep of one of two views goes
+one_is_unkept : unkept (codes "v") (kept_with (codes "v") 3 ∷ kept_with (codes "w") 5 ∷ []) ≡ kept_with (codes "w") 5 ∷ []
+one_is_unkept = refl
 
 -- the steps are free, the name of the view is not
-steps_are_free : seen with_view ≡ record with_view { upkeep = kept_with 0 ∷ [] }
+abbrev steps_of : List ℕ → ℕ → Answer
+steps_of name steps = Ok (reply.Steps ((name, steps) ∷ []))
+
+steps_are_free : seen_answer (steps_of (codes "v") 3) ≡ seen_answer (steps_of (codes "v") 0)
 steps_are_free = refl
+
+name_is_seen : (name : List ℕ) → seen_answer (steps_of name 3) ≡ steps_of name 0
+name_is_seen name = refl
 
 view_is_found : view_at (codes "v") with_view ≡ Some view
 view_is_found = refl

@@ -1,7 +1,6 @@
 -- A run of worked lines from a new engine, computed: what each is answered, the entries that it makes, and the state after it.
-use Rattle.std.proofs.Common.{◌≡◌, ◌<◌, ◌≤◌, ℕ, zero, suc, ◌+◌, pos, List, [], ◌∷◌, length, Result, Ok, Err, refl, sym, subst, inl, inr, arith}
-use Rattle.std.specs.Prelude.{IsTrue, codes, map}
-use Rattle.std.specs.List.{AllByRecursion, Contains}
+use Rattle.std.proofs.Common.{◌≡◌, ◌<◌, ◌≤◌, ℕ, ◌+◌, pos, List, [], ◌∷◌, Result, Ok, Err, refl, sym, subst, inl, inr, arith}
+use Rattle.std.specs.Prelude.{codes}
 use Rattle.std.specs.Ordering.{eq_by_cmp}
 use Rattle.std.specs.Str.{chars}
 use Rattle.std.specs.Char.{encode_utf8}
@@ -31,15 +30,6 @@ use Rattle.cy_engine.specs.Requests.{request}
 use Rattle.cy_engine.specs.Runs.{Event, Run}
 use Rattle.cy_engine.specs.State.{EngineState, empty_engine}
 use Rattle.cy_feeds.specs.Following.{last_count}
-use Rattle.cy_planner_algebra.specs.Meaning as plans
-use Rattle.cy_planner_algebra.specs.Plans.{Plan}
-use Rattle.cy_planner_algebra.specs.Within.{CountsWithin, IsWithin}
-use Rattle.cy_planner.specs.Serves.{Serves}
-use Rattle.cy_planner.specs.WideTables.{wide_tables}
-use Rattle.cy_graph.specs.Graph.{State, IsGraph, number_end}
-use Rattle.cy_graph.specs.Maps.{rises}
-use Rattle.cy_graph.specs.Stored.{IsStorable}
-use Rattle.cy_engine_views.specs.Upkeep.{IsWithinCost, SomeHasTooManyRows, Upkeep}
 use Rattle.cy_engine_views.specs.RegisteredViews.{Entries, View}
 use Rattle.cy_engine.specs.EngineStep.{Answer, Answers, Lexed, EngineStep}
 use Rattle.cy_bags.specs.internal.Counting.{counted_rows}
@@ -50,301 +40,226 @@ use Rattle.cy_engine.proofs.WorkedLines.{digit, keyword, create_line, create_lex
 
 -- ---- the states
 
-abbrev node : Value → Node
+abbrev pub node : Value → Node
 node v = record { labels = (codes "A", tt) ∷ []; props = (codes "k", v) ∷ [] }
 
-abbrev bare : Node
+abbrev pub bare : Node
 bare = record { labels = (codes "A", tt) ∷ []; props = [] }
 
 -- `MATCH (n:A) RETURN n.k`, with its columns
-abbrev keys : Statement
+abbrev pub keys : Statement
 keys = resolved_statement query_tree
 
 -- with the entries that went into its feed
-abbrev view : List Entry → View
+abbrev pub view : List Entry → View
 view entries = record { name = codes "v"; query = keys; made = 2; feed = record { limit = 64; base = 2; entries = entries } }
 
--- a plan that serves it; no step at all is within its cost from one graph to another
-module _ (p : Plan) (serves : Serves p keys) (within : (before after : State) → IsGraph before → IsGraph after → IsWithinCost before after p 0) where
-  -- kept up by the plan, in no step
-  abbrev kept : List View → List Upkeep
-  kept views = map (λ v. record { name = v.name; plan = p; steps = 0 }) views
+-- an engine with one node, of this number, or with none
+abbrev pub one : ℕ → Node → ℕ → List View → EngineState
+one id n tick views = record { graph = record { content = record { nodes = (record { 0 = id }, n) ∷ []; rels = [] }; next_node = id + 1; next_rel = 1 }; indexes = []; views = views; tick = tick; history = 64 }
 
-  -- an engine with one node, of this number, or with none
-  abbrev one : ℕ → Node → ℕ → List View → EngineState
-  one id n tick views = record { graph = record { content = record { nodes = (record { 0 = id }, n) ∷ []; rels = [] }; next_node = id + 1; next_rel = 1 }; indexes = []; views = views; upkeep = kept views; tick = tick; history = 64 }
+abbrev pub none : ℕ → List View → EngineState
+none tick views = record { graph = record { content = record { nodes = []; rels = [] }; next_node = 2; next_rel = 1 }; indexes = []; views = views; tick = tick; history = 64 }
 
-  abbrev none : ℕ → List View → EngineState
-  none tick views = record { graph = record { content = record { nodes = []; rels = [] }; next_node = 2; next_rel = 1 }; indexes = []; views = views; upkeep = kept views; tick = tick; history = 64 }
+abbrev pub int : ℕ → Value
+int n = value.Int (pos n)
 
-  -- they are graphs
-  one_graph : (id : ℕ) (n : Node) → 1 ≤ id → id + 1 ≤ number_end → IsTrue (rises n.labels) → IsTrue (rises n.props) → IsStorable n.props → IsGraph (one id n 0 []).graph
-  one_graph id n from to labels props stored = record {
-    rising = refl;
-    numbered = ((from, omega arith), tt);
-    in_form = ((labels, props), tt);
-    stored = (stored, tt);
-    rels_rising = refl;
-    rels_numbered = tt;
-    rels_in_form = tt;
-    rels_stored = tt;
-    ends = tt;
-    node_range = (omega arith, to);
-    rel_range = (omega arith, omega arith);
-  }
+-- no row counts too often
+one_bounded : (v : Value) (r : List Cell) → count_of r ((cell.Value v ∷ []) ∷ []) ≤ last_count
+one_bounded v r = omega (arith, count_by-le-length (eq_by_cmp row_cmp r) ((cell.Value v ∷ []) ∷ []))
 
-  int_graph : (n : ℕ) → IsGraph (one 1 (node (value.Int (pos n))) 0 []).graph
-  int_graph n = one_graph 1 (node (value.Int (pos n))) (omega arith) (omega arith) refl refl refl
+-- what a statement is answered that made and removed this many nodes
+abbrev pub statement : ℕ → ℕ → Answer
+statement made gone = Ok (reply.Statement (record { nodes_made = made; nodes_gone = gone; rels_made = 0; rels_gone = 0 }) [] [])
 
-  bare_graph : IsGraph (one 1 bare 0 []).graph
-  bare_graph = one_graph 1 bare (omega arith) (omega arith) refl refl refl
+abbrev pub row : Value → List Cell
+row v = cell.Value v ∷ []
 
-  next_graph : IsGraph (one 2 bare 0 []).graph
-  next_graph = one_graph 2 bare (omega arith) (omega arith) refl refl refl
+-- the rows of a value, with its count
+abbrev pub counted : Value → List (List Cell × ℕ)
+counted v = (row v, 1) ∷ []
 
-  none_graph : IsGraph (none 0 []).graph
-  none_graph = record {
-    rising = refl;
-    numbered = tt;
-    in_form = tt;
-    stored = tt;
-    rels_rising = refl;
-    rels_numbered = tt;
-    rels_in_form = tt;
-    rels_stored = tt;
-    ends = tt;
-    node_range = (omega arith, omega arith);
-    rel_range = (omega arith, omega arith);
-  }
+abbrev change_at : ℕ → List (List Cell × ℕ) → List (List Cell × ℕ) → Entry
+change_at tick removed added = record { tick = tick; change = record { removed = removed; added = added } }
 
-  abbrev int : ℕ → Value
-  int n = value.Int (pos n)
+abbrev pub entry : ℕ → List (List Cell × ℕ) → List (List Cell × ℕ) → Entries
+entry tick removed added = (codes "v", change_at tick removed added) ∷ []
 
-  -- ---- no row counts too often
+-- the entries in its feed after each of the lines that make one
+abbrev pub fed_set : List Entry
+fed_set = change_at 3 (counted (int 7)) (counted (int 8)) ∷ []
 
-  abbrev AreFew : List (List (List Cell)) → Type 0
-  AreFew tables = AllByRecursion (λ (t : List (List Cell)). length t ≤ 1) tables
+abbrev pub fed_null : List Entry
+fed_null = change_at 3 (counted (int 7)) (counted (int 8)) ∷ change_at 4 (counted (int 8)) (counted value.Null) ∷ []
 
-  of_few : (tables : List (List (List Cell))) (table : List (List Cell)) → AreFew tables → Contains tables table → length table ≤ 1
-  of_few [] table few (k, less, is) = absurd (omega (arith, less))
-  of_few (t ∷ tables) table few (zero, less, is) = subst (λ (x : List (List Cell)). length x ≤ 1) is few.0
-  of_few (t ∷ tables) table few (suc k, less, is) = of_few tables table few.1 (k, omega (arith, less), is)
+abbrev pub fed_deleted : List Entry
+fed_deleted = change_at 3 (counted (int 7)) (counted (int 8)) ∷ change_at 4 (counted (int 8)) (counted value.Null) ∷ change_at 5 (counted value.Null) [] ∷ []
 
-  -- no part of the plan has such a row, where the wide tables of the query have a row at most
-  few_within : (graph : State) → IsGraph graph → AreFew (wide_tables graph.content keys) → SomeHasTooManyRows graph.content (kept (view [] ∷ [])) → ⊥
-  few_within graph is few (inl (k, part, less, at, (r, many))) =
-      once (subst (λ (q : Plan). IsWithin graph.content (wide_tables graph.content keys) q) at (serves.bounded graph is k part less) r)
-    where
-      once : CountsWithin (wide_tables graph.content keys) (count_of r (plans.rows_of graph.content part)) → ⊥
-      once (inl le) = omega (arith, le, many)
-      once (inr (table, there, (other, le))) =
-          omega (arith, le, many, count_by-le-length (eq_by_cmp row_cmp other) table, of_few (wide_tables graph.content keys) table few there)
-  few_within graph is few (inr none) = absurd none
+abbrev pub fed_created : List Entry
+fed_created =
+    change_at 3 (counted (int 7)) (counted (int 8)) ∷ change_at 4 (counted (int 8)) (counted value.Null) ∷ change_at 5 (counted value.Null) [] ∷ change_at 6 [] (counted value.Null) ∷ []
 
-  -- nor has the view
-  one_bounded : (v : Value) (r : List Cell) → count_of r ((cell.Value v ∷ []) ∷ []) ≤ last_count
-  one_bounded v r = omega (arith, count_by-le-length (eq_by_cmp row_cmp r) ((cell.Value v ∷ []) ∷ []))
+-- ---- steps
 
-  -- what a statement is answered that made and removed this many nodes
-  abbrev statement : ℕ → ℕ → Answer
-  statement made gone = Ok (reply.Statement (record { nodes_made = made; nodes_gone = gone; rels_made = 0; rels_gone = 0 }) [] [])
+-- a line of these tokens is answered as it asks
+lexed : (old new : EngineState) (line : List ℕ) (tokens : List Token) (answer : Answer) (entries : Entries) → tokens_of line ≡ Ok tokens
+    → Answers line (request line tokens) old answer entries new → EngineStep old line answer entries new
+lexed old new line tokens answer entries are answers = inr (subst (λ (r : Result (List Token) LexFault). Lexed line r old answer entries new) (sym are) answers)
 
-  abbrev row : Value → List Cell
-  row v = cell.Value v ∷ []
+-- `CREATE (:A {k: 7})`
+pub created : EngineStep (empty_engine 64) create_line (statement 1 0) [] (one 1 (node (int 7)) 1 [])
+created = lexed (empty_engine 64) (one 1 (node (int 7)) 1 []) create_line create_tokens (statement 1 0) [] create_lexed
+    (inl (create_tree, create_spelt, record { answered = refl; entries_are = refl; bounded = tt; state = refl }))
 
-  -- the rows of a value, with its count
-  abbrev counted : Value → List (List Cell × ℕ)
-  counted v = (row v, 1) ∷ []
+-- `:view v MATCH (n:A) RETURN n.k`
+pub made : EngineStep (one 1 (node (int 7)) 1 []) view_line (Ok (reply.Made (codes "n.k" ∷ []) 2 (codes "v"))) [] (one 1 (node (int 7)) 2 (view [] ∷ []))
+unfolding denotes slice_in chars encode_utf8
+made = lexed (one 1 (node (int 7)) 1 []) (one 1 (node (int 7)) 2 (view [] ∷ [])) view_line view_tokens (Ok (reply.Made (codes "n.k" ∷ []) 2 (codes "v"))) [] view_lexed
+    (inl (query_tree, query_spelt, record { answered = refl; no_entries = refl; bounded = (one_bounded (int 7), tt); state = refl }))
 
-  abbrev change_at : ℕ → List (List Cell × ℕ) → List (List Cell × ℕ) → Entry
-  change_at tick removed added = record { tick = tick; change = record { removed = removed; added = added } }
+-- `MATCH (n:A) SET m.k = 9`
+pub unknown : (tick : ℕ) (views : List View) → EngineStep (one 1 (node (int 8)) tick views) unknown_line (Err (fault.Scope scope.UnknownVariable)) [] (one 1 (node (int 8)) tick views)
+unknown tick views = lexed (one 1 (node (int 8)) tick views) (one 1 (node (int 8)) tick views) unknown_line (set_tokens (digit 9 22 ∷ [])) (Err (fault.Scope scope.UnknownVariable)) [] unknown_lexed
+    (inl (set_tree (codes "m") (integer (pos 9)), unknown_spelt, record { answered = refl; no_entries = refl; state = refl }))
 
-  abbrev entry : ℕ → List (List Cell × ℕ) → List (List Cell × ℕ) → Entries
-  entry tick removed added = (codes "v", change_at tick removed added) ∷ []
+counts_once : 0 < 1
+counts_once = omega arith
 
-  -- the entries in its feed after each of the lines that make one
-  abbrev fed_set : List Entry
-  fed_set = change_at 3 (counted (int 7)) (counted (int 8)) ∷ []
+abbrev answered : List ℕ → Answer → Entries → Event
+answered line answer entries = record { line = line; answer = answer; entries = entries }
 
-  abbrev fed_null : List Entry
-  fed_null = change_at 3 (counted (int 7)) (counted (int 8)) ∷ change_at 4 (counted (int 8)) (counted value.Null) ∷ []
+abbrev pub worked_lines : List Event
+worked_lines =
+    answered create_line (statement 1 0) []
+    ∷ answered view_line (Ok (reply.Made (codes "n.k" ∷ []) 2 (codes "v"))) []
+    ∷ answered rows_line (Ok (reply.Rows (counted (int 7)) 2 (codes "v"))) []
+    ∷ answered set_line (statement 0 0) (entry 3 (counted (int 7)) (counted (int 8)))
+    ∷ answered set_line (statement 0 0) []
+    ∷ answered unknown_line (Err (fault.Scope scope.UnknownVariable)) []
+    ∷ answered null_line (statement 0 0) (entry 4 (counted (int 8)) (counted value.Null))
+    ∷ answered delete_line (statement 0 1) (entry 5 (counted value.Null) [])
+    ∷ answered bare_line (statement 1 0) (entry 6 [] (counted value.Null))
+    ∷ []
 
-  abbrev fed_deleted : List Entry
-  fed_deleted = change_at 3 (counted (int 7)) (counted (int 8)) ∷ change_at 4 (counted (int 8)) (counted value.Null) ∷ change_at 5 (counted value.Null) [] ∷ []
+module _ (total : IsTotalOrder row_cmp) (same : (x y : List Cell) → row_cmp x y ≡ Equal → x ≡ y) where
+  -- the surplus of counted rows is the difference of the bags
+  difference : (before after : List (List Cell)) → IsCanonical (counted_rows before) → IsCanonical (counted_rows after)
+      → IsDifference before after (record { removed = surplus_of (counted_rows before) (counted_rows after); added = surplus_of (counted_rows after) (counted_rows before) })
+  difference before after old new =
+      let gone = is_surplus total same (counted_rows before) (counted_rows after) old in
+      let come = is_surplus total same (counted_rows after) (counted_rows before) new in record {
+        removed = record { counts = λ row. omega (arith, gone.counts row, bag_of_counted total same before row, bag_of_counted total same after row); canonical = gone.canonical };
+        added = record { counts = λ row. omega (arith, come.counts row, bag_of_counted total same before row, bag_of_counted total same after row); canonical = come.canonical };
+      }
 
-  abbrev fed_created : List Entry
-  fed_created =
-      change_at 3 (counted (int 7)) (counted (int 8)) ∷ change_at 4 (counted (int 8)) (counted value.Null) ∷ change_at 5 (counted value.Null) [] ∷ change_at 6 [] (counted value.Null) ∷ []
-
-  -- ---- steps
-
-  -- a line of these tokens is answered as it asks
-  lexed : (old new : EngineState) (line : List ℕ) (tokens : List Token) (answer : Answer) (entries : Entries) → tokens_of line ≡ Ok tokens
-      → Answers line (request line tokens) old answer entries new → EngineStep old line answer entries new
-  lexed old new line tokens answer entries are answers = inr (subst (λ (r : Result (List Token) LexFault). Lexed line r old answer entries new) (sym are) answers)
-
-  -- `CREATE (:A {k: 7})`
-  created : EngineStep (empty_engine 64) create_line (statement 1 0) [] (one 1 (node (int 7)) 1 [])
-  created = lexed (empty_engine 64) (one 1 (node (int 7)) 1 []) create_line create_tokens (statement 1 0) [] create_lexed
-      (inl (create_tree, create_spelt, record { answered = refl; entries_are = refl; upkeep = refl; bounded = tt; within = λ many. absurd many; state = refl }))
-
-  -- `:view v MATCH (n:A) RETURN n.k`
-  made : EngineStep (one 1 (node (int 7)) 1 []) view_line (Ok (reply.Made (codes "n.k" ∷ []) 2 (codes "v"))) [] (one 1 (node (int 7)) 2 (view [] ∷ []))
+  -- `:rows v`
+  pub shown : EngineStep (one 1 (node (int 7)) 2 (view [] ∷ [])) rows_line (Ok (reply.Rows (counted (int 7)) 2 (codes "v"))) [] (one 1 (node (int 7)) 2 (view [] ∷ []))
   unfolding denotes slice_in chars encode_utf8
-  made = lexed (one 1 (node (int 7)) 1 []) (one 1 (node (int 7)) 2 (view [] ∷ [])) view_line view_tokens (Ok (reply.Made (codes "n.k" ∷ []) 2 (codes "v"))) [] view_lexed
-      (inl (query_tree, query_spelt, record { answered = refl; no_entries = refl; plan = p; serves = serves; bounded = (one_bounded (int 7), tt); within = few_within _ (int_graph 7) (omega arith, (omega arith, (omega arith, tt))); state = refl }))
+  shown = lexed (one 1 (node (int 7)) 2 (view [] ∷ [])) (one 1 (node (int 7)) 2 (view [] ∷ [])) rows_line rows_tokens (Ok (reply.Rows (counted (int 7)) 2 (codes "v"))) [] rows_lexed
+      (counted (int 7), record { bag = bag_of_counted total same (row (int 7) ∷ []); canonical = counts_once }, record { answered = refl; no_entries = refl; state = refl })
 
-  -- `MATCH (n:A) SET m.k = 9`
-  unknown : (tick : ℕ) (views : List View) → EngineStep (one 1 (node (int 8)) tick views) unknown_line (Err (fault.Scope scope.UnknownVariable)) [] (one 1 (node (int 8)) tick views)
-  unknown tick views = lexed (one 1 (node (int 8)) tick views) (one 1 (node (int 8)) tick views) unknown_line (set_tokens (digit 9 22 ∷ [])) (Err (fault.Scope scope.UnknownVariable)) [] unknown_lexed
-      (inl (set_tree (codes "m") (integer (pos 9)), unknown_spelt, record { answered = refl; no_entries = refl; state = refl }))
+  -- `MATCH (n:A) SET n.k = 8`
+  pub set_once : EngineStep (one 1 (node (int 7)) 2 (view [] ∷ [])) set_line (statement 0 0) (entry 3 (counted (int 7)) (counted (int 8))) (one 1 (node (int 8)) 3 (view fed_set ∷ []))
+  set_once = lexed (one 1 (node (int 7)) 2 (view [] ∷ [])) (one 1 (node (int 8)) 3 (view fed_set ∷ [])) set_line (set_tokens (digit 8 22 ∷ [])) (statement 0 0) (entry 3 (counted (int 7)) (counted (int 8))) set_lexed
+      (inl (
+        set_tree (codes "n") (integer (pos 8)),
+        set_spelt,
+        record {
+          answered = refl;
+          entries_are = inr (
+            _,
+            [],
+            refl,
+            record {
+              differs = λ (are : (r : List Cell) → count_of r (row (int 7) ∷ []) ≡ count_of r (row (int 8) ∷ [])). let wrong : 1 ≡ 0 = are (row (int 7)) in absurd (omega (arith, wrong));
+              tick_is = refl;
+              difference = difference (row (int 7) ∷ []) (row (int 8) ∷ []) counts_once counts_once;
+            },
+            refl,
+          );
+          bounded = (one_bounded (int 8), tt);
+          state = refl;
+        },
+      ))
 
-  counts_once : 0 < 1
-  counts_once = omega arith
+  -- the same again
+  pub set_again : EngineStep (one 1 (node (int 8)) 3 (view fed_set ∷ [])) set_line (statement 0 0) [] (one 1 (node (int 8)) 3 (view fed_set ∷ []))
+  set_again = lexed (one 1 (node (int 8)) 3 (view fed_set ∷ [])) (one 1 (node (int 8)) 3 (view fed_set ∷ [])) set_line (set_tokens (digit 8 22 ∷ [])) (statement 0 0) [] set_lexed
+      (inl (set_tree (codes "n") (integer (pos 8)), set_spelt, record { answered = refl; entries_are = inl ((λ r. refl), refl); bounded = (one_bounded (int 8), tt); state = refl }))
 
-  abbrev answered : List ℕ → Answer → Entries → Event
-  answered line answer entries = record { line = line; answer = answer; entries = entries }
+  -- `MATCH (n:A) SET n.k = null`
+  pub set_null : EngineStep (one 1 (node (int 8)) 3 (view fed_set ∷ [])) null_line (statement 0 0) (entry 4 (counted (int 8)) (counted value.Null)) (one 1 bare 4 (view fed_null ∷ []))
+  set_null = lexed (one 1 (node (int 8)) 3 (view fed_set ∷ [])) (one 1 bare 4 (view fed_null ∷ [])) null_line (set_tokens (keyword word.Null 22 26 ∷ [])) (statement 0 0) (entry 4 (counted (int 8)) (counted value.Null)) null_lexed
+      (inl (
+        set_tree (codes "n") null,
+        null_spelt_whole,
+        record {
+          answered = refl;
+          entries_are = inr (
+            _,
+            [],
+            refl,
+            record {
+              differs = λ (are : (r : List Cell) → count_of r (row (int 8) ∷ []) ≡ count_of r (row value.Null ∷ [])). let wrong : 1 ≡ 0 = are (row (int 8)) in absurd (omega (arith, wrong));
+              tick_is = refl;
+              difference = difference (row (int 8) ∷ []) (row value.Null ∷ []) counts_once counts_once;
+            },
+            refl,
+          );
+          bounded = (one_bounded value.Null, tt);
+          state = refl;
+        },
+      ))
 
-  abbrev worked_lines : List Event
-  worked_lines =
-      answered create_line (statement 1 0) []
-      ∷ answered view_line (Ok (reply.Made (codes "n.k" ∷ []) 2 (codes "v"))) []
-      ∷ answered rows_line (Ok (reply.Rows (counted (int 7)) 2 (codes "v"))) []
-      ∷ answered set_line (statement 0 0) (entry 3 (counted (int 7)) (counted (int 8)))
-      ∷ answered set_line (statement 0 0) []
-      ∷ answered unknown_line (Err (fault.Scope scope.UnknownVariable)) []
-      ∷ answered null_line (statement 0 0) (entry 4 (counted (int 8)) (counted value.Null))
-      ∷ answered delete_line (statement 0 1) (entry 5 (counted value.Null) [])
-      ∷ answered bare_line (statement 1 0) (entry 6 [] (counted value.Null))
-      ∷ []
+  -- `MATCH (n:A) DETACH DELETE n`
+  pub deleted : EngineStep (one 1 bare 4 (view fed_null ∷ [])) delete_line (statement 0 1) (entry 5 (counted value.Null) []) (none 5 (view fed_deleted ∷ []))
+  deleted = lexed (one 1 bare 4 (view fed_null ∷ [])) (none 5 (view fed_deleted ∷ [])) delete_line delete_tokens (statement 0 1) (entry 5 (counted value.Null) []) delete_lexed
+      (inl (
+        delete_tree,
+        delete_spelt,
+        record {
+          answered = refl;
+          entries_are = inr (
+            _,
+            [],
+            refl,
+            record {
+              differs = λ (are : (r : List Cell) → count_of r (row value.Null ∷ []) ≡ count_of r []). let wrong : 1 ≡ 0 = are (row value.Null) in absurd (omega (arith, wrong));
+              tick_is = refl;
+              difference = difference (row value.Null ∷ []) [] counts_once tt;
+            },
+            refl,
+          );
+          bounded = (λ r. omega arith, tt);
+          state = refl;
+        },
+      ))
 
-  module _ (total : IsTotalOrder row_cmp) (same : (x y : List Cell) → row_cmp x y ≡ Equal → x ≡ y) where
-    -- the surplus of counted rows is the difference of the bags
-    difference : (before after : List (List Cell)) → IsCanonical (counted_rows before) → IsCanonical (counted_rows after)
-        → IsDifference before after (record { removed = surplus_of (counted_rows before) (counted_rows after); added = surplus_of (counted_rows after) (counted_rows before) })
-    difference before after old new =
-        let gone = is_surplus total same (counted_rows before) (counted_rows after) old in
-        let come = is_surplus total same (counted_rows after) (counted_rows before) new in record {
-          removed = record { counts = λ row. omega (arith, gone.counts row, bag_of_counted total same before row, bag_of_counted total same after row); canonical = gone.canonical };
-          added = record { counts = λ row. omega (arith, come.counts row, bag_of_counted total same before row, bag_of_counted total same after row); canonical = come.canonical };
-        }
+  -- `CREATE (:A)`: the node has the next number
+  pub created_again : EngineStep (none 5 (view fed_deleted ∷ [])) bare_line (statement 1 0) (entry 6 [] (counted value.Null)) (one 2 bare 6 (view fed_created ∷ []))
+  created_again = lexed (none 5 (view fed_deleted ∷ [])) (one 2 bare 6 (view fed_created ∷ [])) bare_line bare_tokens (statement 1 0) (entry 6 [] (counted value.Null)) bare_lexed
+      (inl (
+        bare_tree,
+        bare_spelt,
+        record {
+          answered = refl;
+          entries_are = inr (
+            _,
+            [],
+            refl,
+            record {
+              differs = λ (are : (r : List Cell) → count_of r [] ≡ count_of r (row value.Null ∷ [])). let wrong : 0 ≡ 1 = are (row value.Null) in absurd (omega (arith, wrong));
+              tick_is = refl;
+              difference = difference [] (row value.Null ∷ []) tt counts_once;
+            },
+            refl,
+          );
+          bounded = (one_bounded value.Null, tt);
+          state = refl;
+        },
+      ))
 
-    -- `:rows v`
-    shown : EngineStep (one 1 (node (int 7)) 2 (view [] ∷ [])) rows_line (Ok (reply.Rows (counted (int 7)) 2 (codes "v"))) [] (one 1 (node (int 7)) 2 (view [] ∷ []))
-    unfolding denotes slice_in chars encode_utf8
-    shown = lexed (one 1 (node (int 7)) 2 (view [] ∷ [])) (one 1 (node (int 7)) 2 (view [] ∷ [])) rows_line rows_tokens (Ok (reply.Rows (counted (int 7)) 2 (codes "v"))) [] rows_lexed
-        (counted (int 7), record { bag = bag_of_counted total same (row (int 7) ∷ []); canonical = counts_once }, record { answered = refl; no_entries = refl; state = refl })
-
-    -- `MATCH (n:A) SET n.k = 8`
-    set_once : EngineStep (one 1 (node (int 7)) 2 (view [] ∷ [])) set_line (statement 0 0) (entry 3 (counted (int 7)) (counted (int 8))) (one 1 (node (int 8)) 3 (view fed_set ∷ []))
-    set_once = lexed (one 1 (node (int 7)) 2 (view [] ∷ [])) (one 1 (node (int 8)) 3 (view fed_set ∷ [])) set_line (set_tokens (digit 8 22 ∷ [])) (statement 0 0) (entry 3 (counted (int 7)) (counted (int 8))) set_lexed
-        (inl (
-          set_tree (codes "n") (integer (pos 8)),
-          set_spelt,
-          record {
-            answered = refl;
-            entries_are = inr (
-              _,
-              [],
-              refl,
-              record {
-                differs = λ (are : (r : List Cell) → count_of r (row (int 7) ∷ []) ≡ count_of r (row (int 8) ∷ [])). let wrong : 1 ≡ 0 = are (row (int 7)) in absurd (omega (arith, wrong));
-                tick_is = refl;
-                difference = difference (row (int 7) ∷ []) (row (int 8) ∷ []) counts_once counts_once;
-              },
-              refl,
-            );
-            upkeep = (0, [], refl, within _ _ (int_graph 7) (int_graph 8), refl);
-            bounded = (one_bounded (int 8), tt);
-            within = few_within _ (int_graph 8) (omega arith, (omega arith, (omega arith, tt)));
-            state = refl;
-          },
-        ))
-
-    -- the same again
-    set_again : EngineStep (one 1 (node (int 8)) 3 (view fed_set ∷ [])) set_line (statement 0 0) [] (one 1 (node (int 8)) 3 (view fed_set ∷ []))
-    set_again = lexed (one 1 (node (int 8)) 3 (view fed_set ∷ [])) (one 1 (node (int 8)) 3 (view fed_set ∷ [])) set_line (set_tokens (digit 8 22 ∷ [])) (statement 0 0) [] set_lexed
-        (inl (set_tree (codes "n") (integer (pos 8)), set_spelt, record { answered = refl; entries_are = inl ((λ r. refl), refl); upkeep = refl; bounded = (one_bounded (int 8), tt); within = few_within _ (int_graph 8) (omega arith, (omega arith, (omega arith, tt))); state = refl }))
-
-    -- `MATCH (n:A) SET n.k = null`
-    set_null : EngineStep (one 1 (node (int 8)) 3 (view fed_set ∷ [])) null_line (statement 0 0) (entry 4 (counted (int 8)) (counted value.Null)) (one 1 bare 4 (view fed_null ∷ []))
-    set_null = lexed (one 1 (node (int 8)) 3 (view fed_set ∷ [])) (one 1 bare 4 (view fed_null ∷ [])) null_line (set_tokens (keyword word.Null 22 26 ∷ [])) (statement 0 0) (entry 4 (counted (int 8)) (counted value.Null)) null_lexed
-        (inl (
-          set_tree (codes "n") null,
-          null_spelt_whole,
-          record {
-            answered = refl;
-            entries_are = inr (
-              _,
-              [],
-              refl,
-              record {
-                differs = λ (are : (r : List Cell) → count_of r (row (int 8) ∷ []) ≡ count_of r (row value.Null ∷ [])). let wrong : 1 ≡ 0 = are (row (int 8)) in absurd (omega (arith, wrong));
-                tick_is = refl;
-                difference = difference (row (int 8) ∷ []) (row value.Null ∷ []) counts_once counts_once;
-              },
-              refl,
-            );
-            upkeep = (0, [], refl, within _ _ (int_graph 8) bare_graph, refl);
-            bounded = (one_bounded value.Null, tt);
-            within = few_within _ bare_graph (omega arith, (omega arith, (omega arith, tt)));
-            state = refl;
-          },
-        ))
-
-    -- `MATCH (n:A) DETACH DELETE n`
-    deleted : EngineStep (one 1 bare 4 (view fed_null ∷ [])) delete_line (statement 0 1) (entry 5 (counted value.Null) []) (none 5 (view fed_deleted ∷ []))
-    deleted = lexed (one 1 bare 4 (view fed_null ∷ [])) (none 5 (view fed_deleted ∷ [])) delete_line delete_tokens (statement 0 1) (entry 5 (counted value.Null) []) delete_lexed
-        (inl (
-          delete_tree,
-          delete_spelt,
-          record {
-            answered = refl;
-            entries_are = inr (
-              _,
-              [],
-              refl,
-              record {
-                differs = λ (are : (r : List Cell) → count_of r (row value.Null ∷ []) ≡ count_of r []). let wrong : 1 ≡ 0 = are (row value.Null) in absurd (omega (arith, wrong));
-                tick_is = refl;
-                difference = difference (row value.Null ∷ []) [] counts_once tt;
-              },
-              refl,
-            );
-            upkeep = (0, [], refl, within _ _ bare_graph none_graph, refl);
-            bounded = (λ r. omega arith, tt);
-            within = few_within _ none_graph (omega arith, (omega arith, (omega arith, tt)));
-            state = refl;
-          },
-        ))
-
-    -- `CREATE (:A)`: the node has the next number
-    created_again : EngineStep (none 5 (view fed_deleted ∷ [])) bare_line (statement 1 0) (entry 6 [] (counted value.Null)) (one 2 bare 6 (view fed_created ∷ []))
-    created_again = lexed (none 5 (view fed_deleted ∷ [])) (one 2 bare 6 (view fed_created ∷ [])) bare_line bare_tokens (statement 1 0) (entry 6 [] (counted value.Null)) bare_lexed
-        (inl (
-          bare_tree,
-          bare_spelt,
-          record {
-            answered = refl;
-            entries_are = inr (
-              _,
-              [],
-              refl,
-              record {
-                differs = λ (are : (r : List Cell) → count_of r [] ≡ count_of r (row value.Null ∷ [])). let wrong : 0 ≡ 1 = are (row value.Null) in absurd (omega (arith, wrong));
-                tick_is = refl;
-                difference = difference [] (row value.Null ∷ []) tt counts_once;
-              },
-              refl,
-            );
-            upkeep = (0, [], refl, within _ _ none_graph next_graph, refl);
-            bounded = (one_bounded value.Null, tt);
-            within = few_within _ next_graph (omega arith, (omega arith, (omega arith, tt)));
-            state = refl;
-          },
-        ))
-
-    -- the lines one after another
-    worked_run : Run (empty_engine 64) worked_lines (one 2 bare 6 (view fed_created ∷ []))
-    worked_run =
-        (_, created, (_, made, (_, shown, (_, set_once, (_, set_again, (_, unknown 3 (view fed_set ∷ []), (_, set_null, (_, deleted, (_, created_again, refl)))))))))
+  -- the lines one after another
+  worked_run : Run (empty_engine 64) worked_lines (one 2 bare 6 (view fed_created ∷ []))
+  worked_run =
+      (_, created, (_, made, (_, shown, (_, set_once, (_, set_again, (_, unknown 3 (view fed_set ∷ []), (_, set_null, (_, deleted, (_, created_again, refl)))))))))

@@ -1,7 +1,7 @@
--- The engine as a machine: the steps that a line allows (own).
-use Rattle.std.specs.Prelude.{◌≡◌, ◌≢◌, ℕ, ◌≤◌, ◌⊎◌, Bool, true, false, not, List, [], ◌∷◌, ◌++◌, filter, length, map, Result, Ok, Err}
+-- The engine as a machine: the steps that a line allows (own). What is promised of the plans of views and of the numbers of their steps stands in
+-- `KeptStep`.
+use Rattle.std.specs.Prelude.{◌≡◌, ◌≢◌, ℕ, ◌≤◌, ◌⊎◌, List, [], ◌∷◌, ◌++◌, length, map, Result, Ok, Err}
 use Rattle.std.specs.List.{AllByRecursion}
-use Rattle.std.specs.Str.{bytes_eq}
 use Rattle.cy_lexer.specs.declared.faults.LexFault.{LexFault}
 use Rattle.cy_lexer.specs.declared.tokens.Token.{Token}
 use Rattle.cy_lexer.specs.Line.{longest_line}
@@ -13,7 +13,7 @@ use Rattle.cy_parser_grammar.specs.SpellsClauses.{SpellsStatement}
 use Rattle.cy_trees.specs.Trees.{Statement}
 use Rattle.cy_values.specs.declared.rows.Cell.{Cell}
 use Rattle.cy_values.specs.Bag.{count_of}
-use Rattle.cy_graph.specs.Graph.{Content, State}
+use Rattle.cy_graph.specs.Graph.{Content}
 use Rattle.cy_index.specs.declared.keys.Pair.{Pair}
 use Rattle.cy_oneshot_meaning.specs.Queries.{statement_columns}
 use Rattle.cy_updates_meaning.specs.Counts.{Counts}
@@ -21,10 +21,6 @@ use Rattle.cy_feeds.specs.declared.feeds.Answer as feeds
 use Rattle.cy_feeds.specs.declared.feeds.Answer.TheVariants.{Entries as Since, Lagged}
 use Rattle.cy_feeds.specs.Feeds.{answer_since}
 use Rattle.cy_feeds.specs.Following.{last_count}
-use Rattle.cy_planner_algebra.specs.Plans.{Plan}
-use Rattle.cy_network.specs.Networks.{HasTooManyRows}
-use Rattle.cy_planner.specs.Serves.{Serves}
-use Rattle.cy_engine_views.specs.Upkeep.{AreKeptUp, SomeHasTooManyRows, Upkeep}
 use Rattle.cy_engine_views.specs.RegisteredViews.{AreEntries, AreRowsOf, Entries, View, fed, listed, rows_of, without}
 use Rattle.cy_engine.specs.declared.faults.Fault.{Fault}
 use Rattle.cy_engine.specs.declared.faults.Fault.TheVariants as fault
@@ -33,7 +29,7 @@ use Rattle.cy_engine.specs.declared.replies.Reply.{Reply}
 use Rattle.cy_engine.specs.declared.replies.Reply.TheVariants as reply
 use Rattle.cy_engine.specs.Requests.{Asks, Request, Nothing, StatementOf, ViewOf, RowsOf, SinceOf, ListOfViews, ListOfSteps, DropOf, IndexOf, Refused, request}
 use Rattle.cy_engine.specs.State.{EngineState}
-use Rattle.cy_engine.specs.Verdicts.{Executed, same_content, statement_verdict, view_verdict, rows_verdict, since_verdict, index_verdict}
+use Rattle.cy_engine.specs.Verdicts.{Executed, statement_verdict, view_verdict, rows_verdict, since_verdict, index_verdict}
 
 -- ---- what is answered
 
@@ -66,40 +62,25 @@ AreBounded graph views = AllByRecursion (λ (v : View). (row : List Cell) → co
 abbrev pub changed_by : Counts → Changed
 changed_by counts = record { nodes_made = counts.made_nodes; nodes_gone = counts.gone_nodes; rels_made = counts.made_rels; rels_gone = counts.gone_rels }
 
--- how views are kept up after a line: as before where the content of the graph stays, else with numbers of steps within the bound
-abbrev pub KeepsUp : Bool → State → State → List Upkeep → List Upkeep → Type 0
-KeepsUp true before after upkeep next = next ≡ upkeep
-KeepsUp false before after upkeep next = AreKeptUp before after upkeep next
-
 pub record IsExecuted (executed : Executed) (old : EngineState) (answer : Answer) (entries : Entries) (new : EngineState) : Type 0 where
   pub answered : answer ≡ Ok (reply.Statement (changed_by executed.outcome.counts) executed.outcome.columns executed.outcome.rows)
   pub entries_are : AreEntries old.views old.graph.content executed.outcome.graph.content executed.tick entries
-  pub upkeep : KeepsUp (same_content old.graph.content executed.outcome.graph.content) old.graph executed.outcome.graph old.upkeep new.upkeep
-  -- no row counts more than 2^62 - 1 after it, of a view and of a part of its plan: else it is refused
+  -- no row of a view counts more than 2^62 - 1 after it: else it is refused
   pub bounded : AreBounded new.graph.content new.views
-  pub within : SomeHasTooManyRows new.graph.content new.upkeep → ⊥
-  pub state : new ≡ record old { graph = executed.outcome.graph; views = map (fed entries) old.views; upkeep = new.upkeep; tick = executed.tick }
+  pub state : new ≡ record old { graph = executed.outcome.graph; views = map (fed entries) old.views; tick = executed.tick }
 
 pub record IsMade (view : View) (old : EngineState) (answer : Answer) (entries : Entries) (new : EngineState) : Type 0 where
   pub answered : answer ≡ Ok (reply.Made (statement_columns view.query) view.made view.name)
   pub no_entries : entries ≡ []
-  -- kept up by a plan that serves its query; which one, the engine may choose
-  pub plan : Plan
-  pub serves : Serves plan view.query
-  -- no row counts more than 2^62 - 1: else it is refused
+  -- no row of a view counts more than 2^62 - 1: else it is refused
   pub bounded : AreBounded new.graph.content new.views
-  pub within : SomeHasTooManyRows new.graph.content new.upkeep → ⊥
-  pub state : new ≡ record old { views = old.views ++ view ∷ []; upkeep = old.upkeep ++ (record { name = view.name; plan = plan; steps = 0 }) ∷ []; tick = view.made }
-
--- the upkeep of the views without the one of a name
-abbrev pub unkept : List ℕ → List Upkeep → List Upkeep
-unkept name upkeep = filter (λ u. not (bytes_eq name u.name)) upkeep
+  pub state : new ≡ record old { views = old.views ++ view ∷ []; tick = view.made }
 
 -- the view of the name is gone, and nothing else differs
 pub record IsDropped (view : View) (old : EngineState) (answer : Answer) (entries : Entries) (new : EngineState) : Type 0 where
   pub answered : answer ≡ Ok (reply.Dropped view.name)
   pub no_entries : entries ≡ []
-  pub state : new ≡ record old { views = without view.name old.views; upkeep = unkept view.name old.upkeep }
+  pub state : new ≡ record old { views = without view.name old.views }
 
 -- the label and the key have an index, and nothing else differs
 pub record IsIndexed (pair : Pair) (old : EngineState) (answer : Answer) (entries : Entries) (new : EngineState) : Type 0 where
@@ -143,6 +124,12 @@ abbrev pub AnswersSince : List ℕ → ℕ → Result View Fault → EngineState
 AnswersSince name tick (Ok view) old = ShowsAnswer name view (answer_since tick view.feed) old
 AnswersSince name tick (Err why) old = IsRefused why old
 
+-- a number of steps is listed for each view, by its name
+pub record IsListOfSteps (old : EngineState) (answer : Answer) (entries : Entries) (new : EngineState) : Type 0 where
+  pub steps : List (List ℕ × ℕ)
+  pub named : map (λ s. s.0) steps ≡ map (λ v. v.name) old.views
+  pub replied : IsReplied (reply.Steps steps) old answer entries new
+
 -- the parser may refuse tokens with this fault: they spell no statement, and it points at one of them or at the line's end. No
 -- tokens at all are unexpected there; and out of memory is none of its faults
 pub record IsUnspelt (line : List ℕ) (tokens : List Token) (why : ParseFault) : Type 0 where
@@ -165,7 +152,7 @@ Answers line (ViewOf name tokens) old = Reads line tokens (λ tree. Makes (view_
 Answers line (RowsOf name) old = Shows name (rows_verdict name old) old
 Answers line (SinceOf name tick) old = AnswersSince name tick (since_verdict name tick old) old
 Answers line ListOfViews old = IsReplied (reply.Views (map listed old.views)) old
-Answers line ListOfSteps old = IsReplied (reply.Steps (map (λ u. (u.name, u.steps)) old.upkeep)) old
+Answers line ListOfSteps old = IsListOfSteps old
 Answers line (DropOf name) old = Drops (rows_verdict name old) old
 Answers line (IndexOf label key) old = Indexes (index_verdict label key old) old
 Answers line (Refused why) old = IsRefused why old
@@ -175,36 +162,32 @@ abbrev pub Lexed : List ℕ → Result (List Token) LexFault → EngineState →
 Lexed line (Err why) = IsRefused (fault.Lex why)
 Lexed line (Ok tokens) = Answers line (request line tokens)
 
--- the tokens spell a statement that leaves too many rows: on its graph a part of the plan of some view has a row that counts more than 2^62 - 1
-pub record StatementHasTooMany (line : List ℕ) (tokens : List Token) (old : EngineState) : Type 0 where
+-- the tokens spell a statement that nothing in it is against
+pub record WouldExecute (line : List ℕ) (tokens : List Token) (old : EngineState) : Type 0 where
   pub tree : Statement
   pub executed : Executed
   pub spelt : SpellsStatement line tree tokens
   pub verdict : statement_verdict tree old ≡ Ok executed
-  pub many : SomeHasTooManyRows executed.outcome.graph.content old.upkeep
 
--- they spell the query of a view with too many rows: a part of a plan that serves it has a row that counts more than 2^62 - 1
-pub record ViewHasTooMany (line name : List ℕ) (tokens : List Token) (old : EngineState) : Type 0 where
+-- they spell the query of a view that nothing in it is against
+pub record WouldMake (line name : List ℕ) (tokens : List Token) (old : EngineState) : Type 0 where
   pub tree : Statement
   pub view : View
-  pub plan : Plan
   pub spelt : SpellsStatement line tree tokens
   pub verdict : view_verdict tree name old ≡ Ok view
-  pub serves : Serves plan view.query
-  pub many : HasTooManyRows old.graph.content plan
 
--- what is asked for has too many rows
-abbrev pub HasTooMany : List ℕ → Request → EngineState → Type 0
-HasTooMany line (StatementOf tokens) old = StatementHasTooMany line tokens old
-HasTooMany line (ViewOf name tokens) old = ViewHasTooMany line name tokens old
-HasTooMany line asked old = ⊥
+-- what is asked for may need too many rows: such a statement, or such a view
+abbrev pub MayNeedRows : List ℕ → Request → EngineState → Type 0
+MayNeedRows line (StatementOf tokens) old = WouldExecute line tokens old
+MayNeedRows line (ViewOf name tokens) old = WouldMake line name tokens old
+MayNeedRows line asked old = ⊥
 
 -- What is lacking may refuse a line that else is answered: memory, where the line isn't too long and isn't one without tokens, since tokens take
--- memory; and numbers for the rows of views.
+-- memory; and numbers for the rows that keep views up.
 abbrev pub Lacks : List ℕ → EngineState → Fault → Type 0
 Lacks line old why =
     ((why ≡ fault.NoMemory) × (length line ≤ longest_line) × (tokens_of line ≢ Ok []))
-    ⊎ ((why ≡ fault.TooManyRows) × ((asked : Request) × Asks line asked × HasTooMany line asked old))
+    ⊎ ((why ≡ fault.TooManyRows) × ((asked : Request) × Asks line asked × MayNeedRows line asked old))
 
 -- From old, the machine may answer the line so, make these entries and go on to new.
 abbrev pub EngineStep : EngineState → List ℕ → Answer → Entries → EngineState → Type 0

@@ -1,6 +1,9 @@
 pub mod Faults
+pub mod Fields
 pub mod Followers
 pub mod Headline
+pub mod KeptRuns
+pub mod KeptStep
 pub mod Model
 pub mod Requests
 pub mod Runs

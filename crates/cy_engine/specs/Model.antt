@@ -1,10 +1,8 @@
 -- What an engine holds between two lines, and the state that it stands for (own).
 use Rattle.std.specs.Prelude.{ℕ, List, [], map}
 use Rattle.cy_graph.specs.Graph.{State, empty_state}
-use Rattle.cy_index.specs.Index.{StoreState}
 use Rattle.cy_index.specs.declared.keys.Pair.{Pair}
-use Rattle.cy_engine_views.specs.declared.views.Views.{Views}
-use Rattle.cy_engine_views.specs.Upkeep.{Held, held_in, upkeep_of, view_of}
+use Rattle.cy_engine_views.specs.HeldViews.{Held, view_of}
 use Rattle.cy_engine_views.specs.RegisteredViews.{Entries}
 use Rattle.cy_engine.specs.State.{EngineState}
 
@@ -19,12 +17,7 @@ pub record Machine : Type 0 where
 
 -- the state of an engine
 abbrev pub state_of : Machine → EngineState
-state_of m = record { graph = m.graph; indexes = m.indexes; views = map view_of m.views; upkeep = map upkeep_of m.views; tick = m.tick; history = m.history }
-
--- the graph as it is with its indexes, and the views in the order in which they were made
-abbrev pub machine_of : StoreState → Views → ℕ → ℕ → Entries → Machine
-machine_of store views tick history entries =
-    record { graph = store.graph.now; indexes = store.chosen; views = held_in views; tick = tick; history = history; entries = entries }
+state_of m = record { graph = m.graph; indexes = m.indexes; views = map view_of m.views; tick = m.tick; history = m.history }
 
 -- a new engine: an empty graph, no index, no view, tick 0 and no entries
 abbrev pub new_machine : ℕ → Machine

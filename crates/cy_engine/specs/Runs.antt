@@ -4,7 +4,7 @@ use Rattle.std.specs.List.{AllByRecursion}
 use Rattle.cy_engine.specs.declared.faults.Fault.TheVariants as fault
 use Rattle.cy_engine.specs.Model.{Machine, state_of}
 use Rattle.cy_engine.specs.declared.replies.Reply.TheVariants as reply
-use Rattle.cy_engine.specs.State.{EngineState, seen}
+use Rattle.cy_engine.specs.State.{EngineState}
 use Rattle.cy_engine_views.specs.RegisteredViews.{Entries}
 use Rattle.cy_engine.specs.EngineStep.{Answer, EngineStep}
 
@@ -34,7 +34,7 @@ pub record Runs (old new : Machine) (lines : List (List ℕ)) (answers : List An
 
 -- ---- what is free
 
--- a refusal that may come whatever a line asks: it is out of memory, or the views have too many rows
+-- a refusal that may come whatever a line asks: it is out of memory, or rows are too many for the upkeep of views
 abbrev pub is_want : Answer → Bool
 is_want (Err fault.NoMemory) = true
 is_want (Err fault.TooManyRows) = true
@@ -50,7 +50,7 @@ abbrev pub seen_answer : Answer → Answer
 seen_answer (Ok (reply.Steps steps)) = Ok (reply.Steps (map (λ s. (s.0, 0)) steps))
 seen_answer answer = answer
 
--- This is all that is free in the answer to a line: whether it is out of memory, or a view has too many rows; where the parser refuses it, with which
+-- This is all that is free in the answer to a line: whether it is out of memory, or has too many rows; where the parser refuses it, with which
 -- of its faults; and the numbers of steps. An answer is bound where it is neither; and two answers agree where they differ in a choice or in
 -- these numbers alone.
 abbrev pub IsBound : Answer → Type 0
@@ -61,13 +61,12 @@ Agree answer other = (seen_answer answer ≡ seen_answer other) ⊎ (IsTrue (is_
 
 -- ---- what is determined
 
--- What becomes of a line is determined, but for what is free: from states that differ in how views are kept up alone its bound answers agree,
--- it makes the same entries, and it leads to states that differ in this alone.
+-- What becomes of a line is determined, but for what is free: its bound answers agree, and it makes the same entries and leads to the same state.
 abbrev pub IsDetermined : Type 0
 IsDetermined =
-    (old twin new other : EngineState) (line : List ℕ) (answer again : Answer) (entries more : Entries) → seen twin ≡ seen old
-    → EngineStep old line answer entries new → EngineStep twin line again more other → IsBound answer → IsBound again
-    → Agree answer again × (entries ≡ more) × (seen new ≡ seen other)
+    (old new other : EngineState) (line : List ℕ) (answer again : Answer) (entries more : Entries)
+    → EngineStep old line answer entries new → EngineStep old line again more other → IsBound answer → IsBound again
+    → Agree answer again × (entries ≡ more) × (new ≡ other)
 
 -- ---- refused lines
 
@@ -85,12 +84,11 @@ abbrev pub seen_event : Event → Event
 seen_event e = record e { answer = seen_answer e.answer }
 
 -- From one state to another some lines may be answered as they were; and they have to be: wherever the same lines are answered from
--- that state, and the answers are bound, the answers, their entries and the state that they lead to are the same, but for how views are
--- kept up.
+-- that state, and the answers are bound, the answers, their entries and the state that they lead to are the same, but for the numbers of steps.
 pub record OnlySo (old : EngineState) (events : List Event) (new : EngineState) : Type 0 where
   pub run : Run old events new
   pub only : (other : EngineState) (alone : List Event) → Run old alone other → map (λ e. e.line) alone ≡ map (λ e. e.line) events
-      → AllByRecursion (λ e. IsBound e.answer) alone → (map seen_event alone ≡ map seen_event events) × (seen other ≡ seen new)
+      → AllByRecursion (λ e. IsBound e.answer) alone → (map seen_event alone ≡ map seen_event events) × (other ≡ new)
 
 -- Refused lines leave no trace: the lines that were not refused are answered as they were without the others, and lead to the
 -- same state.

@@ -1,6 +1,6 @@
 //! The engine: one line at a time.
 
-ghost use Rattle.std.specs.Prelude.{◌≡◌, ◌≤◌, ◌⊎◌, [], IfErr, IfOk, IsOk, IsSome, OnErr, Ok, Err};
+ghost use Rattle.std.specs.Prelude.{◌≡◌, ◌≤◌, ◌⊎◌, ℕ, List, [], IfErr, IfOk, IsOk, IsSome, OnErr, Ok, Err};
 ghost use Rattle.std.specs.Option.{option_copied};
 ghost use Rattle.cy_trees.specs.TreeModels.{statement_of};
 ghost use Rattle.cy_oneshot_meaning.specs.Queries.{statement_columns};
@@ -10,11 +10,12 @@ ghost use Rattle.cy_network_touches.specs.Changes.{before_change};
 ghost use Rattle.cy_engine_views.specs.Upkeep.{StandFor, held_in, upkeep_in};
 ghost use Rattle.cy_engine_views.specs.RegisteredViews.{View, entry_at};
 ghost use Rattle.cy_engine.specs.Model.{new_machine, state_of};
-ghost use Rattle.cy_engine.specs.Requests.{StatementOf, ViewOf};
+ghost use Rattle.cy_engine.specs.Requests.{DropOf, IndexOf, StatementOf, ViewOf};
 ghost use Rattle.cy_engine.specs.State.{last_tick};
-ghost use Rattle.cy_engine.specs.EngineStep.{AreRows, Drops, EngineStep, changed_by};
+ghost use Rattle.cy_engine.specs.EngineStep.{AreRows, changed_by};
+ghost use Rattle.cy_engine.specs.KeptStep.{KeptStep, kept_state_of};
 ghost use Rattle.cy_engine.specs.Verdicts.{making_verdict, next_tick, rows_verdict};
-ghost use Rattle.cy_engine.specs.internal.Stages.{AddsIndex, AnswersOrWants, HasEffect, HasNoEffect, ListsSteps, ListsViews, ShowsRows, ShowsSince};
+ghost use Rattle.cy_engine.specs.internal.Stages.{AnswersKept, HasEffect, HasNoEffect, ListsSteps, ListsViews, ShowsRows, ShowsSince};
 
 use crate::faults::Fault;
 use crate::reading::{read_query, read_statement};
@@ -67,8 +68,8 @@ impl Model for Engine {
 
     ghost coded = { Prim.hlevel (codes, expr.the_row.coded, operator.the_row.coded) };
 
+    ghost use Rattle.cy_engine.specs.Fields.{machine_of};
     ghost use Rattle.cy_engine.specs.internal.Representation.{IsAtRest};
-    ghost use Rattle.cy_engine.specs.Model.{machine_of};
 
     ghost view = { λ e. machine_of e.store e.views e.tick e.history e.entries };
 
@@ -102,7 +103,7 @@ impl Engine {
     /// an index as `IndexThere`. `TooManyRows` may refuse a statement or a view that is otherwise executed, where a part of a plan has a row
     /// that counts more than 2^62 - 1, and `NoMemory` any line that has tokens and isn't too long.
     pub fn line(&mut self, line: &str) -> Result<Reply, Fault>
-        ensures { EngineStep (state_of self.old) line.now result self.new.entries (state_of self.new) }
+        ensures { KeptStep (kept_state_of self.old) line.now result self.new.entries (kept_state_of self.new) }
     {
         let mut entries = Sequence::new(Vec::new(self.alloc));
         let answer = self.reply_to(line, &mut entries);
@@ -150,7 +151,7 @@ impl Engine {
         entries: &mut Sequence<(Text, Entry)>,
     ) -> Result<Reply, Fault>
         requires none { entries.old ≡ [] }
-        ensures { EngineStep (state_of self.old) line.now result entries.new (state_of self.new) }
+        ensures { KeptStep (kept_state_of self.old) line.now result entries.new (kept_state_of self.new) }
     {
         let tokens = lex(self.alloc, line)?;
         match read_request(self.alloc, tokens.as_slice(), line)? {
@@ -174,7 +175,7 @@ impl Engine {
         entries: &mut Sequence<(Text, Entry)>,
     ) -> Result<Reply, Fault>
         requires none { entries.old ≡ [] }
-        ensures { AnswersOrWants line.now (StatementOf tokens.now) (state_of self.old) result entries.new (state_of self.new) }
+        ensures { AnswersKept line.now (StatementOf tokens.now) (kept_state_of self.old) result entries.new (kept_state_of self.new) }
     {
         let checked = read_statement(self.alloc, line, tokens)?;
         let outcome = execute(self.alloc, &mut self.store, &checked)?;
@@ -199,7 +200,7 @@ impl Engine {
 
     // Makes a view.
     fn make_view(&mut self, line: &str, name: &str, tokens: &[Token]) -> Result<Reply, Fault>
-        ensures { AnswersOrWants line.now (ViewOf name.now tokens.now) (state_of self.old) result [] (state_of self.new) }
+        ensures { AnswersKept line.now (ViewOf name.now tokens.now) (kept_state_of self.old) result [] (kept_state_of self.new) }
     {
         let query = read_query(self.alloc, line, tokens)?;
         let made = self.next_view(name)?;
@@ -226,7 +227,7 @@ impl Engine {
 
     // Adds an index for a label and a key.
     fn add_index(&mut self, label: Text, key: Text) -> Result<Reply, Fault>
-        ensures { AddsIndex label key (state_of self.old) result [] (state_of self.new) }
+        ensures { (line : List ℕ) → AnswersKept line (IndexOf label key) (kept_state_of self.old) result [] (kept_state_of self.new) }
     {
         let reply = Reply::Index {
             label: label.copy(self.alloc)?,
@@ -280,7 +281,7 @@ impl Engine {
 
     // Lists the steps of the views.
     fn list_steps(&self) -> Result<Reply, Fault>
-        ensures { ListsSteps (state_of self.now) result }
+        ensures { ListsSteps (kept_state_of self.now) result }
     {
         Ok(Reply::Steps {
             steps: Sequence::new(self.views.steps()?),
@@ -289,7 +290,7 @@ impl Engine {
 
     // Takes a view out.
     fn drop_view(&mut self, name: Text) -> Result<Reply, Fault>
-        ensures { Drops (rows_verdict name (state_of self.old)) (state_of self.old) result [] (state_of self.new) }
+        ensures { (line : List ℕ) → AnswersKept line (DropOf name) (kept_state_of self.old) result [] (kept_state_of self.new) }
     {
         if !self.views.remove(name.as_str()) {
             return Err(Fault::NoSuchView);

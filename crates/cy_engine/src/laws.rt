@@ -2,6 +2,7 @@
 
 ghost use Rattle.cy_engine.specs.Followers.{EntriesCanBeTaken, FollowersAgree};
 ghost use Rattle.cy_engine.specs.Headline.{EntriesAreExact, HeadlineHolds};
+ghost use Rattle.cy_engine.specs.KeptRuns.{RefusedLinesKeepUpkeep};
 ghost use Rattle.cy_engine.specs.Runs.{IsDetermined, RefusedLinesLeaveNoTrace};
 
 use cy_feeds::laws::{feeds_tell, followers_go_on};
@@ -9,8 +10,8 @@ use cy_oneshot_meaning::laws::view_queries;
 use cy_parser::trees_and_texts;
 use cy_values::row_order_laws;
 
-/// What becomes of a line is determined, but for what is free: whether memory runs out, too many rows in a part of a plan, the parser's choice among
-/// its faults, and how views are kept up: their plans and the numbers of steps.
+/// What becomes of a line is determined, but for what is free: whether memory runs out, or rows are too many for the upkeep of views, the parser's
+/// choice among its faults, and the numbers of steps.
 pub fn determined()
     ensures { IsDetermined }
 {
@@ -19,9 +20,10 @@ pub fn determined()
 }
 
 /// Refused lines leave no trace: of two runs from one state, one over lines and one over those of them that the first did not
-/// refuse, the lines that both have are answered alike, make the same entries and lead to the same state.
+/// refuse, the lines that both have are answered alike, make the same entries and lead to the same state. Nor do they in how views are kept up.
 pub fn no_trace()
-    ensures { RefusedLinesLeaveNoTrace }
+    ensures runs { RefusedLinesLeaveNoTrace }
+    ensures upkeep { RefusedLinesKeepUpkeep }
 {
     determined();
 }

@@ -10,7 +10,8 @@ use Rattle.cy_feeds.specs.Feeds.{History, IsReserved, latest, pushed}
 use Rattle.cy_planner_algebra.specs.PlanModels.{plan_of}
 use Rattle.cy_engine_views.specs.declared.registered.Registered.{Registered}
 use Rattle.cy_engine_views.specs.declared.rows.QueryRows.{QueryRows}
-use Rattle.cy_engine_views.specs.Upkeep.{AreKeptUp, AreNamed, IsNew, IsPrepared, IsReady, IsUnconcerned, IsWithinCost, Registry, Rests, StandsFor, entries_in, entry_if, held, network_of, upkeep_of, view_of}
+use Rattle.cy_engine_views.specs.HeldViews.{view_of}
+use Rattle.cy_engine_views.specs.Upkeep.{AreKeptUp, AreNamed, IsNew, IsPrepared, IsReady, IsUnconcerned, IsWithinCost, Registry, Rests, StandsFor, entries_in, entry_if, held, network_of, upkeep_of}
 use Rattle.cy_engine_views.specs.RegisteredViews.{Entries, View, entry_at, fed}
 use Rattle.cy_engine_views.specs.internal.Loops.{AllAreSettled, IsSettledFrom, Takes, with_change}
 use Rattle.cy_engine_views.proofs.Going.{All}

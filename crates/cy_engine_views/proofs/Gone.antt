@@ -2,7 +2,8 @@
 use Rattle.std.proofs.Common.{◌≡◌, ℕ, List, map, length, is_some, false, sym, ap, subst, ◌∙◌, arith}
 use Rattle.cy_graph.specs.Graph.{Content}
 use Rattle.cy_engine_views.specs.declared.views.Views.{Views}
-use Rattle.cy_engine_views.specs.Upkeep.{AreNamed, Held, IsGoneFrom, Rests, StandFor, held, held_in, view_of}
+use Rattle.cy_engine_views.specs.HeldViews.{Held, view_of}
+use Rattle.cy_engine_views.specs.Upkeep.{AreNamed, IsGoneFrom, Rests, StandFor, held, held_in}
 use Rattle.cy_engine_views.proofs.Going.{All}
 use Rattle.cy_engine_views.proofs.Named.{all_kept, fewer, held_kept, kept, named_kept, none_kept, registered_at}
 

@@ -3,7 +3,8 @@ use Rattle.std.proofs.Common.{◌≡◌, ◌<◌, ◌≤◌, ℕ, List, [], ◌�
 use Rattle.cy_graph.specs.Graph.{Content}
 use Rattle.cy_engine_views.specs.declared.registered.Registered.{Registered}
 use Rattle.cy_engine_views.specs.declared.views.Views.{Views}
-use Rattle.cy_engine_views.specs.Upkeep.{AreNamed, Held, Registry, Rests, StandFor, held, held_in, view_of, views_in}
+use Rattle.cy_engine_views.specs.HeldViews.{Held, view_of}
+use Rattle.cy_engine_views.specs.Upkeep.{AreNamed, Registry, Rests, StandFor, held, held_in, views_in}
 use Rattle.cy_engine_views.specs.RegisteredViews.{view_among, view_limit}
 use Rattle.cy_engine_views.proofs.Going.{All}
 use Rattle.cy_engine_views.proofs.Named.{all_last, held_last, new_last, views_last}

@@ -6,7 +6,8 @@ use Rattle.std.specs.Str.{bytes_eq}
 use Rattle.std.proofs.lemmas.Slice.Eq.{bytes_eq-Decides}
 use Rattle.cy_trees.specs.TreeModels.{statement_of}
 use Rattle.cy_engine_views.specs.declared.registered.Registered.{Registered}
-use Rattle.cy_engine_views.specs.Upkeep.{AreNamed, Held, IsNew, Registry, held, view_of}
+use Rattle.cy_engine_views.specs.HeldViews.{Held, view_of}
+use Rattle.cy_engine_views.specs.Upkeep.{AreNamed, IsNew, Registry, held}
 use Rattle.cy_engine_views.specs.RegisteredViews.{View, view_among}
 use Rattle.cy_engine_views.proofs.Going.{All}
 

@@ -1,3 +1,4 @@
+pub mod HeldViews
 pub mod RegisteredViews
 pub mod Upkeep
 pub mod Faults

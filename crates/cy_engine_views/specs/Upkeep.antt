@@ -5,16 +5,14 @@ use Rattle.std.specs.Str.{bytes_eq}
 use Rattle.std.specs.declared.alloc.Global.{Global}
 use Rattle.std.specs.declared.string.String.{String}
 use Rattle.cy_trees.specs.Trees.{Statement}
-use Rattle.cy_trees.specs.declared.clauses.Statement as coded
 use Rattle.cy_trees.specs.TreeModels.{statement_of}
 use Rattle.cy_values.specs.declared.rows.Cell.{Cell}
 use Rattle.cy_values.specs.Bag.{IsSameBag}
 use Rattle.cy_graph.specs.Graph.{Content, State, IsGraph}
 use Rattle.cy_bags.specs.declared.changes.Change.{Change}
 use Rattle.cy_bags.specs.Difference.{IsDifference}
-use Rattle.cy_feeds.specs.Feeds.{History, Kept, IsReserved, latest, new_history}
+use Rattle.cy_feeds.specs.Feeds.{Kept, IsReserved, latest}
 use Rattle.cy_network_memory.specs.contracts.keyed.KeyedMemoryMemory.TheImpl.{ghosts}
-use Rattle.cy_planner_algebra.specs.declared.operators.Operator.{Operator}
 use Rattle.cy_planner_algebra.specs.Plans.{Plan}
 use Rattle.cy_planner_algebra.specs.PlanModels.{plan_of}
 use Rattle.cy_network_touches.specs.Changes.{Touches, IsChange}
@@ -29,6 +27,7 @@ use Rattle.cy_engine_views.specs.declared.faults.UpkeepFault.TheVariants.{PlanTo
 use Rattle.cy_engine_views.specs.declared.rows.QueryRows.{QueryRows}
 use Rattle.cy_engine_views.specs.declared.registered.Registered.{Registered}
 use Rattle.cy_engine_views.specs.declared.views.Views.{Views}
+use Rattle.cy_engine_views.specs.HeldViews.{Held, view_of}
 use Rattle.cy_engine_views.specs.RegisteredViews.{Entries, View, rows_of, view_limit}
 
 -- ---- what is seen
@@ -39,18 +38,6 @@ pub record Upkeep : Type 0 where
   pub name : List ℕ
   pub plan : Plan
   pub steps : ℕ
-
--- a view with its upkeep, and with its query and its plan as the code has them
-pub record Held : Type 0 where
-  pub name : List ℕ
-  pub query : coded.Statement
-  pub plan : Operator
-  pub made : ℕ
-  pub feed : History
-  pub steps : ℕ
-
-abbrev pub view_of : Held → View
-view_of h = record { name = h.name; query = statement_of h.query; made = h.made; feed = h.feed }
 
 abbrev pub upkeep_of : Held → Upkeep
 upkeep_of h = record { name = h.name; plan = plan_of h.plan; steps = h.steps }
@@ -78,10 +65,6 @@ views_in views = map view_of (held_in views)
 
 abbrev pub upkeep_in : Views → List Upkeep
 upkeep_in views = map upkeep_of (held_in views)
-
--- a view that is made now
-abbrev pub new_held : List ℕ → coded.Statement → Operator → ℕ → ℕ → Held
-new_held name query plan made history = record { name = name; query = query; plan = plan; made = made; feed = new_history history made; steps = 0 }
 
 -- ---- what upkeep may cost, and why it may be refused
 

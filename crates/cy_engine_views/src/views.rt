@@ -10,7 +10,8 @@ ghost use Rattle.cy_planner_algebra.specs.declared.operators.Operator.{Operator}
 ghost use Rattle.cy_planner.specs.Serves.{Serves};
 ghost use Rattle.cy_planner.specs.Weight.{greatest_weight, weight};
 ghost use Rattle.cy_network_touches.specs.Changes.{before_change};
-ghost use Rattle.cy_engine_views.specs.Upkeep.{AreKeptUp, AreReady, CannotFollow, IsGoneFrom, IsUnkept, StandFor, held_in, new_held, upkeep_in, views_in};
+ghost use Rattle.cy_engine_views.specs.HeldViews.{new_held};
+ghost use Rattle.cy_engine_views.specs.Upkeep.{AreKeptUp, AreReady, CannotFollow, IsGoneFrom, IsUnkept, StandFor, held_in, upkeep_in, views_in};
 ghost use Rattle.cy_engine_views.specs.RegisteredViews.{AreEntries, AreShown, Entries, fed, listed, view_among, view_limit};
 ghost use Rattle.cy_engine_views.specs.internal.Loops.{AllCanRest};
 

@@ -46,7 +46,7 @@ left_answer state line short utf8 = from (tokens_of line) refl
   where
     refused : (tokens_of line ≡ Ok [] → ⊥) → HasAnswer state line
     refused some =
-        (no_memory_text, Executed (Err fault.NoMemory) [] short utf8 (inl (fault.NoMemory, inl (refl, short, some), record { answered = refl; no_entries = refl; state = refl })) refl (no_feed state.feed (Err fault.NoMemory) no_memory_text (inr refl)))
+        (no_memory_text, Executed (Err fault.NoMemory) [] short utf8 (record { step = inl (fault.NoMemory, inl (refl, short, some), record { answered = refl; no_entries = refl; state = refl }); upkeep = refl }) refl (no_feed state.feed (Err fault.NoMemory) no_memory_text (inr refl)))
 
     from : (lexed : Result (List Token) LexFault) → tokens_of line ≡ lexed → HasAnswer state line
     from (Err why) is = refused (λ none. let wrong : (let r : Result (List Token) LexFault = Err why in r) ≡ Ok [] = sym is ∙ none in cc)
@@ -54,7 +54,7 @@ left_answer state line short utf8 = from (tokens_of line) refl
     from (Ok []) is = (
       [],
       Executed (Ok reply.Nothing) [] short utf8
-          (inr (subst (λ (r : Result (List Token) LexFault). Lexed line r state.engine (Ok reply.Nothing) [] state.engine) (sym is) (record { answered = refl; no_entries = refl; state = refl }))) refl
+          (record { step = inr (subst (λ (r : Result (List Token) LexFault). Lexed line r state.engine.engine (Ok reply.Nothing) [] state.engine.engine) (sym is) (record { answered = refl; no_entries = refl; state = refl })); upkeep = refl }) refl
           (no_feed state.feed (Ok reply.Nothing) [] refl),
     )
 

@@ -2,7 +2,7 @@
 use Rattle.std.proofs.Common.{◌≡◌, ℕ, ◌&&◌, Bool, true, false, List, [], ◌∷◌, ◌++◌, Option, Some, refl, sym, ap, subst, ◌∙◌, append_assoc, inl}
 use Rattle.std.proofs.lemmas.List.{append-nil}
 use Rattle.cy_engine.specs.Model.{Machine}
-use Rattle.cy_engine.specs.State.{EngineState}
+use Rattle.cy_engine.specs.KeptStep.{KeptState}
 use Rattle.cy_bags.specs.declared.changes.Entry.{Entry}
 use Rattle.cy_shell.specs.internal.Feeding.{IsAnswer, WritesFeed, BeginsFeed}
 use Rattle.cy_shell.specs.Printed.{printed_line, IsObjectText, IsFeedText, fed}
@@ -63,7 +63,7 @@ fed_begun entries left rest e before mid after text next so_far object front =
 -- ---- a line
 
 -- an answer that is executed, and its entries as they are fed
-carried_line : (old : EngineState) (line printed entry_texts : List ℕ) (new : Machine) (feed : Bool) → IsAnswer old line printed true new → IsFeedText (fed feed new.entries) entry_texts
+carried_line : (old : KeptState) (line printed entry_texts : List ℕ) (new : Machine) (feed : Bool) → IsAnswer old line printed true new → IsFeedText (fed feed new.entries) entry_texts
     → Answered (record { engine = old; feed = feed }) line (printed ++ entry_texts) (serving new feed)
 carried_line old line printed entry_texts new feed answer feeds =
     Executed answer.2.0 new.entries answer.0 answer.1 answer.2.1 refl (record { answer = printed; entry_texts = entry_texts; is = refl; answered = answer.2.2; feeds = feeds })
@@ -77,7 +77,7 @@ all_fed : (feed : Bool) → (feed && true) ≡ feed
 all_fed true = refl
 all_fed false = refl
 
-pub line_served : (old : EngineState) (line printed : List ℕ) (is_executed : Bool) (new : Machine) (feed : Bool) (before mid after : Option (List ℕ)) → IsAnswer old line printed is_executed new
+pub line_served : (old : KeptState) (line printed : List ℕ) (is_executed : Bool) (new : Machine) (feed : Bool) (before mid after : Option (List ℕ)) → IsAnswer old line printed is_executed new
     → mid ≡ appended before printed → (list : Entries) → list ≡ fed (feed && is_executed) new.entries → WritesFeed list mid after
     → WritesRun (record { engine = old; feed = feed }) (line ∷ []) (serving new feed) before after
 line_served old line printed true new feed before mid after answer is list same written =
@@ -88,7 +88,7 @@ line_served old line printed false new feed before mid after answer is list same
     let none : written.text ≡ [] = subst (λ (b : Bool). IsFeedText (fed b new.entries) written.text) (unfed feed) (subst (λ (es : Entries). IsFeedText es written.text) same written.entry_texts) in
     one_line _ _ line printed before after (answer feed) (written.is ∙ ap (appended mid) none ∙ sym (appended-nil mid) ∙ is)
 
-pub line_begun : (old : EngineState) (line printed : List ℕ) (is_executed : Bool) (new : Machine) (feed : Bool) (before after : Option (List ℕ)) → IsAnswer old line printed is_executed new
+pub line_begun : (old : KeptState) (line printed : List ℕ) (is_executed : Bool) (new : Machine) (feed : Bool) (before after : Option (List ℕ)) → IsAnswer old line printed is_executed new
     → AppendsFront before after printed → WritesBeginning (record { engine = old; feed = feed }) (line ∷ []) before after
 line_begun old line printed true new feed before after answer front =
     let more = some_feed (fed feed new.entries) in
@@ -96,7 +96,7 @@ line_begun old line printed true new feed before after answer front =
     (record { front = front.front; rest = front.rest ++ more.0; whole = ap (λ t. t ++ more.0) front.whole ∙ append_assoc front.front front.rest more.0; is = front.is })
 line_begun old line printed false new feed before after answer front = one_line_begun _ _ line printed before after (answer feed) front
 
-pub line_feeding : (old : EngineState) (line printed : List ℕ) (is_executed : Bool) (new : Machine) (feed : Bool) (before mid after : Option (List ℕ)) → IsAnswer old line printed is_executed new
+pub line_feeding : (old : KeptState) (line printed : List ℕ) (is_executed : Bool) (new : Machine) (feed : Bool) (before mid after : Option (List ℕ)) → IsAnswer old line printed is_executed new
     → mid ≡ appended before printed → (list : Entries) → list ≡ fed (feed && is_executed) new.entries → BeginsFeed list mid after
     → WritesBeginning (record { engine = old; feed = feed }) (line ∷ []) before after
 line_feeding old line printed true new feed before mid after answer is list same begun =

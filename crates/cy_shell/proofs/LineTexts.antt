@@ -7,12 +7,12 @@ use Rattle.cy_lexer.specs.Line.{IsTextOf}
 use Rattle.cy_lexer.specs.declared.faults.LexFault.{LexFault}
 use Rattle.cy_lexer.specs.declared.faults.LexFault.TheVariants as fault
 use Rattle.cy_engine.specs.Model.{Machine}
-use Rattle.cy_engine.specs.State.{EngineState}
+use Rattle.cy_engine.specs.KeptStep.{KeptState}
 use Rattle.cy_shell.specs.internal.Feeding.{Answers, IsAnswer}
 use Rattle.cy_shell.specs.Lines.{line_limit}
 use Rattle.cy_shell.specs.internal.Lines.{buffered}
-use Rattle.cy_shell.specs.Printed.{IsFaultText}
-use Rattle.cy_shell.specs.Runs.{IsLexFaultText, Serving, Answered, TooLong, NotUtf8}
+use Rattle.cy_shell.specs.Printed.{IsFaultText, IsLexFaultText}
+use Rattle.cy_shell.specs.Runs.{Serving, Answered, TooLong, NotUtf8}
 
 buffered_whole : (line bytes : List ℕ) → buffered line ≡ Some bytes → (line ≡ bytes) × (length line ≤ line_limit)
 buffered_whole line bytes is = (grind (arith, nat_tests), grind (arith, nat_tests))
@@ -25,7 +25,7 @@ pub text_buffered : (line bytes : List ℕ) (result : Result (Bor (List ℕ)) Le
 text_buffered line bytes result is text = subst (λ (l : List ℕ). IsTextOf l result) (sym (buffered_whole line bytes is).0) text
 
 -- a line that is a text is answered as that text
-pub executed : (old : EngineState) (line printed : List ℕ) (text : Bor (List ℕ)) (new : Machine) → IsTextOf line (Ok text) → Answers old text.now printed new → IsAnswer old line printed true new
+pub executed : (old : KeptState) (line printed : List ℕ) (text : Bor (List ℕ)) (new : Machine) → IsTextOf line (Ok text) → Answers old text.now printed new → IsAnswer old line printed true new
 executed old line printed text new is answers = (is.0, is.1, subst (λ (l : List ℕ). Answers old l printed new) is.2 answers)
 
 -- and any other line is not

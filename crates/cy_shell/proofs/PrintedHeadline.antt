@@ -1,11 +1,14 @@
 -- A printed run is a run of the engine over the lines that it was sent, and so the headline holds of it.
 use Rattle.std.proofs.Common.{◌≡◌, ℕ, Bool, List, [], ◌∷◌, ◌++◌, ◌<◌, length, Option, None, Some, Result, Ok, Err, OnOk, IfSome, sym, ◌∙◌, ap, subst, append_assoc, inl, inr}
 use Rattle.cy_engine.specs.Headline.{HeadlineHolds}
+use Rattle.cy_engine.specs.KeptRuns.{KeptRun}
+use Rattle.cy_engine.specs.KeptStep.{empty_kept_state}
 use Rattle.cy_engine.specs.Runs.{Event, Run}
-use Rattle.cy_engine.specs.State.{EngineState}
+use Rattle.cy_engine.specs.State.{empty_engine}
+use Rattle.cy_engine.proofs.Chains.{run_of_kept}
 use Rattle.cy_shell.specs.Lines.{whole_lines, lines_of, lines_after}
-use Rattle.cy_shell.specs.PrintedHeadline.{AnswersAll, AnswersBegun, AnswersLines, AnswersRead, HeadlineIsPrinted, NoLine, Prints, Sent, Unsent}
-use Rattle.cy_shell.specs.Runs.{Answered, Executed, NotUtf8, PrintedRun, Serving, StopsReading, StopsWriting, TooLong, WritesAll, beginning, input_limit}
+use Rattle.cy_shell.specs.PrintedHeadline.{AnswersAll, AnswersBegun, AnswersRead, NoLine, Prints, Sent, Unsent}
+use Rattle.cy_shell.specs.Runs.{Answered, Executed, HeadlineIsPrinted, NotUtf8, PrintedRun, Serving, StopsReading, StopsWriting, TooLong, WritesAll, beginning, input_limit}
 use Rattle.cy_shell.specs.Streams.{appended}
 use Rattle.cy_shell.proofs.Appends.{appended-appended}
 use Rattle.cy_shell.proofs.Chains.{run_append}
@@ -14,7 +17,7 @@ use Rattle.cy_shell.proofs.Chains.{run_append}
 record Sends (old : Serving) (lines : List (List ℕ)) (text : List ℕ) (new : Serving) : Type 0 where
   events : List Event
   printed : Prints old.feed lines events text
-  run : Run old.engine events new.engine
+  run : KeptRun old.engine events new.engine
 
 first_sent : (old mid new : Serving) (line first rest text : List ℕ) (lines : List (List ℕ)) → text ≡ first ++ rest → Answered old line first mid
     → Sends mid lines rest new → Sends old (line ∷ lines) text new
@@ -38,11 +41,12 @@ all_sent old new (line ∷ lines) text (mid, first, rest, is, answered, run) = f
 pub headline_is_printed : HeadlineHolds → HeadlineIsPrinted
 headline_is_printed holds history feed lines text end run =
     let sent = all_sent (beginning history feed) end lines text run in
-    record { events = sent.events; now = end.engine; printed = sent.printed; run = sent.run; headline = holds history sent.events end.engine sent.run }
+    let meant : Run (empty_engine history) sent.events end.engine.engine = run_of_kept (empty_kept_state history) end.engine sent.events sent.run in
+    (record { events = sent.events; now = end.engine.engine; printed = sent.printed; run = meant; headline = holds history sent.events end.engine.engine meant }, sent.run)
 
 pub answers_all : HeadlineIsPrinted → (history : ℕ) (feed : Bool) (input : List ℕ) (before after : Option (List ℕ)) → WritesAll (beginning history feed) input before after
     → AnswersAll history feed input before after
-answers_all law history feed input before after (end, writes) = (writes.text, writes.is, law history feed (lines_of input) writes.text end writes.run)
+answers_all law history feed input before after (end, writes) = (writes.text, writes.is, (law history feed (lines_of input) writes.text end writes.run).0)
 
 pub answers_read : HeadlineIsPrinted → (history : ℕ) (feed : Bool) (input : List ℕ) (left : Option (List ℕ)) (has_failed : Bool) (before after : Option (List ℕ))
     → StopsReading (beginning history feed) input left has_failed before after → AnswersRead history feed input left before after
@@ -53,7 +57,7 @@ answers_read law history feed input left has_failed before after stops = record 
   read = stops.read;
   unread = stops.unread;
   written = stops.written.is;
-  answers = law history feed (whole_lines stops.front) stops.written.text stops.end stops.written.run;
+  answers = (law history feed (whole_lines stops.front) stops.written.text stops.end stops.written.run).0;
 }
 
 pub answers_begun : HeadlineIsPrinted → (history : ℕ) (feed : Bool) (input : List ℕ) (left taken before after handed_before handed_after : Option (List ℕ))
@@ -71,10 +75,10 @@ answers_begun law history feed input left taken before after handed_before hande
       read = stops.read;
       unread = stops.unread;
       written = begun.is ∙ ap (λ (known : Option (List ℕ)). appended known begun.text) done.is ∙ appended-appended before done.text begun.text;
-      answers = law history feed (whole_lines stops.front) done.text stops.middle done.run;
-      goes_on = law history feed (whole_lines stops.front ++ lines_after stops.front stops.last) (done.text ++ begun.text ++ begun.unwritten) begun.new
+      answers = (law history feed (whole_lines stops.front) done.text stops.middle done.run).0;
+      goes_on = (law history feed (whole_lines stops.front ++ lines_after stops.front stops.last) (done.text ++ begun.text ++ begun.unwritten) begun.new
           (subst (λ (text : List ℕ). PrintedRun (beginning history feed) (whole_lines stops.front ++ lines_after stops.front stops.last) text begun.new) (sym (append_assoc done.text begun.text begun.unwritten))
-          (run_append (beginning history feed) stops.middle begun.new (whole_lines stops.front) (lines_after stops.front stops.last) done.text (begun.text ++ begun.unwritten) done.run begun.run));
+          (run_append (beginning history feed) stops.middle begun.new (whole_lines stops.front) (lines_after stops.front stops.last) done.text (begun.text ++ begun.unwritten) done.run begun.run))).0;
     }
 
 -- at the end of the input, where it is known

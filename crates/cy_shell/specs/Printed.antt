@@ -2,6 +2,8 @@
 use Rattle.std.specs.Prelude.{◌≡◌, ℕ, Bool, true, false, List, [], ◌∷◌, ◌++◌, ◌⊎◌, Option, Some, None, Result, Ok, Err}
 use Rattle.serde_json.specs.Data.{Data}
 use Rattle.serde_json.specs.Written.{compact_text}
+use Rattle.cy_lexer.specs.Faults as lexer
+use Rattle.cy_lexer.specs.declared.faults.LexFault.{LexFault}
 use Rattle.cy_engine.specs.Faults.{code_of, offset_of}
 use Rattle.cy_bags.specs.declared.changes.Entry.{Entry}
 use Rattle.cy_engine.specs.declared.faults.Fault.{Fault}
@@ -29,6 +31,10 @@ reply_lost_text = printed_line (fault_json None reply_lost_code)
 -- the text of a fault with this offset and number, or that of out of memory
 abbrev pub IsFaultText : Option ℕ → ℕ → List ℕ → Type 0
 IsFaultText at code text = (text ≡ printed_line (fault_json at code)) ⊎ (text ≡ no_memory_text)
+
+-- the text of a fault of the lexer, or that of out of memory
+abbrev pub IsLexFaultText : LexFault → List ℕ → Type 0
+IsLexFaultText fault text = IsFaultText (lexer.at_of fault) (lexer.code_of fault) text
 
 -- no text where there is no object, or the text of the object, or that of `ReplyLost`
 abbrev pub IsObjectText : Option Data → List ℕ → Type 0

@@ -8,8 +8,7 @@ use Rattle.cy_engine.specs.Runs.{Event, Run}
 use Rattle.cy_engine.specs.State.{EngineState, empty_engine}
 use Rattle.cy_engine.specs.EngineStep.{Answer}
 use Rattle.cy_shell.specs.Lines.{line_limit, whole_lines, lines_of, lines_after}
-use Rattle.cy_shell.specs.Printed.{IsLineText}
-use Rattle.cy_shell.specs.Runs.{IsLexFaultText, PrintedRun, Serving, beginning}
+use Rattle.cy_shell.specs.Printed.{IsLexFaultText, IsLineText}
 use Rattle.cy_shell.specs.Streams.{appended}
 use Rattle.cy_engine_views.specs.RegisteredViews.{Entries}
 
@@ -39,12 +38,6 @@ pub record AnswersLines (history : ℕ) (feed : Bool) (lines : List (List ℕ)) 
   pub printed : Prints feed lines events text
   pub run : Run (empty_engine history) events now
   pub headline : Headline history events now
-
--- it is so in every printed run from the beginning
-abbrev pub HeadlineIsPrinted : Type 0
-HeadlineIsPrinted =
-    (history : ℕ) (feed : Bool) (lines : List (List ℕ)) (text : List ℕ) (end : Serving)
-    → PrintedRun (beginning history feed) lines text end → AnswersLines history feed lines text
 
 -- such a text was written for all lines of the input, and nothing else
 abbrev pub AnswersAll : ℕ → Bool → List ℕ → Option (List ℕ) → Option (List ℕ) → Type 0

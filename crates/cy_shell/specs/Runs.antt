@@ -2,30 +2,25 @@
 use Rattle.std.specs.Prelude.{◌≡◌, ℕ, ◌^◌, ◌<◌, ◌≤◌, ◌⊎◌, Bool, true, List, [], ◌∷◌, ◌++◌, length, Option, Some, IfSome, Result}
 use Rattle.std.specs.Str.{IsUtf8}
 use Rattle.std.specs.Str.Lossy.{utf8_valid_len}
-use Rattle.cy_lexer.specs.Faults.{at_of, code_of}
-use Rattle.cy_lexer.specs.declared.faults.LexFault.{LexFault}
 use Rattle.cy_lexer.specs.declared.faults.LexFault.TheVariants as lex
-use Rattle.cy_engine.specs.State.{EngineState, empty_engine}
-use Rattle.cy_engine.specs.EngineStep.{EngineStep}
+use Rattle.cy_engine.specs.KeptRuns.{KeptRun}
+use Rattle.cy_engine.specs.KeptStep.{KeptState, KeptStep, empty_kept_state}
 use Rattle.cy_bags.specs.declared.changes.Entry.{Entry}
 use Rattle.cy_engine.specs.declared.faults.Fault.{Fault}
 use Rattle.cy_engine.specs.declared.replies.Reply.{Reply}
 use Rattle.cy_shell.specs.Lines.{line_limit, whole_lines, lines_of, lines_after}
-use Rattle.cy_shell.specs.Printed.{IsFaultText, IsLineText}
+use Rattle.cy_shell.specs.Printed.{IsLexFaultText, IsLineText}
+use Rattle.cy_shell.specs.PrintedHeadline.{AnswersLines}
 use Rattle.cy_shell.specs.Streams.{Extends, appended}
 
--- the text of a fault of the lexer, or that of out of memory
-abbrev pub IsLexFaultText : LexFault → List ℕ → Type 0
-IsLexFaultText fault text = IsFaultText (at_of fault) (code_of fault) text
-
--- what a run goes on with: the engine, and whether the entries that a line makes are printed after its answer
+-- what a run goes on with: the engine with the upkeep of its views, and whether the entries that a line makes are printed after its answer
 pub record Serving : Type 0 where
-  pub engine : EngineState
+  pub engine : KeptState
   pub feed : Bool
 
 -- what a run begins with
 abbrev pub beginning : ℕ → Bool → Serving
-beginning history feed = record { engine = empty_engine history; feed = feed }
+beginning history feed = record { engine = empty_kept_state history; feed = feed }
 
 -- From old, the text may be the answer to the line, and the engine goes on to new.
 pub data Answered : Serving → List ℕ → List ℕ → Serving → Type 0 where
@@ -35,7 +30,7 @@ pub data Answered : Serving → List ℕ → List ℕ → Serving → Type 0 whe
   NotUtf8 : {state : Serving} {line text : List ℕ} → length line ≤ line_limit → (IsUtf8 line → ⊥) → IsLexFaultText (lex.NotUtf8 (utf8_valid_len line)) text → Answered state line text state
   -- any other line is a step of the engine, and its answer is printed, with its entries after it where there is a feed
   Executed : {old new : Serving} {line text : List ℕ} (result : Result Reply Fault) (entries : List (List ℕ × Entry))
-      → length line ≤ line_limit → IsUtf8 line → EngineStep old.engine line result entries new.engine → new.feed ≡ old.feed
+      → length line ≤ line_limit → IsUtf8 line → KeptStep old.engine line result entries new.engine → new.feed ≡ old.feed
       → IsLineText old.feed result entries text → Answered old line text new
 
 -- A printed run: from old, the text may be the answers to the lines, one after another and nothing else.
@@ -43,6 +38,13 @@ abbrev pub PrintedRun : Serving → List (List ℕ) → List ℕ → Serving →
 PrintedRun old [] text new = (text ≡ []) × (new ≡ old)
 PrintedRun old (line ∷ lines) text new = (mid : Serving) × (first : List ℕ) × (rest : List ℕ)
     × (text ≡ first ++ rest) × Answered old line first mid × PrintedRun mid lines rest new
+
+-- the headline holds of what is printed, in every printed run from the beginning, and through its lines the views are kept up as is promised
+abbrev pub HeadlineIsPrinted : Type 0
+HeadlineIsPrinted =
+    (history : ℕ) (feed : Bool) (lines : List (List ℕ)) (text : List ℕ) (end : Serving)
+    → PrintedRun (beginning history feed) lines text end
+    → (answers : AnswersLines history feed lines text) × KeptRun (empty_kept_state history) answers.events end.engine
 
 -- a printed run of the lines was written, where what is written is known
 pub record WritesRun (old : Serving) (lines : List (List ℕ)) (new : Serving) (before after : Option (List ℕ)) : Type 0 where

@@ -2,7 +2,7 @@
 
 ghost use Rattle.std.specs.Prelude.{◌≡◌, ℕ, List};
 ghost use Rattle.cy_lexer.specs.Line.{IsTextOf};
-ghost use Rattle.cy_engine.specs.Model.{state_of};
+ghost use Rattle.cy_engine.specs.KeptStep.{kept_state_of};
 ghost use Rattle.cy_shell.specs.internal.Lines.{buffered};
 ghost use Rattle.cy_shell.specs.internal.Printing.{printed_text};
 ghost use Rattle.cy_shell.specs.internal.Feeding.{Answers, IsAnswer};
@@ -28,7 +28,7 @@ pub(crate) fn print_answer(
     room: &mut Vec<u8>,
 ) -> AnsweredLine
     ensures { (bytes : List ℕ) → line.now ≡ buffered bytes
-        → IsAnswer (state_of engine.old) bytes (printed_text result.printed room.new.items) result.is_executed engine.new }
+        → IsAnswer (kept_state_of engine.old) bytes (printed_text result.printed room.new.items) result.is_executed engine.new }
 {
     match line_text(line) {
         Ok(text) => AnsweredLine {
@@ -44,7 +44,7 @@ pub(crate) fn print_answer(
 
 // Answers a line that is a text.
 fn answer_text(alloc: Global, engine: &mut Engine, text: &str, room: &mut Vec<u8>) -> Printed
-    ensures { Answers (state_of engine.old) text.now (printed_text result room.new.items) engine.new }
+    ensures { Answers (kept_state_of engine.old) text.now (printed_text result room.new.items) engine.new }
 {
     match engine.line(text) {
         Ok(reply) => print_reply(alloc, room, &reply),

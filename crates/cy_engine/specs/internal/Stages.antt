@@ -19,8 +19,12 @@ use Rattle.cy_engine.specs.State.{EngineState, last_tick}
 use Rattle.cy_engine_views.specs.RegisteredViews.{AreEntries, Entries, View, listed}
 use Rattle.cy_engine_views.specs.declared.views.Views.{Views}
 use Rattle.cy_engine_views.specs.Upkeep.{AreReady, SomeHasTooManyRows, Upkeep, held_in, views_in}
-use Rattle.cy_engine.specs.EngineStep.{Answer, Answers, AreRows, HasTooMany, Indexes, IsRefused, IsUnspelt}
-use Rattle.cy_engine.specs.Verdicts.{index_verdict, next_tick, rows_verdict, same_content, since_verdict, tick_after}
+use Rattle.cy_engine.specs.EngineStep.{Answer, Answers, AreRows, IsRefused, IsUnspelt, MayNeedRows}
+use Rattle.cy_engine.specs.KeptRuns.{KeptRun}
+use Rattle.cy_engine.specs.KeptStep.{HasTooMany, KeptState, Keeps, kept_state_of}
+use Rattle.cy_engine.specs.Model.{Machine}
+use Rattle.cy_engine.specs.Runs.{Event, last_entries}
+use Rattle.cy_engine.specs.Verdicts.{next_tick, rows_verdict, same_content, since_verdict, tick_after}
 
 -- the request that the code has
 abbrev pub shown : Code → Request
@@ -54,13 +58,12 @@ Gives see verdict line tokens (Err why) = Fails verdict line tokens why
 abbrev pub AnswersOrWants : List ℕ → Request → EngineState → Answer → Entries → EngineState → Type 0
 AnswersOrWants line asked old answer entries new =
     IsRefused fault.NoMemory old answer entries new
-    ⊎ ((HasTooMany line asked old × IsRefused fault.TooManyRows old answer entries new) ⊎ Answers line asked old answer entries new)
+    ⊎ ((MayNeedRows line asked old × IsRefused fault.TooManyRows old answer entries new) ⊎ Answers line asked old answer entries new)
 
--- what is answered to `:index`, or out of memory
-abbrev pub AddsIndex : List ℕ → List ℕ → EngineState → Answer → Entries → EngineState → Type 0
-AddsIndex label key old answer entries new =
-    IsRefused fault.NoMemory old answer entries new
-    ⊎ ((⊥ × IsRefused fault.TooManyRows old answer entries new) ⊎ Indexes (index_verdict label key old) old answer entries new)
+-- it is so, and the views are kept up as is promised
+pub record AnswersKept (line : List ℕ) (asked : Request) (old : KeptState) (answer : Answer) (entries : Entries) (new : KeptState) : Type 0 where
+  pub answers : AnswersOrWants line asked old.engine answer entries new.engine
+  pub upkeep : Keeps (HasTooMany line asked old) answer old new
 
 -- a change for which the content of the graph differs: the tick that follows, and the views ready for its end with their entries
 pub record IsEffect (views ready : Views) (before after : State) (tick : ℕ) (effect : Effect) : Type 0 where
@@ -85,7 +88,7 @@ HasNoEffect upkeep before after tick why =
     ⊎ ((why ≡ fault.TooManyRows) × ((next : ℕ) × (tick_after before.content after.content tick ≡ Ok next) × SomeHasTooManyRows after.content upkeep)))
 
 -- what is answered to `:steps`
-abbrev pub ListsSteps : EngineState → Result Reply Fault → Type 0
+abbrev pub ListsSteps : KeptState → Result Reply Fault → Type 0
 ListsSteps state (Ok given) = given ≡ reply.Steps (map (λ u. (u.name, u.steps)) state.upkeep)
 ListsSteps state (Err why) = why ≡ fault.NoMemory
 
@@ -110,3 +113,11 @@ ShowsSince state name since (Err why) = (why ≡ fault.NoMemory) ⊎ (since_verd
 abbrev pub ListsViews : EngineState → Result Reply Fault → Type 0
 ListsViews state (Ok given) = given ≡ reply.Views (map listed state.views)
 ListsViews state (Err why) = why ≡ fault.NoMemory
+
+-- these lines may be answered so, with the views kept up, and the machine then has the entries of the last one
+pub record RunsKept (old new : Machine) (lines : List (List ℕ)) (answers : List Answer) : Type 0 where
+  pub events : List Event
+  pub lines_are : map (λ e. e.line) events ≡ lines
+  pub answers_are : map (λ e. e.answer) events ≡ answers
+  pub run : KeptRun (kept_state_of old) events (kept_state_of new)
+  pub entries_are : new.entries ≡ last_entries old.entries events

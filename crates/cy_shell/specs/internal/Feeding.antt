@@ -1,9 +1,8 @@
 -- A line is answered, and then its entries are printed.
 use Rattle.std.specs.Prelude.{◌≡◌, ℕ, ◌≤◌, Bool, true, false, List, ◌++◌, length, Option, Result}
 use Rattle.std.specs.Str.{IsUtf8}
-use Rattle.cy_engine.specs.Model.{Machine, state_of}
-use Rattle.cy_engine.specs.State.{EngineState}
-use Rattle.cy_engine.specs.EngineStep.{EngineStep}
+use Rattle.cy_engine.specs.KeptStep.{KeptState, KeptStep, kept_state_of}
+use Rattle.cy_engine.specs.Model.{Machine}
 use Rattle.cy_bags.specs.declared.changes.Entry.{Entry}
 use Rattle.cy_engine.specs.declared.faults.Fault.{Fault}
 use Rattle.cy_engine.specs.declared.replies.Reply.{Reply}
@@ -14,11 +13,11 @@ use Rattle.cy_shell.specs.internal.Serving.{serving}
 use Rattle.cy_shell.specs.Streams.{appended}
 
 -- the engine answered a text so, and has the entries that it made
-abbrev pub Answers : EngineState → List ℕ → List ℕ → Machine → Type 0
-Answers old line text new = (result : Result Reply Fault) × EngineStep old line result new.entries (state_of new) × IsAnswerText result text
+abbrev pub Answers : KeptState → List ℕ → List ℕ → Machine → Type 0
+Answers old line text new = (result : Result Reply Fault) × KeptStep old line result new.entries (kept_state_of new) × IsAnswerText result text
 
 -- the engine answered a line, and has the entries that it made, or the line is none for the engine
-abbrev pub IsAnswer : EngineState → List ℕ → List ℕ → Bool → Machine → Type 0
+abbrev pub IsAnswer : KeptState → List ℕ → List ℕ → Bool → Machine → Type 0
 IsAnswer old line text true new = (length line ≤ line_limit) × IsUtf8 line × Answers old line text new
 IsAnswer old line text false new = (feed : Bool) → Answered (record { engine = old; feed = feed }) line text (serving new feed)
 

@@ -1,8 +1,14 @@
 use Rattle.std.proofs.Common.{◌≡◌, ◌+◌, ◌++◌, ◌∷◌, [], ◌<◌, Bool, cond, length, take, map, get_or, is_ok, vec_len, ap, subst, ◌∙◌, arith, List, ℕ, Bor}
 use Rattle.std.proofs.lemmas.List.{take_all, take_more, length-map, get_or-map}
-use Rattle.cy_engine.specs.Runs.{Runs}
-use Rattle.cy_engine.proofs.Chains.{runs_more}
-use Rattle.cy_engine.proofs.Following.{serves}
+use Rattle.cy_engine.specs.EngineStep.{Answer}
+use Rattle.cy_engine.specs.Headline.{AnswersWithHeadline, HeadlineHolds}
+use Rattle.cy_engine.specs.KeptRuns.{AreKeptThrough}
+use Rattle.cy_engine.specs.KeptStep.{kept_state_of}
+use Rattle.cy_engine.specs.Model.{Machine, state_of}
+use Rattle.cy_engine.specs.Runs.{Run}
+use Rattle.cy_engine.specs.internal.Stages.{RunsKept}
+use Rattle.cy_engine.proofs.Chains.{run_of_kept, runs_more}
+use Rattle.cy_engine.proofs.KeptRuns.{kept_accepted}
 use Rattle.cy_engine.proofs.runs.answer_all.Goals as goal
 use Rattle.cy_engine.proofs.runs.answer_all.Goals.{After-unwrap}
 
@@ -22,9 +28,21 @@ loop-line-preserved c =
       room = omega (arith, c.push.ensures.capacity, c.loop-line.invariant.room);
     }
 
+-- lines that are run have the headline, where the engine was new, and the views are kept up through them
+served : HeadlineHolds → (old new : Machine) (lines : List (List ℕ)) (answers : List Answer) → RunsKept old new lines answers
+    → (run : AnswersWithHeadline old new lines answers) × AreKeptThrough old new run.run.events
+served holds old new lines answers runs =
+    let run : Run (state_of old) runs.events (state_of new) = run_of_kept (kept_state_of old) (kept_state_of new) runs.events runs.run in (
+      record {
+        run = record { events = runs.events; lines_are = runs.lines_are; answers_are = runs.answers_are; run = run; entries_are = runs.entries_are };
+        headline = λ history is. holds history runs.events (state_of new) (subst (λ (m : Machine). Run (state_of m) runs.events (state_of new)) is run);
+      },
+      record { run = runs.run; without_refused = kept_accepted (kept_state_of old) (kept_state_of new) runs.events runs.run },
+    )
+
 pub returns-clause-run : goal.returns-clause-run
 returns-clause-run c =
     let texts = map {A = Bor (List ℕ)} {B = List ℕ} (λ line. line.now) c.args.lines.now in
     let all : take c.loop-line.line-index texts ≡ texts = take_all c.loop-line.line-index texts (omega (arith, length-map c.args.lines.now (λ (line : Bor (List ℕ)). line.now))) in
-    serves c.headline.ensures.holds c.args.engine.now c.loop-line.engine texts c.loop-line.results.items
-    (subst (λ (ls : List (List ℕ)). Runs c.args.engine.now c.loop-line.engine ls c.loop-line.results.items) all c.loop-line.invariant.run)
+    served c.headline.ensures.holds c.args.engine.now c.loop-line.engine texts c.loop-line.results.items
+    (subst (λ (ls : List (List ℕ)). RunsKept c.args.engine.now c.loop-line.engine ls c.loop-line.results.items) all c.loop-line.invariant.run)

@@ -4,7 +4,8 @@ use Rattle.cy_graph.specs.Graph.{Versions}
 use Rattle.cy_network_touches.specs.Changes.{IsChange, before_change}
 use Rattle.cy_network_masks.specs.Masks.{mask_of}
 use Rattle.cy_engine_views.specs.declared.registered.Registered.{Registered}
-use Rattle.cy_engine_views.specs.Upkeep.{CannotFollow, Held, IsReady, Registry, Rests, held, upkeep_of}
+use Rattle.cy_engine_views.specs.HeldViews.{Held}
+use Rattle.cy_engine_views.specs.Upkeep.{CannotFollow, IsReady, Registry, Rests, held, upkeep_of}
 use Rattle.cy_engine_views.specs.internal.Loops.{CanRest, IsOne}
 use Rattle.cy_engine_views.proofs.Going.{FirstDone, all_done, all_hold, next_done, next_is, no_more, none_done, related_hold, same_held, still_done}
 use Rattle.cy_engine_views.proofs.Served.{follows_not}

@@ -8,13 +8,14 @@ use Rattle.cy_network_touches.specs.Changes.{before_change}
 use Rattle.cy_trees.specs.TreeModels.{statement_of}
 use Rattle.cy_updates.specs.Answers.{outcome_seen}
 use Rattle.cy_engine_views.specs.declared.views.Views.{Views}
-use Rattle.cy_engine_views.specs.Upkeep.{StandFor, upkeep_in, upkeep_of, view_of}
+use Rattle.cy_engine_views.specs.HeldViews.{view_of}
+use Rattle.cy_engine_views.specs.Upkeep.{StandFor, upkeep_in, upkeep_of}
 use Rattle.cy_engine.specs.declared.engine.Effect.{Effect}
-use Rattle.cy_engine.specs.Model.{machine_of, state_of}
-use Rattle.cy_engine.specs.State.{EngineState}
 use Rattle.cy_engine.specs.EngineStep.{changed_by}
+use Rattle.cy_engine.specs.KeptStep.{KeptState, kept_state_of}
 use Rattle.cy_engine.specs.Verdicts.{same_content}
 use Rattle.cy_engine.specs.declared.replies.Reply.TheVariants as reply
+use Rattle.cy_engine.specs.Fields.{machine_of}
 use Rattle.cy_engine.specs.internal.Representation.{IsAtRest}
 use Rattle.cy_engine.specs.internal.Stages.{HasNoEffect, IsEffect}
 use Rattle.cy_engine.proofs.Contents.{content_decides}
@@ -42,14 +43,14 @@ effect_of-requires c =
 pub returns-in_err-checked : goal.returns-in_err-checked
 returns-in_err-checked c =
     let p = err_from_is_err_and c.from_residual.result c.from_residual.ensures.1 in
-    rw (p.1, p.2) (no_statement c.args.line.now c.args.tokens.now (state_of c.args.self.now) c.args.entries.now (state_of c.args.self.now) c.requires.none refl c.in_err-checked.field-0.0 c.in_err-checked.ensures)
+    rw (p.1, p.2) (no_statement c.args.line.now c.args.tokens.now (kept_state_of c.args.self.now) c.args.entries.now (kept_state_of c.args.self.now) c.requires.none refl c.in_err-checked.field-0.0 c.in_err-checked.ensures)
 
 pub returns-in_err-outcome : goal.returns-in_err-outcome
 returns-in_err-outcome c =
     let p = err_from_is_err_and c.from_residual-in_err-outcome.result c.from_residual-in_err-outcome.ensures.1 in
     let old = c.self.inside in
-    rw (p.1, p.2, ← c.self.view_is) (statement_refused c.args.line.now c.args.tokens.now (state_of (machine_of old.store old.views old.tick old.history old.entries)) c.args.entries.now
-    (state_of (machine_of c.execute.new.store old.views old.tick old.history old.entries)) c.requires.none (ap (λ (s : StoreState). state_of (machine_of s old.views old.tick old.history old.entries)) c.in_err-outcome.ensures.rolled_back)
+    rw (p.1, p.2, ← c.self.view_is) (statement_refused c.args.line.now c.args.tokens.now (kept_state_of (machine_of old.store old.views old.tick old.history old.entries)) c.args.entries.now
+    (kept_state_of (machine_of c.execute.new.store old.views old.tick old.history old.entries)) c.requires.none (ap (λ (s : StoreState). kept_state_of (machine_of s old.views old.tick old.history old.entries)) c.in_err-outcome.ensures.rolled_back)
     (statement_of c.in_ok-checked.checked) _ c.in_ok-checked.ensures (execution_refused (statement_of c.in_ok-checked.checked) old.store.graph.now old.tick c.in_err-outcome.field-0.0 c.in_err-outcome.ensures.fault))
 
 pub settle-requires : goal.settle-requires
@@ -139,14 +140,16 @@ returns c =
     let none : HasNoEffect (upkeep_in old.views) old.store.graph.now mid.graph.now old.tick c.in-Err.fault =
     subst (λ (b : State). HasNoEffect (upkeep_in old.views) b mid.graph.now old.tick c.in-Err.fault) (before o) c.in-Err.ensures.refused
     in
-    let left : EngineState = state_of (machine_of c.rollback.new.self c.effect_of.new.views old.tick old.history old.entries) in
-    let same : left ≡ state_of (machine_of old.store old.views old.tick old.history old.entries) = λ i. record {
-      graph = ap (λ (s : StoreState). s.graph.now) ended i;
-      indexes = (ap (λ (s : StoreState). s.chosen) ended ∙ ap (λ (s : StoreState). s.chosen) c.in_ok-outcome.ensures.open) i;
-      views = ap (map view_of) c.effect_of.ensures.held i;
+    let left : KeptState = kept_state_of (machine_of c.rollback.new.self c.effect_of.new.views old.tick old.history old.entries) in
+    let same : left ≡ kept_state_of (machine_of old.store old.views old.tick old.history old.entries) = λ i. record {
+      engine = record {
+        graph = ap (λ (s : StoreState). s.graph.now) ended i;
+        indexes = (ap (λ (s : StoreState). s.chosen) ended ∙ ap (λ (s : StoreState). s.chosen) c.in_ok-outcome.ensures.open) i;
+        views = ap (map view_of) c.effect_of.ensures.held i;
+        tick = old.tick;
+        history = old.history;
+      };
       upkeep = ap (map upkeep_of) c.effect_of.ensures.held i;
-      tick = old.tick;
-      history = old.history;
     } in
     rw (← c.self.view_is) (no_effect c.args.line.now c.args.tokens.now old.store old.views old.tick old.history old.entries (statement_of c.in_ok-checked.checked) outcome
     c.in_ok-checked.ensures c.in_ok-outcome.ensures.meaning (reply.Statement (changed_by outcome.counts) outcome.columns outcome.rows) refl

@@ -21,13 +21,13 @@ invariant_of-self-2 c = record {
 }
 
 pub returns-then-not-remove : goal.returns-then-not-remove
-returns-then-not-remove c =
+returns-then-not-remove c line =
     let old = c.self.inside in
-    rw (← c.as_str.ensures, ← c.self.view_is) (not_there c.as_str.result.now old.store old.views c.remove.new.self old.tick old.history old.entries (sym c.remove.ensures.there ∙ c.if-not-remove.true)
+    rw (← c.as_str.ensures, ← c.self.view_is) (not_there line c.as_str.result.now old.store old.views c.remove.new.self old.tick old.history old.entries (sym c.remove.ensures.there ∙ c.if-not-remove.true)
     (c.remove.ensures.none c.if-not-remove.true))
 
 pub returns : goal.returns
-returns c =
+returns c line =
     let old = c.self.inside in
-    rw (← c.as_str.ensures, ← c.self.view_is) (dropped c.as_str.result.now old.store old.views c.remove.new.self old.tick old.history old.entries (sym c.remove.ensures.there ∙ c.if-not-remove.false)
+    rw (← c.as_str.ensures, ← c.self.view_is) (dropped line c.as_str.result.now old.store old.views c.remove.new.self old.tick old.history old.entries (sym c.remove.ensures.there ∙ c.if-not-remove.false)
     (c.remove.ensures.gone old.store.graph.now.content old.tick c.self.invariant.stand).held)

@@ -3,24 +3,33 @@ use Rattle.std.proofs.lemmas.Bool.Decides.{nat_tests}
 use Rattle.std.proofs.lemmas.List.{length-map}
 use Rattle.std.proofs.lemmas.Result.{err_from_is_err_and}
 use Rattle.cy_trees.specs.TreeModels.{statement_of}
-use Rattle.cy_engine_views.specs.Upkeep.{held_in, view_of, views_in}
+use Rattle.cy_engine_views.specs.HeldViews.{view_of}
+use Rattle.cy_engine_views.specs.Upkeep.{held_in, views_in}
 use Rattle.cy_engine_views.specs.RegisteredViews.{view_limit}
+use Rattle.cy_engine.specs.KeptStep.{kept_state_of}
 use Rattle.cy_engine.specs.Model.{state_of}
+use Rattle.cy_engine.specs.Requests.{ViewOf}
 use Rattle.cy_engine.specs.State.{view_at}
 use Rattle.cy_engine.proofs.Queries.{made_free, made_few, made_rises}
+use Rattle.cy_engine.proofs.Refusals.{wants_memory}
 use Rattle.cy_engine.proofs.Steps.{no_query, view_done, view_refused, view_unkept}
 use Rattle.cy_engine.proofs.engine.Engine.make_view.Goals as goal
 
 pub returns-in_err-query : goal.returns-in_err-query
 returns-in_err-query c =
     let p = err_from_is_err_and c.from_residual.result c.from_residual.ensures.1 in
-    rw (p.1, p.2) (no_query c.args.line.now c.args.tokens.now (state_of c.args.self.now) [] (state_of c.args.self.now) refl refl c.args.name.now c.in_err-query.field-0.0 c.in_err-query.ensures)
+    rw (p.1, p.2) (no_query c.args.line.now c.args.tokens.now (kept_state_of c.args.self.now) [] (kept_state_of c.args.self.now) refl refl c.args.name.now c.in_err-query.field-0.0 c.in_err-query.ensures)
 
 pub returns-in_err-made : goal.returns-in_err-made
 returns-in_err-made c =
     let p = err_from_is_err_and c.from_residual-in_err-made.result c.from_residual-in_err-made.ensures.1 in
-    rw (p.1, p.2) (view_refused c.args.line.now c.args.tokens.now (state_of c.args.self.now) [] (state_of c.args.self.now) refl refl c.args.name.now (statement_of c.in_ok-query.query)
+    rw (p.1, p.2) (view_refused c.args.line.now c.args.tokens.now (kept_state_of c.args.self.now) [] (kept_state_of c.args.self.now) refl refl c.args.name.now (statement_of c.in_ok-query.query)
     c.in_err-made.field-0.0 c.in_ok-query.ensures (sym c.in_err-made.ensures.made))
+
+pub returns-in_err-reply : goal.returns-in_err-reply
+returns-in_err-reply c =
+    let p = err_from_is_err_and c.from_residual-in_err-reply.result c.from_residual-in_err-reply.ensures.1 in
+    rw (p.1, p.2) (wants_memory c.args.line.now (ViewOf c.args.name.now c.args.tokens.now) (kept_state_of c.args.self.now) [] (kept_state_of c.args.self.now) refl refl c.in_err-reply.field-0.0 c.in_err-reply.ensures.memory)
 
 pub make-requires : goal.make-requires
 make-requires c =

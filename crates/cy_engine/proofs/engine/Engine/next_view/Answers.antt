@@ -1,7 +1,9 @@
 use Rattle.std.proofs.Common.{sym, ◌∙◌, arith}
 use Rattle.std.proofs.lemmas.List.{length-map}
-use Rattle.cy_engine_views.specs.Upkeep.{held_in, view_of}
-use Rattle.cy_engine.specs.Model.{machine_of, state_of}
+use Rattle.cy_engine_views.specs.HeldViews.{view_of}
+use Rattle.cy_engine_views.specs.Upkeep.{held_in}
+use Rattle.cy_engine.specs.Model.{state_of}
+use Rattle.cy_engine.specs.Fields.{machine_of}
 use Rattle.cy_engine.proofs.Steps.{name_free, name_taken, many_views, may_make}
 use Rattle.cy_engine.proofs.engine.Engine.next_view.Goals as goal
 

@@ -2,7 +2,8 @@ use Rattle.std.proofs.Common.{◌≡◌, Option, None, Some, true, is_some, refl
 use Rattle.cy_feeds.specs.declared.feeds.Answer.TheVariants.{Entries as Since, Lagged}
 use Rattle.cy_engine_views.specs.Upkeep.{views_in}
 use Rattle.cy_engine_views.specs.RegisteredViews.{View, view_among}
-use Rattle.cy_engine.specs.Model.{machine_of, state_of}
+use Rattle.cy_engine.specs.Model.{state_of}
+use Rattle.cy_engine.specs.Fields.{machine_of}
 use Rattle.cy_engine.proofs.Since.{is_known, lagged, no_tick, no_view, told, untold}
 use Rattle.cy_engine.proofs.Steps.{name_free}
 use Rattle.cy_engine.proofs.engine.Engine.show_since.Goals as goal

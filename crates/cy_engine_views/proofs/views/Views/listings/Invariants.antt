@@ -1,5 +1,6 @@
 use Rattle.std.proofs.Common.{◌≡◌, ◌++◌, map}
-use Rattle.cy_engine_views.specs.Upkeep.{held, view_of}
+use Rattle.cy_engine_views.specs.HeldViews.{view_of}
+use Rattle.cy_engine_views.specs.Upkeep.{held}
 use Rattle.cy_engine_views.specs.RegisteredViews.{listed}
 use Rattle.cy_engine_views.proofs.views.Views.listings.Given as goal
 

@@ -3,7 +3,8 @@ use Rattle.std.specs.Prelude.{IsSome}
 use Rattle.cy_graph.specs.Graph.{Versions}
 use Rattle.cy_network_touches.specs.Changes.{IsChange, before_change}
 use Rattle.cy_network_masks.specs.Masks.{mask_of}
-use Rattle.cy_engine_views.specs.Upkeep.{Held, Rests, entries_in, view_of, views_in}
+use Rattle.cy_engine_views.specs.HeldViews.{Held, view_of}
+use Rattle.cy_engine_views.specs.Upkeep.{Rests, entries_in, views_in}
 use Rattle.cy_engine_views.specs.RegisteredViews.{AreEntries, Entries}
 use Rattle.cy_engine_views.specs.internal.Loops.{AllCanRest, AllReady, AllRest, CanRest}
 use Rattle.cy_engine_views.specs.declared.views.Views.{Views}

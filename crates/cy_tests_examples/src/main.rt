@@ -16,7 +16,7 @@ use std::rt::Files;
 use std::{fs, io};
 
 /// The transcripts, and whether entries follow the answers.
-const TRANSCRIPTS: [(&str, bool); 23] = [
+const TRANSCRIPTS: [(&str, bool); 29] = [
     ("start.session", true),
     ("commands.session", true),
     ("dashboard.session", true),
@@ -25,6 +25,9 @@ const TRANSCRIPTS: [(&str, bool); 23] = [
     ("fraud.session", true),
     ("ways.session", true),
     ("language.session", false),
+    ("expressions.session", false),
+    ("queries.session", false),
+    ("searches.session", false),
     ("values.session", false),
     ("spellings.session", false),
     ("rows.session", false),
@@ -38,7 +41,10 @@ const TRANSCRIPTS: [(&str, bool); 23] = [
     ("clauses.session", false),
     ("conditions.session", true),
     ("unions.session", true),
+    ("changes.session", false),
     ("updates.session", true),
+    ("upkeep.session", true),
+    ("small_graphs.session", false),
     ("feeds.session", true),
 ];
 

@@ -1,6 +1,0 @@
-use Rattle.std.proofs.Common.{IsSome}
-use Rattle.cy_tests_changes.proofs.graph_cases.expect_refusals.Given as goal
-
--- the change stays open
-abbrev pub invariant-loop-step : goal.invariant-loop-step
-invariant-loop-step g l = IsSome l.graph.was

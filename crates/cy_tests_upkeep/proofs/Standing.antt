@@ -10,10 +10,6 @@ use Rattle.cy_network.specs.Networks.{HasRows, IsPrepared, NetworkState, StandsF
 pub rows_standing : (graph : Content) (n : NetworkState) → StandsFor graph n → (g : Content) × HasRows g n
 rows_standing graph n stands = (graph, record { rows = stands.rows; positive = stands.positive })
 
--- a prepared one still has rows
-pub rows_prepared : (before after : Content) (n : NetworkState) → IsPrepared before after n → (g : Content) × HasRows g n
-rows_prepared before after n prepared = (before, record { rows = prepared.rows; positive = prepared.positive })
-
 -- some change is pending in a prepared one
 pub change_pending : (before after : Content) (n : NetworkState) → IsPrepared before after n → IsSome n.pending
 change_pending before after n prepared = ap is_some prepared.pending

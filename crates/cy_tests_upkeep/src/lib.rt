@@ -1,11 +1,7 @@
-//! Views kept by networks, over both kinds of memory, and the calls of memories, one after another. Only tests stand here.
+//! Calls of memories and of a network by itself, over both kinds of memory. Only tests stand here.
 #![tactic(auto)]
 
 #[cfg(test)]
-mod calls;
-#[cfg(test)]
 mod following;
 #[cfg(test)]
-mod sessions;
-#[cfg(test)]
-mod small_graphs;
+mod memories;

@@ -1,21 +1,15 @@
-//! Queries and statements, executed on stores, and a plain reading of patterns beside them: it tries each choice of nodes and
-//! relationships for the places of a pattern, and keeps those for which all conditions hold, and beside which each path of a condition is
-//! found, or isn't where it is denied. Only tests stand here.
+//! What no transcript holds below networks: texts of trees, expressions as deep as they may be, statements on stores whose next numbers are
+//! the last ones, and patterns on all small graphs, beside a plain reading of them, which tries each choice of nodes and relationships for
+//! their places. Only tests stand here, and worked examples of the definitions of expressions (`proofs/`).
 #![tactic(auto)]
 
 #[cfg(test)]
-mod candidates;
-#[cfg(test)]
-mod choices;
-#[cfg(test)]
-mod clauses;
+mod depths;
 #[cfg(test)]
 mod plain_readings;
 #[cfg(test)]
-mod readings;
-#[cfg(test)]
-mod searches;
-#[cfg(test)]
 mod small_graphs;
 #[cfg(test)]
-mod updates;
+mod statements;
+#[cfg(test)]
+mod trees;

@@ -6,7 +6,7 @@ ghost use Rattle.cy_planner_algebra.specs.PlanModels.{plan_of};
 ghost use Rattle.cy_planner_outer_filters.specs.internal.Splits as spec;
 
 use cy_planner_algebra::Plan;
-use cy_planner_pushdown::keep_after;
+use cy_planner_pushdown::{MOST_STEPS, keep_after};
 use cy_planner_rows::{conjuncts, halved};
 use cy_trees::{BinaryOperator, Expr};
 use cy_values::Fault;
@@ -34,10 +34,16 @@ fn both(alloc: Global, first: Option<Expr>, second: Option<Expr>) -> Result<Opti
 }
 
 /// A condition that is no AND.
-fn split_one(alloc: Global, before: usize, right: Plan, test: Expr) -> Result<Split, Fault>
+fn split_one(
+    alloc: Global,
+    before: usize,
+    right: Plan,
+    test: Expr,
+    steps_left: &mut usize,
+) -> Result<Split, Fault>
     ensures { IfOk result (λ s. spec.IsSplit before (plan_of right) (expression_of test) (plan_of s.right) (option_map expression_of s.rest)) }
 {
-    let kept = keep_after(alloc, before, right, &test)?;
+    let kept = keep_after(alloc, before, right, &test, steps_left)?;
     if kept.is_kept {
         Ok(Split {
             right: kept.plan,
@@ -73,12 +79,13 @@ pub(crate) fn taken_apart(
 {
     let mut tests = conjuncts(alloc, test)?;
     tests.reverse();
+    let mut steps_left = MOST_STEPS;
     let mut split = match tests.pop() {
-        Some(first) => split_one(alloc, before, right, first)?,
+        Some(first) => split_one(alloc, before, right, first, &mut steps_left)?,
         None => unreachable!(),
     };
     while let Some(test) = tests.pop() {
-        let next = split_one(alloc, before, split.right, test)?;
+        let next = split_one(alloc, before, split.right, test, &mut steps_left)?;
         let rest = both(alloc, split.rest, next.rest)?;
         split = Split {
             right: next.right,

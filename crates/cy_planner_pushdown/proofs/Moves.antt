@@ -127,17 +127,15 @@ if_some_map : {A : Type 0} (P Q : A → Type 0) → ((x : A) → P x → Q x) �
 if_some_map P Q step (Some x) here = step x here
 if_some_map P Q step None here = here
 
-pub keys_left : (left right : Plan) (keys : List KeyColumns) (column n : ℕ) → n ≡ width left → width left ≤ column → (k : Option Kind) → k ≡ kind_at right (column - n) → (o : Option ℕ)
-    → IfSome o (IsLeftKey left keys (column - n) k) → IfSome o (IsOnLeft left right keys column)
-keys_left left right keys column n wide least k kinds o found =
+pub keys_left : (left right : Plan) (keys : List KeyColumns) (column n : ℕ) → n ≡ width left → width left ≤ column → (o : Option ℕ)
+    → IfSome o (IsLeftKey left keys (column - n) (kind_at right (column - n))) → IfSome o (IsOnLeft left right keys column)
+keys_left left right keys column n wide least o found =
     if_some_map (IsLeftKey left keys (column - width left) (kind_at right (column - width left))) (IsOnLeft left right keys column) (λ other is. key_left left right keys column other least is) o
-    (subst (λ (m : ℕ). IfSome o (IsLeftKey left keys (column - m) (kind_at right (column - m)))) wide (subst (λ (l : Option Kind). IfSome o (IsLeftKey left keys (column - n) l)) kinds found))
+    (subst (λ (m : ℕ). IfSome o (IsLeftKey left keys (column - m) (kind_at right (column - m)))) wide found)
 
-pub keys_right : (left right : Plan) (keys : List KeyColumns) (column : ℕ) → column < width left → (k : Option Kind) → k ≡ kind_at left column → (o : Option ℕ)
-    → IfSome o (IsRightKey right keys column k) → IfSome o (IsOnRight left right keys column)
-keys_right left right keys column less k kinds o found =
-    if_some_map (IsRightKey right keys column (kind_at left column)) (IsOnRight left right keys column) (λ other is. key_right left right keys column other less is) o
-    (subst (λ (l : Option Kind). IfSome o (IsRightKey right keys column l)) kinds found)
+pub keys_right : (left right : Plan) (keys : List KeyColumns) (column : ℕ) → column < width left → (o : Option ℕ)
+    → IfSome o (IsRightKey right keys column (kind_at left column)) → IfSome o (IsOnRight left right keys column)
+keys_right left right keys column less = if_some_map (IsRightKey right keys column (kind_at left column)) (IsOnRight left right keys column) (λ other is. key_right left right keys column other less is)
 
 -- ---- kinds and cells of several columns
 

@@ -4,3 +4,4 @@ pub mod Pushed
 pub mod Steps
 pub mod Ways
 pub mod Ends
+pub mod Inputs

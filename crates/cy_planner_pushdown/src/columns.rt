@@ -3,12 +3,15 @@
 ghost use Rattle.std.specs.Prelude.{◌≡◌, IfOk, IfSome, Some, map, nat_lt, slice_get};
 ghost use Rattle.std.specs.List.{list_all};
 ghost use Rattle.cy_trees.specs.TreeModels.{expression_of};
+ghost use Rattle.cy_planner_algebra.specs.Plans as plan;
 ghost use Rattle.cy_planner_algebra.specs.PlanModels.{output_of, plan_of};
 ghost use Rattle.cy_planner_algebra.specs.WellFormed.{IsWellFormed};
 ghost use Rattle.cy_planner_pushdown.specs.internal.Conditions as conditions;
+ghost use Rattle.cy_planner_pushdown.specs.internal.Inputs.{AreWellFormed};
 ghost use Rattle.cy_planner_pushdown.specs.internal.Pushed as spec;
 
-use cy_planner_algebra::{KeyColumns, Operator, Output};
+use crate::inputs::{Inputs, width_without};
+use cy_planner_algebra::{Operator, Output};
 use cy_planner_rows::output_column;
 use cy_scope_kinds::Kind;
 use cy_trees::Expr;
@@ -75,40 +78,44 @@ pub(crate) fn kind_of_rels(column: usize) -> Option<Kind>
     }
 }
 
-/// The kind of what stands in a column, as far as the plan's operators show it.
-pub(crate) fn kind_at(part: &Operator, column: usize) -> Option<Kind>
-    requires { IsWellFormed (plan_of part.now) }
+/// The kind of what stands in a column, as far as the plan's operators show it. The rows are this wide.
+pub(crate) fn kind_at(part: &Operator, width: usize, column: usize) -> Option<Kind>
+    requires good { IsWellFormed (plan_of part.now) }
+    requires wide { width ≡ plan.width (plan_of part.now) }
     ensures { result ≡ spec.kind_at (plan_of part.now) column }
 {
     match part {
         Operator::Nodes => kind_of_nodes(column),
         Operator::Rels(_, _) => kind_of_rels(column),
         Operator::Join(left, right, _) | Operator::Outer(left, right, _, _) => {
-            let width = left.width();
-            if column < width {
-                kind_at(left, column)
+            let of_right = right.width();
+            let of_left = width_without(left, width, of_right);
+            if column < of_left {
+                kind_at(left, of_left, column)
             } else {
-                kind_at(right, column - width)
+                kind_at(right, of_right, column - of_left)
             }
         }
         Operator::Lookup(below, _, _) => {
-            let width = below.width();
-            if column < width {
-                kind_at(below, column)
-            } else if column == width {
+            let of_below = width_without(below, width, 1);
+            if column < of_below {
+                kind_at(below, of_below, column)
+            } else if column == of_below {
                 Some(Kind::Value)
             } else {
                 None
             }
         }
-        Operator::Distinct(below) => kind_at(below, column),
+        Operator::Distinct(below) => kind_at(below, width, column),
         Operator::Project(below, outputs) => match output_column(outputs, column) {
-            Some(column) => kind_at(below, column),
+            Some(column) => kind_at(below, below.width(), column),
             None => kind_made(outputs, column),
         },
-        Operator::Union(left, right) => common_kind(kind_at(left, column), kind_at(right, column)),
+        Operator::Union(left, right) => {
+            common_kind(kind_at(left, width, column), kind_at(right, width, column))
+        }
         _ => match part.sifted() {
-            Some(below) => kind_at(below, column),
+            Some(below) => kind_at(below, width, column),
             None => None,
         },
     }
@@ -128,95 +135,75 @@ pub(crate) fn are_below(columns: &[usize], width: usize) -> bool
     columns.iter().all(|column| *column < width)
 }
 
-/// The column of the left input that has the same key as one of the right input, if it shows the kind.
-fn left_key(
-    left: &Operator,
-    keys: &[KeyColumns],
-    column: usize,
-    kind: Option<Kind>,
-) -> Option<usize>
-    requires { IsWellFormed (plan_of left.now) }
-    ensures { IfSome result (λ other. spec.IsLeftKey (plan_of left.now) keys.now column kind other) }
+/// The column of the left input that has the same key as one of the right input, if it shows the same kind.
+fn left_key(inputs: &Inputs<'_>, column: usize) -> Option<usize>
+    requires { AreWellFormed inputs.now }
+    ensures { IfSome result (λ other. spec.IsLeftKey (plan_of inputs.now.left.now) inputs.now.keys.now column (spec.kind_at (plan_of inputs.now.right.now) column) other) }
 {
-    for key in keys {
-        if key.right == column && common_kind(kind_at(left, key.left), kind).is_some() {
+    let kind = kind_at(inputs.right, inputs.right_width, column);
+    for key in inputs.keys {
+        if key.right == column
+            && common_kind(kind_at(inputs.left, inputs.left_width, key.left), kind).is_some()
+        {
             return Some(key.left);
         }
     }
     None
 }
 
-/// The column of the right input that has the same key as one of the left input, if it shows the kind.
-fn right_key(
-    right: &Operator,
-    keys: &[KeyColumns],
-    column: usize,
-    kind: Option<Kind>,
-) -> Option<usize>
-    requires { IsWellFormed (plan_of right.now) }
-    ensures { IfSome result (λ other. spec.IsRightKey (plan_of right.now) keys.now column kind other) }
+/// The column of the right input that has the same key as one of the left input, if it shows the same kind.
+fn right_key(inputs: &Inputs<'_>, column: usize) -> Option<usize>
+    requires { AreWellFormed inputs.now }
+    ensures { IfSome result (λ other. spec.IsRightKey (plan_of inputs.now.right.now) inputs.now.keys.now column (spec.kind_at (plan_of inputs.now.left.now) column) other) }
 {
-    for key in keys {
-        if key.left == column && common_kind(kind_at(right, key.right), kind).is_some() {
-            return Some(key.right);
+    for key in inputs.keys {
+        if key.left == column {
+            let kind = kind_at(inputs.left, inputs.left_width, column);
+            if common_kind(kind_at(inputs.right, inputs.right_width, key.right), kind).is_some() {
+                return Some(key.right);
+            }
         }
     }
     None
 }
 
 /// The column of the left input in which there stands what stands in a column of a join.
-fn column_on_left(
-    left: &Operator,
-    right: &Operator,
-    keys: &[KeyColumns],
-    column: usize,
-) -> Option<usize>
-    requires left { IsWellFormed (plan_of left.now) }
-    requires right { IsWellFormed (plan_of right.now) }
-    ensures { IfSome result (λ other. spec.IsOnLeft (plan_of left.now) (plan_of right.now) keys.now column other) }
+fn column_on_left(inputs: &Inputs<'_>, column: usize) -> Option<usize>
+    requires { AreWellFormed inputs.now }
+    ensures { IfSome result (λ other. spec.IsOnLeft (plan_of inputs.now.left.now) (plan_of inputs.now.right.now) inputs.now.keys.now column other) }
 {
-    let width = left.width();
-    if column < width {
-        return Some(column);
+    if column < inputs.left_width {
+        Some(column)
+    } else {
+        left_key(inputs, column - inputs.left_width)
     }
-    let column = column - width;
-    left_key(left, keys, column, kind_at(right, column))
 }
 
 /// The column of the right input in which there stands what stands in a column of a join.
-fn column_on_right(
-    left: &Operator,
-    right: &Operator,
-    keys: &[KeyColumns],
-    column: usize,
-) -> Option<usize>
-    requires left { IsWellFormed (plan_of left.now) }
-    requires right { IsWellFormed (plan_of right.now) }
-    ensures { IfSome result (λ other. spec.IsOnRight (plan_of left.now) (plan_of right.now) keys.now column other) }
+fn column_on_right(inputs: &Inputs<'_>, column: usize) -> Option<usize>
+    requires { AreWellFormed inputs.now }
+    ensures { IfSome result (λ other. spec.IsOnRight (plan_of inputs.now.left.now) (plan_of inputs.now.right.now) inputs.now.keys.now column other) }
 {
-    let width = left.width();
-    if column >= width {
-        return Some(column - width);
+    if column < inputs.left_width {
+        right_key(inputs, column)
+    } else {
+        Some(column - inputs.left_width)
     }
-    right_key(right, keys, column, kind_at(left, column))
 }
 
 /// Columns of the left input in which there stands what stands in columns of a join, if there are such ones, and each once. Fails only
 /// when out of memory.
 pub(crate) fn columns_on_left(
     alloc: Global,
-    left: &Operator,
-    right: &Operator,
-    keys: &[KeyColumns],
+    inputs: &Inputs<'_>,
     columns: &[usize],
 ) -> Result<Option<Vec<usize>>, Fault>
-    requires left { IsWellFormed (plan_of left.now) }
-    requires right { IsWellFormed (plan_of right.now) }
-    ensures { IfOk result (λ made. IfSome made (λ others. spec.AreMoved (spec.IsOnLeft (plan_of left.now) (plan_of right.now) keys.now) columns.now others.items)) }
+    requires { AreWellFormed inputs.now }
+    ensures { IfOk result (λ made. IfSome made (λ others. spec.AreMoved (spec.IsOnLeft (plan_of inputs.now.left.now) (plan_of inputs.now.right.now) inputs.now.keys.now) columns.now others.items)) }
 {
     let mut found = Vec::new(alloc);
     for column in columns {
-        let Some(other) = column_on_left(left, right, keys, *column) else {
+        let Some(other) = column_on_left(inputs, *column) else {
             return Ok(None);
         };
         if is_among(found.as_slice(), other) {
@@ -230,18 +217,15 @@ pub(crate) fn columns_on_left(
 /// Columns of the right input in which there stands what stands in columns of a join, if there are such ones, and each once. Fails only when out of memory.
 pub(crate) fn columns_on_right(
     alloc: Global,
-    left: &Operator,
-    right: &Operator,
-    keys: &[KeyColumns],
+    inputs: &Inputs<'_>,
     columns: &[usize],
 ) -> Result<Option<Vec<usize>>, Fault>
-    requires left { IsWellFormed (plan_of left.now) }
-    requires right { IsWellFormed (plan_of right.now) }
-    ensures { IfOk result (λ made. IfSome made (λ others. spec.AreMoved (spec.IsOnRight (plan_of left.now) (plan_of right.now) keys.now) columns.now others.items)) }
+    requires { AreWellFormed inputs.now }
+    ensures { IfOk result (λ made. IfSome made (λ others. spec.AreMoved (spec.IsOnRight (plan_of inputs.now.left.now) (plan_of inputs.now.right.now) inputs.now.keys.now) columns.now others.items)) }
 {
     let mut found = Vec::new(alloc);
     for column in columns {
-        let Some(other) = column_on_right(left, right, keys, *column) else {
+        let Some(other) = column_on_right(inputs, *column) else {
             return Ok(None);
         };
         if is_among(found.as_slice(), other) {

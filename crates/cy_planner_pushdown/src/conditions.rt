@@ -3,12 +3,11 @@
 ghost use Rattle.std.specs.Prelude.{◌≡◌, ◌+◌, IfOk, IfSome, length, map};
 ghost use Rattle.cy_trees.specs.TreeModels.{arm_of, arms_from, expression_of, expressions_from, link_of, links_from};
 ghost use Rattle.cy_planner_algebra.specs.PlanModels.{plan_of};
-ghost use Rattle.cy_planner_algebra.specs.WellFormed.{IsWellFormed};
 ghost use Rattle.cy_planner_pushdown.specs.internal.Conditions as spec;
 ghost use Rattle.cy_planner_pushdown.specs.internal.Pushed as pushed;
 
 use crate::columns::{is_among, kind_at};
-use cy_planner_algebra::Operator;
+use cy_planner_algebra::Plan;
 use cy_scope_kinds::{Scope, check_expression, is_sure_flag, resolved};
 use cy_trees::{Arm, Expr, Link, Variable};
 use cy_values::{Duplicate, Fault};
@@ -110,12 +109,11 @@ fn is_new(scope: &Scope, columns: &[usize], name: &str, column: usize) -> bool
 /// The variables, if each has a column of its own after the first ones, whose kind the plan shows.
 fn reading_of(
     alloc: Global,
-    part: &Operator,
+    below: &Plan,
     before: usize,
     variables: &[Variable],
 ) -> Result<Option<Reading>, Fault>
-    requires { IsWellFormed (plan_of part.now) }
-    ensures stand { IfOk result (λ made. IfSome made (λ r. pushed.StandIn (plan_of part.now) r.columns.items r.scope)) }
+    ensures stand { IfOk result (λ made. IfSome made (λ r. pushed.StandIn (plan_of below.now) r.columns.items r.scope)) }
     ensures written { IfOk result (λ made. IfSome made (λ r. r.written.items ≡ map (λ c. before + c) r.columns.items)) }
 {
     let mut scope = Scope::new(alloc);
@@ -129,7 +127,7 @@ fn reading_of(
             return Ok(None);
         }
         let column = after - before;
-        let Some(kind) = kind_at(part, column) else {
+        let Some(kind) = kind_at(below.root(), below.width(), column) else {
             return Ok(None);
         };
         if !is_new(&scope, columns.as_slice(), variable.name.as_str(), column) {
@@ -150,12 +148,11 @@ fn reading_of(
 /// shows. Fails only when out of memory.
 pub(crate) fn find_reading(
     alloc: Global,
-    part: &Operator,
+    below: &Plan,
     before: usize,
     test: &Expr,
 ) -> Result<Option<Reading>, Fault>
-    requires { IsWellFormed (plan_of part.now) }
-    ensures stand { IfOk result (λ made. IfSome made (λ r. pushed.StandIn (plan_of part.now) r.columns.items r.scope)) }
+    ensures stand { IfOk result (λ made. IfSome made (λ r. pushed.StandIn (plan_of below.now) r.columns.items r.scope)) }
     ensures written { IfOk result (λ made. IfSome made (λ r. r.written.items ≡ map (λ c. before + c) r.columns.items)) }
 {
     let mut found = Vec::new(alloc);
@@ -163,7 +160,7 @@ pub(crate) fn find_reading(
     if found.is_empty() {
         return Ok(None);
     }
-    reading_of(alloc, part, before, found.as_slice())
+    reading_of(alloc, below, before, found.as_slice())
 }
 
 /// The column of a name, where the variables of a scope stand in these columns.

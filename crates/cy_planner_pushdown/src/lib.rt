@@ -7,10 +7,12 @@ mod columns;
 mod conditions;
 mod ends;
 mod filters;
+mod inputs;
+mod places;
 mod pushing;
 mod sides;
 mod sifting;
 mod steps;
 
 pub use above::{Above, placed_over};
-pub use filters::{Kept, filter_low, keep_after, left_after};
+pub use filters::{Kept, MOST_STEPS, filter_low, keep_after, left_after};

@@ -7,8 +7,9 @@ ghost use Rattle.cy_planner_algebra.specs.WellFormed.{IsWellFormed};
 ghost use Rattle.cy_planner_pushdown.specs.internal.Pushed as spec;
 
 use crate::above::{above_left, placed_over};
+use crate::places::Place;
 use crate::sifting::filter_columns;
-use crate::steps::{Place, Step, step_from};
+use crate::steps::{Step, step_from};
 use cy_planner_algebra::Plan;
 use cy_trees::Expr;
 use cy_values::Fault;

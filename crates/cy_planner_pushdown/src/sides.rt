@@ -7,11 +7,13 @@ ghost use Rattle.cy_trees.specs.TreeModels.{expression_of};
 ghost use Rattle.cy_planner_algebra.specs.Plans as plan;
 ghost use Rattle.cy_planner_algebra.specs.PlanModels.{plan_of};
 ghost use Rattle.cy_planner_algebra.specs.WellFormed.{IsWellFormed};
+ghost use Rattle.cy_planner_pushdown.specs.internal.Inputs.{AreWellFormed};
 ghost use Rattle.cy_planner_pushdown.specs.internal.Ways as spec;
 ghost use Rattle.cy_planner_pushdown.specs.internal.Pushed.{CanBePushed};
 
 use crate::columns::{columns_on_left, columns_on_right};
-use cy_planner_algebra::{Below, KeyColumns, Operator, Output};
+use crate::inputs::{Inputs, width_without};
+use cy_planner_algebra::{KeyColumns, Operator, Output};
 use cy_planner_rows::output_column;
 use cy_trees::Expr;
 use cy_values::Fault;
@@ -46,23 +48,40 @@ fn right_column(keys: &[KeyColumns], column: usize) -> Option<usize> {
     None
 }
 
-/// Whether what stands in a column comes from a table of nodes or from trails, be it by a key.
-fn is_of_nodes_or_trails(part: &Operator, column: usize) -> bool
-    requires { IsWellFormed (plan_of part.now) }
+/// So far down it is looked whether a column comes from a table of nodes or from trails: each join on a condition's way looks anew.
+const MOST_BELOW: usize = 64;
+
+/// Whether what stands in a column comes from a table of nodes or from trails, be it by a key, as far as so many operators show it. The rows are
+/// this wide.
+fn is_of_nodes_or_trails(part: &Operator, width: usize, column: usize, most: usize) -> bool
+    requires good { IsWellFormed (plan_of part.now) }
+    requires wide { width ≡ plan.width (plan_of part.now) }
 {
+    let Some(fewer) = most.checked_sub(1) else {
+        return false;
+    };
     match part {
         Operator::Nodes => true,
         Operator::Join(left, right, keys) => {
-            let sides = sides_of(left.width(), keys, column);
-            let on_left = match sides.left {
-                Some(column) => is_of_nodes_or_trails(left, column),
-                None => false,
-            };
+            let of_right = right.width();
+            let of_left = width_without(left, width, of_right);
+            let sides = sides_of(of_left, keys, column);
             let on_right = match sides.right {
-                Some(column) => is_of_nodes_or_trails(right, column),
+                Some(column) => is_of_nodes_or_trails(right, of_right, column, fewer),
                 None => false,
             };
-            on_left || on_right
+            match sides.left {
+                Some(column) => on_right || is_of_nodes_or_trails(left, of_left, column, fewer),
+                None => on_right,
+            }
+        }
+        Operator::Outer(left, right, _, _) => {
+            let of_left = width_without(left, width, right.width());
+            column < of_left && is_of_nodes_or_trails(left, of_left, column, fewer)
+        }
+        Operator::Lookup(below, _, _) => {
+            let of_below = width_without(below, width, 1);
+            column < of_below && is_of_nodes_or_trails(below, of_below, column, fewer)
         }
         Operator::Project(below, outputs) => {
             if outputs
@@ -72,13 +91,16 @@ fn is_of_nodes_or_trails(part: &Operator, column: usize) -> bool
                 return true;
             }
             match output_column(outputs, column) {
-                Some(column) => is_of_nodes_or_trails(below, column),
+                Some(column) => is_of_nodes_or_trails(below, below.width(), column, fewer),
                 None => false,
             }
         }
-        _ => match part.below() {
-            Below::One(below) | Below::Two(below, _) => is_of_nodes_or_trails(below, column),
-            Below::None => false,
+        Operator::Distinct(below) | Operator::Union(below, _) => {
+            is_of_nodes_or_trails(below, width, column, fewer)
+        }
+        _ => match part.sifted() {
+            Some(below) => is_of_nodes_or_trails(below, width, column, fewer),
+            None => false,
         },
     }
 }
@@ -108,54 +130,59 @@ fn sides_of(width: usize, keys: &[KeyColumns], column: usize) -> SideColumns {
 }
 
 /// Whether a condition on these columns of a join goes to the left side, if it can.
-fn goes_left(left: &Operator, right: &Operator, keys: &[KeyColumns], columns: &[usize]) -> bool
-    requires left { IsWellFormed (plan_of left.now) }
-    requires right { IsWellFormed (plan_of right.now) }
+fn goes_left(inputs: &Inputs<'_>, columns: &[usize]) -> bool
+    requires { AreWellFormed inputs.now }
 {
     if columns.len() != 1 {
         return true;
     }
-    let sides = sides_of(left.width(), keys, columns[0]);
+    let sides = sides_of(inputs.left_width, inputs.keys, columns[0]);
     match (sides.left, sides.right) {
         (Some(column), Some(other)) => {
-            is_of_nodes_or_trails(left, column)
-                || sides.is_left && !is_of_nodes_or_trails(right, other)
+            sides.is_left && !is_on_right(inputs, other) || is_on_left(inputs, column)
         }
         _ => true,
     }
 }
 
 /// Whether a condition on these columns of a join goes to the right side, if it can.
-fn goes_right(left: &Operator, right: &Operator, keys: &[KeyColumns], columns: &[usize]) -> bool
-    requires left { IsWellFormed (plan_of left.now) }
-    requires right { IsWellFormed (plan_of right.now) }
+fn goes_right(inputs: &Inputs<'_>, columns: &[usize]) -> bool
+    requires { AreWellFormed inputs.now }
 {
     if columns.len() != 1 {
         return true;
     }
-    let sides = sides_of(left.width(), keys, columns[0]);
+    let sides = sides_of(inputs.left_width, inputs.keys, columns[0]);
     match (sides.left, sides.right) {
         (Some(other), Some(column)) => {
-            is_of_nodes_or_trails(right, column)
-                || !sides.is_left && !is_of_nodes_or_trails(left, other)
+            is_on_right(inputs, column) || !sides.is_left && !is_on_left(inputs, other)
         }
         _ => true,
     }
 }
 
+fn is_on_left(inputs: &Inputs<'_>, column: usize) -> bool
+    requires { AreWellFormed inputs.now }
+{
+    is_of_nodes_or_trails(inputs.left, inputs.left_width, column, MOST_BELOW)
+}
+
+fn is_on_right(inputs: &Inputs<'_>, column: usize) -> bool
+    requires { AreWellFormed inputs.now }
+{
+    is_of_nodes_or_trails(inputs.right, inputs.right_width, column, MOST_BELOW)
+}
+
 fn columns_of_left(
     alloc: Global,
-    left: &Operator,
-    right: &Operator,
-    keys: &[KeyColumns],
+    inputs: &Inputs<'_>,
     columns: &[usize],
 ) -> Result<Option<Vec<usize>>, Fault>
-    requires left { IsWellFormed (plan_of left.now) }
-    requires right { IsWellFormed (plan_of right.now) }
-    ensures { IfOk result (λ made. spec.IsLeftWay (plan_of left.now) (plan_of right.now) keys.now columns.now made) }
+    requires { AreWellFormed inputs.now }
+    ensures { IfOk result (λ made. spec.IsLeftWay (plan_of inputs.now.left.now) (plan_of inputs.now.right.now) inputs.now.keys.now columns.now made) }
 {
-    if goes_left(left, right, keys, columns) {
-        columns_on_left(alloc, left, right, keys, columns)
+    if goes_left(inputs, columns) {
+        columns_on_left(alloc, inputs, columns)
     } else {
         Ok(None)
     }
@@ -163,17 +190,14 @@ fn columns_of_left(
 
 fn columns_of_right(
     alloc: Global,
-    left: &Operator,
-    right: &Operator,
-    keys: &[KeyColumns],
+    inputs: &Inputs<'_>,
     columns: &[usize],
 ) -> Result<Option<Vec<usize>>, Fault>
-    requires left { IsWellFormed (plan_of left.now) }
-    requires right { IsWellFormed (plan_of right.now) }
-    ensures { IfOk result (λ made. spec.IsRightWay (plan_of left.now) (plan_of right.now) keys.now columns.now made) }
+    requires { AreWellFormed inputs.now }
+    ensures { IfOk result (λ made. spec.IsRightWay (plan_of inputs.now.left.now) (plan_of inputs.now.right.now) inputs.now.keys.now columns.now made) }
 {
-    if goes_right(left, right, keys, columns) {
-        columns_on_right(alloc, left, right, keys, columns)
+    if goes_right(inputs, columns) {
+        columns_on_right(alloc, inputs, columns)
     } else {
         Ok(None)
     }
@@ -193,19 +217,16 @@ fn both_ways(on_left: Option<Vec<usize>>, on_right: Option<Vec<usize>>) -> Way
 /// The way of a condition on columns of a join. Fails only when out of memory.
 pub(crate) fn way_from(
     alloc: Global,
-    left: &Operator,
-    right: &Operator,
-    keys: &[KeyColumns],
+    inputs: &Inputs<'_>,
     columns: &[usize],
     test: &Expr,
 ) -> Result<Way, Fault>
-    requires left { IsWellFormed (plan_of left.now) }
-    requires right { IsWellFormed (plan_of right.now) }
-    requires can { CanBePushed (plan.join (plan_of left.now) (plan_of right.now) keys.now) columns.now (expression_of test.now) }
-    ensures moved { IfOk result (λ way. spec.IsWay (plan_of left.now) (plan_of right.now) keys.now columns.now way) }
-    ensures can { IfOk result (λ way. spec.CanGo (plan_of left.now) (plan_of right.now) (expression_of test.now) way) }
+    requires good { AreWellFormed inputs.now }
+    requires can { CanBePushed (plan.join (plan_of inputs.now.left.now) (plan_of inputs.now.right.now) inputs.now.keys.now) columns.now (expression_of test.now) }
+    ensures moved { IfOk result (λ way. spec.IsWay (plan_of inputs.now.left.now) (plan_of inputs.now.right.now) inputs.now.keys.now columns.now way) }
+    ensures can { IfOk result (λ way. spec.CanGo (plan_of inputs.now.left.now) (plan_of inputs.now.right.now) (expression_of test.now) way) }
 {
-    let on_left = columns_of_left(alloc, left, right, keys, columns)?;
-    let on_right = columns_of_right(alloc, left, right, keys, columns)?;
+    let on_left = columns_of_left(alloc, inputs, columns)?;
+    let on_right = columns_of_right(alloc, inputs, columns)?;
     Ok(both_ways(on_left, on_right))
 }

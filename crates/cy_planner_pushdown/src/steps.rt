@@ -1,6 +1,6 @@
 //! Where a condition goes on from an operator: in one of the operators below it, in both, or not. Each call fails only when out of memory.
 
-ghost use Rattle.std.specs.Prelude.{◌<◌, ℕ, IfOk, map};
+ghost use Rattle.std.specs.Prelude.{◌≡◌, ◌<◌, ℕ, IfOk, map};
 ghost use Rattle.cy_trees.specs.TreeModels.{expression_of};
 ghost use Rattle.cy_planner_algebra.specs.declared.operators.Operator.{size-Operator};
 ghost use Rattle.cy_planner_algebra.specs.Plans as plan;
@@ -12,18 +12,13 @@ ghost use Rattle.cy_planner_pushdown.specs.internal.Steps as spec;
 use crate::above::{Above, Pair};
 use crate::columns::{are_below, columns_of};
 use crate::ends::asked_end;
+use crate::inputs::{Inputs, width_without};
+use crate::places::{Place, TestedColumns, there};
 use crate::sides::{Way, way_from};
 use cy_planner_algebra::{Attribute, Fields, KeyColumns, Operator, Output, Plan};
 use cy_trees::Expr;
 use cy_values::Fault;
 use std::alloc::Global;
-
-/// An operator, and columns of its rows with a condition on what stands there.
-#[derive(Drop)]
-pub(crate) struct Place {
-    pub(crate) part: Operator,
-    pub(crate) columns: Vec<usize>,
-}
 
 /// Where a condition goes on.
 #[derive(Drop)]
@@ -41,40 +36,62 @@ fn below_join(
     left: Box<Operator>,
     right: Box<Operator>,
     keys: Vec<KeyColumns>,
-    columns: Vec<usize>,
+    tested: TestedColumns,
     test: &Expr,
 ) -> Result<Step, Fault>
     requires good { IsWellFormed (plan.join (plan_of left.value) (plan_of right.value) keys.items) }
-    requires can { CanBePushed (plan.join (plan_of left.value) (plan_of right.value) keys.items) columns.items (expression_of test.now) }
-    ensures is { IfOk result (λ s. spec.IsStep (plan.join (plan_of left.value) (plan_of right.value) keys.items) columns.items (expression_of test.now) s) }
+    requires wide { tested.width ≡ plan.width (plan.join (plan_of left.value) (plan_of right.value) keys.items) }
+    requires can { CanBePushed (plan.join (plan_of left.value) (plan_of right.value) keys.items) tested.columns.items (expression_of test.now) }
+    ensures is { IfOk result (λ s. spec.IsStep (plan.join (plan_of left.value) (plan_of right.value) keys.items) tested.columns.items (expression_of test.now) s) }
     ensures less { (depth : ℕ) → size-Operator left.value < depth → size-Operator right.value < depth → IfOk result (λ s. spec.AreBelow depth s) }
 {
-    match way_from(alloc, &left, &right, &keys, &columns, test)? {
+    let TestedColumns { width, columns } = tested;
+    let right_width = right.width();
+    let left_width = width_without(&left, width, right_width);
+    let inputs = Inputs {
+        left: &left,
+        right: &right,
+        keys: &keys,
+        left_width,
+        right_width,
+    };
+    match way_from(alloc, &inputs, &columns, test)? {
         Way::Left(columns) => {
             let right = Plan::from_root(Box::into_inner(right));
-            let part = Box::into_inner(left);
-            Ok(Step::Below(Above::JoinLeft(right, keys), Place { part, columns }))
+            let left = Place {
+                part: Box::into_inner(left),
+                width: left_width,
+                columns,
+            };
+            Ok(Step::Below(Above::JoinLeft(right, keys), left))
         }
         Way::Right(columns) => {
             let left = Plan::from_root(Box::into_inner(left));
-            let part = Box::into_inner(right);
-            Ok(Step::Below(Above::JoinRight(left, keys), Place { part, columns }))
+            let right = Place {
+                part: Box::into_inner(right),
+                width: right_width,
+                columns,
+            };
+            Ok(Step::Below(Above::JoinRight(left, keys), right))
         }
         Way::Both(lefts, rights) => {
             let left = Place {
                 part: Box::into_inner(left),
+                width: left_width,
                 columns: lefts,
             };
             let right = Place {
                 part: Box::into_inner(right),
+                width: right_width,
                 columns: rights,
             };
             Ok(Step::Both(Pair::Join(keys), left, right))
         }
-        Way::Nowhere => {
-            let part = Operator::Join(left, right, keys);
-            Ok(Step::Here(Place { part, columns }))
-        }
+        Way::Nowhere => Ok(Step::Here(Place {
+            part: Operator::Join(left, right, keys),
+            width,
+            columns,
+        })),
     }
 }
 
@@ -84,24 +101,31 @@ fn below_outer(
     right: Box<Operator>,
     keys: Vec<KeyColumns>,
     predicate: Expr,
-    columns: Vec<usize>,
+    tested: TestedColumns,
     test: &Expr,
 ) -> Step
     requires good { IsWellFormed (plan.outer (plan_of left.value) (plan_of right.value) keys.items (expression_of predicate)) }
-    requires can { CanBePushed (plan.outer (plan_of left.value) (plan_of right.value) keys.items (expression_of predicate)) columns.items (expression_of test.now) }
-    ensures is { spec.IsStep (plan.outer (plan_of left.value) (plan_of right.value) keys.items (expression_of predicate)) columns.items (expression_of test.now) result }
+    requires wide { tested.width ≡ plan.width (plan.outer (plan_of left.value) (plan_of right.value) keys.items (expression_of predicate)) }
+    requires can { CanBePushed (plan.outer (plan_of left.value) (plan_of right.value) keys.items (expression_of predicate)) tested.columns.items (expression_of test.now) }
+    ensures is { spec.IsStep (plan.outer (plan_of left.value) (plan_of right.value) keys.items (expression_of predicate)) tested.columns.items (expression_of test.now) result }
     ensures less { (depth : ℕ) → size-Operator left.value < depth → spec.AreBelow depth result }
 {
-    if are_below(&columns, left.width()) {
+    let TestedColumns { width, columns } = tested;
+    let left_width = width_without(&left, width, right.width());
+    if are_below(&columns, left_width) {
         let right = Plan::from_root(Box::into_inner(right));
-        let part = Box::into_inner(left);
-        Step::Below(
-            Above::Outer(right, keys, predicate),
-            Place { part, columns },
-        )
+        let left = Place {
+            part: Box::into_inner(left),
+            width: left_width,
+            columns,
+        };
+        Step::Below(Above::Outer(right, keys, predicate), left)
     } else {
-        let part = Operator::Outer(left, right, keys, predicate);
-        Step::Here(Place { part, columns })
+        Step::Here(Place {
+            part: Operator::Outer(left, right, keys, predicate),
+            width,
+            columns,
+        })
     }
 }
 
@@ -110,20 +134,30 @@ fn below_lookup(
     below: Box<Operator>,
     at: usize,
     attribute: Attribute,
-    columns: Vec<usize>,
+    tested: TestedColumns,
     test: &Expr,
 ) -> Step
     requires good { IsWellFormed (plan.lookup (plan_of below.value) at attribute) }
-    requires can { CanBePushed (plan.lookup (plan_of below.value) at attribute) columns.items (expression_of test.now) }
-    ensures is { spec.IsStep (plan.lookup (plan_of below.value) at attribute) columns.items (expression_of test.now) result }
+    requires wide { tested.width ≡ plan.width (plan.lookup (plan_of below.value) at attribute) }
+    requires can { CanBePushed (plan.lookup (plan_of below.value) at attribute) tested.columns.items (expression_of test.now) }
+    ensures is { spec.IsStep (plan.lookup (plan_of below.value) at attribute) tested.columns.items (expression_of test.now) result }
     ensures less { (depth : ℕ) → size-Operator below.value < depth → spec.AreBelow depth result }
 {
-    if are_below(&columns, below.width()) {
-        let part = Box::into_inner(below);
-        Step::Below(Above::Lookup(at, attribute), Place { part, columns })
+    let TestedColumns { width, columns } = tested;
+    let below_width = width_without(&below, width, 1);
+    if are_below(&columns, below_width) {
+        let below = Place {
+            part: Box::into_inner(below),
+            width: below_width,
+            columns,
+        };
+        Step::Below(Above::Lookup(at, attribute), below)
     } else {
-        let part = Operator::Lookup(below, at, attribute);
-        Step::Here(Place { part, columns })
+        Step::Here(Place {
+            part: Operator::Lookup(below, at, attribute),
+            width,
+            columns,
+        })
     }
 }
 
@@ -132,23 +166,32 @@ fn below_project(
     alloc: Global,
     below: Box<Operator>,
     outputs: Vec<Output>,
-    columns: Vec<usize>,
+    tested: TestedColumns,
     test: &Expr,
 ) -> Result<Step, Fault>
     requires good { IsWellFormed (plan.project (plan_of below.value) (map output_of outputs.items)) }
-    requires can { CanBePushed (plan.project (plan_of below.value) (map output_of outputs.items)) columns.items (expression_of test.now) }
-    ensures is { IfOk result (λ s. spec.IsStep (plan.project (plan_of below.value) (map output_of outputs.items)) columns.items (expression_of test.now) s) }
+    requires wide { tested.width ≡ plan.width (plan.project (plan_of below.value) (map output_of outputs.items)) }
+    requires can { CanBePushed (plan.project (plan_of below.value) (map output_of outputs.items)) tested.columns.items (expression_of test.now) }
+    ensures is { IfOk result (λ s. spec.IsStep (plan.project (plan_of below.value) (map output_of outputs.items)) tested.columns.items (expression_of test.now) s) }
     ensures less { (depth : ℕ) → size-Operator below.value < depth → IfOk result (λ s. spec.AreBelow depth s) }
 {
+    let TestedColumns { width, columns } = tested;
     match columns_of(alloc, &outputs, &columns)? {
         Some(columns) => {
+            let width = below.width();
             let part = Box::into_inner(below);
-            Ok(Step::Below(Above::Project(outputs), Place { part, columns }))
+            let below = Place {
+                part,
+                width,
+                columns,
+            };
+            Ok(Step::Below(Above::Project(outputs), below))
         }
-        None => {
-            let part = Operator::Project(below, outputs);
-            Ok(Step::Here(Place { part, columns }))
-        }
+        None => Ok(Step::Here(Place {
+            part: Operator::Project(below, outputs),
+            width,
+            columns,
+        })),
     }
 }
 
@@ -157,22 +200,26 @@ fn below_union(
     alloc: Global,
     left: Box<Operator>,
     right: Box<Operator>,
-    columns: Vec<usize>,
+    tested: TestedColumns,
     test: &Expr,
 ) -> Result<Step, Fault>
     requires good { IsWellFormed (plan.union (plan_of left.value) (plan_of right.value)) }
-    requires can { CanBePushed (plan.union (plan_of left.value) (plan_of right.value)) columns.items (expression_of test.now) }
-    ensures is { IfOk result (λ s. spec.IsStep (plan.union (plan_of left.value) (plan_of right.value)) columns.items (expression_of test.now) s) }
+    requires wide { tested.width ≡ plan.width (plan.union (plan_of left.value) (plan_of right.value)) }
+    requires can { CanBePushed (plan.union (plan_of left.value) (plan_of right.value)) tested.columns.items (expression_of test.now) }
+    ensures is { IfOk result (λ s. spec.IsStep (plan.union (plan_of left.value) (plan_of right.value)) tested.columns.items (expression_of test.now) s) }
     ensures less { (depth : ℕ) → size-Operator left.value < depth → size-Operator right.value < depth → IfOk result (λ s. spec.AreBelow depth s) }
 {
+    let TestedColumns { width, columns } = tested;
     let mut others = Vec::with_capacity(alloc, columns.len())?;
     others.extend_from_slice(&columns)?;
     let left = Place {
         part: Box::into_inner(left),
+        width,
         columns,
     };
     let right = Place {
         part: Box::into_inner(right),
+        width,
         columns: others,
     };
     Ok(Step::Both(Pair::Union, left, right))
@@ -185,46 +232,45 @@ fn step_below(alloc: Global, place: Place, test: &Expr) -> Result<Step, Fault>
     ensures is { IfOk result (λ s. spec.IsStep (plan_of place.part) place.columns.items (expression_of test.now) s) }
     ensures less { IfOk result (λ s. spec.AreBelow (size-Operator place.part) s) }
 {
-    let Place { part, columns } = place;
+    let Place {
+        part,
+        width,
+        columns,
+    } = place;
+    let tested = TestedColumns { width, columns };
     match part.into_fields() {
-        Fields::Unit => Ok(Step::Here(Place {
-            part: Operator::Unit,
-            columns,
-        })),
-        Fields::Nodes => Ok(Step::Here(Place {
-            part: Operator::Nodes,
-            columns,
-        })),
+        Fields::Unit => Ok(Step::Here(there(Operator::Unit, tested))),
+        Fields::Nodes => Ok(Step::Here(there(Operator::Nodes, tested))),
         Fields::Rels(types, orientation) => {
             let part = Operator::Rels(types, orientation);
-            Ok(Step::Here(Place { part, columns }))
+            Ok(Step::Here(there(part, tested)))
         }
-        Fields::Join(left, right, keys) => below_join(alloc, left, right, keys, columns, test),
+        Fields::Join(left, right, keys) => below_join(alloc, left, right, keys, tested, test),
         Fields::Outer(left, right, keys, predicate) => Ok(below_outer(
-            left, right, keys, predicate, columns, test,
+            left, right, keys, predicate, tested, test,
         )),
         Fields::Semi(left, right, keys, keeping) => {
             let right = Plan::from_root(Box::into_inner(right));
-            let part = Box::into_inner(left);
-            Ok(Step::Below(Above::Semi(right, keys, keeping), Place { part, columns }))
+            let left = there(Box::into_inner(left), tested);
+            Ok(Step::Below(Above::Semi(right, keys, keeping), left))
         }
         Fields::Lookup(below, at, attribute) => Ok(below_lookup(
-            below, at, attribute, columns, test,
+            below, at, attribute, tested, test,
         )),
         Fields::Filter(below, condition) => {
-            let part = Box::into_inner(below);
-            Ok(Step::Below(Above::Filter(condition), Place { part, columns }))
+            let below = there(Box::into_inner(below), tested);
+            Ok(Step::Below(Above::Filter(condition), below))
         }
         Fields::AllDifferent(below, others) => {
-            let part = Box::into_inner(below);
-            Ok(Step::Below(Above::AllDifferent(others), Place { part, columns }))
+            let below = there(Box::into_inner(below), tested);
+            Ok(Step::Below(Above::AllDifferent(others), below))
         }
-        Fields::Project(below, outputs) => below_project(alloc, below, outputs, columns, test),
+        Fields::Project(below, outputs) => below_project(alloc, below, outputs, tested, test),
         Fields::Distinct(below) => {
-            let part = Box::into_inner(below);
-            Ok(Step::Below(Above::Distinct, Place { part, columns }))
+            let below = there(Box::into_inner(below), tested);
+            Ok(Step::Below(Above::Distinct, below))
         }
-        Fields::Union(left, right) => below_union(alloc, left, right, columns, test),
+        Fields::Union(left, right) => below_union(alloc, left, right, tested, test),
     }
 }
 

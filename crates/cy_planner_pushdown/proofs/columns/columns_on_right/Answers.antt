@@ -10,16 +10,16 @@ use Rattle.cy_planner_pushdown.proofs.columns.columns_on_right.Goals as goal
 pub loop-column-init : goal.loop-column-init
 loop-column-init c =
     let none : c.new-found.result.items ≡ [] = first_of (cc, grind (arith, common_steps)) in
-    subst (λ (items : List ℕ). AreMoved (IsOnRight (plan_of c.args.left.now) (plan_of c.args.right.now) c.args.keys.now) (take 0 c.args.columns.now) items) (sym none) (none_moved (IsOnRight (plan_of c.args.left.now) (plan_of c.args.right.now) c.args.keys.now) c.args.columns.now)
+    subst (λ (items : List ℕ). AreMoved (IsOnRight (plan_of c.args.inputs.now.left.now) (plan_of c.args.inputs.now.right.now) c.args.inputs.now.keys.now) (take 0 c.args.columns.now) items) (sym none) (none_moved (IsOnRight (plan_of c.args.inputs.now.left.now) (plan_of c.args.inputs.now.right.now) c.args.inputs.now.keys.now) c.args.columns.now)
 
 pub loop-column-preserved : goal.loop-column-preserved
 loop-column-preserved c =
     let found : List ℕ = c.loop-column.found.items in
     let new : is_among found c.in-Some.other ≡ false = first_of (search rules, grind (arith, common_steps)) in
     let pushed : c.push.new.self.items ≡ found ++ c.in-Some.other ∷ [] = first_of (cc, grind (arith, common_steps)) in
-    subst (λ (items : List ℕ). AreMoved (IsOnRight (plan_of c.args.left.now) (plan_of c.args.right.now) c.args.keys.now) (take (c.loop-column.column-index + 1) c.args.columns.now) items) (sym pushed)
-    (moved_next (IsOnRight (plan_of c.args.left.now) (plan_of c.args.right.now) c.args.keys.now) c.args.columns.now found c.loop-column.column-index c.in-Some.other c.loop-column-test.true c.loop-column.invariant c.in-Some.ensures new)
+    subst (λ (items : List ℕ). AreMoved (IsOnRight (plan_of c.args.inputs.now.left.now) (plan_of c.args.inputs.now.right.now) c.args.inputs.now.keys.now) (take (c.loop-column.column-index + 1) c.args.columns.now) items) (sym pushed)
+    (moved_next (IsOnRight (plan_of c.args.inputs.now.left.now) (plan_of c.args.inputs.now.right.now) c.args.inputs.now.keys.now) c.args.columns.now found c.loop-column.column-index c.in-Some.other c.loop-column-test.true c.loop-column.invariant c.in-Some.ensures new)
 
 pub returns : goal.returns
 returns c =
-    subst (λ (xs : List ℕ). AreMoved (IsOnRight (plan_of c.args.left.now) (plan_of c.args.right.now) c.args.keys.now) xs c.loop-column.found.items) (take_all c.loop-column.column-index c.args.columns.now c.loop-column-test.false) c.loop-column.invariant
+    subst (λ (xs : List ℕ). AreMoved (IsOnRight (plan_of c.args.inputs.now.left.now) (plan_of c.args.inputs.now.right.now) c.args.inputs.now.keys.now) xs c.loop-column.found.items) (take_all c.loop-column.column-index c.args.columns.now c.loop-column-test.false) c.loop-column.invariant

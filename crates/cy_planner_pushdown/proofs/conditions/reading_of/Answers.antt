@@ -13,7 +13,7 @@ use Rattle.cy_planner_pushdown.proofs.conditions.reading_of.Goals as goal
 
 pub loop-variable-init : goal.loop-variable-init
 loop-variable-init c =
-    let part : Plan = plan_of c.args.part.now in
+    let part : Plan = plan_of c.args.below.now in
     record {
       stand = subst (λ (cs : List ℕ). StandIn part cs c.new-scope.result) (sym c.new-columns.ensures.items)
           (subst (λ (s : Scope). StandIn part [] s) (sym c.new-scope.ensures) (none_stand part));
@@ -22,7 +22,7 @@ loop-variable-init c =
 
 pub loop-variable-preserved : goal.loop-variable-preserved
 loop-variable-preserved c =
-    let part : Plan = plan_of c.args.part.now in
+    let part : Plan = plan_of c.args.below.now in
     let columns : List ℕ = c.loop-variable.columns.items in
     let written : List ℕ = c.loop-variable.written.items in
     let scope : Scope = c.loop-variable.scope in
@@ -31,7 +31,7 @@ loop-variable-preserved c =
     let name : Name = c.as_str-in-loop-variable.result.now in
     let kind : Kind = c.in-Some-kind_at.kind in
     let least : before ≤ after = c.if-after-before.false in
-    let at : kind_at part (after - before) ≡ Some kind = sym c.kind_at.ensures ∙ c.in-Some-kind_at.is in
+    let at : kind_at part (after - before) ≡ Some kind = ap (λ q. kind_at (plan_of q) (after - before)) (sym c.root.ensures.same) ∙ sym c.kind_at.ensures ∙ c.in-Some-kind_at.is in
     let new : is_new scope columns name (after - before) ≡ true = first_of (search rules, grind (arith, common_steps)) in
     let added : c.add_name.new.self ≡ added_name scope kind name = c.in_ok-add_name.ensures in
     let pushed : c.push.new.self.items ≡ columns ++ (after - before) ∷ [] = first_of (cc, grind (arith, common_steps)) in

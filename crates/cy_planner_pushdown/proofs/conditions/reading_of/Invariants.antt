@@ -5,4 +5,4 @@ use Rattle.cy_planner_pushdown.specs.internal.Pushed.{StandIn}
 use Rattle.cy_planner_pushdown.proofs.conditions.reading_of.Given as goal
 
 abbrev pub invariant-loop-variable : goal.invariant-loop-variable
-invariant-loop-variable l = record { stand : StandIn (plan_of l.part) l.columns.items l.scope; written : l.written.items ≡ map (λ c. l.before + c) l.columns.items }
+invariant-loop-variable l = record { stand : StandIn (plan_of l.below) l.columns.items l.scope; written : l.written.items ≡ map (λ c. l.before + c) l.columns.items }

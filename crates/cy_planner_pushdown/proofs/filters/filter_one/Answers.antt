@@ -17,8 +17,9 @@ returns-in-Some c =
     let columns : List ℕ = c.in-Some.field-0.columns.items in
     let cells_test : Expression = expression_of c.in-Some.field-0.test in
     let same : IsOnCells test (map (λ n. 0 + n) columns) cells_test = rw c.in-Some.is at c.in_ok-columns.ensures.same in
-    if_ok_map (λ p. IsPushed (plan_of c.into_root-part.result) columns cells_test (plan_of p)) (λ p. IsFiltered below test (plan_of p))
+    if_ok_map (λ p. IsPushed (plan_of c.of.result.part) c.of.result.columns.items cells_test (plan_of p)) (λ p. IsFiltered below test (plan_of p))
     (λ p pushed.
     pushed_filters below test columns cells_test (from_first test columns cells_test same) (plan_of p)
-    (subst (λ q. IsPushed (plan_of q) columns cells_test (plan_of p)) c.into_root-part.ensures.same pushed))
+    (subst (λ q. IsPushed (plan_of q) columns cells_test (plan_of p)) c.of.ensures.part
+    (subst (λ cs. IsPushed (plan_of c.of.result.part) cs.items cells_test (plan_of p)) c.of.ensures.columns pushed)))
     c.push.result c.push.ensures

@@ -17,4 +17,5 @@ returns-in_ok-plan-in-Some c =
     let cells_test : Expression = expression_of c.in-Some.field-0.test in
     let same : IsOnCells test (map (λ n. c.args.before + n) columns) cells_test = rw c.in-Some.is at c.in_ok-columns.ensures.same in
     pushed_keeps c.args.before below test columns cells_test same made
-    (subst (λ q. IsPushed (plan_of q) columns cells_test made) c.into_root-part.ensures.same c.in_ok-plan-in-Some.ensures)
+    (subst (λ q. IsPushed (plan_of q) columns cells_test made) c.of.ensures.part
+    (subst (λ cs. IsPushed (plan_of c.of.result.part) cs.items cells_test made) c.of.ensures.columns c.in_ok-plan-in-Some.ensures))

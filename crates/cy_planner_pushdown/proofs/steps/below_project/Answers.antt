@@ -14,7 +14,7 @@ use Rattle.cy_planner_pushdown.proofs.steps.below_project.Goals as goal
 
 pub returns-in-Some-clause-is : goal.returns-in-Some-clause-is
 returns-in-Some-clause-is c =
-    let columns : List ℕ = c.args.columns.items in
+    let columns : List ℕ = c.args.tested.columns.items in
     let test : Expression = expression_of c.args.test.now in
     let below : Plan = plan_of c.args.below.value in
     let outputs : List Output = map output_of c.args.outputs.items in

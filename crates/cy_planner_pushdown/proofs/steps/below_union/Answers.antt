@@ -14,7 +14,7 @@ use Rattle.cy_planner_pushdown.proofs.steps.below_union.Goals as goal
 
 pub returns-clause-is : goal.returns-clause-is
 returns-clause-is c =
-    let columns : List ℕ = c.args.columns.items in
+    let columns : List ℕ = c.args.tested.columns.items in
     let test : Expression = expression_of c.args.test.now in
     let left : Plan = plan_of c.args.left.value in
     let right : Plan = plan_of c.args.right.value in

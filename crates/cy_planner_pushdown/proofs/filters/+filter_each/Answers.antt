@@ -8,7 +8,7 @@ use Rattle.cy_planner_algebra.specs.PlanModels.{plan_of}
 use Rattle.cy_planner_rows.specs.Rows.{IsFiltered}
 use Rattle.cy_planner_rows.proofs.Filtered.{if_ok_map}
 use Rattle.cy_planner_pushdown.proofs.Conjunctions.{both_filtered}
-use Rattle.cy_planner_pushdown.proofs.filters.+filter_low.Goals as goal
+use Rattle.cy_planner_pushdown.proofs.filters.+filter_each.Goals as goal
 
 pub returns-in_ok-below-in-Binary-And-default-default : goal.returns-in_ok-below-in-Binary-And-default-default
 returns-in_ok-below-in-Binary-And-default-default t c =
@@ -21,4 +21,4 @@ returns-in_ok-below-in-Binary-And-default-default t c =
     (λ p second.
     subst (λ (e : Expression). IsFiltered below e (plan_of p)) (sym is)
     (both_filtered below first (plan_of p) left right c.in_ok-below-in-Binary-And-default-default.ensures second))
-    c.filter_low-in-Binary-And-default-default.result c.filter_low-in-Binary-And-default-default.ensures
+    c.filter_each-in-Binary-And-default-default.result c.filter_each-in-Binary-And-default-default.ensures

@@ -16,7 +16,7 @@ use std::rt::Files;
 use std::{fs, io};
 
 /// The transcripts, and whether entries follow the answers.
-const TRANSCRIPTS: [(&str, bool); 29] = [
+const TRANSCRIPTS: [(&str, bool); 31] = [
     ("start.session", true),
     ("commands.session", true),
     ("dashboard.session", true),
@@ -46,6 +46,8 @@ const TRANSCRIPTS: [(&str, bool); 29] = [
     ("upkeep.session", true),
     ("small_graphs.session", false),
     ("feeds.session", true),
+    ("limits.session", false),
+    ("beginnings.session", false),
 ];
 
 fn main(rt: HostRuntime) -> io::Result<()> {

@@ -1,6 +1,5 @@
 //! The calls of an engine, with ample memory.
 
-use crate::trials::{Trial, expect_of_new};
 use cy_engine::{Engine, answer_all};
 use cy_values::{Cell, Row, Value};
 use std::alloc::Global;
@@ -27,41 +26,42 @@ const LINES: [&str; 6] = [
     "CREATE (:A {k: 7})",
 ];
 
-// The lines are answered, but for the fourth, and the view has the rows that they leave.
-pub(crate) fn expect_answers(
-    rt: &impl Abort,
-    alloc: Global,
-    engine: &mut Engine,
-) -> Result<(), Fail> {
+// The lines are answered, but for the fourth.
+fn expect_answers(rt: &impl Abort, alloc: Global, engine: &mut Engine) -> Result<(), Fail> {
     let answers = answer_all(alloc, engine, &LINES).ok().ok_or("answers")?;
     assert!(rt; answers.len() == 6);
     for (number, answer) in answers.iter().enumerate() {
         assert!(rt; answer.is_err() == (number == 3), "{number}");
     }
-    assert!(rt; engine.tick() == 4);
-    let rows = engine.rows("v").ok().ok_or("rows")?;
-    assert!(rt; are_rows(rows.as_slice(), &[(-1, 1), (7, 2)]));
     Ok(())
 }
 
-#[test]
-fn answers_lines(rt: HostRuntime) -> Result<(), Fail> {
-    expect_of_new(&rt, rt.alloc(), 64, Trial::Answers)
+// The view has the rows that the lines leave.
+fn expect_rows(rt: &impl Abort, engine: &Engine) -> Result<(), Fail> {
+    let rows = engine.rows("v").ok().ok_or("rows")?;
+    assert!(rt; engine.tick() == 4 && are_rows(rows.as_slice(), &[(-1, 1), (7, 2)]));
+    Ok(())
 }
 
-// An entry is there until the next line.
-pub(crate) fn expect_entries(rt: &impl Abort, engine: &mut Engine) -> Result<(), Fail> {
-    assert!(rt; engine.line(":view v MATCH (n:A) RETURN n.k").is_ok());
-    assert!(rt; engine.line("CREATE (:A {k: 7})").is_ok());
+// The entry of the last line is there until the next one.
+fn expect_entry(rt: &impl Abort, engine: &mut Engine) -> Result<(), Fail> {
     let entry = engine.last("v").ok_or("entry")?;
-    assert!(rt; entry.tick == 2 && entry.change.removed.as_slice().is_empty());
+    assert!(rt; entry.tick == 4 && entry.change.removed.as_slice().is_empty());
     assert!(rt; are_rows(entry.change.added.as_slice(), &[(7, 1)]));
     assert!(rt; engine.last("w").is_none() && engine.entries().len() == 1);
     assert!(rt; engine.line(":rows v").is_ok() && engine.entries().is_empty());
     Ok(())
 }
 
+fn expect_calls(rt: &impl Abort, alloc: Global, engine: &mut Engine) -> Result<(), Fail> {
+    expect_answers(rt, alloc, engine)?;
+    expect_rows(rt, engine)?;
+    expect_entry(rt, engine)
+}
+
+// (This one function owns an engine, since the proof of each exit of such a function takes minutes.)
 #[test]
-fn lends_the_last_entry(rt: HostRuntime) -> Result<(), Fail> {
-    expect_of_new(&rt, rt.alloc(), 64, Trial::Entries)
+fn answers_lines(rt: HostRuntime) -> Result<(), Fail> {
+    let mut engine = Engine::new(rt.alloc(), 64);
+    expect_calls(&rt, rt.alloc(), &mut engine)
 }

@@ -1,12 +1,38 @@
-//! Lines that no transcript holds: invalid UTF-8, very long lines, control characters, and lines that are generated.
+//! Sessions that no transcript holds: invalid UTF-8, control characters, lines and rows at their limits, and steps.
 
+use crate::streams::{GOOD, expect_run};
 use cy_shell::{MemorySink, MemorySource, Settings, run};
-use std::alloc::Global;
-use std::fmt::Write;
+use std::alloc::{AllocError, Global};
 use std::process::Abort;
+use std::str;
 use std::test::Fail;
 
-const ROOM: usize = 65_536;
+const ROOM: usize = 262_144;
+
+/// What is written for an input, with ample memory and without a feed.
+pub(crate) fn written(
+    rt: &impl Abort,
+    alloc: Global,
+    input: &[u8],
+) -> Result<MemorySink, AllocError> {
+    let mut source = MemorySource::new(input);
+    let mut sink = MemorySink::new(alloc, ROOM)?;
+    let settings = Settings {
+        history: 64,
+        feed: false,
+    };
+    let outcome = run(alloc, &mut source, &mut sink, settings);
+    assert!(rt; outcome.is_ok());
+    Ok(sink)
+}
+
+// This is written for an input, whether it comes in one piece or a byte at a time.
+fn expect_written(rt: &impl Abort, alloc: Global, input: &[u8], output: &str) -> Result<(), Fail> {
+    let sink = written(rt, alloc, input)?;
+    assert!(rt; sink.as_slice() == output.as_bytes(), "{output}");
+    expect_run(rt, alloc, input, (GOOD, GOOD), Ok(()), output.as_bytes());
+    Ok(())
+}
 
 // Inputs, and what is written for each.
 const INPUTS: [(&[u8], &str); 3] = [
@@ -14,10 +40,9 @@ const INPUTS: [(&[u8], &str); 3] = [
     (b"\r\n// a\n/* b */ \n\n", ""),
     // control characters, which are printed by their escapes
     (
-        b"CREATE (:A {k: '\"\x01\t'})\n:view v MATCH (n:A) RETURN n.k\n:rows v\n",
+        b"CREATE (:A {k: '\"\x01\t'})\nMATCH (n:A) RETURN n.k\n",
         r#"{"changed":[1,0,0,0],"columns":[],"rows":[]}
-{"columns":["n.k"],"tick":2,"view":"v"}
-{"rows":[[["\"\u0001\t"],1]],"tick":2,"view":"v"}
+{"changed":[0,0,0,0],"columns":["n.k"],"rows":[["\"\u0001\t"]]}
 "#,
     ),
     // a line that would be executed if it were UTF-8, and one without LF
@@ -29,22 +54,6 @@ const INPUTS: [(&[u8], &str); 3] = [
     ),
 ];
 
-// What is written for an input is this, with ample memory.
-fn expect_written(rt: &impl Abort, alloc: Global, input: &[u8], output: &str) -> Result<(), Fail> {
-    let mut source = MemorySource::new(input);
-    let mut sink = MemorySink::new(alloc, ROOM)?;
-    let settings = Settings {
-        history: 64,
-        feed: false,
-    };
-    let outcome = run(alloc, &mut source, &mut sink, settings);
-    assert!(rt;
-        outcome.is_ok() && sink.as_slice() == output.as_bytes(),
-        "{output}"
-    );
-    Ok(())
-}
-
 #[test]
 fn answers_inputs(rt: HostRuntime) -> Result<(), Fail> {
     for (input, output) in INPUTS {
@@ -53,74 +62,121 @@ fn answers_inputs(rt: HostRuntime) -> Result<(), Fail> {
     Ok(())
 }
 
-// A line may have 65,536 bytes, its last three after this many, and not one more; the next line is answered.
+// A text, another so many times after it, and a third one.
+type Pieces = (&'static str, &'static str, usize, &'static str);
+
+fn text_of(alloc: Global, pieces: Pieces) -> Result<String, AllocError> {
+    let (before, again, times, after) = pieces;
+    let mut text = String::from_str(alloc, before)?;
+    for _ in 0..times {
+        text.push_str(again)?;
+    }
+    text.push_str(after)?;
+    Ok(text)
+}
+
+const MADE: &str = r#"{"changed":[1,0,0,0],"columns":[],"rows":[]}
+"#;
+
+const MADE_TWICE: &str = r#"{"changed":[1,0,0,0],"columns":[],"rows":[]}
+{"changed":[1,0,0,0],"columns":[],"rows":[]}
+"#;
+
+const REFUSED: &str = r#"{"at":65536,"code":17,"error":"LineTooLong"}
+"#;
+
+const REFUSED_AND_MADE: &str = r#"{"at":65536,"code":17,"error":"LineTooLong"}
+{"changed":[1,0,0,0],"columns":[],"rows":[]}
+"#;
+
+// A line may have 65,536 bytes and not one more, with LF and without; the next line is answered. A line of blanks has no reply.
+const LONG: [(Pieces, &str); 7] = [
+    (
+        ("CREATE (:A {k: '", "a", 65_517, "'})\nCREATE (:A)\n"),
+        MADE_TWICE,
+    ),
+    (
+        ("CREATE (:A {k: '", "a", 65_518, "'})\nCREATE (:A)\n"),
+        REFUSED_AND_MADE,
+    ),
+    (("", " ", 65_536, ""), ""),
+    (("", " ", 65_536, "\n"), ""),
+    (("", " ", 65_536, "\nCREATE (:A)"), MADE),
+    (("", " ", 65_537, ""), REFUSED),
+    (("", " ", 65_537, "\nCREATE (:A)"), REFUSED_AND_MADE),
+];
+
 #[test]
 fn answers_long_lines(rt: HostRuntime) -> Result<(), Fail> {
-    let table = [
-        (
-            65_533,
-            r#"{"changed":[1,0,0,0],"columns":[],"rows":[]}
-{"changed":[1,0,0,0],"columns":[],"rows":[]}
-"#,
-        ),
-        (
-            65_534,
-            r#"{"at":65536,"code":17,"error":"LineTooLong"}
-{"changed":[1,0,0,0],"columns":[],"rows":[]}
-"#,
-        ),
-    ];
-    for (count, output) in table {
-        let mut input = Vec::new(rt.alloc());
-        input.extend_from_slice(b"CREATE (:A {k: '")?;
-        input.resize(count, b'a')?;
-        input.extend_from_slice(b"'})\nCREATE (:A)\n")?;
-        expect_written(&rt, rt.alloc(), input.as_slice(), output)?;
+    for (pieces, output) in LONG {
+        let input = text_of(rt.alloc(), pieces)?;
+        expect_written(&rt, rt.alloc(), input.as_bytes(), output)?;
     }
     Ok(())
 }
 
-// A line of 65,536 blanks has no reply, and one of 65,537 is too long, with LF and without.
+// With 215 nodes the row of the view counts the eighth power of their number; with one more it would be above 2^62 - 1. The refused line
+// changes nothing.
+const COUNTED: Pieces = (
+    ":view w MATCH (a) WITH 1 AS x MATCH (a) WITH 1 AS x MATCH (a) WITH 1 AS x MATCH (a) WITH 1 AS x MATCH (a) WITH 1 AS x MATCH (a) WITH 1 AS x MATCH (a) WITH 1 AS x MATCH (a) RETURN x\n",
+    "CREATE ()\n",
+    215,
+    ":rows w\nCREATE ()\n:rows w\n",
+);
+
+const COUNTS: Pieces = (
+    "{\"columns\":[\"x\"],\"tick\":1,\"view\":\"w\"}\n",
+    MADE,
+    215,
+    r#"{"rows":[[[1],4565703233437890625]],"tick":216,"view":"w"}
+{"at":null,"code":69,"error":"TooManyRows"}
+{"rows":[[[1],4565703233437890625]],"tick":216,"view":"w"}
+"#,
+);
+
 #[test]
-fn answers_lines_of_blanks(rt: HostRuntime) -> Result<(), Fail> {
-    let too_long = r#"{"at":65536,"code":17,"error":"LineTooLong"}
-"#;
-    let table = [(65_536, ""), (65_537, too_long)];
-    for (count, output) in table {
-        let mut input = Vec::new(rt.alloc());
-        input.resize(count, b' ')?;
-        expect_written(&rt, rt.alloc(), input.as_slice(), output)?;
-        input.push(b'\n')?;
-        expect_written(&rt, rt.alloc(), input.as_slice(), output)?;
-    }
+fn counts_to_the_limit(rt: HostRuntime) -> Result<(), Fail> {
+    let input = text_of(rt.alloc(), COUNTED)?;
+    let output = text_of(rt.alloc(), COUNTS)?;
+    let sink = written(&rt, rt.alloc(), input.as_bytes())?;
+    assert!(&rt; sink.as_slice() == output.as_bytes());
     Ok(())
 }
 
-const AFTER_ALL_VIEWS: &str = r#":view w MATCH (n:A) RETURN n.k
-:rows w
+// Two nodes that are connected and many others; a line that connects one of the others, and a command.
+const AMONG: &str = r#":view v MATCH (a:A) OPTIONAL MATCH (a)-[:T]->(b:B) RETURN a, b
 CREATE (:A)
-:rows v256
+MATCH (a:A) CREATE (a)-[:T]->(:B)
 "#;
 
-const AFTER_ALL_ANSWERS: &str = r#"{"at":null,"code":68,"error":"TooManyViews"}
-{"at":null,"code":61,"error":"NoSuchView"}
-{"changed":[1,0,0,0],"columns":[],"rows":[]}
-{"rows":[[[null],1]],"tick":257,"view":"v256"}
+const LAST: &str = r#"MATCH (a:A), (b:B) WHERE id(a) = 3 AND id(b) = 2 CREATE (a)-[:T]->(b)
+:steps
+:rows v
+:steps
 "#;
 
-// There may be 256 views, and the lines after one more find everything as it was.
-#[test]
-fn counts_views(rt: HostRuntime) -> Result<(), Fail> {
-    let mut input = String::new(rt.alloc());
-    let mut output = String::new(rt.alloc());
-    for number in 1..=256u16 {
-        write!(input, ":view v{number} MATCH (n:A) RETURN n.k\n")?;
-        write!(
-            output,
-            "{{\"columns\":[\"n.k\"],\"tick\":{number},\"view\":\"v{number}\"}}\n"
-        )?;
+// The steps that a line takes in a view with so many nodes that it has nothing to do with. A command leaves the number as it was.
+fn steps_among(rt: &impl Abort, alloc: Global, others: usize) -> Result<u64, Fail> {
+    let input = text_of(alloc, (AMONG, "CREATE (:A)\n", others, LAST))?;
+    let sink = written(rt, alloc, input.as_bytes())?;
+    let output = str::from_utf8(sink.as_slice()).ok().ok_or("a text")?;
+    let mut steps = None;
+    for answer in output.lines() {
+        if let Some(rest) = answer.strip_prefix("{\"steps\":[[\"v\",") {
+            let (number, _) = rest.split_once(']').ok_or("a number")?;
+            let taken = number.parse::<u64>().ok().ok_or("a number")?;
+            assert!(rt; steps.is_none() || steps == Some(taken), "{taken}");
+            steps = Some(taken);
+        }
     }
-    input.push_str(AFTER_ALL_VIEWS)?;
-    output.push_str(AFTER_ALL_ANSWERS)?;
-    expect_written(&rt, rt.alloc(), input.as_bytes(), output.as_str())
+    Ok(steps.ok_or("steps")?)
+}
+
+#[test]
+fn takes_few_steps(rt: HostRuntime) -> Result<(), Fail> {
+    for others in [1_000, 2_000] {
+        let steps = steps_among(&rt, rt.alloc(), others)?;
+        assert!(&rt; 0 < steps && steps < 500, "{steps}");
+    }
+    Ok(())
 }

@@ -1,7 +1,7 @@
 //! Sends an engine a script by ends in memory, and a line that is answered with out of memory once more at once, and prints the other
 //! answers. So growths can be refused one by one, and what is printed has to stay the same, but for a reply that is lost: its line was
 //! executed, and isn't sent again. Tests beside it have what no transcript holds of sessions: calls of the engine, bags and feeds, invalid
-//! UTF-8, very long lines, lines that are cut short, options, and streams that fail or are interrupted.
+//! UTF-8, very long lines, lines that are cut short, and streams that fail or are interrupted.
 #![tactic(auto)]
 
 ghost use Rattle.std.specs.Prelude.{◌≡◌, false};
@@ -13,20 +13,12 @@ mod engine;
 #[cfg(test)]
 mod feeds;
 #[cfg(test)]
-mod followers;
-#[cfg(test)]
 mod lines;
-#[cfg(test)]
-mod options;
 mod script;
 #[cfg(test)]
 mod stops;
 #[cfg(test)]
 mod streams;
-#[cfg(test)]
-mod trials;
-#[cfg(test)]
-mod upkeep;
 
 use crate::script::{AnswerWriter, ScriptReader};
 use cy_shell::{InputSource, OutputSink, RunFault, Settings, Sink, Source, run};

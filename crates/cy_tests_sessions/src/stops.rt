@@ -1,9 +1,8 @@
-//! A session over streams that move a byte at a time, and of which each call fails in turn, or is interrupted.
+//! A session of which each read, write and flush fails in turn, or is interrupted.
 
-use crate::streams::{Calls, TestReader, TestWriter};
-use cy_shell::{InputSource, OutputSink, RunFault, Settings, run};
+use crate::streams::{Calls, GOOD, expect_run};
+use cy_shell::RunFault;
 use std::alloc::{AllocError, Global};
-use std::process::Abort;
 use std::test::Fail;
 
 // Two views with a feed, and what is written for each line. A line of invalid UTF-8 has no entries, though the line before
@@ -42,85 +41,30 @@ const SESSION: [(&[u8], &[u8]); 7] = [
     ),
 ];
 
-// What is sent in the session, and what is answered.
-fn session(alloc: Global) -> Result<(Vec<u8>, Vec<u8>), AllocError> {
+// The input of the session, and what is written once so many bytes of it were read: the answers to the lines that have ended.
+fn session(alloc: Global, bytes: usize) -> Result<(Vec<u8>, Vec<u8>), AllocError> {
     let mut input = Vec::new(alloc);
     let mut output = Vec::new(alloc);
     for (line, answer) in SESSION {
         input.extend_from_slice(line)?;
-        output.extend_from_slice(answer)?;
+        if input.len() <= bytes {
+            output.extend_from_slice(answer)?;
+        }
     }
     Ok((input, output))
 }
 
-// The input is read and written for by such calls: the run ends so, once this is written.
-fn expect_run(
-    rt: &impl Abort,
-    alloc: Global,
-    input: &[u8],
-    (reads, writes): (Calls, Calls),
-    outcome: Result<(), RunFault>,
-    output: &[u8],
-) {
-    let mut writer = TestWriter {
-        written: Vec::new(alloc),
-        calls: writes,
-    };
-    let mut source = InputSource::new(TestReader {
-        left: input,
-        calls: reads,
-    });
-    let mut sink = OutputSink::new(&mut writer);
-    let settings = Settings {
-        history: 64,
-        feed: true,
-    };
-    let ended = run(alloc, &mut source, &mut sink, settings);
-    let count = writer.written.len();
-    assert!(rt; ended == outcome, "{count} bytes");
-    assert!(rt; writer.written.as_slice() == output, "{count} bytes");
-}
-
-// The read of each byte fails in turn, and the one at the end: the lines that have ended are answered, and it isn't made again.
+// The read of each byte fails in turn, and the one at the end. It isn't made again.
 #[test]
 fn stops_at_a_read_that_fails(rt: HostRuntime) -> Result<(), Fail> {
     let alloc = rt.alloc();
-    let (input, whole) = session(alloc)?;
-    let mut output = Vec::new(alloc);
-    let mut reads = 0usize;
-    for (line, answer) in SESSION {
-        for _byte in line {
-            let calls = (Calls::failing_after(reads), Calls::good());
-            expect_run(
-                &rt,
-                alloc,
-                input.as_slice(),
-                calls,
-                Err(RunFault::Read),
-                output.as_slice(),
-            );
-            reads = reads.saturating_add(1);
-        }
-        output.extend_from_slice(answer)?;
+    let (input, _) = session(alloc, 0)?;
+    for reads in 0..=input.len() {
+        let (input, output) = session(alloc, reads)?;
+        let calls = (Calls::failing_after(reads), GOOD);
+        let (input, output) = (input.as_slice(), output.as_slice());
+        expect_run(&rt, alloc, input, calls, Err(RunFault::Read), output);
     }
-    let calls = (Calls::failing_after(reads), Calls::good());
-    expect_run(
-        &rt,
-        alloc,
-        input.as_slice(),
-        calls,
-        Err(RunFault::Read),
-        output.as_slice(),
-    );
-    let calls = (Calls::good(), Calls::good());
-    expect_run(
-        &rt,
-        alloc,
-        input.as_slice(),
-        calls,
-        Ok(()),
-        whole.as_slice(),
-    );
     Ok(())
 }
 
@@ -128,34 +72,23 @@ fn stops_at_a_read_that_fails(rt: HostRuntime) -> Result<(), Fail> {
 #[test]
 fn stops_at_a_write_that_fails(rt: HostRuntime) -> Result<(), Fail> {
     let alloc = rt.alloc();
-    let (input, output) = session(alloc)?;
+    let (input, output) = session(alloc, usize::MAX)?;
+    let input = input.as_slice();
     let mut written = Vec::new(alloc);
     let mut writes = 0usize;
     for byte in &output {
-        let calls = (Calls::good(), Calls::failing_after(writes));
-        expect_run(
-            &rt,
-            alloc,
-            input.as_slice(),
-            calls,
-            Err(RunFault::Write),
-            written.as_slice(),
-        );
-        written.push(*byte)?;
-        writes = writes.saturating_add(1);
-        if *byte == b'\n' {
-            let calls = (Calls::good(), Calls::failing_after(writes));
-            expect_run(
-                &rt,
-                alloc,
-                input.as_slice(),
-                calls,
-                Err(RunFault::Write),
-                written.as_slice(),
-            );
+        let flushes = usize::from(written.last() == Some(&b'\n'));
+        for _ in 0..=flushes {
+            let calls = (GOOD, Calls::failing_after(writes));
+            let fault = Err(RunFault::Write);
+            expect_run(&rt, alloc, input, calls, fault, written.as_slice());
             writes = writes.saturating_add(1);
         }
+        written.push(*byte)?;
     }
+    let calls = (GOOD, Calls::failing_after(writes));
+    let fault = Err(RunFault::Write);
+    expect_run(&rt, alloc, input, calls, fault, written.as_slice());
     Ok(())
 }
 
@@ -163,31 +96,15 @@ fn stops_at_a_write_that_fails(rt: HostRuntime) -> Result<(), Fail> {
 #[test]
 fn asks_again_after_an_interruption(rt: HostRuntime) -> Result<(), Fail> {
     let alloc = rt.alloc();
-    let (input, output) = session(alloc)?;
+    let (input, output) = session(alloc, usize::MAX)?;
     let input = input.as_slice();
-    for times in [1, 999] {
+    for times in [0, 1, 999] {
         let calls = (Calls::interrupted(times), Calls::interrupted(times));
         expect_run(&rt, alloc, input, calls, Ok(()), output.as_slice());
     }
-    let calls = (Calls::interrupted(1_000), Calls::good());
+    let calls = (Calls::interrupted(1_000), GOOD);
     expect_run(&rt, alloc, input, calls, Err(RunFault::Read), &[]);
-    let calls = (Calls::good(), Calls::interrupted(1_000));
+    let calls = (GOOD, Calls::interrupted(1_000));
     expect_run(&rt, alloc, input, calls, Err(RunFault::Write), &[]);
-    Ok(())
-}
-
-// A line of 65,536 blanks has no reply, and one of 65,537 is too long, also where a byte comes with each read.
-#[test]
-fn reads_lines_of_blanks_a_byte_at_a_time(rt: HostRuntime) -> Result<(), Fail> {
-    let alloc = rt.alloc();
-    let mut input = Vec::new(alloc);
-    input.resize(65_536, b' ')?;
-    input.push(b'\n')?;
-    input.resize(131_074, b' ')?;
-    input.extend_from_slice(b"\nCREATE (:A)")?;
-    let output = b"{\"at\":65536,\"code\":17,\"error\":\"LineTooLong\"}\n\
-        {\"changed\":[1,0,0,0],\"columns\":[],\"rows\":[]}\n";
-    let calls = (Calls::good(), Calls::good());
-    expect_run(&rt, alloc, input.as_slice(), calls, Ok(()), output);
     Ok(())
 }

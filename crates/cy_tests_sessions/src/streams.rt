@@ -1,12 +1,43 @@
-//! A reader and a writer that move a byte at a time. A call may fail, once, or be interrupted.
+//! Runs over streams that move a byte at a time. A call may fail, once, or be interrupted.
 
+use cy_shell::{InputSource, OutputSink, RunFault, Settings, run};
+use std::alloc::Global;
 use std::io::{self, Error, ErrorKind};
+use std::process::Abort;
 
-/// Gives a byte a read.
+/// The input is read and answered by such calls, with a feed: the run ends so, once this is written.
+pub(crate) fn expect_run(
+    rt: &impl Abort,
+    alloc: Global,
+    input: &[u8],
+    (reads, writes): (Calls, Calls),
+    outcome: Result<(), RunFault>,
+    output: &[u8],
+) {
+    let mut writer = TestWriter {
+        written: Vec::new(alloc),
+        calls: writes,
+    };
+    let mut source = InputSource::new(TestReader {
+        left: input,
+        calls: reads,
+    });
+    let mut sink = OutputSink::new(&mut writer);
+    let settings = Settings {
+        history: 64,
+        feed: true,
+    };
+    let ended = run(alloc, &mut source, &mut sink, settings);
+    let count = writer.written.len();
+    assert!(rt; ended == outcome, "{count} bytes");
+    assert!(rt; writer.written.as_slice() == output, "{count} bytes");
+}
+
+// Gives a byte a read.
 #[derive(Drop)]
-pub(crate) struct TestReader<'a> {
-    pub(crate) left: &'a [u8],
-    pub(crate) calls: Calls,
+struct TestReader<'a> {
+    left: &'a [u8],
+    calls: Calls,
 }
 
 impl<'a> io::Read for TestReader<'a> {
@@ -20,11 +51,11 @@ impl<'a> io::Read for TestReader<'a> {
     }
 }
 
-/// Takes a byte a write.
+// Takes a byte a write.
 #[derive(Drop)]
-pub(crate) struct TestWriter {
-    pub(crate) written: Vec<u8>,
-    pub(crate) calls: Calls,
+struct TestWriter {
+    written: Vec<u8>,
+    calls: Calls,
 }
 
 impl io::Write for TestWriter {
@@ -40,29 +71,28 @@ impl io::Write for TestWriter {
     }
 }
 
-/// What becomes of calls: each is interrupted a number of times before it is made, and the one after so many fails, that one alone.
+/// Calls that all go well.
+pub(crate) const GOOD: Calls = Calls {
+    failing: None,
+    interruptions: 0,
+    interrupted: 0,
+};
+
+/// What becomes of calls: each is interrupted a number of times before it is made, and one may fail, that one alone.
 #[derive(Clone, Copy)]
 pub(crate) struct Calls {
-    left: Option<usize>,
+    // How many are made before the one that fails.
+    failing: Option<usize>,
     interruptions: usize,
     interrupted: usize,
 }
 
 impl Calls {
-    /// Calls that all go well.
-    pub(crate) fn good() -> Self {
-        Calls {
-            left: None,
-            interruptions: 0,
-            interrupted: 0,
-        }
-    }
-
     /// Calls of which the one after so many fails, and none before or after it.
     pub(crate) fn failing_after(count: usize) -> Self {
         Calls {
-            left: Some(count),
-            ..Calls::good()
+            failing: Some(count),
+            ..GOOD
         }
     }
 
@@ -70,7 +100,7 @@ impl Calls {
     pub(crate) fn interrupted(times: usize) -> Self {
         Calls {
             interruptions: times,
-            ..Calls::good()
+            ..GOOD
         }
     }
 
@@ -81,11 +111,11 @@ impl Calls {
             return Err(Error::from(ErrorKind::Interrupted));
         }
         self.interrupted = 0;
-        let Some(count) = self.left else {
+        let Some(count) = self.failing else {
             return Ok(());
         };
-        self.left = count.checked_sub(1);
-        if self.left.is_none() {
+        self.failing = count.checked_sub(1);
+        if self.failing.is_none() {
             return Err(Error::from(ErrorKind::StorageFull));
         }
         Ok(())

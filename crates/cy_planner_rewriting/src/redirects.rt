@@ -10,8 +10,8 @@ ghost use Rattle.cy_planner_algebra.specs.WellFormed.{IsKeyBetween, IsWellFormed
 ghost use Rattle.cy_planner_rewriting.specs.internal.Redirected as spec;
 
 use crate::lookups::lookup_at;
-use cy_planner_algebra::{Below, KeyColumns, Operator};
-use cy_planner_rows::{Wanted, output_column};
+use cy_planner_algebra::{KeyColumns, Operator};
+use cy_planner_rows::{Wanted, key_on_right, output_column, width_without};
 use cy_values::Fault;
 use std::alloc::Global;
 
@@ -25,47 +25,46 @@ pub(crate) struct Redirect {
     pub(crate) to: usize,
 }
 
-/// The column of the right input in which the same stands as in a column of the left one.
-fn right_column(keys: &[KeyColumns], column: usize) -> Option<usize> {
-    for key in keys {
-        if key.left == column {
-            return Some(key.right);
-        }
-    }
-    None
-}
-
-/// Whether a column names the node or the relationship that each row of a table is made of.
-fn is_own(part: &Operator, column: usize, most: usize) -> bool
-    requires { IsWellFormed (plan_of part.now) }
+/// Whether a column names the node or the relationship that each row of a table is made of. The rows are this wide.
+fn is_own(part: &Operator, wide: usize, column: usize, most: usize) -> bool
+    requires good { IsWellFormed (plan_of part.now) }
+    requires wide { wide ≡ width (plan_of part.now) }
 {
-    if most == 0 {
+    let Some(fewer) = most.checked_sub(1) else {
         return false;
-    }
+    };
     match part {
         Operator::Nodes | Operator::Rels(_, _) => column == 0,
         Operator::Join(left, right, keys) => {
-            let width = left.width();
-            if column < width {
-                if is_own(left, column, most - 1) {
+            let of_right = right.width();
+            let of_left = width_without(left, wide, of_right);
+            if column < of_left {
+                if is_own(left, of_left, column, fewer) {
                     return true;
                 }
-                match right_column(keys, column) {
-                    Some(other) => is_own(right, other, most - 1),
+                match key_on_right(keys, column) {
+                    Some(other) => is_own(right, of_right, other, fewer),
                     None => false,
                 }
             } else {
-                is_own(right, column - width, most - 1)
+                is_own(right, of_right, column - of_left, fewer)
             }
         }
+        Operator::Outer(left, right, _, _) => {
+            let of_left = width_without(left, wide, right.width());
+            is_own(left, of_left, column, fewer)
+        }
+        Operator::Lookup(below, _, _) => {
+            let of_below = width_without(below, wide, 1);
+            is_own(below, of_below, column, fewer)
+        }
         Operator::Project(below, outputs) => match output_column(outputs, column) {
-            Some(column) => is_own(below, column, most - 1),
+            Some(column) => is_own(below, below.width(), column, fewer),
             None => false,
         },
-        Operator::Distinct(_) | Operator::Union(_, _) => false,
-        _ => match part.below() {
-            Below::One(below) | Below::Two(below, _) => is_own(below, column, most - 1),
-            Below::None => false,
+        _ => match part.sifted() {
+            Some(below) => is_own(below, wide, column, fewer),
+            None => false,
         },
     }
 }
@@ -75,17 +74,18 @@ fn add_redirect(
     made: &mut Vec<Redirect>,
     left: &Operator,
     right: &Operator,
-    width: usize,
+    wide: usize,
     key: KeyColumns,
 ) -> Result<(), Fault>
     requires left { IsWellFormed (plan_of left.now) }
     requires right { IsWellFormed (plan_of right.now) }
-    requires room { width + key.right ≤ greatest_width }
-    ensures { OnOk result ((keys : List KeyColumns) → Contains keys key → AllByRecursion (spec.IsRedirect keys width) made.old.items → AllByRecursion (spec.IsRedirect keys width) made.new.items) }
+    requires wide { wide ≡ width (plan_of left.now) }
+    requires room { wide + key.right ≤ greatest_width }
+    ensures { OnOk result ((keys : List KeyColumns) → Contains keys key → AllByRecursion (spec.IsRedirect keys wide) made.old.items → AllByRecursion (spec.IsRedirect keys wide) made.new.items) }
 {
-    let on_left = is_own(left, key.left, MOST_PARTS);
-    let on_right = is_own(right, key.right, MOST_PARTS);
-    let other = width + key.right;
+    let on_left = is_own(left, wide, key.left, MOST_PARTS);
+    let on_right = is_own(right, right.width(), key.right, MOST_PARTS);
+    let other = wide + key.right;
     if on_left == on_right {
         Ok(())
     } else if on_right {

@@ -7,6 +7,7 @@ mod columns;
 mod conditions;
 mod conjunctions;
 mod filters;
+mod joins;
 mod lookups;
 mod lowering;
 mod places;
@@ -21,6 +22,7 @@ pub use columns::{
 pub use conditions::{and_also, column_variable, either, equals, is_empty, or_true, size_of};
 pub use conjunctions::{all_of, conjuncts, halved};
 pub use filters::{GREATEST_WIDTH, check_room, filter_where, looked_up_filter};
+pub use joins::{key_on_left, key_on_right, width_without};
 pub use lookups::{copy_attribute, with_lookups};
 pub use lowering::{lower, lowering_keeps_values};
 pub use places::{Wanted, place};

@@ -1,13 +1,17 @@
 -- The predicate of an outer join, taken apart.
-use Rattle.std.proofs.Common.{◌≡◌, ℕ, Bool, true, false, ◌&&◌, List, [], ◌∷◌, ◌++◌, filter, refl, sym, ap, subst, ◌∙◌, inl, inr}
-use Rattle.std.specs.Prelude.{IsOk, Option, None, Some, Result, Ok, Err}
+use Rattle.std.proofs.Common.{◌≡◌, ℕ, Bool, true, false, ◌&&◌, List, [], ◌∷◌, ◌++◌, length, map, refl, sym, ap, subst, ◌∙◌, inl, inr}
+use Rattle.std.specs.Prelude.{IsOk, Option, None, Some, Result, Ok, Err, option_map}
+use Rattle.std.specs.List.{AllByRecursion, Contains}
+use Rattle.std.proofs.lemmas.List.Folds.{list_all-append}
 use Rattle.std.proofs.lemmas.Bool.{and_from, and_parts}
 use Rattle.cy_values.specs.declared.rows.Cell.{Cell}
 use Rattle.cy_values.specs.declared.scalars.Value.{Value}
 use Rattle.cy_values.specs.declared.truth.Truth.{Truth}
 use Rattle.cy_values.specs.Truth.{both}
 use Rattle.cy_trees.specs.declared.expressions.BinaryOperator.TheVariants.{And}
+use Rattle.cy_trees.specs.declared.expressions.Expr.{Expr}
 use Rattle.cy_trees.specs.Trees.{Expression, binary}
+use Rattle.cy_trees.specs.TreeModels.{expression_of}
 use Rattle.cy_graph.specs.Graph.{Content}
 use Rattle.cy_expr.specs.declared.faults.EvalFault.{EvalFault}
 use Rattle.cy_expr.specs.Faults.{on_one}
@@ -21,10 +25,12 @@ use Rattle.cy_planner_algebra.specs.Plans.{Plan}
 use Rattle.cy_planner_algebra.specs.Sure.{HasTruth}
 use Rattle.cy_planner_algebra.specs.WellFormed.{IsOver}
 use Rattle.cy_planner_rows.specs.Rows.{keeps}
-use Rattle.cy_planner_pushdown.specs.After.{IsKept}
-use Rattle.cy_planner_pushdown.proofs.Conjunctions.{in_cell, joined_truth, sifted_both, truth_back, whole, whole_ok, whole_true}
-use Rattle.cy_planner_outer_filters.specs.internal.Splits as spec
-use Rattle.cy_planner_rows.specs.Conditions.{or_true}
+use Rattle.cy_planner_rows.specs.Conjuncts.{IsAllOf, all_conjuncts, conjuncts}
+use Rattle.cy_planner_rows.proofs.Alike.{one_or_both}
+use Rattle.cy_planner_pushdown.specs.After.{AreKept, keeps_each}
+use Rattle.cy_planner_pushdown.proofs.Conjunctions.{in_cell, joined_truth, truth_back, whole, whole_ok, whole_true}
+use Rattle.cy_planner_pushdown.proofs.Finding.{all_kept, among_each}
+use Rattle.cy_planner_pushdown.proofs.Splitting.{each_more, each_parts}
 use Rattle.cy_planner_outer_filters.specs.internal.Splits.{IsSplit}
 
 -- ---- what a condition is
@@ -67,83 +73,84 @@ value_on row e = on_one value_in_cell (cell_of row e)
 and_holds : (a b : Expression) (row : List Cell) → holds (binary And a b) row ≡ (holds a row && holds b row)
 and_holds a b row = whole_true (value_on row a) (value_on row b)
 
-both_hold : (x y : Option Expression) (row : List Cell) → holds (or_true (spec.both x y)) row ≡ (holds (or_true x) row && holds (or_true y) row)
-both_hold None y row = refl
-both_hold (Some a) None row = sym (and_true (holds a row))
-both_hold (Some a) (Some b) row = and_holds a b row
-
-both_true : (x y : Option Expression) (row : List Cell) → HasTruth (or_true x) row → HasTruth (or_true y) row → HasTruth (or_true (spec.both x y)) row
-both_true None y row here there = there
-both_true (Some a) None row here there = here
-both_true (Some a) (Some b) row here there = whole_of (value_on row a) (value_on row b) here there
-
 parts_over : (n : ℕ) (a b : Expression) → IsOver n (binary And a b) → IsOver n a × IsOver n b
 parts_over n a b (reads, below) =
     let columns = and_parts (reads_columns a) (reads_columns b) reads in
     let inside = and_parts (reads_below n a) (reads_below n b) below in
     ((columns.0, inside.0), (columns.1, inside.1))
 
-both_over : (n : ℕ) (x y : Option Expression) → IsOver n (or_true x) → IsOver n (or_true y) → IsOver n (or_true (spec.both x y))
-both_over n None y here there = there
-both_over n (Some a) None here there = here
-both_over n (Some a) (Some b) here there = (and_from (reads_columns a) (reads_columns b) here.0 there.0, and_from (reads_below n a) (reads_below n b) here.1 there.1)
+over_both : (n : ℕ) (a b : Expression) → IsOver n a → IsOver n b → IsOver n (binary And a b)
+over_both n a b here there = (and_from (reads_columns a) (reads_columns b) here.0 there.0, and_from (reads_below n a) (reads_below n b) here.1 there.1)
 
--- ---- one condition
+-- ---- what is so of a condition where it is so of each that AND joins in it
 
-all_kept : (rows : List (List Cell)) → filter (λ row. true) rows ≡ rows
-all_kept [] = refl
-all_kept (row ∷ rows) = ap (λ l. row ∷ l) (all_kept rows)
+module _ (P : Expression → Type 0) (parts : (a b : Expression) → P (binary And a b) → P a × P b) (both : (a b : Expression) → P a → P b → P (binary And a b)) where
+  of_each : (e : Expression) → P e → AllByRecursion P (conjuncts e)
+  of_each =
+      one_or_both (λ e. P e → AllByRecursion P (conjuncts e))
+      (λ a b here there is. let two = parts a b is in each_more P (conjuncts a) (conjuncts b) (here two.0) (there two.1))
+      (λ e one is. subst (AllByRecursion P) (sym one) (is, tt))
 
-pub kept_split : (before : ℕ) (right : Plan) (test : Expression) (made : Plan) → IsKept before right test made → IsSplit before right test made None
-kept_split before right test made is = record {
-  as_wide = is.as_wide;
-  keeps = is.holds;
-  same = λ reads graph l r long. same_on_graphs graph test (l ++ r) reads ∙ is.same graph l r long ∙ sym (and_true (is.holds graph r));
-  rows = is.rows;
-  truth = λ row has. refl;
-  over = λ n inside. (refl, refl);
-  sure = is.sure;
-  bounded = is.bounded;
-}
+  of_all : (e : Expression) → AllByRecursion P (conjuncts e) → P e
+  of_all =
+      one_or_both (λ e. AllByRecursion P (conjuncts e) → P e)
+      (λ a b here there each. let two = each_parts P (conjuncts a) (conjuncts b) each in both a b (here two.0) (there two.1))
+      (λ e one each. (subst (AllByRecursion P) one each).0)
 
-left_split : (before : ℕ) (right : Plan) (test : Expression) → IsSplit before right test right (Some test)
-left_split before right test = record {
-  as_wide = refl;
-  keeps = λ graph row. true;
-  same = λ reads graph l r long. refl;
-  rows = λ graph good. sym (all_kept _);
-  truth = λ row has. has;
-  over = λ n inside. inside;
-  sure = λ graph good sure. sure;
-  bounded = λ graph tables good each. each;
-}
+  of_trees : (tests : List Expr) → AllByRecursion P (map expression_of tests) → AllByRecursion P (all_conjuncts tests)
+  of_trees [] each = tt
+  of_trees (t ∷ tests) each = each_more P (conjuncts (expression_of t)) (all_conjuncts tests) (of_each (expression_of t) each.0) (of_trees tests each.1)
 
-pub stays_split : (before : ℕ) (right : Plan) (test : Expression) (made : Plan) → made ≡ right → IsSplit before right test made (Some test)
-stays_split before right test made is = subst (λ (p : Plan). IsSplit before right test p (Some test)) (sym is) (left_split before right test)
+  -- of what is left
+  of_rest : (test : Expression) (tests : List Expr) (e : Expression) → AllByRecursion (Contains (conjuncts test)) (map expression_of tests) → conjuncts e ≡ all_conjuncts tests → P test → P e
+  of_rest test tests e among same is =
+      of_all e (subst (AllByRecursion P) (sym same) (of_trees tests (among_each P (conjuncts test) (map expression_of tests) (of_each test is) among)))
 
--- ---- two conditions
+-- ---- a predicate taken apart
 
-pub both_split : (before : ℕ) (right between made : Plan) (a b : Expression) (x y : Option Expression) → IsSplit before right a between x → IsSplit before between b made y
-    → IsSplit before right (binary And a b) made (spec.both x y)
-both_split before right between made a b x y first second = record {
-  as_wide = second.as_wide ∙ first.as_wide;
-  keeps = λ graph row. first.keeps graph row && second.keeps graph row;
-  same = λ reads graph l r long.
-      let columns = and_parts (reads_columns a) (reads_columns b) reads in
-      and_holds a b (l ++ r)
-      ∙ (λ i. first.same columns.0 graph l r long i && second.same columns.1 graph l r long i)
-      ∙ and_swap (first.keeps graph r) (holds (or_true x) (l ++ r)) (second.keeps graph r) (holds (or_true y) (l ++ r))
-      ∙ ap (λ h. (first.keeps graph r && second.keeps graph r) && h) (sym (both_hold x y (l ++ r)));
-  rows = λ graph good.
-      second.rows graph good
-      ∙ ap (filter (second.keeps graph.content)) (first.rows graph good)
-      ∙ sifted_both (first.keeps graph.content) (second.keeps graph.content) (λ row. first.keeps graph.content row && second.keeps graph.content row) (λ row. refl) _;
-  truth = λ row has.
-      let two = whole_ok (value_on row a) (value_on row b) has in
-      both_true x y row (first.truth row two.0) (second.truth row two.1);
-  over = λ n inside.
-      let two = parts_over n a b inside in
-      both_over n x y (first.over n two.0) (second.over n two.1);
-  sure = λ graph good sure. second.sure graph good (first.sure graph good sure);
-  bounded = λ graph tables good each. second.bounded graph tables good (first.bounded graph tables good each);
-}
+trees_kept : (graph : Content) (row : List Cell) (tests : List Expr) → keeps_each graph (map expression_of tests) row ≡ keeps_each graph (all_conjuncts tests) row
+trees_kept graph row [] = refl
+trees_kept graph row (t ∷ tests) =
+    (λ i. all_kept graph row (expression_of t) i && trees_kept graph row tests i)
+    ∙ sym (list_all-append (λ (e : Expression). keeps graph e row) (conjuncts (expression_of t)) (all_conjuncts tests))
+
+module _ (before : ℕ) (right : Plan) (test : Expression) (tests : List Expr) (made : Plan) (kept : AreKept before right (conjuncts test) (map expression_of tests) made) where
+  kept_test : reads_columns test ≡ true → (graph : Content) (l r : List Cell) → length l ≡ before → holds test (l ++ r) ≡ (kept.holds graph r && keeps_each graph (all_conjuncts tests) (l ++ r))
+  kept_test reads graph l r long =
+      same_on_graphs graph test (l ++ r) reads
+      ∙ all_kept graph (l ++ r) test
+      ∙ kept.same graph l r long
+      ∙ ap (λ b. kept.holds graph r && b) (trees_kept graph (l ++ r) tests)
+
+  none_left : all_conjuncts tests ≡ [] → IsSplit before right test made None
+  none_left none = record {
+    as_wide = kept.as_wide;
+    keeps = kept.holds;
+    same = λ reads graph l r long. kept_test reads graph l r long ∙ ap (λ (es : List Expression). kept.holds graph r && keeps_each graph es (l ++ r)) none;
+    rows = kept.rows;
+    truth = λ row has. refl;
+    over = λ n inside. (refl, refl);
+    sure = kept.sure;
+    bounded = kept.bounded;
+  }
+
+  some_left : (e : Expression) → conjuncts e ≡ all_conjuncts tests → IsSplit before right test made (Some e)
+  some_left e same = record {
+    as_wide = kept.as_wide;
+    keeps = kept.holds;
+    same = λ reads graph l r long.
+        kept_test reads graph l r long
+        ∙ ap (λ b. kept.holds graph r && b)
+        (ap (λ (es : List Expression). keeps_each graph es (l ++ r)) (sym same)
+        ∙ sym (all_kept graph (l ++ r) e)
+        ∙ sym (same_on_graphs graph e (l ++ r) (of_rest (λ f. reads_columns f ≡ true) (λ a b. and_parts (reads_columns a) (reads_columns b)) (λ a b. and_from (reads_columns a) (reads_columns b)) test tests e kept.among same reads)));
+    rows = kept.rows;
+    truth = λ row. of_rest (λ f. HasTruth f row) (λ a b. whole_ok (value_on row a) (value_on row b)) (λ a b. whole_of (value_on row a) (value_on row b)) test tests e kept.among same;
+    over = λ n. of_rest (IsOver n) (parts_over n) (over_both n) test tests e kept.among same;
+    sure = kept.sure;
+    bounded = kept.bounded;
+  }
+
+  pub left_split : (o : Option Expr) → IsAllOf tests o → IsSplit before right test made (option_map expression_of o)
+  left_split None none = none_left none
+  left_split (Some e) same = some_left (expression_of e) same

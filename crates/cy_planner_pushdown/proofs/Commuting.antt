@@ -1,5 +1,5 @@
 -- Rows that are sifted before a part of a plan or after it: the same rows come out in the same order.
-use Rattle.std.proofs.Common.{◌≡◌, Bool, true, false, cond, List, [], ◌∷◌, ◌++◌, map, filter, refl, sym, ap, ◌∙◌}
+use Rattle.std.proofs.Common.{◌≡◌, Bool, true, false, cond, ◌&&◌, List, [], ◌∷◌, ◌++◌, map, filter, refl, sym, ap, ◌∙◌}
 use Rattle.std.specs.Prelude.{◌||◌, flat_map}
 use Rattle.std.specs.List.{AllByRecursion}
 use Rattle.std.proofs.lemmas.Bool.{false≢true}
@@ -7,6 +7,7 @@ use Rattle.std.proofs.lemmas.List.Elements.{filter-append}
 use Rattle.cy_values.specs.declared.rows.Cell.{Cell}
 use Rattle.cy_planner_algebra.specs.Meaning.{each_once, is_among, paired}
 use Rattle.cy_planner_algebra.proofs.Counts.{identity, same}
+use Rattle.cy_planner_rows.proofs.Lists.{each_weaker}
 
 -- ---- lists
 
@@ -144,3 +145,31 @@ module _ (q : List Cell → Bool) where
         ∙ sifted_mapped (λ r. meets l r ≡ true) (λ r. l ++ r) q qr (λ r met. alike l r each.0 met) (filter (meets l) rs) (each_kept (meets l) rs))
         ∙ ap (λ rows. filter q (paired l (filter (meets l) rs)) ++ rows) (right_sifted qr meets alike rs ls each.1)
         ∙ sym (filter-append q (paired l (filter (meets l) rs)) (flat_map (λ k. paired k (filter (meets k) rs)) ls))
+
+    -- where it is one of its left row and one of its right row
+    pub both_sifted : (ql qr : List Cell → Bool) (meets : List Cell → List Cell → Bool) → ((l r : List Cell) → P l → meets l r ≡ true → q (l ++ r) ≡ (ql l && qr r))
+        → (rs ls : List (List Cell)) → AllByRecursion P ls
+        → flat_map (λ l. paired l (filter (meets l) (filter qr rs))) (filter ql ls) ≡ filter q (flat_map (λ l. paired l (filter (meets l) rs)) ls)
+    both_sifted ql qr meets alike rs [] each = refl
+    both_sifted ql qr meets alike rs (l ∷ ls) each =
+        by (ql l) refl
+        ∙ ap (λ rows. filter q (paired l (filter (meets l) rs)) ++ rows) (both_sifted ql qr meets alike rs ls each.1)
+        ∙ sym (filter-append q (paired l (filter (meets l) rs)) (flat_map (λ k. paired k (filter (meets k) rs)) ls))
+      where
+        rest : List (List Cell)
+        rest = filter ql ls
+
+        others : List (List Cell)
+        others = flat_map (λ k. paired k (filter (meets k) (filter qr rs))) rest
+
+        by : (b : Bool) → ql l ≡ b → flat_map (λ k. paired k (filter (meets k) (filter qr rs))) (cond (ql l) (l ∷ rest) rest) ≡ filter q (paired l (filter (meets l) rs)) ++ others
+        by true is =
+            ap (λ b. flat_map (λ k. paired k (filter (meets k) (filter qr rs))) (cond b (l ∷ rest) rest)) is
+            ∙ ap (λ rows. rows ++ others)
+            (ap (paired l) (sifted_twice (meets l) qr rs)
+            ∙ sifted_mapped (λ r. meets l r ≡ true) (λ r. l ++ r) q qr (λ r met. sym (alike l r each.0 met ∙ ap (λ b. b && qr r) is)) (filter (meets l) rs) (each_kept (meets l) rs))
+        by false is =
+            ap (λ b. flat_map (λ k. paired k (filter (meets k) (filter qr rs))) (cond b (l ∷ rest) rest)) is
+            ∙ ap (λ rows. rows ++ others)
+            (sym (all_or_none l false (filter (meets l) rs)
+            (each_weaker (λ r. meets l r ≡ true) (λ r. q (l ++ r) ≡ false) (λ r met. alike l r each.0 met ∙ ap (λ b. b && qr r) is) (filter (meets l) rs) (each_kept (meets l) rs))))

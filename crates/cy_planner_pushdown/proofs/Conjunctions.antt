@@ -1,6 +1,6 @@
 -- Two conditions that AND joins, one after the other.
 use Rattle.std.proofs.Common.{◌≡◌, Bool, true, false, cond, ◌&&◌, List, [], ◌∷◌, filter, refl, sym, ap, subst, ◌∙◌}
-use Rattle.std.specs.Prelude.{IsOk, IsTrue, Result, Ok, Err}
+use Rattle.std.specs.Prelude.{IsOk, Result, Ok, Err}
 use Rattle.std.specs.List.{AllByRecursion}
 use Rattle.cy_values.specs.declared.rows.Cell.{Cell}
 use Rattle.cy_values.specs.declared.scalars.Value.{Value}
@@ -9,19 +9,16 @@ use Rattle.cy_values.specs.declared.truth.Truth.TheVariants.{No, Unknown, Yes}
 use Rattle.cy_values.specs.Truth.{both, is_yes}
 use Rattle.cy_trees.specs.declared.expressions.BinaryOperator.TheVariants.{And}
 use Rattle.cy_trees.specs.Trees.{Expression, binary}
-use Rattle.cy_scope_kinds.specs.Rows.{row_fits}
 use Rattle.cy_scope_kinds.specs.Scopes.{Scope}
-use Rattle.cy_graph.specs.Graph.{Content, State, IsGraph}
+use Rattle.cy_graph.specs.Graph.{Content}
 use Rattle.cy_expr.specs.declared.faults.EvalFault.{EvalFault}
 use Rattle.cy_expr.specs.Evaluation.{as_cell, cell_of}
 use Rattle.cy_expr.specs.Faults.{on_one, on_two}
 use Rattle.cy_expr.specs.Graphs.{lookups}
 use Rattle.cy_expr.specs.Logic.{conjunction, truth_of, value_of}
 use Rattle.cy_expr.specs.Operators.{value_in_cell}
-use Rattle.cy_planner_algebra.specs.Plans.{Plan}
 use Rattle.cy_planner_algebra.specs.Expressions.{is_true}
-use Rattle.cy_planner_algebra.specs.Meaning.{rows_of}
-use Rattle.cy_planner_rows.specs.Rows.{FitsRows, IsFiltered, condition_on, keeps}
+use Rattle.cy_planner_rows.specs.Rows.{condition_on, keeps}
 use Rattle.cy_scope_kinds.specs.Kinded.{IsKinded}
 
 -- ---- AND
@@ -78,10 +75,10 @@ whole_ok (Ok v) (Err fault) is = cc
 whole_ok (Err fault) w is = cc
 
 module _ (graph : Content) (a b : Expression) where
-  keeps_both : (row : List Cell) → keeps graph (binary And a b) row ≡ (keeps graph a row && keeps graph b row)
+  pub keeps_both : (row : List Cell) → keeps graph (binary And a b) row ≡ (keeps graph a row && keeps graph b row)
   keeps_both row = whole_true (on_one value_in_cell (cell_of (lookups graph) row a)) (on_one value_in_cell (cell_of (lookups graph) row b))
 
-  both_have : (rows : List (List Cell)) → AllByRecursion (λ row. IsOk (condition_on graph (binary And a b) row)) rows
+  pub both_have : (rows : List (List Cell)) → AllByRecursion (λ row. IsOk (condition_on graph (binary And a b) row)) rows
       → AllByRecursion (λ row. IsOk (condition_on graph a row)) rows × AllByRecursion (λ row. IsOk (condition_on graph b row)) rows
   both_have [] each = (tt, tt)
   both_have (row ∷ rows) each =
@@ -120,42 +117,7 @@ each_sifted P p (row ∷ rows) each =
       | false ↦ each_sifted P p rows each.1
     ]
 
--- ---- plans
+-- ---- kinds
 
-both_kinded : (scope : Scope) (a b : Expression) → IsKinded scope (binary And a b) → IsKinded scope a × IsKinded scope b
+pub both_kinded : (scope : Scope) (a b : Expression) → IsKinded scope (binary And a b) → IsKinded scope a × IsKinded scope b
 both_kinded scope a b (k, is) = ((is.1, is.3), (is.2, is.4))
-
-module _ (below p made : Plan) (a b : Expression) (first : IsFiltered below a p) (second : IsFiltered p b made) where
-  module _ (graph : State) (scope : Scope) (good : IsGraph graph) (kinded : IsKinded scope (binary And a b)) (fits : FitsRows scope graph.content below) where
-    abbrev Fits : List Cell → Type 0
-    Fits row = IsTrue (row_fits scope row)
-
-    p_rows : rows_of graph.content p ≡ filter (keeps graph.content a) (rows_of graph.content below)
-    p_rows = first.rows graph scope good (both_kinded scope a b kinded).0 fits
-
-    p_fits : FitsRows scope graph.content p
-    p_fits = (
-      fits.0 ∙ sym first.as_wide,
-      subst (λ rows. AllByRecursion Fits rows) (sym p_rows) (each_sifted Fits (keeps graph.content a) (rows_of graph.content below) fits.1),
-    )
-
-    abbrev kinded_b : IsKinded scope b
-    kinded_b = (both_kinded scope a b kinded).1
-
-  pub both_filtered : IsFiltered below (binary And a b) made
-  both_filtered = record {
-    as_wide = second.as_wide ∙ first.as_wide;
-    rows = λ graph scope good kinded fits.
-        second.rows graph scope good (kinded_b graph scope good kinded fits) (p_fits graph scope good kinded fits)
-        ∙ ap (filter (keeps graph.content b)) (p_rows graph scope good kinded fits)
-        ∙ sifted_both (keeps graph.content a) (keeps graph.content b) (keeps graph.content (binary And a b)) (keeps_both graph.content a b) (rows_of graph.content below);
-    sure = λ graph scope good kinded fits sure each.
-        let have = both_have graph.content a b (rows_of graph.content below) each in
-        second.sure graph scope good (kinded_b graph scope good kinded fits) (p_fits graph scope good kinded fits)
-        (first.sure graph scope good (both_kinded scope a b kinded).0 fits sure have.0)
-        (subst (λ rows. AllByRecursion (λ row. IsOk (condition_on graph.content b row)) rows) (sym (p_rows graph scope good kinded fits))
-        (each_sifted (λ row. IsOk (condition_on graph.content b row)) (keeps graph.content a) (rows_of graph.content below) have.1));
-    bounded = λ graph scope tables good kinded fits each.
-        second.bounded graph scope tables good (kinded_b graph scope good kinded fits) (p_fits graph scope good kinded fits)
-        (first.bounded graph scope tables good (both_kinded scope a b kinded).0 fits each);
-  }

@@ -1,13 +1,10 @@
 -- What stands in the columns of each part but a few.
-use Rattle.std.proofs.Common.{◌≡◌, ℕ, refl, ap, ◌∙◌}
-use Rattle.std.specs.Prelude.{Some}
+use Rattle.std.proofs.Common.{◌≡◌, ℕ, refl, ◌∙◌}
 use Rattle.std.specs.Option.{option_and_then}
 use Rattle.cy_planner_algebra.specs.declared.operators.Operator.{Operator, roll-Operator}
 use Rattle.cy_planner_algebra.specs.declared.operators.Operator.TheOpen.{Operator-F}
 use Rattle.cy_planner_algebra.specs.declared.operators.Operator.TheVariants.{rolls-Nodes, rolls-Rels, rolls-Join, rolls-Outer, rolls-Lookup, rolls-Project, rolls-Distinct, rolls-Union}
 use Rattle.cy_planner_algebra.specs.Below.{sifted}
-use Rattle.cy_planner_algebra.specs.Plans as plan
-use Rattle.cy_planner_algebra.specs.Plans.{Plan, width}
 use Rattle.cy_planner_algebra.specs.PlanModels.{plan_of}
 use Rattle.cy_planner_algebra.proofs.Layers.{IsNoNodes, IsNoRels, IsNoJoin, IsNoOuter, IsNoLookup, IsNoProject, IsNoDistinct, IsNoUnion, by_layer, plan_from}
 use Rattle.cy_planner_pushdown.specs.internal.Pushed.{kind_at}
@@ -27,21 +24,3 @@ kind_else part column no_nodes no_rels no_join no_outer no_lookup no_project no_
     go (Operator-F.Union left right) is = absurd (no_union left right (is ∙ rolls-Union left right))
     go Operator-F.Unit is = refl
     go _ is = refl
-
-same_plan : (p q : Plan) → Some q ≡ Some p → width p ≡ width q
-same_plan p q is = ap width (let e : p ≡ q = cc in e)
-
--- the rows that a part keeps some of are as wide
-pub sifted_wide : (p q : Plan) → Some q ≡ sifted p → width p ≡ width q
-sifted_wide (plan.semi left right keys keeping) q is = same_plan left q is
-sifted_wide (plan.filter p test) q is = same_plan p q is
-sifted_wide (plan.all_different p columns) q is = same_plan p q is
-sifted_wide plan.unit q is = cc
-sifted_wide plan.nodes q is = cc
-sifted_wide (plan.rels types orientation) q is = cc
-sifted_wide (plan.join left right keys) q is = cc
-sifted_wide (plan.outer left right keys test) q is = cc
-sifted_wide (plan.lookup p column attribute) q is = cc
-sifted_wide (plan.project p outputs) q is = cc
-sifted_wide (plan.distinct p) q is = cc
-sifted_wide (plan.union left right) q is = cc

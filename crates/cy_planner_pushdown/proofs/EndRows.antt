@@ -1,5 +1,5 @@
 -- A condition on the node at an end of relationships, put on the table of nodes, which is joined to them.
-use Rattle.std.proofs.Common.{◌≡◌, ℕ, zero, suc, ◌+◌, ◌≤◌, Bool, true, false, cond, ◌&&◌, List, [], ◌∷◌, ◌++◌, map, filter, take, refl, sym, ap, subst, ◌∙◌, arith, inl}
+use Rattle.std.proofs.Common.{◌≡◌, ℕ, zero, suc, ◌+◌, ◌-◌, ◌<◌, ◌≤◌, Bool, true, false, cond, ◌&&◌, List, [], ◌∷◌, ◌++◌, map, filter, take, refl, sym, ap, subst, ◌∙◌, arith, inl}
 use Rattle.std.specs.Prelude.{◌==◌, IsSome, Option, Some, None, flat_map, is_some, not, slice_get}
 use Rattle.std.specs.FinMap.Entries as entries
 use Rattle.std.specs.List.{All, AllByRecursion, IsDistinct, list_any}
@@ -43,13 +43,13 @@ use Rattle.cy_planner_algebra.specs.Within.{IsWithin}
 use Rattle.cy_planner_algebra.proofs.Counts.{count_cons, count_passing, identity, same}
 use Rattle.cy_planner_algebra.proofs.Widths.{all_made, wide_rows}
 use Rattle.cy_planner_rows.specs.internal.Lookups.{narrowed}
-use Rattle.cy_planner_rows.specs.Rows.{keeps}
 use Rattle.cy_planner_rows.proofs.Lists.{all_of_each, each_of_all}
 use Rattle.cy_planner_rows.proofs.OverRows.{IsLong, cond_less, own_part, parts_narrowed, rows_narrowed, smaller_within, sure_narrowed, width_narrowed}
-use Rattle.cy_planner_pushdown.specs.internal.Conditions.{keeps_cells}
+use Rattle.cy_planner_pushdown.specs.internal.Conditions.{cells_at}
 use Rattle.cy_planner_pushdown.specs.internal.Ends.{IsEnd}
-use Rattle.cy_planner_pushdown.specs.internal.Pushed.{AreDistinct, CanBePushed, IsPushed, kind_at, kind_made, kind_of_rels}
-use Rattle.cy_planner_pushdown.proofs.ColumnKinds.{inside, taken_over}
+use Rattle.cy_planner_pushdown.specs.internal.Pushed.{AreDistinct, CanBePushed, IsSifted, kind_at, kind_made, kind_of_rels}
+use Rattle.cy_planner_pushdown.proofs.ColumnKinds.{each_paired, inside, taken_over}
+use Rattle.cy_planner_pushdown.proofs.SameKinds.{kinds_narrowed}
 
 -- ---- the kind of what stands at an end
 
@@ -57,7 +57,9 @@ pub end_kind : (p : Plan) (column : ℕ) → IsWellFormed p → IsEnd p column �
 end_kind plan.unit column good end = absurd end
 end_kind plan.nodes column good end = absurd end
 end_kind (plan.rels types orientation) column good end = end
-end_kind (plan.join left right keys) column good end = absurd end
+end_kind (plan.join left right keys) column good end =
+    let here : kind_at left column ≡ Some kind.Node = end_kind left column good.0 end in
+    ap (λ b. cond b (kind_at left column) (kind_at right (column - width left))) (lt-ltb column (width left) (inside left column kind.Node good.0 here)) ∙ here
 end_kind (plan.outer left right keys test) column good end = absurd end
 end_kind (plan.semi left right keys keeping) column good end = end_kind left column good.0 end
 end_kind (plan.lookup p other attribute) column good end =
@@ -94,6 +96,13 @@ pub can_nodes : (p : Plan) (column : ℕ) (test : Expression) → IsWellFormed p
 can_nodes p column test good end can = (can.0, ((λ i. sym (end_kind p column good end) i ∷ []) ∙ can.1.0, first_alone), can.2)
 
 -- ---- the nodes that stand at the ends
+
+abbrev anything : List Cell → Type 0
+anything row = Unit {0}
+
+all_anything : (rows : List (List Cell)) → AllByRecursion anything rows
+all_anything [] = tt
+all_anything (row ∷ rows) = (tt, all_anything rows)
 
 -- the cell in the column is a node of the graph
 abbrev IsNodeAt : Content → ℕ → List Cell → Type 0
@@ -145,7 +154,10 @@ module _ (state : State) (is : IsGraph state) where
   ends_at plan.nodes column end = absurd end
   ends_at (plan.rels types orientation) column end =
       all_made HasEnds (At column) (rows_of_rel types orientation) (rel_at_ends types orientation column end) state.content.rels (all_of_each HasEnds state.content.rels is.ends)
-  ends_at (plan.join left right keys) column end = absurd end
+  ends_at (plan.join left right keys) column end =
+      all_of_each (At column) (rows_of state.content (plan.join left right keys))
+      (each_paired (At column) anything (At column) (λ l. filter (meet keys l) (rows_of state.content right)) (λ l. all_anything (filter (meet keys l) (rows_of state.content right)))
+      (λ l r at any. (at.0, longer_row l r column at.0 at.1, at.2)) (rows_of state.content left) (each_of_all (At column) (rows_of state.content left) (ends_at left column end)))
   ends_at (plan.outer left right keys test) column end = absurd end
   ends_at (plan.semi left right keys keeping) column end = All-filter _ (At column) (rows_of state.content left) (ends_at left column end)
   ends_at (plan.lookup p other attribute) column end =
@@ -258,14 +270,15 @@ swapped p q (x ∷ xs) = swap_step p q x xs (p x) (q x) (swapped p q xs) refl re
 abbrev end_key : ℕ → KeyColumns
 end_key column = record { left = column; right = 0 }
 
-pub keys_between : (below : Plan) (column : ℕ) (test : Expression) → IsWellFormed below → IsEnd below column → (table : Plan) → IsPushed plan.nodes (0 ∷ []) test table
+pub keys_between : (below : Plan) (column : ℕ) (passes : Content → List Cell → Bool) → IsWellFormed below → IsEnd below column → (table : Plan) → IsSifted plan.nodes passes table
     → All (IsKeyBetween (width below) (width table)) (end_key column ∷ [])
-keys_between below column test well end table pushed =
+keys_between below column passes well end table pushed =
     let wide : width table ≡ 1 = pushed.as_wide in
     All-cons (IsKeyBetween (width below) (width table)) (end_key column) [] (inside below column kind.Node well (end_kind below column well end), omega (arith, wide)) (All-nil (IsKeyBetween (width below) (width table)))
 
-module _ (below : Plan) (column : ℕ) (test : Expression) (well : IsWellFormed below) (end : IsEnd below column) (nodes : Plan) (nodes_well : IsWellFormed nodes)
-    (pushed : IsPushed plan.nodes (0 ∷ []) test nodes) (room : width below + 1 ≤ greatest_width) where
+-- which cells pass
+module _ (below : Plan) (column : ℕ) (passes : Content → List Cell → Bool) (well : IsWellFormed below) (end : IsEnd below column) (nodes : Plan) (nodes_well : IsWellFormed nodes)
+    (pushed : IsSifted plan.nodes (λ graph row. passes graph (cells_at (0 ∷ []) row)) nodes) (room : width below + 1 ≤ greatest_width) where
   abbrev keys : List KeyColumns
   keys = end_key column ∷ []
 
@@ -276,17 +289,17 @@ module _ (below : Plan) (column : ℕ) (test : Expression) (well : IsWellFormed 
   made = narrowed (width below) join
 
   join_well : IsWellFormed join
-  join_well = let wide : width nodes ≡ 1 = pushed.as_wide in (well, nodes_well, keys_between below column test well end nodes pushed, omega (arith, wide, room))
+  join_well = let wide : width nodes ≡ 1 = pushed.as_wide in (well, nodes_well, keys_between below column (λ graph row. passes graph (cells_at (0 ∷ []) row)) well end nodes pushed, omega (arith, wide, room))
 
   module _ (total : IsTotalOrder row_cmp) (state : State) (is : IsGraph state) where
     abbrev rows : List (List Cell)
     rows = rows_of state.content below
 
     abbrev keep : List Cell → Bool
-    keep = keeps_cells state.content test (column ∷ [])
+    keep row = passes state.content (cells_at (column ∷ []) row)
 
     abbrev keep_node : List Cell → Bool
-    keep_node = keeps_cells state.content test (0 ∷ [])
+    keep_node row = passes state.content (cells_at (0 ∷ []) row)
 
     abbrev extended : List Cell → List Cell
     extended row = row ++ cell_at row column ∷ []
@@ -302,7 +315,7 @@ module _ (below : Plan) (column : ℕ) (test : Expression) (well : IsWellFormed 
         ap (filter (meet keys row)) (pushed.rows state is)
         ∙ swapped (meet keys row) keep_node (map node_row state.content.nodes)
         ∙ ap (filter keep_node) (one_passes id (meet keys row) (meets_node row id at) state.content.nodes is.rising there)
-        ∙ ap (λ (c : Cell). cond (keeps state.content test (c ∷ [])) ((c ∷ []) ∷ []) []) (sym at)
+        ∙ ap (λ (c : Cell). cond (passes state.content (c ∷ [])) ((c ∷ []) ∷ []) []) (sym at)
 
     one_pair : (b : Bool) (row : List Cell) (rest kept : List (List Cell)) → rest ≡ map extended kept
         → paired row (cond b ((cell_at row column ∷ []) ∷ []) []) ++ rest ≡ map extended (cond b (row ∷ kept) kept)
@@ -384,9 +397,13 @@ module _ (below : Plan) (column : ℕ) (test : Expression) (well : IsWellFormed 
         (All-cons (IsWithin state.content tables) join (parts below ++ parts nodes) within (All-append (IsWithin state.content tables) (parts below) (parts nodes) each nodes_each))
         (λ x. smaller_within tables (count_of x (rows_of state.content made)) (count_of x rows) (subst (λ found. count_of x found ≤ count_of x rows) (sym made_rows) (kept_fewer x)) (own x))
 
-  pub by_nodes : IsTotalOrder row_cmp → IsPushed below (column ∷ []) test made
+  same_kinds : (other : ℕ) → other < width below → kind_at join other ≡ kind_at below other
+  same_kinds other less = ap (λ b. cond b (kind_at below other) (kind_at nodes (other - width below))) (lt-ltb other (width below) less)
+
+  pub by_nodes : IsTotalOrder row_cmp → IsSifted below (λ graph row. passes graph (cells_at (column ∷ []) row)) made
   by_nodes total = record {
     as_wide = width_narrowed (width below) join;
+    kinds = kinds_narrowed below join well join_well same_kinds;
     rows = λ graph is. made_rows total graph is;
     sure = λ graph is. made_sure total graph is;
     bounded = λ graph tables is. made_bounded total graph is tables;

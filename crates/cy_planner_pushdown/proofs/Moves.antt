@@ -22,11 +22,9 @@ use Rattle.cy_planner_algebra.specs.Plans.{Plan, Output, width}
 use Rattle.cy_planner_algebra.specs.Expressions.{cell_at, null, projected}
 use Rattle.cy_planner_algebra.specs.Keys.{left_key, meet, right_key}
 use Rattle.cy_planner_algebra.proofs.Counts.{identity}
-use Rattle.cy_planner_pushdown.specs.declared.sides.Way.{Way}
-use Rattle.cy_planner_pushdown.specs.declared.sides.Way.TheVariants as way
 use Rattle.cy_planner_pushdown.specs.internal.Conditions.{cells_at, is_among}
 use Rattle.cy_planner_pushdown.specs.internal.Pushed.{AreDistinct, AreMoved, CanBePushed, Each, IsLeftKey, IsOnLeft, IsOnRight, IsRightKey, IsTakenOver, common_kind, kind_at, kind_in_scope, kind_made}
-use Rattle.cy_planner_pushdown.specs.internal.Ways.{CanGo, IsLeftWay, IsRightWay, IsWay, both_ways}
+use Rattle.cy_planner_pushdown.specs.internal.Ways.{IsLeftWay, IsRightWay, IsWay, both_ways}
 use Rattle.cy_planner_pushdown.proofs.ColumnKinds.{both_kinds, taken_over}
 
 -- ---- one column more
@@ -220,15 +218,10 @@ module _ (test : Expression) where
 
 -- ---- the ways from a join
 
-module _ (left right : Plan) (keys : List KeyColumns) (columns : List ℕ) where
-  pub way_is : (on_left on_right : Option (Vec ℕ Global)) → IsLeftWay left right keys columns on_left → IsRightWay left right keys columns on_right → IsWay left right keys columns (both_ways on_left on_right)
+module _ (left right : Plan) (keys : List KeyColumns) (columns : Vec ℕ Global) where
+  pub way_is : (on_left on_right : Option (Vec ℕ Global)) → IsLeftWay left right keys columns.items on_left → IsRightWay left right keys columns.items on_right
+      → IsWay (both_ways columns on_left on_right) (plan.join left right keys) columns.items
   way_is (Some lefts) (Some rights) here there = (here, there)
   way_is (Some lefts) None here there = here
   way_is None (Some rights) here there = there
-  way_is None None here there = tt
-
-  pub way_can : (test : Expression) (w : Way) → IsWay left right keys columns w → CanBePushed (plan.join left right keys) columns test → CanGo left right test w
-  way_can test (way.Left lefts) is can = can_left test left right keys columns lefts.items is can
-  way_can test (way.Right rights) is can = can_right test left right keys columns rights.items is can
-  way_can test (way.Both lefts rights) is can = (can_left test left right keys columns lefts.items is.0 can, can_right test left right keys columns rights.items is.1 can)
-  way_can test way.Nowhere is can = tt
+  way_is None None here there = refl

@@ -6,8 +6,11 @@ use Rattle.cy_planner_algebra.specs.WellFormed.{IsWellFormed}
 use Rattle.cy_planner_pushdown.specs.declared.above.Above.{Above}
 use Rattle.cy_planner_pushdown.specs.declared.above.Above.TheVariants as above
 use Rattle.cy_planner_pushdown.specs.Above.{placed, placed_over}
-use Rattle.cy_planner_pushdown.specs.internal.Pushed.{CanBePushed, IsPushed}
-use Rattle.cy_planner_pushdown.specs.internal.Steps.{LeadsTo, LeadsToBoth}
+use Rattle.cy_planner_pushdown.specs.declared.ways.Frame.{Frame}
+use Rattle.cy_planner_pushdown.specs.internal.Pushed.{IsSifted}
+use Rattle.cy_planner_pushdown.specs.internal.Steps.{LeadThrough, LeadsTo, Stay}
+use Rattle.cy_planner_pushdown.specs.internal.Tests.{are_true, tests_of}
+use Rattle.cy_planner_pushdown.proofs.SiftedPlans.{passes_alike}
 
 -- one more, below the others
 over_lowest : (parts : List Above) (a : Above) (p : Plan) → placed_over (parts ++ a ∷ []) p ≡ placed_over parts (placed a p)
@@ -31,27 +34,53 @@ well_under (a ∷ parts) p well = well_under parts p (well_below a (placed_over 
 pub well_lowest : (all parts : List Above) (a : Above) (p : Plan) → all ≡ parts ++ a ∷ [] → IsWellFormed (placed_over all p) → IsWellFormed (placed a p)
 well_lowest all parts a p is well = well_under parts (placed a p) (subst IsWellFormed (lowest_off all parts a p is) well)
 
-module _ (whole : Plan) (columns : List ℕ) (test : Expression) where
-  -- nothing stands above yet
-  pub leads_to_itself : IsWellFormed whole → CanBePushed whole columns test → LeadsTo whole columns test whole columns (placed_over [])
-  leads_to_itself good can = record { good = good; can = can; fits = λ p is good. good; pushed = λ p is. is }
+-- ---- what was opened
 
-  module _ (part : Plan) (others : List ℕ) (parts : List Above) (leads : LeadsTo whole columns test part others (placed_over parts)) where
-    -- one part further down
-    pub leads_below : (all : List Above) (a : Above) (below : Plan) (lower : List ℕ) → all ≡ parts ++ a ∷ [] → LeadsTo part others test below lower (placed a) → LeadsTo whole columns test below lower (placed_over all)
-    leads_below all a below lower is next = record {
-      good = next.good;
-      can = next.can;
-      fits = λ p pushed good. subst IsWellFormed (sym (lowest_off all parts a p is)) (leads.fits (placed a p) (next.pushed p pushed) (next.fits p pushed good));
-      pushed = λ p pushed. subst (λ (q : Plan). IsPushed whole columns test q) (sym (lowest_off all parts a p is)) (leads.pushed (placed a p) (next.pushed p pushed));
-    }
+-- one frame more, below the others
+pub one_more : (whole : Plan) (tests : List (List ℕ × Expression)) (frames : List Frame) (part : Plan) (others : List (List ℕ × Expression)) → LeadThrough whole tests frames part others
+    → (f : Frame) (below : Plan) (lower : List (List ℕ × Expression)) → LeadsTo part others below lower (tests_of f.here.items) (placed f.above) → LeadThrough whole tests (frames ++ f ∷ []) below lower
+one_more whole tests [] part others (same, alike) f below lower next = (
+  below,
+  lower,
+  subst (λ (p : Plan). LeadsTo p tests below lower (tests_of f.here.items) (placed f.above)) (sym same)
+      (subst (λ (ts : List (List ℕ × Expression)). LeadsTo part ts below lower (tests_of f.here.items) (placed f.above)) (sym alike) next),
+  (refl, refl),
+)
+one_more whole tests (g ∷ frames) part others (middle, between, leads, rest) f below lower next = (middle, between, leads, one_more middle between frames part others rest f below lower next)
 
--- the right one of two parts is done
-pub leads_left : (whole : Plan) (columns : List ℕ) (test : Expression) (left right : Plan) (lefts rights : List ℕ) (around : Plan → Plan → Plan) (one : Plan → Plan) (done : Plan)
-    → LeadsToBoth whole columns test left lefts right rights around → IsPushed right rights test done → IsWellFormed done → ((p : Plan) → one p ≡ around p done) → LeadsTo whole columns test left lefts one
-leads_left whole columns test left right lefts rights around one done leads there good_right is = record {
-  good = leads.good_left;
-  can = leads.can_left;
-  fits = λ p here good. subst IsWellFormed (sym (is p)) (leads.fits p done here there good good_right);
-  pushed = λ p here. subst (λ (q : Plan). IsPushed whole columns test q) (sym (is p)) (leads.pushed p done here there);
+-- The lowest frame stands on a plan.
+pub record IsLowest (whole : Plan) (tests : List (List ℕ × Expression)) (frames : List Frame) (f : Frame) (part : Plan) (others : List (List ℕ × Expression)) : Type 0 where
+  pub middle : Plan
+  pub between : List (List ℕ × Expression)
+  pub through : LeadThrough whole tests frames middle between
+  pub leads : LeadsTo middle between part others (tests_of f.here.items) (placed f.above)
+
+lowest_of : (whole : Plan) (tests : List (List ℕ × Expression)) (frames : List Frame) (f : Frame) (part : Plan) (others : List (List ℕ × Expression))
+    → LeadThrough whole tests (frames ++ f ∷ []) part others → IsLowest whole tests frames f part others
+lowest_of whole tests [] f part others (middle, between, leads, (same, alike)) = record {
+  middle = whole;
+  between = tests;
+  through = (refl, refl);
+  leads = subst (λ (p : Plan). LeadsTo whole tests p others (tests_of f.here.items) (placed f.above)) same
+      (subst (λ (ts : List (List ℕ × Expression)). LeadsTo whole tests middle ts (tests_of f.here.items) (placed f.above)) alike leads);
 }
+lowest_of whole tests (g ∷ frames) f part others (middle, between, leads, rest) =
+    let low = lowest_of middle between frames f part others rest in
+    record { middle = low.middle; between = low.between; through = (middle, between, leads, low.through); leads = low.leads }
+
+pub lowest : (whole : Plan) (tests : List (List ℕ × Expression)) (all frames : List Frame) (f : Frame) (part : Plan) (others : List (List ℕ × Expression)) → all ≡ frames ++ f ∷ []
+    → LeadThrough whole tests all part others → IsLowest whole tests frames f part others
+lowest whole tests all frames f part others last through =
+    lowest_of whole tests frames f part others (subst (λ (fs : List Frame). LeadThrough whole tests fs part others) last through)
+
+-- none is left
+pub at_the_top : (whole : Plan) (tests : List (List ℕ × Expression)) (frames : List Frame) (part : Plan) (others : List (List ℕ × Expression)) → frames ≡ [] → LeadThrough whole tests frames part others
+    → (p : Plan) → IsSifted part (are_true others) p → IsSifted whole (are_true tests) p
+at_the_top whole tests frames part others none through p is =
+    let same : LeadThrough whole tests [] part others = subst (λ (fs : List Frame). LeadThrough whole tests fs part others) none through in
+    subst (λ (q : Plan). IsSifted q (are_true tests) p) (sym same.0) (subst (λ (ts : List (List ℕ × Expression)). IsSifted part (are_true ts) p) (sym same.1) is)
+
+-- They stay on a plan.
+pub stay_sifted : (whole : Plan) (tests : List (List ℕ × Expression)) (part : Plan) (here : List (List ℕ × Expression)) → Stay whole tests part here → (p : Plan) → IsSifted part (are_true here) p → IsSifted whole (are_true tests) p
+stay_sifted whole tests part here stay p is =
+    passes_alike whole p (are_true here) (are_true tests) (λ graph row. sym (stay.same graph row)) (subst (λ (q : Plan). IsSifted q (are_true here) p) stay.is is)

@@ -1,8 +1,7 @@
 -- A condition on columns of a plan, put on the plan itself; and what it is to the rows.
-use Rattle.std.proofs.Common.{◌≡◌, ℕ, ◌+◌, ◌≤◌, true, List, [], ◌∷◌, ◌++◌, length, map, filter, take, refl, sym, ap, subst, ◌∙◌, arith}
+use Rattle.std.proofs.Common.{◌≡◌, ℕ, ◌+◌, ◌≤◌, true, List, [], length, map, filter, take, sym, ap, subst, ◌∙◌, arith}
 use Rattle.std.specs.Prelude.{IsOk, Result}
 use Rattle.std.specs.List.{All, AllByRecursion}
-use Rattle.std.proofs.lemmas.List.{get_or-append-add}
 use Rattle.std.proofs.lemmas.List.Elements.{All-cons}
 use Rattle.std.proofs.Math.Seq.{take-append_seam}
 use Rattle.cy_values.specs.declared.rows.Cell.{Cell}
@@ -20,7 +19,7 @@ use Rattle.cy_expr.specs.Operators.{value_in_cell}
 use Rattle.cy_expr.specs.Reading.{reads_below}
 use Rattle.cy_planner_algebra.specs.Plans as plan
 use Rattle.cy_planner_algebra.specs.Plans.{Plan, width}
-use Rattle.cy_planner_algebra.specs.Expressions.{holds, is_true, null, truth_on}
+use Rattle.cy_planner_algebra.specs.Expressions.{holds, is_true, truth_on}
 use Rattle.cy_planner_algebra.specs.Meaning.{rows_of}
 use Rattle.cy_planner_algebra.specs.Parts.{parts}
 use Rattle.cy_planner_algebra.specs.Sure.{HasTruth, IsSureOn}
@@ -34,14 +33,14 @@ use Rattle.cy_planner_rows.specs.Renumbered.{renumbered}
 use Rattle.cy_planner_rows.proofs.RenumberedLemmas.{same_cell}
 use Rattle.cy_planner_rows.specs.internal.Asked.{asked, wanted_of}
 use Rattle.cy_planner_rows.specs.internal.Lookups.{narrowed, over, with_values}
-use Rattle.cy_planner_rows.specs.Rows.{IsFiltered, condition_on, keeps}
+use Rattle.cy_planner_rows.specs.Rows.{condition_on}
 use Rattle.cy_planner_rows.proofs.Filtered.{same_value, wanted_inside}
 use Rattle.cy_planner_rows.proofs.Lists.{all_of_each, each_both_of, each_mapped, sifted_same}
 use Rattle.cy_planner_rows.proofs.OverRows.{cond_less, filter_within, long_rows, own_part, parts_narrowed, parts_over, rows_narrowed, rows_over, smaller_within, sure_narrowed, sure_over, width_narrowed, width_over, within_over}
 use Rattle.cy_planner_rows.proofs.Placed.{asked_among}
-use Rattle.cy_planner_pushdown.specs.After.{IsKept}
-use Rattle.cy_planner_pushdown.specs.internal.Conditions.{IsOnCells, cells_at, keeps_cells}
+use Rattle.cy_planner_pushdown.specs.internal.Conditions.{cells_at, keeps_cells}
 use Rattle.cy_planner_pushdown.specs.internal.Pushed.{CanBePushed, IsPushed}
+use Rattle.cy_planner_pushdown.proofs.SameKinds.{kinds_narrowed, kinds_over}
 use Rattle.cy_planner_pushdown.proofs.Spread.{all_fit, as_many, read_over, row_spread, spread, spread_kinded, spread_wide}
 
 module _ (below : Plan) (columns : List ℕ) (test : Expression) (well : IsWellFormed below) (can : CanBePushed below columns test) where
@@ -117,46 +116,8 @@ module _ (below : Plan) (columns : List ℕ) (test : Expression) (well : IsWellF
   pub sifted : width below + length wanted ≤ greatest_width → IsWellFormed kept → IsPushed below columns test made
   sifted room is_well = record {
     as_wide = width_narrowed (width below) kept;
+    kinds = kinds_narrowed below kept well is_well (kinds_over below wanted);
     rows = λ graph is. sifted_rows room graph is is_well;
     sure = λ graph is. sifted_sure room graph is is_well;
     bounded = λ graph tables is. sifted_bounded room graph is is_well tables;
   }
-
--- ---- the condition on rows
-
-none_before : (columns : List ℕ) → map (λ n. 0 + n) columns ≡ columns
-none_before [] = refl
-none_before (c ∷ columns) = λ i. (let e : 0 + c ≡ c = omega arith in e) i ∷ none_before columns i
-
--- with no columns before
-pub from_first : (test : Expression) (columns : List ℕ) (cells_test : Expression) → IsOnCells test (map (λ n. 0 + n) columns) cells_test → IsOnCells test columns cells_test
-from_first test columns cells_test same = subst (λ cs. IsOnCells test cs cells_test) (none_before columns) same
-
-pub pushed_filters : (below : Plan) (test : Expression) (columns : List ℕ) (cells_test : Expression) → IsOnCells test columns cells_test → (p : Plan) → IsPushed below columns cells_test p → IsFiltered below test p
-pushed_filters below test columns cells_test same p pushed = record {
-  as_wide = pushed.as_wide;
-  rows = λ graph scope good kinded fits. pushed.rows graph good ∙ (λ i. filter (λ row. sym (same graph.content row) i) (rows_of graph.content below));
-  sure = λ graph scope good kinded fits sure each. pushed.sure graph good sure;
-  bounded = λ graph scope tables good kinded fits each. pushed.bounded graph tables good each;
-}
-
--- ---- the condition on longer rows
-
--- columns after others
-cells_after : (left row : List Cell) (columns : List ℕ) → cells_at (map (λ n. length left + n) columns) (left ++ row) ≡ cells_at columns row
-cells_after left row [] = refl
-cells_after left row (c ∷ columns) = λ i. get_or-append-add left row c null i ∷ cells_after left row columns i
-
-pub pushed_keeps : (before : ℕ) (below : Plan) (test : Expression) (columns : List ℕ) (cells_test : Expression) → IsOnCells test (map (λ n. before + n) columns) cells_test
-    → (p : Plan) → IsPushed below columns cells_test p → IsKept before below test p
-pushed_keeps before below test columns cells_test same p pushed = record {
-  as_wide = pushed.as_wide;
-  holds = λ graph. keeps_cells graph cells_test columns;
-  same = λ graph left row long.
-      same graph (left ++ row)
-      ∙ ap (λ n. keeps graph cells_test (cells_at (map (λ k. n + k) columns) (left ++ row))) (sym long)
-      ∙ ap (keeps graph cells_test) (cells_after left row columns);
-  rows = pushed.rows;
-  sure = pushed.sure;
-  bounded = pushed.bounded;
-}

@@ -1,146 +1,200 @@
--- A condition goes on in the parts below: part by part.
-use Rattle.std.proofs.Common.{◌≡◌, ℕ, ◌+◌, ◌≤◌, true, List, sym, subst, ◌∙◌}
-use Rattle.std.specs.Prelude.{nat_lt}
-use Rattle.std.specs.List.{All, list_all}
+-- Conditions go on in the inputs of an operator, and what stands around these is put around what was made of them.
+use Rattle.std.proofs.Common.{◌≡◌, ℕ, ◌+◌, ◌≤◌, true, ◌&&◌, List, [], ◌∷◌, map, refl, sym, ap, subst, ◌∙◌}
+use Rattle.std.specs.List.{All}
+use Rattle.std.specs.declared.alloc.Global.{Global}
+use Rattle.std.specs.declared.vec.Vec.{Vec}
+use Rattle.cy_values.specs.declared.rows.Cell.{Cell}
 use Rattle.cy_trees.specs.Trees.{Expression}
+use Rattle.cy_graph.specs.Graph.{Content}
 use Rattle.cy_planner_algebra.specs.declared.operators.Attribute.{Attribute}
 use Rattle.cy_planner_algebra.specs.declared.operators.Keeping.{Keeping}
 use Rattle.cy_planner_algebra.specs.declared.operators.KeyColumns.{KeyColumns}
 use Rattle.cy_planner_algebra.specs.Plans as plan
 use Rattle.cy_planner_algebra.specs.Plans.{Plan, Output, width}
+use Rattle.cy_planner_algebra.specs.PlanModels.{plan_of}
 use Rattle.cy_planner_algebra.specs.WellFormed.{IsColumn, IsKeyBetween, IsOutputOver, IsOver, IsWellFormed, greatest_width}
-use Rattle.cy_planner_pushdown.specs.internal.Pushed.{AreMoved, CanBePushed, IsOnLeft, IsOnRight, IsTakenOver}
-use Rattle.cy_planner_pushdown.specs.internal.Steps.{LeadsTo, LeadsToBoth}
-use Rattle.cy_planner_pushdown.proofs.Moves.{can_left, can_lookup, can_outer, can_project, can_right, can_union, cells_left, cells_right}
-use Rattle.cy_planner_pushdown.proofs.PushedPlans.{pushed_different, pushed_distinct, pushed_filter, pushed_join_both, pushed_join_left, pushed_join_right, pushed_lookup, pushed_outer, pushed_project, pushed_semi, pushed_union}
+use Rattle.cy_planner_pushdown.specs.declared.above.Above.{Above}
+use Rattle.cy_planner_pushdown.specs.declared.splits.Split.{Split}
+use Rattle.cy_planner_pushdown.specs.declared.ways.Step.{Step}
+use Rattle.cy_planner_pushdown.specs.declared.ways.Step.TheVariants as step
+use Rattle.cy_planner_pushdown.specs.declared.tests.CellsTest.{CellsTest}
+use Rattle.cy_planner_pushdown.specs.Above.{placed}
+use Rattle.cy_planner_pushdown.specs.internal.Pushed.{IsSifted, kind_at}
+use Rattle.cy_planner_pushdown.specs.internal.Splits.{IsSplit, Tests}
+use Rattle.cy_planner_pushdown.specs.internal.Steps.{IsBelow, IsStep, LeadsTo, LeadsToBoth, Stay}
+use Rattle.cy_planner_pushdown.specs.internal.Tests.{CanAllBePushed, are_true, tests_of}
+use Rattle.cy_planner_pushdown.proofs.SiftedPlans.{passes_alike, sifted_after, sifted_different, sifted_distinct, sifted_filter, sifted_itself, sifted_join, sifted_lookup, sifted_outer, sifted_project, sifted_semi, sifted_union}
 
-module _ (test : Expression) (columns : List ℕ) where
-  -- ---- one part below
+-- where columns show the same kinds
+pub can_alike : (p q : Plan) → ((column : ℕ) → kind_at q column ≡ kind_at p column) → (tests : List (List ℕ × Expression)) → CanAllBePushed p tests → CanAllBePushed q tests
+can_alike p q same [] each = tt
+can_alike p q same (t ∷ tests) each =
+    ((each.0.0, ((λ i. map (λ c. same c i) t.0) ∙ each.0.1.0, each.0.1.1), each.0.2), can_alike p q same tests each.1)
+
+module _ (whole : Plan) (tests : List (List ℕ × Expression)) (ts : Tests) (split : IsSplit whole tests [] ts) where
+  can_stay : (p : Plan) → IsSifted whole split.moving p → CanAllBePushed p ts.here
+  can_stay p moved = can_alike whole p moved.kinds ts.here split.can_here
+
+  all_put : (p q : Plan) → IsSifted whole split.moving p → IsSifted p (are_true ts.here) q → IsSifted whole (are_true tests) q
+  all_put p q moved stay =
+      passes_alike whole q (λ graph row. split.moving graph row && are_true ts.here graph row) (are_true tests) split.same
+      (sifted_after whole p q split.moving (are_true ts.here) moved stay)
+
+  leads : (part : Plan) (others : List (List ℕ × Expression)) (around : Plan → Plan) → IsWellFormed part → CanAllBePushed part others
+      → ((p : Plan) → IsSifted part (are_true others) p → IsWellFormed p → IsWellFormed (around p))
+      → ((p : Plan) → IsSifted part (are_true others) p → IsSifted whole split.moving (around p))
+      → LeadsTo whole tests part others ts.here around
+  leads part others around good can fits moved = record {
+    good = good;
+    can = can;
+    fits = fits;
+    can_here = λ p is. can_stay (around p) (moved p is);
+    sifted = λ p q is stay. all_put (around p) q (moved p is) stay;
+  }
+
+  leads_both : (left right : Plan) (around : Plan → Plan → Plan) → IsWellFormed left → IsWellFormed right → CanAllBePushed left ts.first → CanAllBePushed right ts.second
+      → ((p q : Plan) → IsSifted left (are_true ts.first) p → IsSifted right (are_true ts.second) q → IsWellFormed p → IsWellFormed q → IsWellFormed (around p q))
+      → ((p q : Plan) → IsSifted left (are_true ts.first) p → IsSifted right (are_true ts.second) q → IsSifted whole split.moving (around p q))
+      → LeadsToBoth whole tests left ts.first right ts.second ts.here around
+  leads_both left right around good_left good_right can_left can_right fits moved = record {
+    good_left = good_left;
+    good_right = good_right;
+    can_left = can_left;
+    can_right = can_right;
+    fits = fits;
+    can_here = λ p q here there. can_stay (around p q) (moved p q here there);
+    sifted = λ p q r here there stay. all_put (around p q) r (moved p q here there) stay;
+  }
+
+  -- nothing moves
+  pub all_stay : (part : Plan) → part ≡ whole → ((graph : Content) (row : List Cell) → split.moving graph row ≡ true) → Stay whole tests part ts.here
+  all_stay part is still = record {
+    is = is;
+    can = split.can_here;
+    same = λ graph row. sym (split.same graph row ∙ ap (λ b. b && are_true ts.here graph row) (still graph row));
+  }
+
+module _ (tests : List (List ℕ × Expression)) (ts : Tests) where
+  -- ---- one operator below
 
   module _ (below : Plan) where
-    pub into_filter : (condition : Expression) → IsWellFormed (plan.filter below condition) → CanBePushed (plan.filter below condition) columns test
-        → LeadsTo (plan.filter below condition) columns test below columns (λ p. plan.filter p condition)
-    into_filter condition well can = record {
-      good = well.0;
-      can = can;
-      fits = λ p is good. (good, subst (λ (n : ℕ). IsOver n condition) (sym is.as_wide) well.1);
-      pushed = λ p is. pushed_filter test below p columns is condition;
-    }
+    pub into_filter : (condition : Expression) → IsWellFormed (plan.filter below condition) → IsSplit (plan.filter below condition) tests [] ts
+        → LeadsTo (plan.filter below condition) tests below ts.first ts.here (λ p. plan.filter p condition)
+    into_filter condition well split =
+        leads (plan.filter below condition) tests ts split below ts.first (λ p. plan.filter p condition) well.0 split.can_first
+        (λ p is good. (good, subst (λ (n : ℕ). IsOver n condition) (sym is.as_wide) well.1))
+        (λ p is. sifted_filter below p split.moving (passes_alike below p (are_true ts.first) split.moving split.agree is) condition)
 
-    pub into_different : (others : List ℕ) → IsWellFormed (plan.all_different below others) → CanBePushed (plan.all_different below others) columns test
-        → LeadsTo (plan.all_different below others) columns test below columns (λ p. plan.all_different p others)
-    into_different others well can = record {
-      good = well.0;
-      can = can;
-      fits = λ p is good. (good, subst (λ (n : ℕ). All (IsColumn n) others) (sym is.as_wide) well.1);
-      pushed = λ p is. pushed_different test below p columns is others;
-    }
+    pub into_different : (others : List ℕ) → IsWellFormed (plan.all_different below others) → IsSplit (plan.all_different below others) tests [] ts
+        → LeadsTo (plan.all_different below others) tests below ts.first ts.here (λ p. plan.all_different p others)
+    into_different others well split =
+        leads (plan.all_different below others) tests ts split below ts.first (λ p. plan.all_different p others) well.0 split.can_first
+        (λ p is good. (good, subst (λ (n : ℕ). All (IsColumn n) others) (sym is.as_wide) well.1))
+        (λ p is. sifted_different below p split.moving (passes_alike below p (are_true ts.first) split.moving split.agree is) others)
 
-    pub into_distinct : IsWellFormed (plan.distinct below) → CanBePushed (plan.distinct below) columns test → LeadsTo (plan.distinct below) columns test below columns plan.distinct
-    into_distinct well can = record {
-      good = well;
-      can = can;
-      fits = λ p is good. good;
-      pushed = λ p is. pushed_distinct test below p columns is;
-    }
+    pub into_distinct : IsWellFormed (plan.distinct below) → IsSplit (plan.distinct below) tests [] ts → LeadsTo (plan.distinct below) tests below ts.first ts.here plan.distinct
+    into_distinct well split =
+        leads (plan.distinct below) tests ts split below ts.first plan.distinct well split.can_first
+        (λ p is good. good)
+        (λ p is. sifted_distinct below p split.moving (passes_alike below p (are_true ts.first) split.moving split.agree is))
 
-    pub into_lookup : (at : ℕ) (attribute : Attribute) → list_all (λ c. nat_lt c (width below)) columns ≡ true → IsWellFormed (plan.lookup below at attribute) → CanBePushed (plan.lookup below at attribute) columns test
-        → LeadsTo (plan.lookup below at attribute) columns test below columns (λ p. plan.lookup p at attribute)
-    into_lookup at attribute less well can = record {
-      good = well.0;
-      can = can_lookup test below at attribute columns less can;
-      fits = λ p is good. (good, subst (λ (n : ℕ). IsColumn n at) (sym is.as_wide) well.1, subst (λ (n : ℕ). n + 1 ≤ greatest_width) (sym is.as_wide) well.2);
-      pushed = λ p is. pushed_lookup test below p columns is well.0 less at attribute;
-    }
+    pub into_lookup : (at : ℕ) (attribute : Attribute) → IsWellFormed (plan.lookup below at attribute) → IsSplit (plan.lookup below at attribute) tests [] ts
+        → LeadsTo (plan.lookup below at attribute) tests below ts.first ts.here (λ p. plan.lookup p at attribute)
+    into_lookup at attribute well split =
+        leads (plan.lookup below at attribute) tests ts split below ts.first (λ p. plan.lookup p at attribute) well.0 split.can_first
+        (λ p is good. (good, subst (λ (n : ℕ). IsColumn n at) (sym is.as_wide) well.1, subst (λ (n : ℕ). n + 1 ≤ greatest_width) (sym is.as_wide) well.2))
+        (λ p is. sifted_lookup below p (are_true ts.first) split.moving is well.0 at attribute split.agree)
 
-    pub into_project : (outputs : List Output) (others : List ℕ) → AreMoved (IsTakenOver outputs) columns others → IsWellFormed (plan.project below outputs) → CanBePushed (plan.project below outputs) columns test
-        → LeadsTo (plan.project below outputs) columns test below others (λ p. plan.project p outputs)
-    into_project outputs others moved well can = record {
-      good = well.0;
-      can = can_project test below outputs columns others moved can;
-      fits = λ p is good. (good, subst (λ (n : ℕ). All (IsOutputOver n) outputs) (sym is.as_wide) well.1, well.2);
-      pushed = λ p is. pushed_project test below p outputs columns others moved.0 is;
-    }
+    pub into_project : (outputs : List Output) → IsWellFormed (plan.project below outputs) → IsSplit (plan.project below outputs) tests [] ts
+        → LeadsTo (plan.project below outputs) tests below ts.first ts.here (λ p. plan.project p outputs)
+    into_project outputs well split =
+        leads (plan.project below outputs) tests ts split below ts.first (λ p. plan.project p outputs) well.0 split.can_first
+        (λ p is good. (good, subst (λ (n : ℕ). All (IsOutputOver n) outputs) (sym is.as_wide) well.1, well.2))
+        (λ p is. sifted_project below p (are_true ts.first) split.moving is outputs split.agree)
 
-  -- ---- two parts below
+  -- ---- two operators below
 
   module _ (left right : Plan) where
-    pub into_semi : (keys : List KeyColumns) (keeping : Keeping) → IsWellFormed (plan.semi left right keys keeping) → CanBePushed (plan.semi left right keys keeping) columns test
-        → LeadsTo (plan.semi left right keys keeping) columns test left columns (λ p. plan.semi p right keys keeping)
-    into_semi keys keeping well can = record {
-      good = well.0;
-      can = can;
-      fits = λ p is good. (good, well.1, subst (λ (n : ℕ). All (IsKeyBetween n (width right)) keys) (sym is.as_wide) well.2);
-      pushed = λ p is. pushed_semi test left right p columns is keys keeping;
-    }
+    pub into_semi : (keys : List KeyColumns) (keeping : Keeping) → IsWellFormed (plan.semi left right keys keeping) → IsSplit (plan.semi left right keys keeping) tests [] ts
+        → LeadsTo (plan.semi left right keys keeping) tests left ts.first ts.here (λ p. plan.semi p right keys keeping)
+    into_semi keys keeping well split =
+        leads (plan.semi left right keys keeping) tests ts split left ts.first (λ p. plan.semi p right keys keeping) well.0 split.can_first
+        (λ p is good. (good, well.1, subst (λ (n : ℕ). All (IsKeyBetween n (width right)) keys) (sym is.as_wide) well.2))
+        (λ p is. sifted_semi left right p split.moving (passes_alike left p (are_true ts.first) split.moving split.agree is) keys keeping)
 
-    pub into_outer : (keys : List KeyColumns) (predicate : Expression) → list_all (λ c. nat_lt c (width left)) columns ≡ true → IsWellFormed (plan.outer left right keys predicate)
-        → CanBePushed (plan.outer left right keys predicate) columns test → LeadsTo (plan.outer left right keys predicate) columns test left columns (λ p. plan.outer p right keys predicate)
-    into_outer keys predicate less well can = record {
-      good = well.0;
-      can = can_outer test left right keys predicate columns less can;
-      fits = λ p is good. (
-        good,
-        well.1,
-        subst (λ (n : ℕ). All (IsKeyBetween n (width right)) keys) (sym is.as_wide) well.2,
-        subst (λ (n : ℕ). n + width right ≤ greatest_width) (sym is.as_wide) well.3,
-        subst (λ (n : ℕ). IsOver (n + width right) predicate) (sym is.as_wide) well.4,
-      );
-      pushed = λ p is. pushed_outer test left right p columns well.0 less is keys predicate;
-    }
-
-    module _ (keys : List KeyColumns) (well : IsWellFormed (plan.join left right keys)) (can : CanBePushed (plan.join left right keys) columns test) where
-      pub into_left : (lefts : List ℕ) → AreMoved (IsOnLeft left right keys) columns lefts → LeadsTo (plan.join left right keys) columns test left lefts (λ p. plan.join p right keys)
-      into_left lefts moved = record {
-        good = well.0;
-        can = can_left test left right keys columns lefts moved can;
-        fits = λ p is good. (
+    pub into_outer : (keys : List KeyColumns) (predicate : Expression) → IsWellFormed (plan.outer left right keys predicate) → IsSplit (plan.outer left right keys predicate) tests [] ts
+        → LeadsTo (plan.outer left right keys predicate) tests left ts.first ts.here (λ p. plan.outer p right keys predicate)
+    into_outer keys predicate well split =
+        leads (plan.outer left right keys predicate) tests ts split left ts.first (λ p. plan.outer p right keys predicate) well.0 split.can_first
+        (λ p is good. (
           good,
           well.1,
           subst (λ (n : ℕ). All (IsKeyBetween n (width right)) keys) (sym is.as_wide) well.2,
           subst (λ (n : ℕ). n + width right ≤ greatest_width) (sym is.as_wide) well.3,
-        );
-        pushed = λ p is. pushed_join_left test left right p keys columns lefts well.0 (cells_left test left right keys columns lefts moved) is;
-      }
+          subst (λ (n : ℕ). IsOver (n + width right) predicate) (sym is.as_wide) well.4,
+        ))
+        (λ p is. sifted_outer left right p (are_true ts.first) split.moving well.0 split.agree is keys predicate)
 
-      pub into_right : (rights : List ℕ) → AreMoved (IsOnRight left right keys) columns rights → LeadsTo (plan.join left right keys) columns test right rights (λ p. plan.join left p keys)
-      into_right rights moved = record {
-        good = well.1;
-        can = can_right test left right keys columns rights moved can;
-        fits = λ p is good. (
-          well.0,
-          good,
-          subst (λ (n : ℕ). All (IsKeyBetween (width left) n) keys) (sym is.as_wide) well.2,
-          subst (λ (n : ℕ). width left + n ≤ greatest_width) (sym is.as_wide) well.3,
-        );
-        pushed = λ p is. pushed_join_right test left right p keys columns rights well.0 (cells_right test left right keys columns rights moved) is;
-      }
+    module _ (keys : List KeyColumns) (well : IsWellFormed (plan.join left right keys)) (split : IsSplit (plan.join left right keys) tests [] ts) where
+      joined : (p q : Plan) → IsSifted left (are_true ts.first) p → IsSifted right (are_true ts.second) q → IsSifted (plan.join left right keys) split.moving (plan.join p q keys)
+      joined p q here there = sifted_join left right p q keys (are_true ts.first) (are_true ts.second) split.moving well.0 split.agree here there
 
-      pub into_both : (lefts rights : List ℕ) → AreMoved (IsOnLeft left right keys) columns lefts → AreMoved (IsOnRight left right keys) columns rights
-          → LeadsToBoth (plan.join left right keys) columns test left lefts right rights (λ p q. plan.join p q keys)
-      into_both lefts rights moved_left moved_right = record {
-        good_left = well.0;
-        good_right = well.1;
-        can_left = can_left test left right keys columns lefts moved_left can;
-        can_right = can_right test left right keys columns rights moved_right can;
-        fits = λ p q here there good_left good_right. (
-          good_left,
-          good_right,
-          subst (λ (n : ℕ). All (IsKeyBetween n (width q)) keys) (sym here.as_wide) (subst (λ (n : ℕ). All (IsKeyBetween (width left) n) keys) (sym there.as_wide) well.2),
-          subst (λ (n : ℕ). n + width q ≤ greatest_width) (sym here.as_wide) (subst (λ (n : ℕ). width left + n ≤ greatest_width) (sym there.as_wide) well.3),
-        );
-        pushed = λ p q here there.
-            pushed_join_both test left right p q keys columns lefts rights well.0 (cells_left test left right keys columns lefts moved_left) (cells_right test left right keys columns rights moved_right) here there;
-      }
+      fit : (p q : Plan) → width p ≡ width left → width q ≡ width right → IsWellFormed p → IsWellFormed q → IsWellFormed (plan.join p q keys)
+      fit p q here there good_left good_right = (
+        good_left,
+        good_right,
+        subst (λ (n : ℕ). All (IsKeyBetween n (width q)) keys) (sym here) (subst (λ (n : ℕ). All (IsKeyBetween (width left) n) keys) (sym there) well.2),
+        subst (λ (n : ℕ). n + width q ≤ greatest_width) (sym here) (subst (λ (n : ℕ). width left + n ≤ greatest_width) (sym there) well.3),
+      )
 
-    pub into_union : IsWellFormed (plan.union left right) → CanBePushed (plan.union left right) columns test → LeadsToBoth (plan.union left right) columns test left columns right columns plan.union
-    into_union well can =
-        let both = can_union test left right columns can in
-        record {
-          good_left = well.0;
-          good_right = well.1;
-          can_left = both.0;
-          can_right = both.1;
-          fits = λ p q here there good_left good_right. (good_left, good_right, here.as_wide ∙ well.2 ∙ sym there.as_wide);
-          pushed = λ p q here there. pushed_union test left right p q columns here there;
-        }
+      nothing : (p : Plan) (others : List (List ℕ × Expression)) → others ≡ [] → IsSifted p (are_true others) p
+      nothing p others is = subst (λ (os : List (List ℕ × Expression)). IsSifted p (are_true os) p) (sym is) (sifted_itself p)
+
+      pub into_left : ts.second ≡ [] → LeadsTo (plan.join left right keys) tests left ts.first ts.here (λ p. plan.join p right keys)
+      into_left none =
+          leads (plan.join left right keys) tests ts split left ts.first (λ p. plan.join p right keys) well.0 split.can_first
+          (λ p is good. fit p right is.as_wide refl good well.1)
+          (λ p is. joined p right is (nothing right ts.second none))
+
+      pub into_right : ts.first ≡ [] → LeadsTo (plan.join left right keys) tests right ts.second ts.here (λ p. plan.join left p keys)
+      into_right none =
+          leads (plan.join left right keys) tests ts split right ts.second (λ p. plan.join left p keys) well.1 split.can_second
+          (λ p is good. fit left p refl is.as_wide well.0 good)
+          (λ p is. joined left p (nothing left ts.first none) is)
+
+      pub into_both : LeadsToBoth (plan.join left right keys) tests left ts.first right ts.second ts.here (λ p q. plan.join p q keys)
+      into_both =
+          leads_both (plan.join left right keys) tests ts split left right (λ p q. plan.join p q keys) well.0 well.1 split.can_first split.can_second
+          (λ p q here there good_left good_right. fit p q here.as_wide there.as_wide good_left good_right)
+          joined
+
+    pub into_union : IsWellFormed (plan.union left right) → IsSplit (plan.union left right) tests [] ts → LeadsToBoth (plan.union left right) tests left ts.first right ts.second ts.here plan.union
+    into_union well split =
+        leads_both (plan.union left right) tests ts split left right plan.union well.0 well.1 split.can_first split.can_second
+        (λ p q here there good_left good_right. (good_left, good_right, here.as_wide ∙ well.2 ∙ sym there.as_wide))
+        (λ p q here there.
+        sifted_union left right p q split.moving
+        (passes_alike left p (are_true ts.first) split.moving (λ graph row. (split.agree graph row).0) here)
+        (passes_alike right q (are_true ts.second) split.moving (λ graph row. (split.agree graph row).1) there))
+
+-- the right one of two operators is done
+pub leads_left : (whole : Plan) (tests : List (List ℕ × Expression)) (left right : Plan) (lefts rights here : List (List ℕ × Expression)) (around : Plan → Plan → Plan) (one : Plan → Plan) (done : Plan)
+    → LeadsToBoth whole tests left lefts right rights here around → IsSifted right (are_true rights) done → IsWellFormed done → ((p : Plan) → one p ≡ around p done) → LeadsTo whole tests left lefts here one
+leads_left whole tests left right lefts rights here around one done leads there good_right is = record {
+  good = leads.good_left;
+  can = leads.can_left;
+  fits = λ p is_sifted good. subst IsWellFormed (sym (is p)) (leads.fits p done is_sifted there good good_right);
+  can_here = λ p is_sifted. subst (λ (q : Plan). CanAllBePushed q here) (sym (is p)) (leads.can_here p done is_sifted there);
+  sifted = λ p q is_sifted stay. leads.sifted p done q is_sifted there (subst (λ (r : Plan). IsSifted r (are_true here) q) (is p) stay);
+}
+
+-- they go on below what stands above
+pub steps_below : (whole : Plan) (tests : List (List ℕ × Expression)) (a : Above) (p : Plan) (split : Split) (result : Step) → IsBelow a p split result
+    → LeadsTo whole tests p (tests_of split.first.items) (tests_of split.here.items) (placed a) → IsStep whole tests result
+steps_below whole tests a p split (step.Here part here) is leads = absurd is
+steps_below whole tests a p split (step.Below frame place) is leads =
+    subst (λ (b : Above). LeadsTo whole tests (plan_of place.part) (tests_of place.tests.items) (tests_of frame.here.items) (placed b)) (sym is.0)
+    (subst (λ (h : Vec CellsTest Global). LeadsTo whole tests (plan_of place.part) (tests_of place.tests.items) (tests_of h.items) (placed a)) (sym is.1)
+    (subst (λ (q : Plan). LeadsTo whole tests q (tests_of place.tests.items) (tests_of split.here.items) (placed a)) (sym is.2)
+    (subst (λ (h : Vec CellsTest Global). LeadsTo whole tests p (tests_of h.items) (tests_of split.here.items) (placed a)) (sym is.3) leads)))
+steps_below whole tests a p split (step.Both pair here left right) is leads = absurd is

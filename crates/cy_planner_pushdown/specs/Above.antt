@@ -6,8 +6,6 @@ use Rattle.cy_planner_algebra.specs.Plans.{Plan}
 use Rattle.cy_planner_algebra.specs.PlanModels.{output_of, plan_of}
 use Rattle.cy_planner_pushdown.specs.declared.above.Above.{Above}
 use Rattle.cy_planner_pushdown.specs.declared.above.Above.TheVariants as above
-use Rattle.cy_planner_pushdown.specs.declared.above.Pair.{Pair}
-use Rattle.cy_planner_pushdown.specs.declared.above.Pair.TheVariants as pair
 
 -- an operator over a plan
 abbrev pub placed : Above → Plan → Plan
@@ -26,8 +24,3 @@ placed (above.Union right) p = plan.union p (plan_of right)
 abbrev pub placed_over : List Above → Plan → Plan
 placed_over [] p = p
 placed_over (a ∷ others) p = placed a (placed_over others p)
-
--- two plans together
-abbrev pub paired : Pair → Plan → Plan → Plan
-paired (pair.Join keys) left right = plan.join left right keys.items
-paired pair.Union left right = plan.union left right

@@ -1,7 +1,13 @@
 -- What private functions and proofs need.
 pub mod Conditions
 pub mod Pushed
-pub mod Steps
+pub mod Sources
+pub mod Tests
 pub mod Ways
+pub mod Splits
+pub mod Steps
+pub mod Sifting
+pub mod Finding
 pub mod Ends
+pub mod Pairs
 pub mod Inputs

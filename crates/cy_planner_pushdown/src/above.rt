@@ -5,6 +5,7 @@ ghost use Rattle.cy_planner_algebra.specs.Plans as plan;
 ghost use Rattle.cy_planner_algebra.specs.PlanModels.{plan_of};
 ghost use Rattle.cy_planner_algebra.specs.WellFormed.{IsWellFormed};
 ghost use Rattle.cy_planner_pushdown.specs.Above as spec;
+ghost use Rattle.cy_planner_pushdown.specs.internal.Pairs.{paired};
 
 use cy_planner_algebra::{Attribute, Keeping, KeyColumns, Output, Plan};
 use cy_trees::Expr;
@@ -40,7 +41,7 @@ pub(crate) enum Pair {
 
 /// What stands above the left input, where the right one is done.
 pub(crate) fn above_left(pair: Pair, right: Plan) -> Above
-    ensures { (left : plan.Plan) → spec.placed result left ≡ spec.paired pair left (plan_of right) }
+    ensures { (left : plan.Plan) → spec.placed result left ≡ paired pair left (plan_of right) }
 {
     match pair {
         Pair::Join(keys) => Above::JoinLeft(right, keys),
@@ -48,8 +49,8 @@ pub(crate) fn above_left(pair: Pair, right: Plan) -> Above
     }
 }
 
-/// An operator over a plan.
-fn placed(alloc: Global, below: Plan, above: Above) -> Result<Plan, Fault>
+/// An operator over a plan. Fails only when out of memory.
+pub(crate) fn placed(alloc: Global, below: Plan, above: Above) -> Result<Plan, Fault>
     requires { IsWellFormed (spec.placed above (plan_of below)) }
     ensures { IfOk result (λ p. plan_of p ≡ spec.placed above (plan_of below)) }
 {

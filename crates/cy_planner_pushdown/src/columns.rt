@@ -9,10 +9,11 @@ ghost use Rattle.cy_planner_algebra.specs.WellFormed.{IsWellFormed};
 ghost use Rattle.cy_planner_pushdown.specs.internal.Conditions as conditions;
 ghost use Rattle.cy_planner_pushdown.specs.internal.Inputs.{AreWellFormed};
 ghost use Rattle.cy_planner_pushdown.specs.internal.Pushed as spec;
+ghost use Rattle.cy_planner_pushdown.specs.internal.Sources as sources;
 
-use crate::inputs::{Inputs, width_without};
+use crate::inputs::Inputs;
 use cy_planner_algebra::{Operator, Output};
-use cy_planner_rows::output_column;
+use cy_planner_rows::{output_column, width_without};
 use cy_scope_kinds::Kind;
 use cy_trees::Expr;
 use cy_values::Fault;
@@ -191,62 +192,42 @@ fn column_on_right(inputs: &Inputs<'_>, column: usize) -> Option<usize>
     }
 }
 
-/// Columns of the left input in which there stands what stands in columns of a join, if there are such ones, and each once. Fails only
-/// when out of memory.
-pub(crate) fn columns_on_left(
-    alloc: Global,
-    inputs: &Inputs<'_>,
-    columns: &[usize],
-) -> Result<Option<Vec<usize>>, Fault>
-    requires { AreWellFormed inputs.now }
-    ensures { IfOk result (λ made. IfSome made (λ others. spec.AreMoved (spec.IsOnLeft (plan_of inputs.now.left.now) (plan_of inputs.now.right.now) inputs.now.keys.now) columns.now others.items)) }
-{
-    let mut found = Vec::new(alloc);
-    for column in columns {
-        let Some(other) = column_on_left(inputs, *column) else {
-            return Ok(None);
-        };
-        if is_among(found.as_slice(), other) {
-            return Ok(None);
-        }
-        found.push(other)?;
-    }
-    Ok(Some(found))
+/// Where the columns of an operator are looked for.
+#[derive(Clone, Copy)]
+pub(crate) enum Source<'a> {
+    /// The left input of a join.
+    Left(&'a Inputs<'a>),
+    /// The right input of a join.
+    Right(&'a Inputs<'a>),
+    /// What stands below a projection.
+    Outputs(&'a [Output]),
 }
 
-/// Columns of the right input in which there stands what stands in columns of a join, if there are such ones, and each once. Fails only when out of memory.
-pub(crate) fn columns_on_right(
-    alloc: Global,
-    inputs: &Inputs<'_>,
-    columns: &[usize],
-) -> Result<Option<Vec<usize>>, Fault>
-    requires { AreWellFormed inputs.now }
-    ensures { IfOk result (λ made. IfSome made (λ others. spec.AreMoved (spec.IsOnRight (plan_of inputs.now.left.now) (plan_of inputs.now.right.now) inputs.now.keys.now) columns.now others.items)) }
+/// The column of a source in which there stands what stands in a column of the operator.
+fn column_in(source: &Source<'_>, column: usize) -> Option<usize>
+    requires { sources.IsWellFormed source.now }
+    ensures { IfSome result (sources.stands source.now column) }
 {
-    let mut found = Vec::new(alloc);
-    for column in columns {
-        let Some(other) = column_on_right(inputs, *column) else {
-            return Ok(None);
-        };
-        if is_among(found.as_slice(), other) {
-            return Ok(None);
-        }
-        found.push(other)?;
+    match source {
+        Source::Left(inputs) => column_on_left(inputs, column),
+        Source::Right(inputs) => column_on_right(inputs, column),
+        Source::Outputs(outputs) => output_column(outputs, column),
     }
-    Ok(Some(found))
 }
 
-/// The columns that a projection takes over, if it takes over all of them, and each once. Fails only when out of memory.
-pub(crate) fn columns_of(
+/// The columns of a source in which there stands what stands in columns of the operator, if there are such ones, and each once. Fails only when
+/// out of memory.
+pub(crate) fn columns_in(
     alloc: Global,
-    outputs: &[Output],
+    source: &Source<'_>,
     columns: &[usize],
 ) -> Result<Option<Vec<usize>>, Fault>
-    ensures { IfOk result (λ made. IfSome made (λ others. spec.AreMoved (spec.IsTakenOver (map output_of outputs.now)) columns.now others.items)) }
+    requires { sources.IsWellFormed source.now }
+    ensures { IfOk result (λ made. IfSome made (λ others. spec.AreMoved (sources.stands source.now) columns.now others.items)) }
 {
     let mut found = Vec::new(alloc);
     for column in columns {
-        let Some(other) = output_column(outputs, *column) else {
+        let Some(other) = column_in(source, *column) else {
             return Ok(None);
         };
         if is_among(found.as_slice(), other) {

@@ -1,27 +1,30 @@
 //! Conditions on the rows of a plan.
 
-ghost use Rattle.std.specs.Prelude.{◌+◌, IfOk, IfSome, map};
+ghost use Rattle.std.specs.Prelude.{◌≡◌, ◌+◌, [], IfOk, IfSome, map};
 ghost use Rattle.cy_trees.specs.TreeModels.{expression_of};
 ghost use Rattle.cy_planner_algebra.specs.PlanModels.{plan_of};
 ghost use Rattle.cy_planner_rows.specs.Rows as spec;
-ghost use Rattle.cy_planner_pushdown.specs.After.{IsKeptIf};
+ghost use Rattle.cy_planner_pushdown.specs.After.{AreKept};
 ghost use Rattle.cy_planner_pushdown.specs.internal.Conditions.{IsOnCells};
+ghost use Rattle.cy_planner_pushdown.specs.internal.Finding as finding;
 ghost use Rattle.cy_planner_pushdown.specs.internal.Pushed as pushed;
+ghost use Rattle.cy_planner_pushdown.specs.internal.Tests.{tests_of};
 
 use crate::conditions::{cells_test, find_reading};
 use crate::places::Place;
 use crate::pushing::push;
+use crate::tests::CellsTest;
 use cy_planner_algebra::{Below, Operator, Plan};
-use cy_planner_rows::filter_where;
-use cy_trees::{BinaryOperator, Expr};
+use cy_planner_rows::{WantedList, add_asked, conjuncts, filter_where};
+use cy_trees::Expr;
 use cy_values::Fault;
 use std::alloc::Global;
 
-/// How many operators the conditions that AND joins may pass over, all of them together: each goes through the plan anew, in which thousands of
-/// operators can stand over one another. Those for which too few are left stay above the plan.
-pub const MOST_STEPS: usize = 131_072;
+/// The most operators that the conditions which AND joins may pass over together, if each passes over the whole plan, which can have thousands. Further
+/// conditions stay above the plan.
+const MOST_STEPS: usize = 131_072;
 
-/// What is left of a number after one for each operator of a plan, if there are no more operators.
+/// What is left of `count` after one for each operator of a plan; none where the plan has more.
 pub fn left_after(part: &Operator, count: usize) -> Option<usize> {
     let mut part = part;
     let mut rest = count;
@@ -38,127 +41,156 @@ pub fn left_after(part: &Operator, count: usize) -> Option<usize> {
     }
 }
 
-/// Takes one for each operator of a plan off what is left, if there is so much.
-fn take_steps(plan: &Plan, left: &mut usize) -> bool {
-    match left_after(plan.root(), *left) {
-        Some(rest) => {
-            *left = rest;
-            true
-        }
-        None => false,
+/// How many conditions may go down in a plan.
+fn most_tests(plan: &Plan) -> usize {
+    match left_after(plan.root(), MOST_STEPS) {
+        Some(rest) => MOST_STEPS
+            .checked_div(MOST_STEPS.saturating_sub(rest))
+            .unwrap_or(0),
+        None => 0,
     }
 }
 
-/// A condition on what stands in some columns.
-#[derive(Drop)]
-struct CellsTest {
-    columns: Vec<usize>,
-    test: Expr,
+/// Whether a condition asks something of the graph.
+fn asks_graph(alloc: Global, test: &Expr) -> Result<bool, Fault> {
+    let mut wanted = WantedList::new(alloc);
+    add_asked(alloc, &mut wanted, test)?;
+    Ok(wanted.len() > 0)
 }
 
-/// The condition on the columns that a condition on rows reads, which has other columns before these: it has a truth for whatever may
-/// stand there.
+/// A condition on rows as one on the cells of the columns that it reads, where it has a truth whatever stands there. The rows have this many other
+/// columns first.
 #[tactic(auto, using(crate::proofs::Readings::as_many_written))]
 fn find_test(
     alloc: Global,
     below: &Plan,
     before: usize,
     test: &Expr,
-    steps_left: &mut usize,
 ) -> Result<Option<CellsTest>, Fault>
     ensures can { IfOk result (λ made. IfSome made (λ c. pushed.CanBePushed (plan_of below.now) c.columns.items (expression_of c.test))) }
     ensures same { IfOk result (λ made. IfSome made (λ c. IsOnCells (expression_of test.now) (map (λ n. before + n) c.columns.items) (expression_of c.test))) }
 {
-    if !take_steps(below, steps_left) {
-        return Ok(None);
-    }
     let Some(found) = find_reading(alloc, below, before, test)? else {
         return Ok(None);
     };
     match cells_test(alloc, &found, test)? {
-        Some(test) => Ok(Some(CellsTest {
-            columns: found.columns,
-            test,
-        })),
+        Some(test) => {
+            let asks = asks_graph(alloc, &test)?;
+            Ok(Some(CellsTest {
+                columns: found.columns,
+                test,
+                asks,
+            }))
+        }
         None => Ok(None),
     }
 }
 
-/// The rows for which a condition that is no AND is true.
-fn filter_one(
-    alloc: Global,
-    below: Plan,
-    test: &Expr,
-    steps_left: &mut usize,
-) -> Result<Plan, Fault>
-    requires { spec.IsReadOver (plan_of below) (expression_of test.now) }
-    ensures { IfOk result (λ p. spec.IsFiltered (plan_of below) (expression_of test.now) (plan_of p)) }
+/// What a condition on rows is.
+#[derive(Drop)]
+enum Look {
+    /// A condition on the cells in some columns.
+    OnCells(CellsTest),
+    /// One that can't go down.
+    Other(Expr),
+}
+
+fn looked_at(alloc: Global, below: &Plan, before: usize, test: Expr) -> Result<Look, Fault>
+    ensures { IfOk result (λ l. finding.IsLook before (plan_of below.now) (expression_of test) l) }
 {
-    match find_test(alloc, &below, 0, test, steps_left)? {
-        Some(CellsTest { columns, test }) => { push(alloc, Place::of(below, columns), &test) }
-        None => filter_where(alloc, below, test),
+    match find_test(alloc, below, before, &test)? {
+        Some(on_cells) => Ok(Look::OnCells(on_cells)),
+        None => Ok(Look::Other(test)),
     }
 }
 
-/// The rows for which a condition is true, by each of the conditions that AND joins in it.
-fn filter_each(
-    alloc: Global,
-    below: Plan,
-    test: &Expr,
-    steps_left: &mut usize,
-) -> Result<Plan, Fault>
-    requires { spec.IsReadOver (plan_of below) (expression_of test.now) }
-    ensures { IfOk result (λ p. spec.IsFiltered (plan_of below) (expression_of test.now) (plan_of p)) }
+/// Conditions on what stands in columns of a plan, and others.
+#[derive(Drop)]
+struct Found {
+    tests: Vec<CellsTest>,
+    rest: Vec<Expr>,
+}
+
+/// Those of several conditions that can go down in a plan, whose columns have other ones before them.
+fn find_tests(alloc: Global, below: &Plan, before: usize, tests: Vec<Expr>) -> Result<Found, Fault>
+    ensures { IfOk result (λ f. finding.AreFound before (plan_of below.now) (map expression_of tests.items) [] (tests_of f.tests.items) (map expression_of f.rest.items)) }
 {
-    match test {
-        Expr::Binary(BinaryOperator::And, left, right) => {
-            let below = filter_each(alloc, below, left, steps_left)?;
-            filter_each(alloc, below, right, steps_left)
+    let most = most_tests(below);
+    let mut waiting = tests;
+    waiting.reverse();
+    let mut found = Vec::new(alloc);
+    let mut rest = Vec::new(alloc);
+    while let Some(test) = waiting.pop() {
+        if found.len() < most {
+            let looked = looked_at(alloc, below, before, test)?;
+            match looked {
+                Look::OnCells(on_cells) => {
+                    found.push(on_cells)?;
+                }
+                Look::Other(other) => {
+                    rest.push(other)?;
+                }
+            }
+        } else {
+            rest.push(test)?;
         }
-        _ => filter_one(alloc, below, test, steps_left),
     }
+    Ok(Found { tests: found, rest })
 }
 
-/// The rows of a plan for which a condition is true (openCypher 9, WHERE), as `filter_where` gives them: each of the conditions that AND
-/// joins is put as far down as all that it reads stands together. Fails only when out of memory.
-pub fn filter_low(alloc: Global, below: Plan, test: &Expr) -> Result<Plan, Fault>
-    requires { spec.IsReadOver (plan_of below) (expression_of test.now) }
-    ensures { IfOk result (λ p. spec.IsFiltered (plan_of below) (expression_of test.now) (plan_of p)) }
-{
-    let mut steps_left = MOST_STEPS;
-    filter_each(alloc, below, test, &mut steps_left)
-}
-
-/// A plan, and whether a condition was put on it.
+/// A plan, and the conditions that were not put on it.
 #[derive(Drop)]
 pub struct Kept {
     pub plan: Plan,
-    pub is_kept: bool,
+    pub rest: Vec<Expr>,
 }
 
-/// The rows of a plan for which a condition is true that has them after other columns, this many, if it reads these rows alone and has a
-/// truth whatever stands there, as far as the plan shows; else the plan as it is. What is left of `MOST_STEPS` goes from one condition to the
-/// next one. Fails only when out of memory.
+/// The rows of a plan for which those of several conditions are true that read these rows alone and have a truth whatever stands there, as far
+/// as the plan shows it; the conditions have the rows after other columns, this many. The plan is taken apart once for all of them. Fails
+/// only when out of memory.
 pub fn keep_after(
     alloc: Global,
     before: usize,
     below: Plan,
-    test: &Expr,
-    steps_left: &mut usize,
+    tests: Vec<Expr>,
 ) -> Result<Kept, Fault>
-    ensures { IfOk result (λ k. IsKeptIf before (plan_of below) (expression_of test.now) k.is_kept (plan_of k.plan)) }
+    ensures { IfOk result (λ k. AreKept before (plan_of below) (map expression_of tests.items) (map expression_of k.rest.items) (plan_of k.plan)) }
 {
-    match find_test(alloc, &below, before, test, steps_left)? {
-        Some(CellsTest { columns, test }) => {
-            let plan = push(alloc, Place::of(below, columns), &test)?;
-            Ok(Kept {
-                plan,
-                is_kept: true,
-            })
-        }
-        None => Ok(Kept {
-            plan: below,
-            is_kept: false,
-        }),
+    let Found { tests, rest } = find_tests(alloc, &below, before, tests)?;
+    let plan = push(alloc, Place::of(below, tests))?;
+    Ok(Kept { plan, rest })
+}
+
+fn filter_one(alloc: Global, below: Plan, test: Expr) -> Result<Plan, Fault>
+    requires { spec.IsReadOver (plan_of below) (expression_of test) }
+    ensures { IfOk result (λ p. spec.IsFiltered (plan_of below) (expression_of test) (plan_of p)) }
+{
+    filter_where(alloc, below, &test)
+}
+
+/// The rows of a plan for which the conditions are true that were not put on it.
+fn filter_rest(alloc: Global, kept: Kept) -> Result<Plan, Fault>
+    requires { spec.AreReadOver (plan_of kept.plan) (map expression_of kept.rest.items) }
+    ensures { IfOk result (λ p. finding.AreAsked (plan_of kept.plan) (map expression_of kept.rest.items) (plan_of p)) }
+{
+    let Kept { plan, rest } = kept;
+    let mut plan = plan;
+    let mut rest = rest;
+    rest.reverse();
+    while let Some(test) = rest.pop() {
+        plan = filter_one(alloc, plan, test)?;
     }
+    Ok(plan)
+}
+
+/// The rows of a plan for which a condition is true (openCypher 9, WHERE), as `filter_where` gives them. Each of the conditions that AND joins goes as
+/// far down as all that it reads stands together, if it has a truth whatever stands there and they aren't too many. Fails only when out of memory.
+pub fn filter_low(alloc: Global, below: Plan, test: &Expr) -> Result<Plan, Fault>
+    requires { spec.IsReadOver (plan_of below) (expression_of test.now) }
+    ensures { IfOk result (λ p. spec.IsFiltered (plan_of below) (expression_of test.now) (plan_of p)) }
+{
+    let copy = test.copy(alloc)?;
+    let tests = conjuncts(alloc, copy)?;
+    let kept = keep_after(alloc, 0, below, tests)?;
+    filter_rest(alloc, kept)
 }

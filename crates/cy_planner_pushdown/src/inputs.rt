@@ -1,19 +1,10 @@
 //! The inputs of a join, and how wide their rows are.
 
-ghost use Rattle.std.specs.Prelude.{◌≡◌, ◌+◌};
+ghost use Rattle.std.specs.Prelude.{◌≡◌};
 ghost use Rattle.cy_planner_algebra.specs.Plans as plan;
 ghost use Rattle.cy_planner_algebra.specs.PlanModels.{plan_of};
 
 use cy_planner_algebra::{KeyColumns, Operator};
-
-/// How wide the rows of an operator are, where those of one that has this many columns more are so wide. `Operator::width` gives the same, but
-/// counts along all that stands on the left, which would be done anew at each operator on a condition's way.
-pub(crate) fn width_without(_part: &Operator, width: usize, more: usize) -> usize
-    requires { width ≡ plan.width (plan_of _part.now) + more }
-    ensures { result ≡ plan.width (plan_of _part.now) }
-{
-    width - more
-}
 
 /// The inputs of a join that a condition comes to, with how wide the rows of each are.
 #[derive(Clone, Copy)]

@@ -12,7 +12,10 @@ mod places;
 mod pushing;
 mod sides;
 mod sifting;
+mod splits;
 mod steps;
+mod tests;
+mod ways;
 
 pub use above::{Above, placed_over};
-pub use filters::{Kept, MOST_STEPS, filter_low, keep_after, left_after};
+pub use filters::{Kept, filter_low, keep_after, left_after};

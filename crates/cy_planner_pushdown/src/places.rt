@@ -1,54 +1,37 @@
-//! Places of a plan, with columns of the rows there on which there is a condition.
+//! Places of a plan, with conditions on columns of the rows there.
 
 ghost use Rattle.std.specs.Prelude.{◌≡◌};
 ghost use Rattle.cy_planner_algebra.specs.Plans as plan;
 ghost use Rattle.cy_planner_algebra.specs.PlanModels.{plan_of};
 ghost use Rattle.cy_planner_algebra.specs.WellFormed.{IsWellFormed};
 
+use crate::tests::CellsTest;
 use cy_planner_algebra::{Operator, Plan};
 
-/// An operator, how wide its rows are, and columns of these with a condition on what stands there.
+/// An operator, how wide its rows are, and conditions on columns of these.
 #[derive(Drop)]
 pub(crate) struct Place {
     pub(crate) part: Operator,
     pub(crate) width: usize,
-    pub(crate) columns: Vec<usize>,
+    pub(crate) tests: Vec<CellsTest>,
+    /// Whether ends of relationships are looked for here: at the top, and below what `is_end` doesn't look through, as joins and unions.
+    pub(crate) looks_for_ends: bool,
     ghost wide: { width ≡ plan.width (plan_of part) },
 }
 
 impl Place {
-    /// Columns of the rows of a plan.
-    pub(crate) fn of(below: Plan, columns: Vec<usize>) -> Self
+    /// Conditions on columns of a plan.
+    pub(crate) fn of(below: Plan, tests: Vec<CellsTest>) -> Self
         ensures part { result.part ≡ below }
-        ensures columns { result.columns ≡ columns }
+        ensures tests { result.tests ≡ tests }
         ensures good { IsWellFormed (plan_of below) }
     {
         let width = below.width();
         Place {
             part: below.into_root(),
             width,
-            columns,
+            tests,
+            looks_for_ends: true,
         }
-    }
-}
-
-/// Columns of rows that are so wide, with a condition on what stands there.
-#[derive(Drop)]
-pub(crate) struct TestedColumns {
-    pub(crate) width: usize,
-    pub(crate) columns: Vec<usize>,
-}
-
-/// The same columns of an operator whose rows are as wide.
-pub(crate) fn there(part: Operator, tested: TestedColumns) -> Place
-    requires { tested.width ≡ plan.width (plan_of part) }
-    ensures part { result.part ≡ part }
-    ensures columns { result.columns ≡ tested.columns }
-{
-    let TestedColumns { width, columns } = tested;
-    Place {
-        part,
-        width,
-        columns,
     }
 }

@@ -1,17 +1,18 @@
-//! A condition on what stands in some columns, put on the operators that this comes from. Fails only when out of memory.
+//! Conditions on what stands in columns of a plan, put on the operators that this comes from. Each call fails only when out of memory.
 
 ghost use Rattle.std.specs.Prelude.{IfOk};
-ghost use Rattle.cy_trees.specs.TreeModels.{expression_of};
 ghost use Rattle.cy_planner_algebra.specs.PlanModels.{plan_of};
 ghost use Rattle.cy_planner_algebra.specs.WellFormed.{IsWellFormed};
-ghost use Rattle.cy_planner_pushdown.specs.internal.Pushed as spec;
+ghost use Rattle.cy_planner_pushdown.specs.Above as standing;
+ghost use Rattle.cy_planner_pushdown.specs.internal.Pushed.{IsSifted};
+ghost use Rattle.cy_planner_pushdown.specs.internal.Tests.{CanAllBePushed, are_true, tests_of};
 
-use crate::above::{above_left, placed_over};
+use crate::above::{above_left, placed};
 use crate::places::Place;
-use crate::sifting::filter_columns;
-use crate::steps::{Step, step_from};
+use crate::sifting::filter_all;
+use crate::steps::step_from;
+use crate::ways::{Frame, Step};
 use cy_planner_algebra::Plan;
-use cy_trees::Expr;
 use cy_values::Fault;
 use std::alloc::Global;
 
@@ -22,42 +23,60 @@ fn meant(plan: &Plan)
     let _root = plan.root();
 }
 
-/// The condition can be put on an operator.
-fn can_go_on(place: &Place, test: &Expr)
+/// The conditions can be put on an operator.
+fn can_go_on(place: &Place)
     requires good { IsWellFormed (plan_of place.now.part) }
-    requires can { spec.CanBePushed (plan_of place.now.part) place.now.columns.items (expression_of test.now) }
+    requires can { CanAllBePushed (plan_of place.now.part) (tests_of place.now.tests.items) }
     ensures good { IsWellFormed (plan_of place.now.part) }
-    ensures can { spec.CanBePushed (plan_of place.now.part) place.now.columns.items (expression_of test.now) }
+    ensures can { CanAllBePushed (plan_of place.now.part) (tests_of place.now.tests.items) }
 {}
 
-/// The rows of an operator for which the condition on what stands in the columns is true. It goes down in a loop, and into the second one of
-/// two operators by a call.
-pub(crate) fn push(alloc: Global, place: Place, test: &Expr) -> Result<Plan, Fault>
-    requires good { IsWellFormed (plan_of place.part) }
-    requires can { spec.CanBePushed (plan_of place.part) place.columns.items (expression_of test.now) }
-    ensures { IfOk result (λ p. spec.IsPushed (plan_of place.part) place.columns.items (expression_of test.now) (plan_of p)) }
+/// An operator over what was made below it, with the conditions that stay on it.
+fn put_back(alloc: Global, below: Plan, frame: Frame) -> Result<Plan, Fault>
+    requires good { IsWellFormed (standing.placed frame.above (plan_of below)) }
+    requires can { CanAllBePushed (standing.placed frame.above (plan_of below)) (tests_of frame.here.items) }
+    ensures { IfOk result (λ p. IsSifted (standing.placed frame.above (plan_of below)) (are_true (tests_of frame.here.items)) (plan_of p)) }
 {
-    let mut above = Vec::new(alloc);
+    let Frame { above, here } = frame;
+    let plan = placed(alloc, below, above)?;
+    if here.is_empty() {
+        return Ok(plan);
+    }
+    filter_all(alloc, plan, here)
+}
+
+/// The rows of an operator for which all conditions are true. It is taken apart once for them, and those below it as far down as some go; of two
+/// operators below one the left one is taken in a loop, and the right one by a call.
+pub(crate) fn push(alloc: Global, place: Place) -> Result<Plan, Fault>
+    requires good { IsWellFormed (plan_of place.part) }
+    requires can { CanAllBePushed (plan_of place.part) (tests_of place.tests.items) }
+    ensures { IfOk result (λ p. IsSifted (plan_of place.part) (are_true (tests_of place.tests.items)) (plan_of p)) }
+{
+    let mut frames = Vec::new(alloc);
     let mut place = place;
-    loop {
-        match step_from(alloc, place, test)? {
-            Step::Here(place) => {
-                let plan = Plan::from_root(place.part);
-                let kept = filter_columns(alloc, plan, &place.columns, test)?;
-                meant(&kept);
-                return placed_over(alloc, kept, above);
-            }
-            Step::Below(part, below) => {
-                above.push(part)?;
+    let mut plan = loop {
+        match step_from(alloc, place)? {
+            Step::Here(part, here) => break filter_all(alloc, Plan::from_root(part), here)?,
+            Step::Below(frame, below) => {
+                frames.push(frame)?;
                 place = below;
             }
-            Step::Both(pair, left, right) => {
-                can_go_on(&right, test);
-                let right = push(alloc, right, test)?;
+            Step::Both(pair, here, left, right) => {
+                can_go_on(&right);
+                let right = push(alloc, right)?;
                 meant(&right);
-                above.push(above_left(pair, right))?;
+                frames.push(Frame {
+                    above: above_left(pair, right),
+                    here,
+                })?;
                 place = left;
             }
         }
+    };
+    meant(&plan);
+    while let Some(frame) = frames.pop() {
+        plan = put_back(alloc, plan, frame)?;
+        meant(&plan);
     }
+    Ok(plan)
 }

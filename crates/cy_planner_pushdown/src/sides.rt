@@ -3,52 +3,33 @@
 //! node that it doesn't concern goes no further than the table of nodes then, however many relationships the node has.
 
 ghost use Rattle.std.specs.Prelude.{◌≡◌, IfOk};
-ghost use Rattle.cy_trees.specs.TreeModels.{expression_of};
 ghost use Rattle.cy_planner_algebra.specs.Plans as plan;
 ghost use Rattle.cy_planner_algebra.specs.PlanModels.{plan_of};
 ghost use Rattle.cy_planner_algebra.specs.WellFormed.{IsWellFormed};
 ghost use Rattle.cy_planner_pushdown.specs.internal.Inputs.{AreWellFormed};
 ghost use Rattle.cy_planner_pushdown.specs.internal.Ways as spec;
-ghost use Rattle.cy_planner_pushdown.specs.internal.Pushed.{CanBePushed};
 
-use crate::columns::{columns_on_left, columns_on_right};
-use crate::inputs::{Inputs, width_without};
+use crate::columns::{Source, columns_in};
+use crate::inputs::Inputs;
 use cy_planner_algebra::{KeyColumns, Operator, Output};
-use cy_planner_rows::output_column;
-use cy_trees::Expr;
+use cy_planner_rows::{key_on_left, key_on_right, output_column, width_without};
 use cy_values::Fault;
 use std::alloc::Global;
 
-/// The sides of a join to which a condition goes, with the columns there.
+/// Where a condition goes on from an operator, with the columns there.
 #[derive(Drop)]
 pub(crate) enum Way {
-    Left(Vec<usize>),
-    Right(Vec<usize>),
+    /// It stays.
+    Here(Vec<usize>),
+    /// In the only input, or in the left one.
+    First(Vec<usize>),
+    /// In the right input.
+    Second(Vec<usize>),
+    /// In both inputs.
     Both(Vec<usize>, Vec<usize>),
-    Nowhere,
 }
 
-/// The column of the left input that has the same key.
-fn left_column(keys: &[KeyColumns], column: usize) -> Option<usize> {
-    for key in keys {
-        if key.right == column {
-            return Some(key.left);
-        }
-    }
-    None
-}
-
-/// The column of the right input that has the same key.
-fn right_column(keys: &[KeyColumns], column: usize) -> Option<usize> {
-    for key in keys {
-        if key.left == column {
-            return Some(key.right);
-        }
-    }
-    None
-}
-
-/// So far down it is looked whether a column comes from a table of nodes or from trails: each join on a condition's way looks anew.
+/// How many levels down it is looked for the table of nodes or the trails that a column comes from: each join on a condition's way looks anew.
 const MOST_BELOW: usize = 64;
 
 /// Whether what stands in a column comes from a table of nodes or from trails, be it by a key, as far as so many operators show it. The rows are
@@ -118,12 +99,12 @@ fn sides_of(width: usize, keys: &[KeyColumns], column: usize) -> SideColumns {
         SideColumns {
             is_left: true,
             left: Some(column),
-            right: right_column(keys, column),
+            right: key_on_right(keys, column),
         }
     } else {
         SideColumns {
             is_left: false,
-            left: left_column(keys, column - width),
+            left: key_on_left(keys, column - width),
             right: Some(column - width),
         }
     }
@@ -182,7 +163,7 @@ fn columns_of_left(
     ensures { IfOk result (λ made. spec.IsLeftWay (plan_of inputs.now.left.now) (plan_of inputs.now.right.now) inputs.now.keys.now columns.now made) }
 {
     if goes_left(inputs, columns) {
-        columns_on_left(alloc, inputs, columns)
+        columns_in(alloc, &Source::Left(inputs), columns)
     } else {
         Ok(None)
     }
@@ -197,36 +178,33 @@ fn columns_of_right(
     ensures { IfOk result (λ made. spec.IsRightWay (plan_of inputs.now.left.now) (plan_of inputs.now.right.now) inputs.now.keys.now columns.now made) }
 {
     if goes_right(inputs, columns) {
-        columns_on_right(alloc, inputs, columns)
+        columns_in(alloc, &Source::Right(inputs), columns)
     } else {
         Ok(None)
     }
 }
 
-fn both_ways(on_left: Option<Vec<usize>>, on_right: Option<Vec<usize>>) -> Way
-    ensures { result ≡ spec.both_ways on_left on_right }
+fn both_ways(columns: Vec<usize>, on_left: Option<Vec<usize>>, on_right: Option<Vec<usize>>) -> Way
+    ensures { result ≡ spec.both_ways columns on_left on_right }
 {
     match (on_left, on_right) {
         (Some(lefts), Some(rights)) => Way::Both(lefts, rights),
-        (Some(lefts), None) => Way::Left(lefts),
-        (None, Some(rights)) => Way::Right(rights),
-        (None, None) => Way::Nowhere,
+        (Some(lefts), None) => Way::First(lefts),
+        (None, Some(rights)) => Way::Second(rights),
+        (None, None) => Way::Here(columns),
     }
 }
 
-/// The way of a condition on columns of a join. Fails only when out of memory.
-pub(crate) fn way_from(
+/// Where a condition on columns of a join goes on. Fails only when out of memory.
+pub(crate) fn way_from_join(
     alloc: Global,
     inputs: &Inputs<'_>,
-    columns: &[usize],
-    test: &Expr,
+    columns: Vec<usize>,
 ) -> Result<Way, Fault>
-    requires good { AreWellFormed inputs.now }
-    requires can { CanBePushed (plan.join (plan_of inputs.now.left.now) (plan_of inputs.now.right.now) inputs.now.keys.now) columns.now (expression_of test.now) }
-    ensures moved { IfOk result (λ way. spec.IsWay (plan_of inputs.now.left.now) (plan_of inputs.now.right.now) inputs.now.keys.now columns.now way) }
-    ensures can { IfOk result (λ way. spec.CanGo (plan_of inputs.now.left.now) (plan_of inputs.now.right.now) (expression_of test.now) way) }
+    requires { AreWellFormed inputs.now }
+    ensures { IfOk result (λ way. spec.IsWay way (plan.join (plan_of inputs.now.left.now) (plan_of inputs.now.right.now) inputs.now.keys.now) columns.items) }
 {
-    let on_left = columns_of_left(alloc, inputs, columns)?;
-    let on_right = columns_of_right(alloc, inputs, columns)?;
-    Ok(both_ways(on_left, on_right))
+    let on_left = columns_of_left(alloc, inputs, &columns)?;
+    let on_right = columns_of_right(alloc, inputs, &columns)?;
+    Ok(both_ways(columns, on_left, on_right))
 }

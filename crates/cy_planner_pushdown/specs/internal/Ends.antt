@@ -10,7 +10,7 @@ abbrev pub IsEnd : Plan → ℕ → Type 0
 IsEnd plan.unit column = ⊥
 IsEnd plan.nodes column = ⊥
 IsEnd (plan.rels types orientation) column = kind_of_rels column ≡ Some kind.Node
-IsEnd (plan.join left right keys) column = ⊥
+IsEnd (plan.join left right keys) column = IsEnd left column
 IsEnd (plan.outer left right keys test) column = ⊥
 IsEnd (plan.semi left right keys keeping) column = IsEnd left column
 IsEnd (plan.lookup p other attribute) column = IsEnd p column

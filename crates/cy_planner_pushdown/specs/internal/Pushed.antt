@@ -1,5 +1,5 @@
 -- Where what stands in the columns of a plan comes from, and plans with a condition on it. (own)
-use Rattle.std.specs.Prelude.{◌≡◌, ℕ, zero, suc, ◌==◌, ◌-◌, List, [], ◌∷◌, ◌++◌, Option, Some, None, IsTrue, length, map, filter, if◌then◌else◌, nat_lt, slice_get, ⊤}
+use Rattle.std.specs.Prelude.{◌≡◌, ℕ, zero, suc, Bool, ◌==◌, ◌-◌, List, [], ◌∷◌, ◌++◌, Option, Some, None, IsTrue, length, map, filter, if◌then◌else◌, nat_lt, slice_get, ⊤}
 use Rattle.std.specs.List.{All, Contains, IsDistinct}
 use Rattle.std.specs.Option.{option_and_then, option_map_or}
 use Rattle.cy_values.specs.declared.rows.Cell.{Cell}
@@ -7,7 +7,7 @@ use Rattle.cy_trees.specs.Trees.{Name, Expression, variable}
 use Rattle.cy_scope_kinds.specs.declared.kinds.Kind.{Kind}
 use Rattle.cy_scope_kinds.specs.declared.kinds.Kind.TheVariants as kind
 use Rattle.cy_scope_kinds.specs.Scopes.{Scope}
-use Rattle.cy_graph.specs.Graph.{State, IsGraph}
+use Rattle.cy_graph.specs.Graph.{Content, State, IsGraph}
 use Rattle.cy_planner_algebra.specs.declared.operators.KeyColumns.{KeyColumns}
 use Rattle.cy_planner_algebra.specs.Plans as plan
 use Rattle.cy_planner_algebra.specs.Plans.{Plan, Output, computed, gathered, width}
@@ -123,9 +123,14 @@ pub record IsOnRight (left right : Plan) (keys : List KeyColumns) (column other 
 abbrev pub IsTakenOver : List Output → ℕ → ℕ → Type 0
 IsTakenOver outputs column other = column_taken_over (slice_get outputs column) ≡ Some other
 
--- Of the rows of a plan, in their order, those for which a condition is true of the cells in some columns.
-pub record IsPushed (below : Plan) (columns : List ℕ) (test : Expression) (p : Plan) : Type 0 where
+-- Of the rows of a plan, in their order, those that pass. A column shows the kind that it showed.
+pub record IsSifted (below : Plan) (passes : Content → List Cell → Bool) (p : Plan) : Type 0 where
   pub as_wide : width p ≡ width below
-  pub rows : (graph : State) → IsGraph graph → rows_of graph.content p ≡ filter (keeps_cells graph.content test columns) (rows_of graph.content below)
+  pub kinds : (column : ℕ) → kind_at p column ≡ kind_at below column
+  pub rows : (graph : State) → IsGraph graph → rows_of graph.content p ≡ filter (passes graph.content) (rows_of graph.content below)
   pub sure : (graph : State) → IsGraph graph → IsSureOn graph.content below → IsSureOn graph.content p
   pub bounded : (graph : State) (tables : List (List (List Cell))) → IsGraph graph → All (IsWithin graph.content tables) (parts below) → All (IsWithin graph.content tables) (parts p)
+
+-- those for which a condition is true of the cells in some columns
+abbrev pub IsPushed : Plan → List ℕ → Expression → Plan → Type 0
+IsPushed below columns test p = IsSifted below (λ graph. keeps_cells graph test columns) p

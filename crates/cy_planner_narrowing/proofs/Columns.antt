@@ -1,15 +1,13 @@
 -- Columns of the rows of plans, and parts over them.
 use Rattle.std.proofs.Common.{◌≡◌, ℕ, ◌+◌, ◌<◌, ◌≤◌, List, [], ◌∷◌, ◌++◌, length, map, take, refl, sym, ap, subst, ◌∙◌, arith}
-use Rattle.std.specs.Prelude.{Option, Some, None, option_map, slice_get}
-use Rattle.std.specs.List.{All, AllByRecursion, range_with_len}
+use Rattle.std.specs.Prelude.{Option, Some, option_map}
+use Rattle.std.specs.List.{AllByRecursion, range_with_len}
 use Rattle.std.specs.Option.{option_and_then}
 use Rattle.std.proofs.lemmas.List.{length-map, map-append}
 use Rattle.std.proofs.Math.Seq.{take-length}
 use Rattle.std.proofs.lemmas.List.Elements.{All-cons, All-head, All-tail}
 use Rattle.std.proofs.lemmas.List.FromFn.{length-map-range_with_len}
 use Rattle.std.proofs.lemmas.Option.{slice_get-get_or, slice_get-map}
-use Rattle.cy_values.specs.declared.rows.Cell.{Cell}
-use Rattle.cy_trees.specs.Trees.{Expression, variable}
 use Rattle.cy_graph.specs.Graph.{Content}
 use Rattle.cy_planner_algebra.specs.declared.operators.Attribute.{Attribute}
 use Rattle.cy_planner_algebra.specs.Plans as plan
@@ -18,11 +16,11 @@ use Rattle.cy_planner_algebra.specs.Expressions.{null, projected}
 use Rattle.cy_planner_algebra.specs.Meaning.{rows_of}
 use Rattle.cy_planner_algebra.specs.Parts.{parts}
 use Rattle.cy_planner_algebra.specs.Sure.{HasCells}
-use Rattle.cy_planner_algebra.specs.WellFormed.{IsOutputOver, IsWellFormed, greatest_width}
+use Rattle.cy_planner_algebra.specs.WellFormed.{IsWellFormed, greatest_width}
 use Rattle.cy_planner_algebra.specs.Within.{IsWithin}
 use Rattle.cy_planner_rows.specs.declared.places.Wanted.{Wanted}
 use Rattle.cy_planner_rows.specs.Columns.{column_output}
-use Rattle.cy_planner_rows.specs.Renumbered.{new_column, renumbered}
+use Rattle.cy_planner_rows.specs.Renumbered.{new_column}
 use Rattle.cy_planner_rows.specs.internal.Lookups.{first_columns}
 use Rattle.cy_planner_rows.proofs.Lists.{first_elements, map_same}
 use Rattle.cy_planner_rows.proofs.OverRows.{IsLong, any_rows, columns_have_cells, columns_over, columns_read, first_over, long_rows, own_part, width_bounded}
@@ -30,7 +28,7 @@ use Rattle.cy_planner_rows.specs.Columns.{taken_column}
 use Rattle.cy_planner_rewriting.specs.internal.Columns.{AreColumns, renumbered_output}
 use Rattle.cy_planner_rewriting.specs.internal.Lowered.{lookup_at, moved}
 use Rattle.cy_planner_rewriting.specs.Rewritten.{IsRewritten}
-use Rattle.cy_planner_rewriting.proofs.Congruent.{over_lookup, rewritten_again, same_within}
+use Rattle.cy_planner_rewriting.proofs.Congruent.{rewritten_again, same_within}
 use Rattle.cy_planner_rewriting.proofs.Passing.{all_through_project}
 use Rattle.cy_planner_rewriting.proofs.Projections.{as_many, columns_cells, columns_inside, output_known}
 use Rattle.cy_planner_rewriting.proofs.Rules.{project_twice}

@@ -20,12 +20,11 @@ use Rattle.cy_planner_algebra.specs.Sure.{HasCells}
 use Rattle.cy_planner_algebra.specs.WellFormed.{IsKeyBetween, IsWellFormed, greatest_width}
 use Rattle.cy_planner_algebra.specs.Within.{IsWithin}
 use Rattle.cy_planner_rows.specs.Columns.{column_output}
-use Rattle.cy_planner_rows.specs.Renumbered.{new_column}
 use Rattle.cy_planner_rows.proofs.Lists.{all_of_each}
 use Rattle.cy_planner_rows.proofs.OverRows.{IsLong, any_rows, columns_have_cells, columns_over, columns_read, long_rows}
 use Rattle.cy_planner_rewriting.specs.Rewritten.{IsRewritten}
 use Rattle.cy_planner_rewriting.proofs.Congruent.{all_split, same_within}
-use Rattle.cy_planner_rewriting.proofs.Joining.{all_of, below_projection, keys_longer}
+use Rattle.cy_planner_rewriting.proofs.Joining.{below_projection, keys_longer}
 use Rattle.cy_planner_rewriting.proofs.Projections.{cell_moved, member_inside}
 use Rattle.cy_planner_rewriting.proofs.Redirecting.{met_keys}
 use Rattle.cy_planner_narrowing.specs.internal.Narrows.{taken}

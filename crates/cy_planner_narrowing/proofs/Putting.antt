@@ -1,7 +1,6 @@
 -- What stands above the left one of two parts, put over a plan.
 use Rattle.std.proofs.Common.{◌≡◌, List, [], ◌∷◌, ◌++◌, refl, sym, ap, subst, ◌∙◌}
 use Rattle.cy_trees.specs.TreeModels.{expression_of}
-use Rattle.cy_planner_algebra.specs.Plans as plan
 use Rattle.cy_planner_algebra.specs.Plans.{Plan}
 use Rattle.cy_planner_algebra.specs.WellFormed.{IsWellFormed}
 use Rattle.cy_planner_rewriting.specs.declared.layers.Layer.{Layer}
@@ -12,11 +11,11 @@ use Rattle.cy_planner_rewriting.proofs.Layering.{over_any, well_below}
 use Rattle.cy_planner_narrowing.specs.declared.narrowing.Above.{Above}
 use Rattle.cy_planner_narrowing.specs.declared.narrowing.Above.TheVariants as above
 use Rattle.cy_planner_narrowing.specs.declared.narrows.Narrow.{Narrow}
-use Rattle.cy_planner_narrowing.specs.declared.parts.Joint.{Joint}
-use Rattle.cy_planner_narrowing.specs.declared.parts.Joint.TheVariants as joint
+use Rattle.cy_planner_rewriting.specs.declared.layers.Joint.{Joint}
+use Rattle.cy_planner_rewriting.specs.declared.layers.Joint.TheVariants as joint
 use Rattle.cy_planner_narrowing.specs.internal.Above.{StandsBelow, over_all, over_one}
 use Rattle.cy_planner_narrowing.specs.internal.Narrows.{restored}
-use Rattle.cy_planner_narrowing.specs.internal.Parts.{together}
+use Rattle.cy_planner_rewriting.specs.Opened.{together}
 
 -- ---- two plans in place of two others
 

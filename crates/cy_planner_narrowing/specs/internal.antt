@@ -2,5 +2,4 @@
 pub mod Ranks
 pub mod Narrows
 pub mod Pairs
-pub mod Parts
 pub mod Above

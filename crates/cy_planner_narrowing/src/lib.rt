@@ -6,7 +6,6 @@ mod joints;
 mod layers;
 mod narrowing;
 mod narrows;
-mod parts;
 mod ranks;
 
 pub use narrowing::narrowed;

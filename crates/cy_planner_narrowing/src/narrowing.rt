@@ -10,9 +10,8 @@ ghost use Rattle.cy_planner_narrowing.specs.internal.Narrows.{restored};
 use crate::joints::put_together;
 use crate::layers::put_layer;
 use crate::narrows::{Narrow, exact, whole};
-use crate::parts::{Joint, Part, opened};
 use cy_planner_algebra::{Operator, Plan};
-use cy_planner_rewriting::Layer;
+use cy_planner_rewriting::{Joint, Layer, Part, open_operator};
 use cy_values::Fault;
 use std::alloc::Global;
 
@@ -55,7 +54,7 @@ fn narrow(alloc: Global, part: Operator) -> Result<Narrow, Fault>
     let mut above = Vec::new(alloc);
     let mut part = part;
     loop {
-        match opened(part) {
+        match open_operator(part) {
             Part::Leaf(plan) => {
                 let base = whole(alloc, plan)?;
                 return put_over(alloc, base, above);

@@ -9,7 +9,7 @@ use Rattle.cy_planner_rewriting.proofs.Layering.{well_below}
 use Rattle.cy_planner_outer_filters.specs.Standing.{StandsFor}
 use Rattle.cy_planner_outer_filters.specs.declared.lowering.Above.{Above}
 use Rattle.cy_planner_outer_filters.specs.internal.Above.{StandsBelow, put_over, put_over_one}
-use Rattle.cy_planner_outer_filters.specs.internal.Bases.{together}
+use Rattle.cy_planner_rewriting.specs.Opened.{together}
 use Rattle.cy_planner_outer_filters.proofs.Congruent.{equal_plans, on_graphs, stands_again}
 use Rattle.cy_planner_outer_filters.proofs.Together.{both_replaced, over_all, over_both, well_sides}
 

@@ -4,15 +4,15 @@ use Rattle.cy_trees.specs.TreeModels.{expression_of}
 use Rattle.cy_planner_algebra.specs.Plans.{Plan}
 use Rattle.cy_planner_algebra.specs.PlanModels.{output_of}
 use Rattle.cy_planner_algebra.specs.WellFormed.{IsWellFormed}
-use Rattle.cy_planner_rewriting.specs.internal.Layers.{layered, over_layer}
+use Rattle.cy_planner_rewriting.specs.internal.Layers.{IsBase, layered, over_layer}
 use Rattle.cy_planner_rewriting.specs.Rewritten.{IsRewritten}
 use Rattle.cy_planner_rewriting.specs.declared.layers.Layer.{Layer}
 use Rattle.cy_planner_rewriting.specs.declared.layers.Layer.TheVariants as layer
 use Rattle.cy_planner_rewriting.proofs.Layering.{layers_over, well_below}
 use Rattle.cy_planner_outer_filters.specs.Standing.{StandsFor}
-use Rattle.cy_planner_outer_filters.specs.declared.bases.Joint.{Joint}
-use Rattle.cy_planner_outer_filters.specs.declared.bases.Joint.TheVariants as joint
-use Rattle.cy_planner_outer_filters.specs.internal.Bases.{together}
+use Rattle.cy_planner_rewriting.specs.declared.layers.Joint.{Joint}
+use Rattle.cy_planner_rewriting.specs.declared.layers.Joint.TheVariants as joint
+use Rattle.cy_planner_rewriting.specs.Opened.{together}
 use Rattle.cy_planner_outer_filters.proofs.Congruent.{on_graphs, over_different, over_distinct, over_filter, over_join, over_lookup, over_outer, over_project, over_semi, over_union, stands_again}
 
 over_any : (l : Layer) (p q : Plan) → StandsFor p q → StandsFor (over_layer l p) (over_layer l q)
@@ -57,3 +57,14 @@ both_replaced whole base left right other_left other_right put j ls is opened he
     base_replaced whole base put ls is
     (subst (λ (p : Plan). StandsFor p put) (sym opened)
     (stands_again (together j left right) (together j other_left other_right) put (over_both j left right other_left other_right here there) last))
+
+-- what layers stand on is no layer
+pub no_layer : (p : Plan) (l : Layer) (q : Plan) → IsBase p → p ≡ over_layer l q → ⊥
+no_layer p l q base is = none l (subst IsBase is base)
+  where
+    none : (m : Layer) → IsBase (over_layer m q) → ⊥
+    none (layer.Lookup column attribute) lies = lies
+    none (layer.Filter test) lies = lies
+    none (layer.AllDifferent columns) lies = lies
+    none (layer.Project outputs) lies = lies
+    none layer.Distinct lies = lies

@@ -1,4 +1,3 @@
 -- What private functions and proofs need.
 pub mod Above
-pub mod Bases
 pub mod Splits

@@ -5,14 +5,13 @@ ghost use Rattle.cy_planner_algebra.specs.declared.operators.Operator.{size-Oper
 ghost use Rattle.cy_planner_algebra.specs.PlanModels.{plan_of};
 ghost use Rattle.cy_planner_algebra.specs.WellFormed.{IsWellFormed};
 ghost use Rattle.cy_planner_rewriting.specs.Rewritten.{IsRewritten};
+ghost use Rattle.cy_planner_rewriting.specs.Opened.{together};
 ghost use Rattle.cy_planner_rewriting.specs.internal.Layers as layers;
 ghost use Rattle.cy_planner_outer_filters.specs.Standing.{StandsFor};
-ghost use Rattle.cy_planner_outer_filters.specs.internal.Bases as spec;
 
 use crate::outers::outer;
-use cy_planner_algebra::{Fields, Keeping, KeyColumns, Operator, Plan};
-use cy_planner_rewriting::{Layer, Opened, open_part};
-use cy_trees::Expr;
+use cy_planner_algebra::{Operator, Plan};
+use cy_planner_rewriting::{Joint, Layer, Opened, joined, open_part};
 use cy_values::Fault;
 use std::alloc::Global;
 
@@ -21,24 +20,6 @@ use std::alloc::Global;
 pub(crate) struct Layers {
     pub(crate) layers: Vec<Layer>,
     pub(crate) base: Operator,
-}
-
-/// How two operators go together.
-#[derive(Drop)]
-pub(crate) enum Joint {
-    Join(Vec<KeyColumns>),
-    Outer(Vec<KeyColumns>, Expr),
-    Semi(Vec<KeyColumns>, Keeping),
-    Union,
-}
-
-/// What layers stand on.
-#[derive(Drop)]
-pub(crate) enum Base {
-    /// A plan with no operator below it.
-    Leaf(Plan),
-    /// Two operators that go together.
-    Both(Joint, Operator, Operator),
 }
 
 /// A plan taken apart into layers and what these stand on.
@@ -61,50 +42,6 @@ pub(crate) fn layers_of(alloc: Global, part: Operator) -> Result<Layers, Fault>
     }
 }
 
-/// A base, opened.
-pub(crate) fn open_base(base: Operator) -> Base
-    requires good { IsWellFormed (plan_of base) }
-    requires base { layers.IsBase (plan_of base) }
-    ensures is { spec.IsOpened base result }
-    ensures depth { spec.AreLessDeep base result }
-    ensures well_formed { spec.AreWellFormed result }
-{
-    match base.into_fields() {
-        Fields::Unit => Base::Leaf(Plan::unit()),
-        Fields::Nodes => Base::Leaf(Plan::nodes()),
-        Fields::Rels(types, orientation) => Base::Leaf(Plan::rels(types, orientation)),
-        Fields::Join(left, right, keys) => {
-            Base::Both(
-                Joint::Join(keys),
-                Box::into_inner(left),
-                Box::into_inner(right),
-            )
-        }
-        Fields::Outer(left, right, keys, test) => {
-            Base::Both(
-                Joint::Outer(keys, test),
-                Box::into_inner(left),
-                Box::into_inner(right),
-            )
-        }
-        Fields::Semi(left, right, keys, keeping) => {
-            Base::Both(
-                Joint::Semi(keys, keeping),
-                Box::into_inner(left),
-                Box::into_inner(right),
-            )
-        }
-        Fields::Union(left, right) => {
-            Base::Both(Joint::Union, Box::into_inner(left), Box::into_inner(right))
-        }
-        Fields::Lookup(_, _, _)
-        | Fields::Filter(_, _)
-        | Fields::AllDifferent(_, _)
-        | Fields::Project(_, _)
-        | Fields::Distinct(_) => unreachable!(),
-    }
-}
-
 /// Two plans together: what the predicate of an outer join asks of the right rows alone is asked of the right input.
 pub(crate) fn put_together(
     alloc: Global,
@@ -112,13 +49,11 @@ pub(crate) fn put_together(
     left: Plan,
     right: Plan,
 ) -> Result<Plan, Fault>
-    requires { IsWellFormed (spec.together joint (plan_of left) (plan_of right)) }
-    ensures { IfOk result (λ p. StandsFor (spec.together joint (plan_of left) (plan_of right)) (plan_of p)) }
+    requires { IsWellFormed (together joint (plan_of left) (plan_of right)) }
+    ensures { IfOk result (λ p. StandsFor (together joint (plan_of left) (plan_of right)) (plan_of p)) }
 {
     match joint {
-        Joint::Join(keys) => Plan::join(alloc, left, right, keys),
         Joint::Outer(keys, test) => outer(alloc, left, right, keys, test),
-        Joint::Semi(keys, keeping) => Plan::semi(alloc, left, right, keys, keeping),
-        Joint::Union => Plan::union(alloc, left, right),
+        joint => joined(alloc, joint, left, right),
     }
 }

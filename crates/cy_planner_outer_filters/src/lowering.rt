@@ -3,12 +3,13 @@
 ghost use Rattle.std.specs.Prelude.{IfOk};
 ghost use Rattle.cy_planner_algebra.specs.PlanModels.{plan_of};
 ghost use Rattle.cy_planner_algebra.specs.WellFormed.{IsWellFormed};
+ghost use Rattle.cy_planner_rewriting.specs.Opened.{together};
 ghost use Rattle.cy_planner_outer_filters.specs.Standing.{StandsFor};
 ghost use Rattle.cy_planner_outer_filters.specs.internal.Above as spec;
 
-use crate::bases::{Base, Joint, Layers, layers_of, open_base, put_together};
+use crate::bases::{Layers, layers_of, put_together};
 use cy_planner_algebra::{Operator, Plan};
-use cy_planner_rewriting::{Layer, layered};
+use cy_planner_rewriting::{Joint, Layer, Part, layered, open_operator};
 use cy_values::Fault;
 use std::alloc::Global;
 
@@ -41,6 +42,13 @@ fn put_over(alloc: Global, base: Plan, above: Vec<Above>) -> Result<Plan, Fault>
     Ok(plan)
 }
 
+/// Of two operators that go together and can be meant each can be meant.
+fn each_meant(_joint: &Joint, _left: &Operator, _right: &Operator)
+    requires { IsWellFormed (together _joint.now (plan_of _left.now) (plan_of _right.now)) }
+    ensures left { IsWellFormed (plan_of _left.now) }
+    ensures right { IsWellFormed (plan_of _right.now) }
+{}
+
 /// The plan that stands for an operator and those below it. Of two operators below another one the left one is taken in a loop, and the right one
 /// by a call.
 fn lowered(alloc: Global, part: Operator) -> Result<Plan, Fault>
@@ -51,12 +59,13 @@ fn lowered(alloc: Global, part: Operator) -> Result<Plan, Fault>
     let mut part = part;
     loop {
         let Layers { layers, base } = layers_of(alloc, part)?;
-        match open_base(base) {
-            Base::Leaf(leaf) => {
+        match open_operator(base) {
+            Part::Leaf(leaf) => {
                 let plan = layered(alloc, leaf, layers)?;
                 return put_over(alloc, plan, above);
             }
-            Base::Both(joint, left, right) => {
+            Part::Both(joint, left, right) => {
+                each_meant(&joint, &left, &right);
                 let right = lowered(alloc, right)?;
                 above.push(Above {
                     joint,
@@ -65,6 +74,7 @@ fn lowered(alloc: Global, part: Operator) -> Result<Plan, Fault>
                 })?;
                 part = left;
             }
+            Part::Over(_, _) => unreachable!(),
         }
     }
 }

@@ -10,8 +10,8 @@ use Rattle.cy_planner_algebra.specs.WellFormed.{IsWellFormed}
 use Rattle.cy_planner_rows.specs.declared.places.Wanted.{Wanted}
 use Rattle.cy_planner_rows.specs.internal.Lookups.{over}
 use Rattle.cy_planner_rewriting.specs.declared.rewriting.Above.{Above}
-use Rattle.cy_planner_rewriting.specs.declared.splits.Joint.{Joint}
-use Rattle.cy_planner_rewriting.specs.declared.splits.Joint.TheVariants as joint
+use Rattle.cy_planner_rewriting.specs.declared.splits.Rejoin.{Rejoin}
+use Rattle.cy_planner_rewriting.specs.declared.splits.Rejoin.TheVariants as joint
 use Rattle.cy_planner_rewriting.specs.declared.splits.Side.{Side}
 use Rattle.cy_planner_rewriting.specs.internal.Above.{StandsBelow, put_over, put_over_one}
 use Rattle.cy_planner_rewriting.specs.internal.Layers.{layered, over_outputs}
@@ -28,7 +28,7 @@ over_given : (outputs : Option (Vec Output Global)) (p q : Plan) → IsRewritten
 over_given None p q is = is
 over_given (Some outputs) p q is = over_project p q is (map output_of outputs.items)
 
-over_left : (j : Joint) (p q r : Plan) → IsRewritten p q → IsRewritten (together j p r) (together j q r)
+over_left : (j : Rejoin) (p q r : Plan) → IsRewritten p q → IsRewritten (together j p r) (together j q r)
 over_left (joint.Join keys outputs) p q r is = over_given outputs (plan.join p r keys.items) (plan.join q r keys.items) (over_join p r q r is (same_plan r) keys.items)
 over_left (joint.Outer keys test outputs) p q r is =
     over_given outputs (plan.outer p r keys.items (expression_of test)) (plan.outer q r keys.items (expression_of test)) (over_outer p r q r is (same_plan r) keys.items (expression_of test))
@@ -44,7 +44,7 @@ over_each (a ∷ above) p q is = over_one a (put_over above p) (put_over above q
 
 -- ---- what stands there is well formed
 
-well_left : (j : Joint) (p q : Plan) → IsWellFormed (together j p q) → IsWellFormed p
+well_left : (j : Rejoin) (p q : Plan) → IsWellFormed (together j p q) → IsWellFormed p
 well_left (joint.Join keys outputs) p q well = (well_joined outputs (plan.join p q keys.items) well).0
 well_left (joint.Outer keys test outputs) p q well = (well_joined outputs (plan.outer p q keys.items (expression_of test)) well).0
 well_left (joint.Semi keys keeping) p q well = well.0

@@ -19,7 +19,7 @@ use Rattle.cy_planner_algebra.specs.Within.{IsWithin}
 use Rattle.cy_planner_rows.specs.declared.places.Wanted.{Wanted}
 use Rattle.cy_planner_rows.specs.internal.Lookups.{over}
 use Rattle.cy_planner_rows.proofs.OverRows.{IsLong, long_rows}
-use Rattle.cy_planner_rewriting.specs.declared.splits.Joint.TheVariants as joint
+use Rattle.cy_planner_rewriting.specs.declared.splits.Rejoin.TheVariants as joint
 use Rattle.cy_planner_rewriting.specs.declared.splits.Side.{Side}
 use Rattle.cy_planner_rewriting.specs.internal.Splits.{AreSides, side_plan}
 use Rattle.cy_planner_rewriting.specs.Rewritten.{IsRewritten}

@@ -20,8 +20,8 @@ use Rattle.cy_planner_rows.specs.Columns.{column_output}
 use Rattle.cy_planner_rows.specs.internal.Lookups.{over}
 use Rattle.cy_planner_rows.proofs.OverRows.{IsInside, width_bounded, width_over}
 use Rattle.cy_planner_rewriting.specs.declared.layers.Layer.{Layer}
-use Rattle.cy_planner_rewriting.specs.declared.splits.Joint.{Joint}
-use Rattle.cy_planner_rewriting.specs.declared.splits.Joint.TheVariants as joint
+use Rattle.cy_planner_rewriting.specs.declared.splits.Rejoin.{Rejoin}
+use Rattle.cy_planner_rewriting.specs.declared.splits.Rejoin.TheVariants as joint
 use Rattle.cy_planner_rewriting.specs.declared.splits.Side.{Side}
 use Rattle.cy_planner_rewriting.specs.internal.Layers.{layered, over_outputs}
 use Rattle.cy_planner_rewriting.specs.internal.Lowered.{CanBeSplit, both_columns, joined_columns, lefts, rights}
@@ -143,13 +143,13 @@ well_joined None p well = well
 well_joined (Some outputs) p well = well.0
 
 -- layers over plans that can stand in place of the sides, together
-pub over_sides : (orig base p q : Plan) (ls : List Layer) (ws : List Wanted) (j : Joint) (l r : Side) → IsRewritten orig (layered ls (over base ws)) → AreSides base ws j l r → IsRewritten (side_plan l) p → IsRewritten (side_plan r) q
+pub over_sides : (orig base p q : Plan) (ls : List Layer) (ws : List Wanted) (j : Rejoin) (l r : Side) → IsRewritten orig (layered ls (over base ws)) → AreSides base ws j l r → IsRewritten (side_plan l) p → IsRewritten (side_plan r) q
     → IsRewritten orig (layered ls (together j p q))
 over_sides orig base p q ls ws j l r before sides first second =
     rewritten_again orig (layered ls (over base ws)) (layered ls (together j p q)) before (over_all ls (over base ws) (together j p q) (sides.whole p q first second))
 
 -- with the look-ups in other columns
-pub sides_from : (base : Plan) (ws ms : List Wanted) (j : Joint) (l r : Side) → IsRewritten (over base ws) (over base ms) → AreSides base ms j l r → AreSides base ws j l r
+pub sides_from : (base : Plan) (ws ms : List Wanted) (j : Rejoin) (l r : Side) → IsRewritten (over base ws) (over base ms) → AreSides base ms j l r → AreSides base ws j l r
 sides_from base ws ms j l r is sides = record {
   left = sides.left;
   right = sides.right;

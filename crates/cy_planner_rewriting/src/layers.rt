@@ -1,21 +1,24 @@
-//! The layers of a plan, from the uppermost operator down: operators with one operator below them. Each call fails only when out of memory.
+//! What the operators of a plan are, and its layers from the uppermost operator down: operators with one operator below them. Each call that can fail
+//! fails only when out of memory.
 
 ghost use Rattle.std.specs.Prelude.{◌≡◌, ◌<◌, ◌≤◌, ◌++◌, ◌∷◌, [], IfOk, IsTrue, OnOk, map};
 ghost use Rattle.std.specs.List.{AllByRecursion};
 ghost use Rattle.cy_planner_algebra.specs.declared.operators.Operator.{size-Operator};
 ghost use Rattle.cy_planner_algebra.specs.declared.operators.Operator.TheVariants as operator;
-ghost use Rattle.cy_planner_algebra.specs.Plans.{Plan, width};
+ghost use Rattle.cy_planner_algebra.specs.Plans.{width};
+ghost use Rattle.cy_planner_algebra.specs.Plans as plans;
 ghost use Rattle.cy_planner_algebra.specs.PlanModels.{output_of, plan_of};
 ghost use Rattle.cy_planner_algebra.specs.WellFormed.{IsWellFormed};
 ghost use Rattle.cy_planner_rows.specs.internal.Lookups.{over};
 ghost use Rattle.cy_planner_rewriting.specs.declared.layers.Layer.TheVariants as layer;
+ghost use Rattle.cy_planner_rewriting.specs.Opened as opened;
 ghost use Rattle.cy_planner_rewriting.specs.Rewritten.{IsRewritten};
 ghost use Rattle.cy_planner_rewriting.specs.internal.Columns.{AreColumns};
 ghost use Rattle.cy_planner_rewriting.specs.internal.Layers as spec;
 
 use crate::lookups::{are_inside, below_projection, with_columns};
 use crate::outputs::{columns_of, merged, renumber_members};
-use cy_planner_algebra::{Attribute, Fields, Operator, Output};
+use cy_planner_algebra::{Attribute, Fields, Keeping, KeyColumns, Operator, Output, Plan};
 use cy_planner_rows::{Wanted, renumber};
 use cy_trees::Expr;
 use cy_values::Fault;
@@ -34,7 +37,27 @@ pub enum Layer {
     Distinct,
 }
 
+/// How two operators go together.
+#[derive(Drop)]
+pub enum Joint {
+    Join(Vec<KeyColumns>),
+    Outer(Vec<KeyColumns>, Expr),
+    Semi(Vec<KeyColumns>, Keeping),
+    Union,
+}
+
 /// What an operator is.
+#[derive(Drop)]
+pub enum Part {
+    /// A plan with no operator below it.
+    Leaf(Plan),
+    /// A layer over another operator.
+    Over(Layer, Operator),
+    /// Two operators that go together.
+    Both(Joint, Operator, Operator),
+}
+
+/// What an operator is to those who look for layers.
 #[derive(Drop)]
 pub enum Opened {
     /// A layer over another operator.
@@ -51,6 +74,65 @@ pub(crate) struct Layers {
     pub(crate) layers: Vec<Layer>,
     pub(crate) lookups: Vec<Wanted>,
     pub(crate) base: Operator,
+}
+
+/// An operator opened.
+pub fn open_operator(part: Operator) -> Part
+    ensures { opened.IsOpened part result }
+{
+    match part.into_fields() {
+        Fields::Unit => Part::Leaf(Plan::unit()),
+        Fields::Nodes => Part::Leaf(Plan::nodes()),
+        Fields::Rels(types, orientation) => Part::Leaf(Plan::rels(types, orientation)),
+        Fields::Lookup(below, column, attribute) => {
+            Part::Over(Layer::Lookup(column, attribute), Box::into_inner(below))
+        }
+        Fields::Filter(below, test) => Part::Over(Layer::Filter(test), Box::into_inner(below)),
+        Fields::AllDifferent(below, columns) => {
+            Part::Over(Layer::AllDifferent(columns), Box::into_inner(below))
+        }
+        Fields::Project(below, outputs) => {
+            Part::Over(Layer::Project(outputs), Box::into_inner(below))
+        }
+        Fields::Distinct(below) => Part::Over(Layer::Distinct, Box::into_inner(below)),
+        Fields::Join(left, right, keys) => {
+            Part::Both(
+                Joint::Join(keys),
+                Box::into_inner(left),
+                Box::into_inner(right),
+            )
+        }
+        Fields::Outer(left, right, keys, test) => {
+            Part::Both(
+                Joint::Outer(keys, test),
+                Box::into_inner(left),
+                Box::into_inner(right),
+            )
+        }
+        Fields::Semi(left, right, keys, keeping) => {
+            Part::Both(
+                Joint::Semi(keys, keeping),
+                Box::into_inner(left),
+                Box::into_inner(right),
+            )
+        }
+        Fields::Union(left, right) => {
+            Part::Both(Joint::Union, Box::into_inner(left), Box::into_inner(right))
+        }
+    }
+}
+
+/// Two plans together. Fails only when out of memory.
+pub fn joined(alloc: Global, joint: Joint, left: Plan, right: Plan) -> Result<Plan, Fault>
+    requires { IsWellFormed (opened.together joint (plan_of left) (plan_of right)) }
+    ensures { IfOk result (λ p. plan_of p ≡ opened.together joint (plan_of left) (plan_of right)) }
+{
+    match joint {
+        Joint::Join(keys) => Plan::join(alloc, left, right, keys),
+        Joint::Outer(keys, test) => Plan::outer(alloc, left, right, keys, test),
+        Joint::Semi(keys, keeping) => Plan::semi(alloc, left, right, keys, keeping),
+        Joint::Union => Plan::union(alloc, left, right),
+    }
 }
 
 fn is_unit(part: &Operator) -> bool
@@ -96,7 +178,7 @@ pub fn open_part(part: Operator) -> Opened
 }
 
 fn push(layers: &mut Vec<Layer>, layer: Layer) -> Result<(), Fault>
-    ensures { OnOk result ((p : Plan) → spec.AreInPlace (layers.old.items ++ layer ∷ []) layers.new.items p p) }
+    ensures { OnOk result ((p : plans.Plan) → spec.AreInPlace (layers.old.items ++ layer ∷ []) layers.new.items p p) }
 {
     layers.push(layer)?;
     Ok(())
@@ -109,7 +191,7 @@ fn add_second(
     outer: Vec<Output>,
     inner: Vec<Output>,
 ) -> Result<(), Fault>
-    ensures { OnOk result ((p : Plan) → spec.AreInPlace (layers.old.items ++ layer.Project outer ∷ layer.Project inner ∷ []) layers.new.items p p) }
+    ensures { OnOk result ((p : plans.Plan) → spec.AreInPlace (layers.old.items ++ layer.Project outer ∷ layer.Project inner ∷ []) layers.new.items p p) }
 {
     match merged(alloc, outer.as_slice(), inner.as_slice())? {
         Some(outputs) => push(layers, Layer::Project(outputs)),
@@ -129,7 +211,7 @@ fn add_columns(
     most: usize,
 ) -> Result<(), Fault>
     requires { AreColumns (map output_of outputs.items) columns.now }
-    ensures { OnOk result ((p : Plan) → spec.AreInPlace (layers.old.items ++ layer.Project outputs ∷ []) layers.new.items p p) }
+    ensures { OnOk result ((p : plans.Plan) → spec.AreInPlace (layers.old.items ++ layer.Project outputs ∷ []) layers.new.items p p) }
 {
     if most == 0 {
         return push(layers, Layer::Project(outputs));
@@ -162,7 +244,7 @@ fn add_columns(
 
 /// Puts a projection that makes something below all: it is one with a projection above it that takes over columns alone.
 fn add_made(alloc: Global, layers: &mut Vec<Layer>, outputs: Vec<Output>) -> Result<(), Fault>
-    ensures { OnOk result ((p : Plan) → spec.AreInPlace (layers.old.items ++ layer.Project outputs ∷ []) layers.new.items p p) }
+    ensures { OnOk result ((p : plans.Plan) → spec.AreInPlace (layers.old.items ++ layer.Project outputs ∷ []) layers.new.items p p) }
 {
     match layers.pop() {
         Some(Layer::Project(outer)) => add_second(alloc, layers, outer, outputs),
@@ -188,7 +270,7 @@ pub(crate) fn add_projection(
     layers: &mut Vec<Layer>,
     outputs: Vec<Output>,
 ) -> Result<(), Fault>
-    ensures { OnOk result ((p : Plan) → spec.AreInPlace (layers.old.items ++ layer.Project outputs ∷ []) layers.new.items p p) }
+    ensures { OnOk result ((p : plans.Plan) → spec.AreInPlace (layers.old.items ++ layer.Project outputs ∷ []) layers.new.items p p) }
 {
     if !lets_up(layers.as_slice()) {
         return push(layers, Layer::Project(outputs));
@@ -201,7 +283,7 @@ pub(crate) fn add_projection(
 
 /// Puts a test below all that no relationship stands twice. In no column none does.
 fn add_test(layers: &mut Vec<Layer>, columns: Vec<usize>) -> Result<(), Fault>
-    ensures { OnOk result ((p : Plan) → spec.AreInPlace (layers.old.items ++ layer.AllDifferent columns ∷ []) layers.new.items p p) }
+    ensures { OnOk result ((p : plans.Plan) → spec.AreInPlace (layers.old.items ++ layer.AllDifferent columns ∷ []) layers.new.items p p) }
 {
     if columns.is_empty() {
         Ok(())
@@ -282,7 +364,7 @@ fn settle_unless(
     layers: &mut Vec<Layer>,
     pending: &mut Vec<Wanted>,
 ) -> Result<(), Fault>
-    ensures { OnOk result ((p : Plan) → spec.stacked layers.new.items pending.new.items p ≡ spec.stacked layers.old.items pending.old.items p) }
+    ensures { OnOk result ((p : plans.Plan) → spec.stacked layers.new.items pending.new.items p ≡ spec.stacked layers.old.items pending.old.items p) }
 {
     if joins {
         Ok(())

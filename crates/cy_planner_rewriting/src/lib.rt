@@ -9,7 +9,7 @@ mod redirects;
 mod rewriting;
 mod splits;
 
-pub use layers::{Layer, Opened, open_part};
+pub use layers::{Joint, Layer, Opened, Part, joined, open_operator, open_part};
 pub use outputs::{columns_of, renumber_members, renumber_outputs};
 pub use parts::layered;
 pub use rewriting::rewritten;

@@ -9,7 +9,7 @@ ghost use Rattle.cy_planner_rewriting.specs.internal.Splits as spec;
 
 use crate::layers::{Layer, Layers, taken_apart};
 use crate::parts::layered;
-use crate::splits::{Joint, Side, Split, bare_side, put_together, split_base};
+use crate::splits::{Rejoin, Side, Split, bare_side, put_together, split_base};
 use cy_planner_algebra::Plan;
 use cy_values::Fault;
 use std::alloc::Global;
@@ -17,7 +17,7 @@ use std::alloc::Global;
 /// What stands above the left one of two inputs: how they go together, the right one, and the layers on that.
 #[derive(Drop)]
 pub(crate) struct Above {
-    joint: Joint,
+    joint: Rejoin,
     right: Plan,
     layers: Vec<Layer>,
 }

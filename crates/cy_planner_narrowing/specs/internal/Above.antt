@@ -1,14 +1,13 @@
 -- What stands above an operator, the left one of two that go together. (own)
 use Rattle.std.specs.Prelude.{List, [], ◌∷◌}
 use Rattle.cy_planner_algebra.specs.Plans.{Plan}
-use Rattle.cy_planner_algebra.specs.PlanModels.{plan_of}
 use Rattle.cy_planner_algebra.specs.WellFormed.{IsWellFormed}
 use Rattle.cy_planner_rewriting.specs.internal.Layers.{over_layer}
 use Rattle.cy_planner_rewriting.specs.Rewritten.{IsRewritten}
 use Rattle.cy_planner_narrowing.specs.declared.narrowing.Above.{Above}
 use Rattle.cy_planner_narrowing.specs.declared.narrowing.Above.TheVariants as above
 use Rattle.cy_planner_narrowing.specs.internal.Narrows.{restored}
-use Rattle.cy_planner_narrowing.specs.internal.Parts.{together}
+use Rattle.cy_planner_rewriting.specs.Opened.{together}
 
 abbrev pub over_one : Above → Plan → Plan
 over_one (above.Layer l) p = over_layer l p

@@ -6,7 +6,7 @@ use Rattle.cy_planner_algebra.specs.WellFormed.{IsWellFormed}
 use Rattle.cy_planner_rewriting.specs.internal.Layers.{layered}
 use Rattle.cy_planner_outer_filters.specs.Standing.{StandsFor}
 use Rattle.cy_planner_outer_filters.specs.declared.lowering.Above.{Above}
-use Rattle.cy_planner_outer_filters.specs.internal.Bases.{together}
+use Rattle.cy_planner_rewriting.specs.Opened.{together}
 
 -- layers over a plan together with another one
 abbrev pub put_over_one : Above → Plan → Plan

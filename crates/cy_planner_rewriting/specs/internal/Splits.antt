@@ -10,14 +10,14 @@ use Rattle.cy_planner_rows.specs.declared.places.Wanted.{Wanted}
 use Rattle.cy_planner_rows.specs.internal.Lookups.{over}
 use Rattle.cy_planner_rewriting.specs.internal.Layers.{over_outputs}
 use Rattle.cy_planner_rewriting.specs.Rewritten.{IsRewritten}
-use Rattle.cy_planner_rewriting.specs.declared.splits.Joint.{Joint}
-use Rattle.cy_planner_rewriting.specs.declared.splits.Joint.TheVariants as joint
+use Rattle.cy_planner_rewriting.specs.declared.splits.Rejoin.{Rejoin}
+use Rattle.cy_planner_rewriting.specs.declared.splits.Rejoin.TheVariants as joint
 use Rattle.cy_planner_rewriting.specs.declared.splits.Side.{Side}
 use Rattle.cy_planner_rewriting.specs.declared.splits.Split.{Split}
 use Rattle.cy_planner_rewriting.specs.declared.splits.Split.TheVariants as split
 
 -- two plans together
-abbrev pub together : Joint → Plan → Plan → Plan
+abbrev pub together : Rejoin → Plan → Plan → Plan
 together (joint.Join keys outputs) p q = over_outputs outputs (plan.join p q keys.items)
 together (joint.Outer keys test outputs) p q = over_outputs outputs (plan.outer p q keys.items (expression_of test))
 together (joint.Semi keys keeping) p q = plan.semi p q keys.items keeping
@@ -28,7 +28,7 @@ abbrev pub side_plan : Side → Plan
 side_plan s = over (plan_of s.part) s.lookups.items
 
 -- together they can stand in place of the base with its look-ups, and so can plans that can stand in place of them
-pub record AreSides (base : Plan) (ws : List Wanted) (j : Joint) (l r : Side) : Type 0 where
+pub record AreSides (base : Plan) (ws : List Wanted) (j : Rejoin) (l r : Side) : Type 0 where
   pub left : IsWellFormed (side_plan l)
   pub right : IsWellFormed (side_plan r)
   pub whole : (p q : Plan) → IsRewritten (side_plan l) p → IsRewritten (side_plan r) q → IsRewritten (over base ws) (together j p q)

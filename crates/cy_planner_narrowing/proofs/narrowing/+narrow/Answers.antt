@@ -22,7 +22,7 @@ put_over-requires t c =
     let whole : Plan = plan_of c.args.part in
     let part : Plan = plan_of c.loop-plan.part in
     let base : Plan = restored c.in_ok-base-in-Leaf.base in
-    let leaf : part ≡ plan_of c.in-Leaf.plan = rw c.in-Leaf.is at c.opened.ensures in
+    let leaf : part ≡ plan_of c.in-Leaf.plan = rw c.in-Leaf.is at c.open_operator.ensures in
     let here : IsRewritten part base = subst (λ (o : Plan). IsRewritten o base) (sym leaf) c.in_ok-base-in-Leaf.ensures in
     (lowest_in_place whole part base c.loop-plan.above.items c.loop-plan.invariant.0 here).well_formed c.requires
 
@@ -32,7 +32,7 @@ returns-in-Leaf t c =
     let part : Plan = plan_of c.loop-plan.part in
     let base : Plan = restored c.in_ok-base-in-Leaf.base in
     let rest : List Above = c.loop-plan.above.items in
-    let leaf : part ≡ plan_of c.in-Leaf.plan = rw c.in-Leaf.is at c.opened.ensures in
+    let leaf : part ≡ plan_of c.in-Leaf.plan = rw c.in-Leaf.is at c.open_operator.ensures in
     let here : IsRewritten part base = subst (λ (o : Plan). IsRewritten o base) (sym leaf) c.in_ok-base-in-Leaf.ensures in
     IfOk-weaker c.put_over.result _ _ (λ n is. rewritten_again whole (over_all rest base) (restored n) (lowest_in_place whole part base rest c.loop-plan.invariant.0 here) is) c.put_over.ensures
 
@@ -41,7 +41,7 @@ loop-plan-preserved-in-Over t c =
     let whole : Plan = plan_of c.args.part in
     let part : Plan = plan_of c.loop-plan.part in
     let below : Plan = plan_of c.in-Over.below in
-    let opened = rw c.in-Over.is at c.opened.ensures in
+    let opened = rw c.in-Over.is at c.open_operator.ensures in
     let less : size-Operator c.in-Over.below < size-Operator c.loop-plan.part = opened.1 in
     let before = c.loop-plan.invariant.1 in (
       stands_under whole part below c.push.new.self.items c.loop-plan.above.items c.in-Over.layer c.in_ok-push-in-Over.ensures.items c.loop-plan.invariant.0 opened.0,
@@ -54,7 +54,7 @@ loop-plan-preserved t c =
     let part : Plan = plan_of c.loop-plan.part in
     let left : Plan = plan_of c.in-Both.left in
     let right : Plan = plan_of c.in-Both.right in
-    let opened = rw c.in-Both.is at c.opened.ensures in
+    let opened = rw c.in-Both.is at c.open_operator.ensures in
     let less : size-Operator c.in-Both.left < size-Operator c.loop-plan.part = opened.1 in
     let before = c.loop-plan.invariant.1 in (
       stands_left whole part left right c.push-in-Both.new.self.items c.loop-plan.above.items c.in-Both.joint c.in_ok-right-in-Both.right c.in_ok-push-in-Both.ensures.items c.loop-plan.invariant.0 opened.0

@@ -3,6 +3,7 @@ use Rattle.std.proofs.lemmas.Result.{IfOk-weaker}
 use Rattle.cy_planner_algebra.specs.declared.operators.Operator.{size-Operator}
 use Rattle.cy_planner_algebra.specs.Plans.{Plan}
 use Rattle.cy_planner_algebra.specs.PlanModels.{plan_of}
+use Rattle.cy_planner_algebra.specs.WellFormed.{IsWellFormed}
 use Rattle.cy_planner_rewriting.specs.internal.Layers.{layered}
 use Rattle.cy_planner_rewriting.specs.Rewritten.{IsRewritten}
 use Rattle.cy_planner_rewriting.specs.declared.layers.Layer.{Layer}
@@ -10,9 +11,9 @@ use Rattle.cy_planner_rewriting.proofs.Congruent.{rewritten_again}
 use Rattle.cy_planner_outer_filters.specs.Standing.{StandsFor}
 use Rattle.cy_planner_outer_filters.specs.declared.lowering.Above.{Above}
 use Rattle.cy_planner_outer_filters.specs.internal.Above.{StandsBelow, put_over}
-use Rattle.cy_planner_outer_filters.specs.internal.Bases.{together}
+use Rattle.cy_planner_rewriting.specs.Opened.{together}
 use Rattle.cy_planner_outer_filters.proofs.Congruent.{on_graphs, stands_again}
-use Rattle.cy_planner_outer_filters.proofs.Together.{well_base}
+use Rattle.cy_planner_outer_filters.proofs.Together.{no_layer, well_base, well_sides}
 use Rattle.cy_planner_outer_filters.proofs.Putting.{stands_alone, stands_left}
 use Rattle.cy_planner_outer_filters.proofs.lowering.+lowered.Goals as goal
 
@@ -22,14 +23,23 @@ loop-above-init t c = (
   omega arith,
 )
 
-pub open_base-requires-clause-good : goal.open_base-requires-clause-good
-open_base-requires-clause-good t c = well_base (plan_of c.loop-above.part) (plan_of c.in_ok-layers.field-0.base) c.in_ok-layers.field-0.layers.items c.loop-above.invariant.0.good c.in_ok-layers.ensures.same
+pub each_meant-requires : goal.each_meant-requires
+each_meant-requires t c =
+    let base : Plan = plan_of c.in_ok-layers.field-0.base in
+    let well : IsWellFormed base = well_base (plan_of c.loop-above.part) base c.in_ok-layers.field-0.layers.items c.loop-above.invariant.0.good c.in_ok-layers.ensures.same in
+    let both = rw c.in-Both.is at c.open_operator.ensures in
+    subst IsWellFormed both.0 well
+
+pub unreachable-requires : goal.unreachable-requires
+unreachable-requires t c =
+    let over = rw c.in-Over.is at c.open_operator.ensures in
+    no_layer (plan_of c.in_ok-layers.field-0.base) c.in-Over.field-0 (plan_of c.in-Over.field-1) c.in_ok-layers.ensures.base over.0
 
 pub layered-requires : goal.layered-requires
 layered-requires t c =
     let part : Plan = plan_of c.loop-above.part in
     let ls : List Layer = c.in_ok-layers.field-0.layers.items in
-    let opened : plan_of c.in_ok-layers.field-0.base ≡ plan_of c.in-Leaf.leaf = rw c.in-Leaf.is at c.open_base.ensures.is in
+    let opened : plan_of c.in_ok-layers.field-0.base ≡ plan_of c.in-Leaf.leaf = rw c.in-Leaf.is at c.open_operator.ensures in
     (subst (λ (q : Plan). IsRewritten part (layered ls q)) opened c.in_ok-layers.ensures.same).well_formed c.loop-above.invariant.0.good
 
 pub put_over-requires : goal.put_over-requires
@@ -38,7 +48,7 @@ put_over-requires t c =
     let ls : List Layer = c.in_ok-layers.field-0.layers.items in
     let leaf : Plan = plan_of c.in-Leaf.leaf in
     let made : Plan = plan_of c.in_ok-plan-in-Leaf.plan in
-    let opened : plan_of c.in_ok-layers.field-0.base ≡ leaf = rw c.in-Leaf.is at c.open_base.ensures.is in
+    let opened : plan_of c.in_ok-layers.field-0.base ≡ leaf = rw c.in-Leaf.is at c.open_operator.ensures in
     let before : IsRewritten part (layered ls leaf) = subst (λ (q : Plan). IsRewritten part (layered ls q)) opened c.in_ok-layers.ensures.same in
     (c.loop-above.invariant.0.placed made (on_graphs part made (rewritten_again part (layered ls leaf) made before c.in_ok-plan-in-Leaf.ensures))).well_formed c.requires
 
@@ -49,7 +59,7 @@ returns-in-Leaf t c =
     let ls : List Layer = c.in_ok-layers.field-0.layers.items in
     let leaf : Plan = plan_of c.in-Leaf.leaf in
     let made : Plan = plan_of c.in_ok-plan-in-Leaf.plan in
-    let opened : plan_of c.in_ok-layers.field-0.base ≡ leaf = rw c.in-Leaf.is at c.open_base.ensures.is in
+    let opened : plan_of c.in_ok-layers.field-0.base ≡ leaf = rw c.in-Leaf.is at c.open_operator.ensures in
     let before : IsRewritten part (layered ls leaf) = subst (λ (q : Plan). IsRewritten part (layered ls q)) opened c.in_ok-layers.ensures.same in
     let all : StandsFor whole (put_over c.loop-above.above.items made) = c.loop-above.invariant.0.placed made (on_graphs part made (rewritten_again part (layered ls leaf) made before c.in_ok-plan-in-Leaf.ensures)) in
     IfOk-weaker c.put_over.result _ _ (λ p is. stands_again whole (put_over c.loop-above.above.items made) (plan_of p) all is) c.put_over.ensures
@@ -60,10 +70,11 @@ loop-above-preserved t c =
     let left : Plan = plan_of c.in-Both.left in
     let right : Plan = plan_of c.in-Both.right in
     let a : Above = record { joint = c.in-Both.joint; right = c.in_ok-right-in-Both.right; layers = c.in_ok-layers.field-0.layers } in
-    let opened : base ≡ together c.in-Both.joint left right = rw c.in-Both.is at c.open_base.ensures.is in
-    let well = rw c.in-Both.is at c.open_base.ensures.well_formed in
-    let depth = rw c.in-Both.is at c.open_base.ensures.depth in
-    let less : size-Operator c.in-Both.left < size-Operator c.in_ok-layers.field-0.base = depth.0 in
+    let both = rw c.in-Both.is at c.open_operator.ensures in
+    let opened : base ≡ together c.in-Both.joint left right = both.0 in
+    let whole : IsWellFormed base = well_base (plan_of c.loop-above.part) base c.in_ok-layers.field-0.layers.items c.loop-above.invariant.0.good c.in_ok-layers.ensures.same in
+    let well = well_sides c.in-Both.joint left right (subst IsWellFormed opened whole) in
+    let less : size-Operator c.in-Both.left < size-Operator c.in_ok-layers.field-0.base = both.1 in
     let no_deeper = c.in_ok-layers.ensures.no_deeper in
     let before = c.loop-above.invariant.1 in (
       stands_left (plan_of c.args.part) (plan_of c.loop-above.part) base left right c.push.new.self.items c.loop-above.above.items a c.loop-above.invariant.0 c.in_ok-layers.ensures.same opened well.0

@@ -6,10 +6,10 @@ use Rattle.cy_planner_algebra.specs.Plans as plan
 use Rattle.cy_planner_algebra.specs.Plans.{Plan}
 use Rattle.cy_planner_algebra.specs.PlanModels.{plan_of}
 use Rattle.cy_planner_rewriting.specs.internal.Layers.{over_layer}
-use Rattle.cy_planner_narrowing.specs.declared.parts.Joint.{Joint}
-use Rattle.cy_planner_narrowing.specs.declared.parts.Joint.TheVariants as joint
-use Rattle.cy_planner_narrowing.specs.declared.parts.Part.{Part}
-use Rattle.cy_planner_narrowing.specs.declared.parts.Part.TheVariants as opened
+use Rattle.cy_planner_rewriting.specs.declared.layers.Joint.{Joint}
+use Rattle.cy_planner_rewriting.specs.declared.layers.Joint.TheVariants as joint
+use Rattle.cy_planner_rewriting.specs.declared.layers.Part.{Part}
+use Rattle.cy_planner_rewriting.specs.declared.layers.Part.TheVariants as opened
 
 -- two plans together
 abbrev pub together : Joint → Plan → Plan → Plan

@@ -7,7 +7,7 @@ use Rattle.std.proofs.lemmas.Bool.Decides.{nat_tests}
 use Rattle.std.proofs.lemmas.List.{append-nil, drop_all, length-append, length-set, length-take-le, take_all}
 use Rattle.std.proofs.lemmas.Option.{slice_get-map, slice_get_past, slice_get_within}
 use Rattle.cy_values.specs.declared.rows.Cell.{Cell}
-use Rattle.cy_network_hashes.specs.Hashes.{IsFilled}
+use Rattle.cy_network_columns.specs.Hashes.{IsFilled}
 use Rattle.cy_network_columns.specs.Rows.{are_alike}
 use Rattle.cy_network_columns.specs.internal.Columns.{AreKept, EndsOnce, FilledTo, cell_at, cell_in, next_in, removed, row_in, rows_below}
 use Rattle.cy_network_columns.proofs.Elements.{filled, next_same, none_after, none_before, number_itself, put_last, same_elements, shorter}

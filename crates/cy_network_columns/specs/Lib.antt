@@ -1,2 +1,3 @@
+pub mod Hashes
 pub mod Rows
 pub mod internal

@@ -1,3 +1,4 @@
 -- What proofs alone need.
+pub mod Chains
 pub mod Cells
 pub mod Columns

@@ -1,9 +1,12 @@
-//! Rows that are kept column by column.
+//! Rows that are kept column by column, and numbers that are found by their hashes.
 #![tactic(auto)]
 
+mod chains;
 mod column;
 mod equality;
+mod index;
 mod rows;
 
 pub use equality::rows_equal;
+pub use index::HashIndex;
 pub use rows::{Columns, RowRef};

@@ -4,7 +4,7 @@ ghost use Rattle.std.specs.Prelude.{◌≡◌, ◌++◌, ◌∷◌, [], ◌^◌,
 ghost use Rattle.std.specs.Hash.FoldHasher.{write};
 ghost use Rattle.std.specs.Option.{option_copied, option_map_or, option_to_list};
 ghost use Rattle.cy_values.specs.internal.Hashing.{cell_input};
-ghost use Rattle.cy_network_hashes.specs.Hashes.{IsFilled};
+ghost use Rattle.cy_network_columns.specs.Hashes.{IsFilled};
 ghost use Rattle.cy_network_columns.specs.Rows.{are_alike, is_cell, is_row};
 ghost use Rattle.cy_network_columns.specs.internal.Columns.{FilledTo, cell_at, cell_in, removed, row_in};
 

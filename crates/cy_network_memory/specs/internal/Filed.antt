@@ -1,6 +1,6 @@
 -- Buckets under hashes, and how they are found.
 use Rattle.std.specs.Prelude.{◌≡◌, ℕ, Bool, true, List, [], Some, if◌then◌else◌, length, nat_eq, slice_get, IsFalse, IsTrue}
-use Rattle.cy_network_hashes.specs.Hashes.{IsFilled, has_hash}
+use Rattle.cy_network_columns.specs.Hashes.{IsFilled, has_hash}
 use Rattle.cy_network_memory.specs.declared.buckets.Bucket.{Bucket}
 use Rattle.cy_network_memory.specs.internal.Buckets.{numbers_in}
 use Rattle.cy_network_memory.specs.internal.Maps.{at_hash}

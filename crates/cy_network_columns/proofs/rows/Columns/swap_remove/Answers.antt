@@ -1,7 +1,7 @@
 use Rattle.std.proofs.Common.{◌-◌, List, Option, length, sym, ap, subst, ◌∙◌}
 use Rattle.std.proofs.lemmas.List.{length-map}
 use Rattle.cy_values.specs.declared.rows.Cell.{Cell}
-use Rattle.cy_network_hashes.specs.Hashes.{IsFilled}
+use Rattle.cy_network_columns.specs.Hashes.{IsFilled}
 use Rattle.cy_network_columns.specs.internal.Columns.{AreKept, removed, rows_below}
 use Rattle.cy_network_columns.proofs.Keeping.{back, gone_kept, gone_rows}
 use Rattle.cy_network_columns.proofs.rows.Columns.swap_remove.Goals as goal

@@ -13,9 +13,9 @@ use Rattle.cy_expr.specs.Faults.{on_one}
 use Rattle.cy_oneshot_patterns.specs.Fits.{fits}
 use Rattle.cy_oneshot_patterns.specs.Matching.{assigned, map_values}
 use Rattle.cy_oneshot_patterns.specs.Places.{path_places, places}
-use Rattle.cy_oneshot_unwinding.specs.Carried.{ArePlacesRead, carried_from, is_needed}
-use Rattle.cy_oneshot_unwinding.proofs.Carried.{from_long}
-use Rattle.cy_oneshot_unwinding.proofs.CarriedMatch.{path_less}
+use Rattle.cy_oneshot.specs.Carried.{ArePlacesRead, carried_from, is_needed}
+use Rattle.cy_oneshot.proofs.Carried.{from_long}
+use Rattle.cy_oneshot.proofs.CarriedMatch.{path_less}
 use Rattle.cy_oneshot.specs.internal.Conditions.{IsKnown, presence}
 
 -- ---- a row of nulls

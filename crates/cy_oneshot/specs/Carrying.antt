@@ -7,7 +7,7 @@ use Rattle.cy_expr.specs.declared.faults.EvalFault.{EvalFault}
 use Rattle.cy_expr.specs.declared.faults.EvalFault.TheVariants.{NoMemory}
 use Rattle.cy_oneshot_patterns.specs.Outcomes.{IsSameOutcome}
 use Rattle.cy_oneshot_meaning.specs.Queries.{rows_after}
-use Rattle.cy_oneshot_unwinding.specs.Carried.{carried_by, updates_ahead, AreAlike, IsEnough}
+use Rattle.cy_oneshot.specs.Carried.{carried_by, updates_ahead, AreAlike, IsEnough}
 
 -- these columns are needed for the clauses after it, and these are the rows that it makes, with null in the others
 pub record Carries (graph : Content) (clause : Clause) (others : List Clause) (columns : List Name) (rows made : List (List Cell)) : Type 0 where

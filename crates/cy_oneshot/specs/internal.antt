@@ -1,4 +1,5 @@
 -- What proofs alone need.
+pub mod Carried
 pub mod Conditions
 pub mod Matches
 pub mod Names

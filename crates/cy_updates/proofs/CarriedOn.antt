@@ -12,10 +12,10 @@ use Rattle.cy_graph.specs.Graph.{State}
 use Rattle.cy_expr.specs.declared.faults.EvalFault.{EvalFault}
 use Rattle.cy_oneshot_meaning.specs.Queries.{rows_after}
 use Rattle.cy_oneshot_meaning.proofs.QueryLemmas.{last_later}
-use Rattle.cy_oneshot_unwinding.specs.Carried.{AreAlike, IsAlike, IsClauseRead, IsEnough, carried, carried_from, first_row, is_projection, updates_ahead}
-use Rattle.cy_oneshot_unwinding.proofs.Carried.{AreLong, rows_whole}
-use Rattle.cy_oneshot_unwinding.proofs.CarriedMatch.{reading_grown, reading_less}
-use Rattle.cy_oneshot_unwinding.proofs.CarriedRows.{projecting_less}
+use Rattle.cy_oneshot.specs.Carried.{AreAlike, IsAlike, IsClauseRead, IsEnough, carried, carried_from, first_row, is_projection, updates_ahead}
+use Rattle.cy_oneshot.proofs.Carried.{AreLong, rows_whole}
+use Rattle.cy_oneshot.proofs.CarriedMatch.{reading_grown, reading_less}
+use Rattle.cy_oneshot.proofs.CarriedRows.{projecting_less}
 use Rattle.cy_updates_meaning.specs.declared.faults.UpdateFault.{UpdateFault}
 use Rattle.cy_updates_meaning.specs.Counts.{Counts, counts_between, plus}
 use Rattle.cy_updates_meaning.specs.Faults.{◌>>=◌, each_in_turn, evaluated}

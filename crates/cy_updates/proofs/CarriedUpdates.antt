@@ -27,9 +27,9 @@ use Rattle.cy_oneshot_patterns.specs.Places.{Place, column_at, entries_at, entri
 use Rattle.cy_oneshot_meaning.specs.Order.{in_order, placed}
 use Rattle.cy_oneshot_meaning.proofs.Each.{each_append, each_in_order}
 use Rattle.cy_oneshot_meaning.proofs.KeyOrders.{cells_total}
-use Rattle.cy_oneshot_unwinding.specs.Carried.{AreEntriesRead, AreNeeded, ArePlacesRead, IsClauseRead, IsRemoveRead, IsSetRead, IsVariableRead, carried_from, is_needed}
-use Rattle.cy_oneshot_unwinding.proofs.Carried.{column_carried, from_long, get_from, less_last}
-use Rattle.cy_oneshot_unwinding.proofs.CarriedMatch.{cell_less}
+use Rattle.cy_oneshot.specs.Carried.{AreEntriesRead, AreNeeded, ArePlacesRead, IsClauseRead, IsRemoveRead, IsSetRead, IsVariableRead, carried_from, is_needed}
+use Rattle.cy_oneshot.proofs.Carried.{column_carried, from_long, get_from, less_last}
+use Rattle.cy_oneshot.proofs.CarriedMatch.{cell_less}
 use Rattle.cy_updates_meaning.specs.declared.faults.UpdateFault.{UpdateFault}
 use Rattle.cy_updates_meaning.specs.Creating.{Creation, bound_to, created, ends_of, new_relationship, next_node, next_relationship, node_at_place, node_in_cell, source_of, target_of, type_of, unless_full, with_column, with_new_node, with_node_if, with_node_place, with_path, with_relationship, with_relationship_column, with_step}
 use Rattle.cy_updates_meaning.specs.Deleting.{deleted, is_left_over, named, unless_left_over, without_set}

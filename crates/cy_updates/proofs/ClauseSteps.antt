@@ -41,8 +41,8 @@ use Rattle.cy_updates_meaning.specs.Statements.{GraphTable, Progress, after_clau
 use Rattle.cy_updates_meaning.specs.internal.Answers.{IsAnswer, graph_table}
 use Rattle.cy_updates_meaning.specs.internal.Gone.{AreGone}
 use Rattle.cy_oneshot.specs.Carrying.{Carries}
-use Rattle.cy_oneshot_unwinding.specs.Carried.{carried, carried_by, carried_from, updates_ahead}
-use Rattle.cy_oneshot_unwinding.proofs.Marked.{all_alike, none_enough}
+use Rattle.cy_oneshot.specs.Carried.{carried, carried_by, carried_from, updates_ahead}
+use Rattle.cy_oneshot.proofs.Marked.{all_alike, none_enough}
 use Rattle.cy_updates.specs.internal.Reached.{AreResolved, IsNext, LeadsTo, at_end, carried_after, progress}
 use Rattle.cy_updates_meaning.proofs.EntryCounts.{few}
 use Rattle.cy_updates_meaning.proofs.Graphs.{SameNumbers, node_number, rel_number}

@@ -25,8 +25,8 @@ use Rattle.cy_oneshot.specs.declared.table.Table.{Table}
 use Rattle.cy_oneshot_meaning.specs.Projection.{projection_rows}
 use Rattle.cy_oneshot_meaning.specs.Queries.{columns_after, columns_after_all, rows_after}
 use Rattle.cy_oneshot_meaning.specs.Reading.{AreInGraph, IsInGraph}
-use Rattle.cy_oneshot_unwinding.specs.Carried.{carried_from, is_needed}
-use Rattle.cy_oneshot_unwinding.proofs.Carried.{row_there}
+use Rattle.cy_oneshot.specs.Carried.{carried_from, is_needed}
+use Rattle.cy_oneshot.proofs.Carried.{row_there}
 use Rattle.cy_oneshot_meaning.proofs.Each.{each_map}
 use Rattle.cy_oneshot_meaning.proofs.InGraphClauses.{clause_there}
 use Rattle.cy_oneshot_meaning.proofs.QueryLemmas.{last_later}

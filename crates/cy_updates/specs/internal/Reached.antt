@@ -11,7 +11,7 @@ use Rattle.cy_scope.specs.Views.{ends_with_return}
 use Rattle.cy_graph.specs.Graph.{State}
 use Rattle.cy_oneshot_meaning.specs.Queries.{columns_after_all, query_columns}
 use Rattle.cy_oneshot_meaning.specs.Reading.{AreInGraph}
-use Rattle.cy_oneshot_unwinding.specs.Carried.{AreAlike, IsEnough, carried_from, updates_ahead}
+use Rattle.cy_oneshot.specs.Carried.{AreAlike, IsEnough, carried_from, updates_ahead}
 use Rattle.cy_updates.specs.declared.clauses.Updated.{Updated}
 use Rattle.cy_updates_meaning.specs.declared.faults.UpdateFault.{UpdateFault}
 use Rattle.cy_updates_meaning.specs.declared.faults.UpdateFault.TheVariants.{NoMemory}

@@ -6,7 +6,7 @@ use Rattle.cy_graph.specs.Graph.{State, number_end}
 use Rattle.cy_oneshot_meaning.proofs.ClauseLemmas.{same_clause, same_rows_of}
 use Rattle.cy_updates.specs.declared.clauses.Updated.{Updated}
 use Rattle.cy_updates.specs.internal.Reached.{IsReached, LeadsTo}
-use Rattle.cy_oneshot_unwinding.proofs.Marked.{all_left}
+use Rattle.cy_oneshot.proofs.Marked.{all_left}
 use Rattle.cy_updates_meaning.proofs.Bags.{same_clauses}
 use Rattle.cy_updates.proofs.ClauseSteps.{few_nodes_gone, few_rels_gone, rows_wide}
 use Rattle.cy_updates_meaning.proofs.InTurn.{next_in, none_in, or_wants}

@@ -1,0 +1,14 @@
+-- The columns of the items so far are marked.
+use Rattle.std.proofs.Common.{map, take}
+use Rattle.std.specs.List.{AllByRecursion}
+use Rattle.cy_trees.specs.TreeModels.{set_item_of}
+use Rattle.cy_oneshot.specs.Carried.{IsSetRead}
+use Rattle.cy_oneshot.specs.internal.Carried.{StillNeeded}
+use Rattle.cy_oneshot.proofs.needed.mark_set.Given as goal
+
+abbrev pub invariant-loop-item : goal.invariant-loop-item
+invariant-loop-item l =
+    record {
+      read : AllByRecursion (IsSetRead l.needed.items) (map set_item_of (take l.item-index l.items));
+      still : StillNeeded l.initial.needed.items l.needed.items;
+    }

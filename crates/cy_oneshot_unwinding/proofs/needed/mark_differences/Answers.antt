@@ -1,5 +1,0 @@
-use Rattle.cy_oneshot_unwinding.proofs.Marked.{still_nothing}
-use Rattle.cy_oneshot_unwinding.proofs.needed.mark_differences.Goals as goal
-
-pub returns-in_default-clause-still : goal.returns-in_default-clause-still
-returns-in_default-clause-still c = still_nothing c.args.needed.now.items

@@ -1,3 +1,10 @@
+mod NamedCells
+mod DeletedSets
+mod DeletedAll
+mod CreatedRows
+mod SetItems
+mod MapValues
+mod Relabelled
 mod ClauseSteps
 mod ReachedSteps
 mod QuerySteps

@@ -15,7 +15,10 @@ use cy_oneshot::{Table, add_names};
 use cy_oneshot_projections::sort_rows;
 use cy_trees::{Clause, Delete, Path, RemoveItem, SetItem};
 use cy_updates_meaning::UpdateFault;
-use cy_updates_writes::{Gone, create, delete, remove, set};
+use crate::creating::create;
+use crate::deleting::{Gone, delete};
+use crate::removing::remove;
+use crate::setting::set;
 use std::alloc::Global;
 
 /// What an updating clause leaves besides the graph: the table, and how many nodes and relationships it removed.

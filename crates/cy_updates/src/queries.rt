@@ -21,7 +21,7 @@ use cy_oneshot::{Table, no_table, read_clause_before, unit};
 use cy_scope::{ends_with_return, is_update};
 use cy_trees::{Clause, Query};
 use cy_updates_meaning::UpdateFault;
-use cy_updates_writes::Gone;
+use crate::deleting::Gone;
 use cy_values::row_order_laws;
 use std::alloc::Global;
 

@@ -22,7 +22,7 @@ use cy_scope::{Checked, checked_statements};
 use cy_trees::Query;
 use cy_updates_meaning::UpdateFault;
 use cy_updates_meaning::laws::counts_agree;
-use cy_updates_writes::Gone;
+use crate::deleting::Gone;
 use cy_values::Row;
 use std::alloc::Global;
 

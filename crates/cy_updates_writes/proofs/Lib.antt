@@ -1,7 +1,0 @@
-mod NamedCells
-mod DeletedSets
-mod DeletedAll
-mod CreatedRows
-mod SetItems
-mod MapValues
-mod Relabelled

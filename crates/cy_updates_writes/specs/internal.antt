@@ -1,5 +1,0 @@
--- What proofs alone need.
-pub mod Entities
-pub mod Creating
-pub mod Deleting
-pub mod Properties

@@ -39,7 +39,7 @@ use Rattle.cy_planner_rows.proofs.Lowerable.{each_left, each_right}
 use Rattle.cy_planner_rows.proofs.OverRows.{columns_have_cells, columns_read, first_over, long_rows, own_part, parts_over, rows_over, smaller_within, sure_over, width_over}
 use Rattle.cy_planner_rows.proofs.Placed.{IsAmong, asked_among}
 use Rattle.cy_planner_rows.proofs.Projected.{all_wanted_inside, outputs_over, wanted_of_all}
-use Rattle.cy_planner_lengths.proofs.Same.{row_itself}
+use Rattle.cy_planner_tables.proofs.Same.{row_itself}
 use Rattle.cy_planner_optional_rows.specs.Columns.{IsExtended}
 
 -- ---- what begins with a row counts no more often than that

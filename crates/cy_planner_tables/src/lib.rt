@@ -1,0 +1,18 @@
+//! What the plan of a pattern is joined from: the table of a place, which for a place with a length has the trails that it allows; and plans
+//! that have some of the places already, joined to such tables by what both name, kept where relationships differ, with their columns chosen
+//! or put in order.
+#![tactic(auto)]
+
+mod columns;
+mod keeping;
+mod links;
+mod numbered;
+mod tables;
+mod trails;
+mod turned;
+
+pub use columns::{Partial, joined, numbers_from, position};
+pub use keeping::{all_different, in_order, with_first};
+pub use numbered::Columns;
+pub use tables::link_table;
+pub use trails::{mapped_trail_table, mapped_trail_table_from_left};

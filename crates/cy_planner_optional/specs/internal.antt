@@ -2,3 +2,6 @@
 pub mod Pairs
 pub mod Joined
 pub mod LookupLists
+pub mod Trails
+pub mod PathPairs
+pub mod Told

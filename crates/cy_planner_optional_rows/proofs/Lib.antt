@@ -1,4 +1,0 @@
-pub mod Extended
-pub mod Columns
-pub mod OwnTables
-pub mod OwnRows

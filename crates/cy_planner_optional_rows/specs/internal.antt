@@ -1,2 +1,0 @@
--- What proofs and private functions alone need.
-pub mod Trails

@@ -1,3 +1,0 @@
--- What proofs and private functions alone need.
-pub mod Pairs
-pub mod Told

@@ -1,5 +1,0 @@
--- What private functions and proofs need.
-pub mod Ranks
-pub mod Narrows
-pub mod Pairs
-pub mod Above

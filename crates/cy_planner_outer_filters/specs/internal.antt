@@ -1,3 +1,0 @@
--- What private functions and proofs need.
-pub mod Above
-pub mod Splits

@@ -1,3 +1,16 @@
+pub mod Copying
+pub mod Equal
+pub mod Meets
+pub mod Ranges
+pub mod ValueKeys
+pub mod Partners
+pub mod KeysInside
+pub mod SemiRows
+pub mod PathRows
+pub mod PathSteps
+pub mod SideSteps
+pub mod FilterSteps
+pub mod KeptSteps
 pub mod ClausePlans
 pub mod ClauseSteps
 pub mod ConditionAlone

@@ -1,10 +1,14 @@
-//! Plans of the queries of views: how much there is to plan, and which plans serve a query.
+//! Plans of the queries of views: how much there is to plan, which plans serve a query, and what a path after WHERE keeps of its rows.
 #![tactic(auto)]
 
 mod clauses;
+mod copies;
 mod faults;
+mod keys;
+mod paths;
 mod plans;
 mod selective;
+mod semi;
 mod weight;
 
 pub use faults::PlanFault;

@@ -10,7 +10,7 @@ use Rattle.cy_graph.specs.Graph.{Content, IsGraph, State}
 use Rattle.cy_expr.specs.Graphs.{are_different}
 use Rattle.cy_expr.specs.Lookups.{IsNumbered}
 use Rattle.cy_network_memory.specs.Counts.{Counts, greatest_count}
-use Rattle.cy_network_merges.specs.Merges.{AreBounded, IsProjectChange, image}
+use Rattle.cy_network_counts.specs.Merges.{AreBounded, IsProjectChange, image}
 use Rattle.cy_planner_algebra.specs.declared.operators.Attribute.{Attribute}
 use Rattle.cy_planner_algebra.specs.Plans as plan
 use Rattle.cy_planner_algebra.specs.Plans.{Output, Plan}

@@ -9,7 +9,7 @@ use Rattle.std.proofs.lemmas.List.Elements.{All-head, All-tail}
 use Rattle.std.proofs.lemmas.List.Folds.{list_all-map}
 use Rattle.std.proofs.lemmas.List.FromFn.{get_or-map-range_with_len, length-map-range_with_len, length-range_with_len}
 use Rattle.std.proofs.lemmas.List.Sums.{AllPass-from_list_all, sum_by-cons}
-use Rattle.cy_network_merges.specs.Merges.{all_columns}
+use Rattle.cy_network_counts.specs.Merges.{all_columns}
 use Rattle.cy_planner_algebra.specs.Plans.{Output}
 use Rattle.cy_network_relevance.specs.Lists.{column_alone}
 use Rattle.cy_network_sources.specs.Scans.{is_column, is_this, kept_at}

@@ -7,7 +7,7 @@ use Rattle.std.proofs.lemmas.List.FromFn.{get_or-range_with_len, length-range_wi
 use Rattle.cy_values.specs.declared.rows.Cell.{Cell}
 use Rattle.cy_network_relevance.specs.Trails as trails
 use Rattle.cy_network_relevance.specs.Trails.{tells_apart}
-use Rattle.cy_network_merges.specs.Merges.{IsOneToOne, IsOneToOneOn, all_columns}
+use Rattle.cy_network_counts.specs.Merges.{IsOneToOne, IsOneToOneOn, all_columns}
 use Rattle.cy_planner_algebra.specs.Expressions.{cell_at, null, projected}
 use Rattle.cy_planner_algebra.specs.Plans as plan
 use Rattle.cy_planner_algebra.specs.Plans.{Output, Plan, width}

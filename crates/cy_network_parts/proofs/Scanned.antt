@@ -7,7 +7,7 @@ use Rattle.cy_values.specs.declared.rows.Cell.{Cell}
 use Rattle.cy_graph.specs.Graph.{Content, IsGraph, State}
 use Rattle.cy_expr.specs.Graphs.{are_different}
 use Rattle.cy_network_memory.specs.Counts.{Counts}
-use Rattle.cy_network_merges.specs.Merges.{AreBounded, all_columns}
+use Rattle.cy_network_counts.specs.Merges.{AreBounded, all_columns}
 use Rattle.cy_planner_algebra.specs.Plans as plan
 use Rattle.cy_planner_algebra.specs.Plans.{Output, Plan, width}
 use Rattle.cy_planner_algebra.specs.Parts.{parts}

@@ -9,7 +9,7 @@ use Rattle.cy_values.specs.declared.rows.Cell.{Cell}
 use Rattle.cy_values.specs.Bag.{count_of}
 use Rattle.cy_graph.specs.Graph.{Content, IsGraph, State}
 use Rattle.cy_network_memory.specs.Counts.{Counts, greatest_count}
-use Rattle.cy_network_merges.specs.Merges.{AreBounded}
+use Rattle.cy_network_counts.specs.Merges.{AreBounded}
 use Rattle.cy_planner_algebra.specs.Plans as plan
 use Rattle.cy_planner_algebra.specs.Plans.{Plan}
 use Rattle.cy_planner_algebra.specs.Parts.{parts}

@@ -10,10 +10,10 @@ use Rattle.cy_planner_algebra.specs.Parts.{parts}
 use Rattle.cy_network_relevance.specs.Lists.{are_apart}
 use Rattle.cy_network_relevance.specs.Trails.{tells_apart}
 use Rattle.cy_network_operators.specs.Deltas.{counts, rows_at}
-use Rattle.cy_network_merges.specs.Merges.{AreBounded, all_columns}
+use Rattle.cy_network_counts.specs.Merges.{AreBounded, all_columns}
 use Rattle.cy_network_sources.specs.Scans.{kept_at, scan_column}
-use Rattle.cy_network_outer.specs.Outer.{numbers_of_partners}
-use Rattle.cy_network_merges.specs.Semi.{numbers_of_keys}
+use Rattle.cy_network_counts.specs.Outer.{numbers_of_partners}
+use Rattle.cy_network_counts.specs.Semi.{numbers_of_keys}
 use Rattle.cy_network_parts.specs.Shared.{left_held, right_held}
 
 -- an operator is a scan: what changes of its rows comes from the touched entities alone

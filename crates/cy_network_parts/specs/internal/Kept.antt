@@ -1,6 +1,6 @@
 -- Which of the columns below it a projection keeps.
 use Rattle.std.specs.Prelude.{ℕ, Bool, List, is_some, map}
-use Rattle.cy_network_merges.specs.Merges.{all_columns}
+use Rattle.cy_network_counts.specs.Merges.{all_columns}
 use Rattle.cy_planner_algebra.specs.Plans.{Output}
 use Rattle.cy_network_sources.specs.Scans.{kept_at}
 

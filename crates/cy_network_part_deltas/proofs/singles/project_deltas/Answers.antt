@@ -6,8 +6,8 @@ use Rattle.std.proofs.lemmas.List.{length-map}
 use Rattle.cy_values.specs.declared.rows.Cell.{Cell}
 use Rattle.cy_graph.specs.Graph.{State}
 use Rattle.cy_network_memory.specs.Counts.{greatest_count}
-use Rattle.cy_network_merges.specs.Merges.{IsImageChange, all_columns, image}
-use Rattle.cy_network_merges.proofs.ChangedRows.{images_bounded}
+use Rattle.cy_network_counts.specs.Merges.{IsImageChange, all_columns, image}
+use Rattle.cy_network_counts.proofs.ChangedRows.{images_bounded}
 use Rattle.cy_planner_algebra.specs.Plans as plan
 use Rattle.cy_planner_algebra.specs.Plans.{Output, Plan}
 use Rattle.cy_planner_algebra.specs.Expressions.{projected}

@@ -3,7 +3,7 @@ use Rattle.std.proofs.lemmas.Result.{IfOk-from_err}
 use Rattle.cy_planner_algebra.specs.Expressions.{projected}
 use Rattle.cy_planner_algebra.specs.Plans.{Output}
 use Rattle.cy_planner_algebra.specs.PlanModels.{output_of, plan_of}
-use Rattle.cy_network_merges.specs.Merges.{image}
+use Rattle.cy_network_counts.specs.Merges.{image}
 use Rattle.cy_network_parts.specs.Parts.{first_below}
 use Rattle.cy_network_parts.specs.Upkeep.{IsStep}
 use Rattle.cy_network_parts.proofs.Outcomes.{if_err_more, if_ok_more}

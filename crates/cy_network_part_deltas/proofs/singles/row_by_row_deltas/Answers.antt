@@ -6,8 +6,8 @@ use Rattle.cy_planner_algebra.specs.Plans.{Plan}
 use Rattle.cy_planner_algebra.specs.PlanModels.{output_of, plan_of}
 use Rattle.cy_planner_algebra.specs.WellFormed.{IsWellFormed}
 use Rattle.cy_network_operators.specs.Deltas.{IsBounded}
-use Rattle.cy_network_merges.proofs.ChangedRows.{images_bounded}
-use Rattle.cy_network_merges.proofs.OneToOne.{images_delta}
+use Rattle.cy_network_counts.proofs.ChangedRows.{images_bounded}
+use Rattle.cy_network_counts.proofs.OneToOne.{images_delta}
 use Rattle.cy_network_parts.specs.Parts.{first_below}
 use Rattle.cy_network_parts.specs.Upkeep.{IsDeltaOf, IsStep}
 use Rattle.cy_network_parts.proofs.Outcomes.{if_ok_two}

@@ -1,0 +1,4 @@
+pub mod Outer
+pub mod Semi
+pub mod Merges
+pub mod internal

@@ -1,3 +1,0 @@
-pub mod Semi
-pub mod Merges
-pub mod internal

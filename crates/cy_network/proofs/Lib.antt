@@ -1,3 +1,13 @@
+pub mod Shifted
+pub mod Formed
+pub mod OwnSingles
+pub mod OwnJoins
+pub mod OwnUnions
+pub mod OwnOuter
+pub mod OwnSemi
+pub mod PassageLemmas
+pub mod KeptRows
+pub mod OtherParts
 pub mod Written
 pub mod Canonical
 pub mod Entries

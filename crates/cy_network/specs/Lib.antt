@@ -1,3 +1,5 @@
+pub mod Images
+pub mod KeptUp
 pub mod Places
 pub mod Networks
 pub mod Prepared

@@ -1,4 +1,5 @@
 -- What proofs alone need.
+pub mod Forms
 pub mod Roots
 pub mod Passages
 pub mod KeptUp

@@ -1,2 +1,0 @@
--- What proofs alone need.
-pub mod Forms

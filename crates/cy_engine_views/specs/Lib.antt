@@ -1,3 +1,5 @@
+pub mod Names
+pub mod Masks
 pub mod HeldViews
 pub mod RegisteredViews
 pub mod Upkeep

@@ -1,2 +1,4 @@
 -- What proofs alone need.
+pub mod Labelled
+pub mod Left
 pub mod Loops

@@ -4,14 +4,14 @@ ghost use Rattle.std.specs.Prelude.{◌≡◌, ℕ, ◌<◌, IfErr, OnErr, OnOk,
 ghost use Rattle.std.specs.List.{AllByRecursion};
 ghost use Rattle.cy_graph.specs.Graph.{Content};
 ghost use Rattle.cy_network_touches.specs.Changes.{IsChange, before_change};
-ghost use Rattle.cy_network_masks.specs.Masks.{mask_of};
+ghost use Rattle.cy_engine_views.specs.Masks.{mask_of};
 ghost use Rattle.cy_engine_views.specs.Upkeep.{CannotFollow, held, upkeep_of};
 ghost use Rattle.cy_engine_views.specs.internal.Loops.{AllAreSettled, AllCanRest, AllReady, AllRest, AllTake};
 
 use crate::faults::UpkeepFault;
 use crate::registered::Registered;
 use cy_index::Sight;
-use cy_network_masks::Mask;
+use crate::masks::Mask;
 use cy_network_touches::GraphChange;
 use indexmap::IndexMap;
 use std::alloc::Global;

@@ -24,7 +24,7 @@ use crate::rows::QueryRows;
 use cy_bags::Entry;
 use cy_feeds::{Answer, Feed};
 use cy_index::Store;
-use cy_network_masks::Mask;
+use crate::masks::Mask;
 use cy_network_touches::GraphChange;
 use cy_scope::ViewQuery;
 use cy_values::{Fault, Row, Sequence, Text};

@@ -1,3 +1,0 @@
--- What proofs alone need.
-pub mod Labelled
-pub mod Left

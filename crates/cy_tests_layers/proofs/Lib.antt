@@ -1,2 +1,3 @@
 mod Examples
 mod ExampleTrees
+pub mod Standing

@@ -1,5 +1,5 @@
 use Rattle.std.proofs.Common.{IsNone}
-use Rattle.cy_tests_statements.proofs.statements.expect_faults.Given as goal
+use Rattle.cy_tests_layers.proofs.statements.expect_faults.Given as goal
 
 -- no change is open between statements
 abbrev pub invariant-loop-case : goal.invariant-loop-case

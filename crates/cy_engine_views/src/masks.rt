@@ -14,7 +14,7 @@ use cy_planner_algebra::Operator;
 
 /// The bits of what a plan reads, or of what a change touched. A name has one bit in each of two words, either of which it may share with others.
 #[derive(Clone, Copy, Debug, PartialEq, Eq)]
-pub struct Mask {
+pub(crate) struct Mask {
     /// The lowest bits for nodes, the others for their labels.
     pub(crate) nodes: Bits,
     /// The lowest bits for relationships, the others for their types.
@@ -24,14 +24,14 @@ pub struct Mask {
 impl Mask {
     /// What a plan reads. A change that has nothing in common with it leaves the rows of the plan's operators as they are. Each operator is gone
     /// through a few times at most.
-    pub fn of_plan(part: &Operator) -> Mask
+    pub(crate) fn of_plan(part: &Operator) -> Mask
         ensures { Covers result (plan_of part.now) }
     {
         plan_mask(part)
     }
 
     /// What the open change touched. Reads each touched entity once.
-    pub fn of_change<'a>(change: &GraphChange<'a>, sight: &mut Sight<'a>) -> Mask
+    pub(crate) fn of_change<'a>(change: &GraphChange<'a>, sight: &mut Sight<'a>) -> Mask
         ensures mask { result ≡ mask_of sight.old.graph.now change.now }
         ensures graph { sight.new.graph ≡ sight.old.graph }
     {
@@ -41,7 +41,7 @@ impl Mask {
     }
 
     /// Whether two have bits in common in both words of nodes, or in both of relationships.
-    pub fn meets(self, other: Mask) -> bool
+    pub(crate) fn meets(self, other: Mask) -> bool
         ensures apart { result ≡ false → AreApart self other }
         ensures met { AreApart self other → result ≡ false }
     {

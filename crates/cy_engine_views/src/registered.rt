@@ -9,11 +9,11 @@ ghost use Rattle.cy_engine_views.specs.Upkeep.{CannotFollowBy, IsReady, Rests, n
 ghost use Rattle.cy_engine_views.specs.internal.Loops.{CanRest, IsOne, IsSettledFrom, Takes};
 
 use crate::faults::UpkeepFault;
+use crate::masks::Mask;
 use crate::rows::QueryRows;
 use cy_bags::{Change, Entry};
 use cy_feeds::Feed;
 use cy_index::Sight;
-use crate::masks::Mask;
 use cy_network_touches::GraphChange;
 use cy_values::{Duplicate, row_order_laws};
 use std::alloc::Global;

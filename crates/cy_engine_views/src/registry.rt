@@ -9,9 +9,9 @@ ghost use Rattle.cy_engine_views.specs.Upkeep.{CannotFollow, held, upkeep_of};
 ghost use Rattle.cy_engine_views.specs.internal.Loops.{AllAreSettled, AllCanRest, AllReady, AllRest, AllTake};
 
 use crate::faults::UpkeepFault;
+use crate::masks::Mask;
 use crate::registered::Registered;
 use cy_index::Sight;
-use crate::masks::Mask;
 use cy_network_touches::GraphChange;
 use indexmap::IndexMap;
 use std::alloc::Global;

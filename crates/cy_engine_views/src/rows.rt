@@ -12,10 +12,10 @@ ghost use Rattle.cy_engine_views.specs.Upkeep.{CannotFollowBy, IsPrepared, IsUnk
 ghost use Rattle.cy_engine_views.specs.RegisteredViews.{AreRowsOf, rows_of};
 
 use crate::faults::UpkeepFault;
+use crate::masks::Mask;
 use cy_bags::Change;
 use cy_index::{Sight, Store};
 use cy_network::Network;
-use crate::masks::Mask;
 use cy_network_memory::KeyedMemory;
 use cy_network_touches::GraphChange;
 use cy_planner::plan;

@@ -24,7 +24,7 @@ use std::alloc::Global;
 
 /// What changes of the rows of a scan, with its operators from the top down, or of the empty row, where the graph changes: from nothing, where
 /// there was no graph before. Fails only when out of memory.
-pub fn lowest_deltas<'a>(
+pub(crate) fn lowest_deltas<'a>(
     alloc: Global,
     part: &Operator,
     scanned: &[&Operator],

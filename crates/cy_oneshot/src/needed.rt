@@ -38,7 +38,7 @@ pub(crate) fn is_needed(needed: &[bool], place: usize) -> bool
 
 /// Which of this many columns the clauses after a clause need, where these rows stand before it. After anything but UNWIND the list is
 /// empty, and all are needed. Fails only when out of memory.
-pub fn needed_after(
+pub(crate) fn needed_after(
     alloc: Global,
     clause: &Clause,
     others: &[Clause],
@@ -278,7 +278,7 @@ fn mark_paths(alloc: Global, needed: &mut Vec<bool>, paths: &[Path]) -> Result<(
 }
 
 /// Marks the columns that a path reads. Fails only when out of memory.
-pub fn mark_path(alloc: Global, needed: &mut Vec<bool>, path: &Path) -> Result<(), Fault>
+pub(crate) fn mark_path(alloc: Global, needed: &mut Vec<bool>, path: &Path) -> Result<(), Fault>
     ensures read { OnOk result (ArePlacesRead needed.new.items (path_places (path_of path.now))) }
     ensures still { OnOk result (StillNeeded needed.old.items needed.new.items) }
 {

@@ -21,7 +21,7 @@ use cy_values::{Cell, Duplicate, Fault, Row, Scalar, Sequence, Value};
 use std::alloc::Global;
 
 /// The rows with each element of their lists, in their order, and with null for each cell that isn't needed.
-pub fn unwound(
+pub(crate) fn unwound(
     alloc: Global,
     store: &Store,
     list: &Expr,

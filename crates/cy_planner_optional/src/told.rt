@@ -8,9 +8,9 @@ ghost use Rattle.cy_oneshot_patterns.specs.internal.Patterns.{place_of};
 ghost use Rattle.cy_planner_algebra.specs.WellFormed.{greatest_width};
 ghost use Rattle.cy_planner_optional.specs.internal.Told as spec;
 
+use crate::place_keys::keys;
 use cy_oneshot_patterns::Place;
 use cy_planner_algebra::KeyColumns;
-use crate::place_keys::keys;
 use cy_planner_rows::{and_also, column_variable, or_true};
 use cy_trees::{Expr, UnaryOperator};
 use cy_values::{Fault, Text};

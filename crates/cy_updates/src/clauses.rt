@@ -10,15 +10,15 @@ ghost use Rattle.cy_updates_meaning.specs.Statements.{rows_taken, updated};
 ghost use Rattle.cy_updates_meaning.specs.internal.Answers.{IsAnswer, graph_table};
 ghost use Rattle.cy_updates.specs.internal.Reached.{CountsGone, HasColumns};
 
+use crate::creating::create;
+use crate::deleting::{Gone, delete};
+use crate::removing::remove;
+use crate::setting::set;
 use cy_index::Store;
 use cy_oneshot::{Table, add_names};
 use cy_oneshot_projections::sort_rows;
 use cy_trees::{Clause, Delete, Path, RemoveItem, SetItem};
 use cy_updates_meaning::UpdateFault;
-use crate::creating::create;
-use crate::deleting::{Gone, delete};
-use crate::removing::remove;
-use crate::setting::set;
 use std::alloc::Global;
 
 /// What an updating clause leaves besides the graph: the table, and how many nodes and relationships it removed.

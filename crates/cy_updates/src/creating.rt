@@ -37,7 +37,7 @@ struct Made {
 
 /// CREATE: makes the paths for each row, one row after another, and gives the rows with a column for each new variable (openCypher 9,
 /// CREATE). Fails with the first fault that the clause means, or with `NoMemory`; what was made before it is left in the change.
-pub fn create(
+pub(crate) fn create(
     alloc: Global,
     store: &mut Store,
     paths: &[Path],

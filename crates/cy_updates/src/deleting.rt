@@ -23,9 +23,9 @@ use std::alloc::Global;
 
 /// How many nodes and relationships went.
 #[derive(Clone, Copy)]
-pub struct Gone {
-    pub nodes: u64,
-    pub rels: u64,
+pub(crate) struct Gone {
+    pub(crate) nodes: u64,
+    pub(crate) rels: u64,
 }
 
 // Nodes and relationships that are named, where they may stand more than once.
@@ -37,7 +37,7 @@ struct Named {
 
 /// DELETE: removes what the variables name on the rows, all at once, with DETACH also each relationship at a node of it (openCypher 9,
 /// DELETE). Fails with `StillConnected`, with the least relationship that would remain at such a node, or with `NoMemory`.
-pub fn delete(
+pub(crate) fn delete(
     alloc: Global,
     store: &mut Store,
     detach: bool,

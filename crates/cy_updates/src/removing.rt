@@ -18,7 +18,7 @@ use cy_values::{Row, Text};
 use std::alloc::Global;
 
 /// REMOVE: removes the items on each row (openCypher 9, REMOVE). Fails only with `NoMemory`.
-pub fn remove(
+pub(crate) fn remove(
     alloc: Global,
     store: &mut Store,
     items: &[RemoveItem],

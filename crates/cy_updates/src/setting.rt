@@ -22,7 +22,7 @@ use std::alloc::Global;
 
 /// SET: sets the items on each row, one row after another (openCypher 9, SET). Fails with the first fault that the clause means, or with
 /// `NoMemory`; what was set before it is left in the change.
-pub fn set(
+pub(crate) fn set(
     alloc: Global,
     store: &mut Store,
     items: &[SetItem],

@@ -15,6 +15,7 @@ ghost use Rattle.cy_updates_meaning.specs.internal.Answers.{IsAnswer};
 ghost use Rattle.cy_updates.specs.internal.Queries.{HaveCome};
 
 use crate::clauses::{Updated, with_none_gone};
+use crate::deleting::Gone;
 use crate::queries::execute_query;
 use cy_index::Store;
 use cy_oneshot::{Table, no_table, unite};
@@ -22,7 +23,6 @@ use cy_scope::{Checked, checked_statements};
 use cy_trees::Query;
 use cy_updates_meaning::UpdateFault;
 use cy_updates_meaning::laws::counts_agree;
-use crate::deleting::Gone;
 use cy_values::Row;
 use std::alloc::Global;
 

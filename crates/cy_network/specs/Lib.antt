@@ -1,5 +1,3 @@
-pub mod Images
-pub mod KeptUp
 pub mod Places
 pub mod Networks
 pub mod Prepared

@@ -4,3 +4,5 @@ pub mod Roots
 pub mod Passages
 pub mod KeptUp
 pub mod Inputs
+pub mod Images
+pub mod OperatorsKeptUp

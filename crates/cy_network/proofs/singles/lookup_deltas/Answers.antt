@@ -21,7 +21,7 @@ use Rattle.cy_network_parts.specs.Parts.{first_below}
 use Rattle.cy_network_parts.specs.Upkeep.{IsOwnDone, content_of, state_of}
 use Rattle.cy_network_touches.specs.Work.{own_reads, own_steps}
 use Rattle.cy_network_parts.proofs.Lent.{done_as, own_length, steps_of_one}
-use Rattle.cy_network.specs.KeptUp.{FedRows}
+use Rattle.cy_network.specs.internal.OperatorsKeptUp.{FedRows}
 use Rattle.cy_network.specs.internal.Forms.{IsLookup}
 use Rattle.cy_network.proofs.Formed.{fed_rows_as}
 use Rattle.cy_network.proofs.OwnSingles.{lookup_counted, lookup_done, lookup_keyed, lookup_leads, lookup_settled, lookup_within}

@@ -20,10 +20,10 @@ use Rattle.cy_network_parts.specs.Memories.{is_row_by_row, none_where, own_keys}
 use Rattle.cy_network_parts.specs.Parts.{first_below}
 use Rattle.cy_network_parts.specs.Upkeep.{HasTooMany, IsOwnDone, content_of}
 use Rattle.cy_network_touches.specs.Work.{own_steps}
-use Rattle.cy_network.specs.Images.{images_by, outputs_of}
+use Rattle.cy_network.specs.internal.Images.{images_by, outputs_of}
 use Rattle.cy_network_parts.proofs.Lent.{done_as, own_length, steps_of_one}
 use Rattle.cy_network_parts.proofs.Outcomes.{if_err_more, if_ok_from, if_ok_three}
-use Rattle.cy_network.specs.KeptUp.{FedRows}
+use Rattle.cy_network.specs.internal.OperatorsKeptUp.{FedRows}
 use Rattle.cy_network.specs.internal.Forms.{IsProject}
 use Rattle.cy_network.proofs.Formed.{fed_rows_as}
 use Rattle.cy_network.proofs.OwnSingles.{project_change, project_done, project_settled, project_within}

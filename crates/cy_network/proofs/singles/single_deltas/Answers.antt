@@ -31,7 +31,7 @@ use Rattle.cy_network_parts.specs.Upkeep.{IsFed, IsOwnDone, content_of}
 use Rattle.cy_network_parts.proofs.Outcomes.{if_err_more, if_ok_from, if_ok_more}
 use Rattle.cy_network_parts.proofs.Refusals.{if_memory}
 use Rattle.cy_network_parts.proofs.Taken.{grown_none}
-use Rattle.cy_network.specs.KeptUp.{FedRows, IsKeptUpReading}
+use Rattle.cy_network.specs.internal.OperatorsKeptUp.{FedRows, IsKeptUpReading}
 use Rattle.cy_network.proofs.OwnSingles.{different_done, distinct_done, filter_done, filter_sure}
 use Rattle.cy_network.proofs.Shifted.{row_delta_numbers}
 use Rattle.cy_network.proofs.OtherParts.{single_else}

@@ -9,7 +9,7 @@ use Rattle.cy_planner_algebra.specs.Plans.{Plan}
 use Rattle.cy_network_relevance.specs.internal.Kept.{IsNodeUnchanged, IsRelUnchanged}
 use Rattle.cy_network_relevance.proofs.Untouched.{untouched}
 use Rattle.cy_engine_views.specs.declared.masks.Mask.{Mask}
-use Rattle.cy_engine_views.specs.declared.bits.Bits.{Bits}
+use Rattle.cy_engine_views.specs.declared.masks.bits.Bits.{Bits}
 use Rattle.cy_engine_views.specs.Names.{AreBitsApart, joined_bits, no_bits, node_bits, rel_bits}
 use Rattle.cy_engine_views.specs.Masks.{Covers, with_nodes, with_rels}
 use Rattle.cy_engine_views.specs.internal.Left.{LeavesUnread}

@@ -8,7 +8,7 @@ use Rattle.cy_planner_algebra.specs.Plans.{Plan}
 use Rattle.cy_network_touches.specs.Changes.{IsChange, Touches}
 use Rattle.cy_network_relevance.specs.Relevance.{IsUntouched}
 use Rattle.cy_engine_views.specs.Names.{AreBitsApart, joined_bits, no_bits, node_bits, rel_bits}
-use Rattle.cy_engine_views.specs.declared.bits.Bits.{Bits}
+use Rattle.cy_engine_views.specs.declared.masks.bits.Bits.{Bits}
 use Rattle.cy_engine_views.specs.declared.masks.Mask.{Mask}
 
 -- some bits, and those of touched entities, with the values that they had and with those in a graph

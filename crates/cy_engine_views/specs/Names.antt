@@ -6,7 +6,7 @@ use Rattle.std.specs.Int.RustNames.{bit_or}
 use Rattle.cy_trees.specs.Trees.{Name}
 use Rattle.cy_graph.specs.declared.nodes.Node.{Node}
 use Rattle.cy_graph.specs.declared.nodes.Rel.{Rel}
-use Rattle.cy_engine_views.specs.declared.bits.Bits.{Bits}
+use Rattle.cy_engine_views.specs.declared.masks.bits.Bits.{Bits}
 
 -- no bit
 abbrev pub no_bits : Bits

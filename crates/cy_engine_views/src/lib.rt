@@ -2,20 +2,13 @@
 //! is told apart from the views that read nothing of what it touched.
 #![tactic(auto)]
 
-mod attributes;
-mod bits;
-mod conditions;
 mod entries;
 mod faults;
-mod limits;
 mod listings;
 mod masks;
-mod names;
-mod plans;
 mod registered;
 mod registry;
 mod rows;
-mod touched;
 mod views;
 
 pub use faults::UpkeepFault;

@@ -1,13 +1,21 @@
 //! Masks, and when two have nothing in common.
 
+mod attributes;
+mod bits;
+mod conditions;
+mod limits;
+mod names;
+mod plans;
+mod touched;
+
 ghost use Rattle.std.specs.Prelude.{◌≡◌, false};
 ghost use Rattle.cy_planner_algebra.specs.PlanModels.{plan_of};
 ghost use Rattle.cy_engine_views.specs.Masks as spec;
 ghost use Rattle.cy_engine_views.specs.Masks.{AreApart, Covers, mask_of};
 
-use crate::bits::Bits;
-use crate::plans::plan_mask;
-use crate::touched::{touched_nodes, touched_rels};
+use crate::masks::bits::Bits;
+use crate::masks::plans::plan_mask;
+use crate::masks::touched::{touched_nodes, touched_rels};
 use cy_index::Sight;
 use cy_network_touches::GraphChange;
 use cy_planner_algebra::Operator;

@@ -3,12 +3,9 @@
 
 mod changes;
 mod kept;
-mod leaves;
 mod networks;
-mod pairs;
-mod passages;
+mod operators;
 mod pending;
 mod rows;
-mod singles;
 
 pub use networks::Network;

@@ -2,29 +2,18 @@
 //! rows; `Semi`, the rows of a left input that have a partner in the right input, or that have none; and `Outer`.
 #![tactic(auto)]
 
-mod changes;
-mod columns;
-mod distinct_rows;
 mod greatest;
-mod joins;
-mod key_numbers;
-mod keys;
-pub mod laws;
-mod matches;
 mod merges;
-mod nulls;
-mod partner_numbers;
+mod outer_joins;
+pub mod outer_laws;
 mod passages;
 mod projections;
 mod semi_joins;
 pub mod semi_laws;
-mod sends;
-mod stages;
-mod standing;
 mod unions;
 
-pub use joins::outer;
-pub use matches::OuterJoin;
+pub use outer_joins::matches::OuterJoin;
+pub use outer_joins::outer;
 pub use passages::Images;
 pub use projections::{gather, images_of, project};
 pub use semi_joins::semi;

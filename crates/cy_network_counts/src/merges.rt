@@ -1,5 +1,8 @@
 //! The delta of sums of counts: one row may have several row deltas, and what it counts is their sum.
 
+mod distinct_rows;
+mod stages;
+
 ghost use Rattle.std.specs.Prelude.{◌≡◌, ◌++◌, ◌+◌, ◌*◌, ◌<◌, ◌≤◌, true, List, IfOk, IfErr, OnOk, length};
 ghost use Rattle.std.specs.List.{All};
 ghost use Rattle.cy_values.specs.declared.rows.Cell.{Cell};
@@ -10,8 +13,8 @@ ghost use Rattle.cy_network_operators.specs.internal.Reading.{IsRead};
 ghost use Rattle.cy_network_counts.specs.Merges.{AreBounded};
 ghost use Rattle.cy_network_counts.specs.internal.Sums.{AreRowDeltasOf, lost, gained, deltas_at};
 
-use crate::distinct_rows::{distinct_rows, few_distinct_rows};
-use crate::stages::{stage_gains, stage_losses};
+use crate::merges::distinct_rows::{distinct_rows, few_distinct_rows};
+use crate::merges::stages::{stage_gains, stage_losses};
 use cy_network_memory::{Memory, MemoryFault, RowDelta};
 use cy_network_operators::add_row_delta;
 use cy_values::{Fault, Row};

@@ -2,13 +2,10 @@
 #![tactic(auto)]
 
 mod clauses;
-mod copies;
 mod faults;
-mod keys;
 mod paths;
 mod plans;
 mod selective;
-mod semi;
 mod weight;
 
 pub use faults::PlanFault;

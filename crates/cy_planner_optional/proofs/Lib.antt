@@ -3,7 +3,7 @@ pub mod Truths
 pub mod Covering
 pub mod OneRow
 pub mod Sifted
-pub mod Trails
+pub mod TrailLemmas
 pub mod PairRows
 pub mod WholePlans
 pub mod CodeLemmas
@@ -11,7 +11,7 @@ pub mod Predicates
 pub mod JoinedParts
 pub mod LookupLemmas
 pub mod Extended
-pub mod Columns
+pub mod TrailColumns
 pub mod OwnTables
 pub mod OwnRows
 pub mod Tested

@@ -7,7 +7,7 @@ use Rattle.cy_planner_rewriting.specs.internal.Layers.{layered}
 use Rattle.cy_planner_rewriting.specs.Rewritten.{IsRewritten}
 use Rattle.cy_planner_rewriting.proofs.Layering.{well_below}
 use Rattle.cy_planner_passes.specs.Standing.{StandsFor}
-use Rattle.cy_planner_passes.specs.declared.lowering.Above.{Above}
+use Rattle.cy_planner_passes.specs.declared.outer_filters.Above.{Above}
 use Rattle.cy_planner_passes.specs.internal.OuterAbove.{StandsBelow, put_over, put_over_one}
 use Rattle.cy_planner_rewriting.specs.Opened.{together}
 use Rattle.cy_planner_passes.proofs.Congruent.{equal_plans, on_graphs, stands_again}

@@ -10,7 +10,7 @@ use Rattle.cy_planner_rewriting.proofs.Congruent.{equal_plans, over_join, over_o
 use Rattle.cy_planner_rewriting.proofs.Layering.{over_any, well_below}
 use Rattle.cy_planner_passes.specs.declared.narrowing.Above.{Above}
 use Rattle.cy_planner_passes.specs.declared.narrowing.Above.TheVariants as above
-use Rattle.cy_planner_passes.specs.declared.narrows.Narrow.{Narrow}
+use Rattle.cy_planner_passes.specs.declared.narrowing.narrows.Narrow.{Narrow}
 use Rattle.cy_planner_rewriting.specs.declared.layers.Joint.{Joint}
 use Rattle.cy_planner_rewriting.specs.declared.layers.Joint.TheVariants as joint
 use Rattle.cy_planner_passes.specs.internal.Above.{StandsBelow, over_all, over_one}

@@ -3,15 +3,8 @@
 //! the right input, before it is joined.
 #![tactic(auto)]
 
-mod bases;
-mod joints;
-mod layers;
-mod lowering;
 mod narrowing;
-mod narrows;
-mod outers;
-mod ranks;
-mod splitting;
+mod outer_filters;
 
-pub use lowering::with_low_predicates;
 pub use narrowing::narrowed;
+pub use outer_filters::with_low_predicates;

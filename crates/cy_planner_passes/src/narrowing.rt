@@ -1,5 +1,10 @@
 //! Plans in place of others, with narrower rows. Each call fails only when out of memory.
 
+mod joints;
+mod layers;
+mod narrows;
+mod ranks;
+
 ghost use Rattle.std.specs.Prelude.{IfOk};
 ghost use Rattle.cy_planner_algebra.specs.PlanModels.{plan_of};
 ghost use Rattle.cy_planner_algebra.specs.WellFormed.{IsWellFormed};
@@ -7,9 +12,9 @@ ghost use Rattle.cy_planner_rewriting.specs.Rewritten.{IsRewritten};
 ghost use Rattle.cy_planner_passes.specs.internal.Above as standing;
 ghost use Rattle.cy_planner_passes.specs.internal.Narrows.{restored};
 
-use crate::joints::put_together;
-use crate::layers::put_layer;
-use crate::narrows::{Narrow, exact, whole};
+use crate::narrowing::joints::put_together;
+use crate::narrowing::layers::put_layer;
+use crate::narrowing::narrows::{Narrow, exact, whole};
 use cy_planner_algebra::{Operator, Plan};
 use cy_planner_rewriting::{Joint, Layer, Part, open_operator};
 use cy_values::Fault;

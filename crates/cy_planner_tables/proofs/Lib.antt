@@ -2,7 +2,7 @@ pub mod Same
 pub mod KeyOrders
 pub mod TableLemmas
 pub mod Leaves
-pub mod Columns
+pub mod TableColumns
 pub mod Ends
 pub mod Growing
 pub mod Longer

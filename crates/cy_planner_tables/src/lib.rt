@@ -3,16 +3,14 @@
 //! or put in order.
 #![tactic(auto)]
 
-mod columns;
-mod keeping;
 mod links;
-mod numbered;
+mod partial;
 mod tables;
 mod trails;
 mod turned;
 
-pub use columns::{Partial, joined, numbers_from, position};
-pub use keeping::{all_different, in_order, with_first};
-pub use numbered::Columns;
+pub use partial::columns::{Partial, joined, numbers_from, position};
+pub use partial::keeping::{all_different, in_order, with_first};
+pub use partial::numbered::Columns;
 pub use tables::link_table;
 pub use trails::{mapped_trail_table, mapped_trail_table_from_left};

@@ -17,7 +17,7 @@ use Rattle.cy_graph.specs.declared.faults.GraphFault.TheVariants as refusal
 use Rattle.cy_graph.specs.declared.nodes.Rel.{Rel}
 use Rattle.cy_oneshot_meaning.specs.Reading.{AreInGraph}
 use Rattle.cy_oneshot_meaning.specs.internal.Answers.{IsRowThere}
-use Rattle.cy_updates.specs.declared.creating.Made.{Made}
+use Rattle.cy_updates.specs.declared.writes.creating.Made.{Made}
 use Rattle.cy_updates_meaning.specs.declared.faults.UpdateFault.{UpdateFault}
 use Rattle.cy_updates_meaning.specs.declared.faults.UpdateFault.TheVariants.{Full, NoMemory}
 use Rattle.cy_updates_meaning.specs.Creating.{Creation, bound_to, created, with_relationship, new_relationship, next_node, next_relationship, node_at_place, node_in_cell, unless_full, with_column, with_new_node, with_node_if, with_node_place, with_path, with_relationship_column, with_step}

@@ -2,8 +2,8 @@
 use Rattle.cy_values.specs.declared.numbers.NodeId.{NodeId}
 use Rattle.cy_trees.specs.Trees.{Name}
 use Rattle.cy_graph.specs.Graph.{State, IsGraph, with_node_changed}
-use Rattle.cy_updates.specs.declared.entities.LabelChange.{LabelChange}
-use Rattle.cy_updates.specs.declared.entities.LabelChange.TheVariants.{Add, Drop}
+use Rattle.cy_updates.specs.declared.writes.entities.LabelChange.{LabelChange}
+use Rattle.cy_updates.specs.declared.writes.entities.LabelChange.TheVariants.{Add, Drop}
 use Rattle.cy_updates.specs.internal.Entities.{relabelled}
 use Rattle.cy_updates_meaning.proofs.Graphs.{Kept, label_kept, no_label_kept}
 

@@ -10,10 +10,10 @@ ghost use Rattle.cy_updates_meaning.specs.Statements.{rows_taken, updated};
 ghost use Rattle.cy_updates_meaning.specs.internal.Answers.{IsAnswer, graph_table};
 ghost use Rattle.cy_updates.specs.internal.Reached.{CountsGone, HasColumns};
 
-use crate::creating::create;
-use crate::deleting::{Gone, delete};
-use crate::removing::remove;
-use crate::setting::set;
+use crate::writes::creating::create;
+use crate::writes::deleting::{Gone, delete};
+use crate::writes::removing::remove;
+use crate::writes::setting::set;
 use cy_index::Store;
 use cy_oneshot::{Table, add_names};
 use cy_oneshot_projections::sort_rows;

@@ -2,14 +2,8 @@
 #![tactic(auto)]
 
 mod clauses;
-mod creating;
-mod deleting;
-mod entities;
-mod maps;
-mod naming;
 mod queries;
-mod removing;
-mod setting;
 mod statements;
+mod writes;
 
 pub use statements::{StatementAnswer, execute};

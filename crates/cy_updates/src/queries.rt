@@ -16,7 +16,7 @@ ghost use Rattle.cy_updates.specs.internal.Queries.{IsQueryDone};
 ghost use Rattle.cy_updates.specs.internal.Reached.{CountsGone, HasColumns, IsNext, IsNextInOrder, IsReached, opening, progress};
 
 use crate::clauses::{Updated, update, with_none_gone};
-use crate::deleting::Gone;
+use crate::writes::deleting::Gone;
 use cy_index::Store;
 use cy_oneshot::{Table, no_table, read_clause_before, unit};
 use cy_scope::{ends_with_return, is_update};

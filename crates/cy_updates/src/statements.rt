@@ -15,8 +15,8 @@ ghost use Rattle.cy_updates_meaning.specs.internal.Answers.{IsAnswer};
 ghost use Rattle.cy_updates.specs.internal.Queries.{HaveCome};
 
 use crate::clauses::{Updated, with_none_gone};
-use crate::deleting::Gone;
 use crate::queries::execute_query;
+use crate::writes::deleting::Gone;
 use cy_index::Store;
 use cy_oneshot::{Table, no_table, unite};
 use cy_scope::{Checked, checked_statements};

@@ -4,7 +4,7 @@ use Rattle.cy_planner_algebra.specs.Plans as plan
 use Rattle.cy_planner_algebra.specs.Plans.{Plan}
 use Rattle.cy_planner_algebra.specs.PlanModels.{plan_of}
 use Rattle.cy_planner_rows.specs.Columns.{column_output}
-use Rattle.cy_planner_passes.specs.declared.narrows.Narrow.{Narrow}
+use Rattle.cy_planner_passes.specs.declared.narrowing.narrows.Narrow.{Narrow}
 
 -- columns of the rows of a plan
 abbrev pub taken : List ℕ → Plan → Plan

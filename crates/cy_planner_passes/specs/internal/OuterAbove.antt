@@ -5,7 +5,7 @@ use Rattle.cy_planner_algebra.specs.PlanModels.{plan_of}
 use Rattle.cy_planner_algebra.specs.WellFormed.{IsWellFormed}
 use Rattle.cy_planner_rewriting.specs.internal.Layers.{layered}
 use Rattle.cy_planner_passes.specs.Standing.{StandsFor}
-use Rattle.cy_planner_passes.specs.declared.lowering.Above.{Above}
+use Rattle.cy_planner_passes.specs.declared.outer_filters.Above.{Above}
 use Rattle.cy_planner_rewriting.specs.Opened.{together}
 
 -- layers over a plan together with another one

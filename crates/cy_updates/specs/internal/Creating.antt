@@ -8,7 +8,7 @@ use Rattle.cy_trees.specs.declared.expressions.Variable.{Variable}
 use Rattle.cy_trees.specs.Trees.{Path}
 use Rattle.cy_graph.specs.Graph.{State, node_at}
 use Rattle.cy_oneshot_meaning.specs.Reading.{IsInGraph}
-use Rattle.cy_updates.specs.declared.creating.Made.{Made}
+use Rattle.cy_updates.specs.declared.writes.creating.Made.{Made}
 use Rattle.cy_updates_meaning.specs.declared.faults.UpdateFault.{UpdateFault}
 use Rattle.cy_updates_meaning.specs.Creating.{Creation, created}
 use Rattle.cy_updates_meaning.specs.Faults.{◌>>=◌}

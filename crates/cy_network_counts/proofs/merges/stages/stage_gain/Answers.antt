@@ -1,0 +1,10 @@
+use Rattle.std.proofs.Common.{◌+ℤ◌, pos, ap, ◌∙◌, rules, w64}
+use Rattle.std.proofs.lemmas.Int.{to_z-of_z}
+use Rattle.cy_network_counts.proofs.Staging.{more_if_staged}
+use Rattle.cy_network_counts.proofs.merges.stages.stage_gain.Goals as goal
+
+pub returns-then-change-clause-staged : goal.returns-then-change-clause-staged
+returns-then-change-clause-staged g c =
+    let s = c.args.change.now in
+    let reads = to_z-of_z w64 c.change_of.result (search rules) in
+    more_if_staged (g.M.Memory.staged c.args.memory.now) (g.M.Memory.staged c.stage.new.self) s _ (ap (λ z. pos s.before +ℤ z) reads ∙ c.change_of.ensures) c.if-change.true c.stage.result c.stage.ensures.staged

@@ -2,6 +2,7 @@ pub mod Counts
 pub mod Pairs
 pub mod Widths
 pub mod PartCounts
+pub mod PartLengths
 pub mod Numbers
 pub mod Layers
 mod ExampleGraphs

@@ -4,7 +4,7 @@
 ghost use Rattle.std.specs.Prelude.{◌≡◌, ◌+◌, ◌≤◌, IfOk, List, OnOk, map};
 ghost use Rattle.std.specs.List.{All, AllByRecursion, Contains};
 ghost use Rattle.cy_planner_algebra.specs.declared.operators.KeyColumns.{KeyColumns};
-ghost use Rattle.cy_planner_algebra.specs.Plans.{width};
+ghost use Rattle.cy_planner_algebra.specs.Plans as plan;
 ghost use Rattle.cy_planner_algebra.specs.PlanModels.{plan_of};
 ghost use Rattle.cy_planner_algebra.specs.WellFormed.{IsKeyBetween, IsWellFormed, greatest_width};
 ghost use Rattle.cy_planner_rewriting.specs.internal.Redirected as spec;
@@ -26,9 +26,9 @@ pub(crate) struct Redirect {
 }
 
 /// Whether a column names the node or the relationship that each row of a table is made of. The rows are this wide.
-fn is_own(part: &Operator, wide: usize, column: usize, most: usize) -> bool
+fn is_own(part: &Operator, width: usize, column: usize, most: usize) -> bool
     requires good { IsWellFormed (plan_of part.now) }
-    requires wide { wide ≡ width (plan_of part.now) }
+    requires wide { width ≡ plan.width (plan_of part.now) }
 {
     let Some(fewer) = most.checked_sub(1) else {
         return false;
@@ -36,34 +36,34 @@ fn is_own(part: &Operator, wide: usize, column: usize, most: usize) -> bool
     match part {
         Operator::Nodes | Operator::Rels(_, _) => column == 0,
         Operator::Join(left, right, keys) => {
-            let of_right = right.width();
-            let of_left = width_without(left, wide, of_right);
-            if column < of_left {
-                if is_own(left, of_left, column, fewer) {
+            let right_width = right.width();
+            let left_width = width_without(left, width, right_width);
+            if column < left_width {
+                if is_own(left, left_width, column, fewer) {
                     return true;
                 }
                 match key_on_right(keys, column) {
-                    Some(other) => is_own(right, of_right, other, fewer),
+                    Some(other) => is_own(right, right_width, other, fewer),
                     None => false,
                 }
             } else {
-                is_own(right, of_right, column - of_left, fewer)
+                is_own(right, right_width, column - left_width, fewer)
             }
         }
         Operator::Outer(left, right, _, _) => {
-            let of_left = width_without(left, wide, right.width());
-            is_own(left, of_left, column, fewer)
+            let left_width = width_without(left, width, right.width());
+            is_own(left, left_width, column, fewer)
         }
         Operator::Lookup(below, _, _) => {
-            let of_below = width_without(below, wide, 1);
-            is_own(below, of_below, column, fewer)
+            let below_width = width_without(below, width, 1);
+            is_own(below, below_width, column, fewer)
         }
         Operator::Project(below, outputs) => match output_column(outputs, column) {
             Some(column) => is_own(below, below.width(), column, fewer),
             None => false,
         },
         _ => match part.sifted() {
-            Some(below) => is_own(below, wide, column, fewer),
+            Some(below) => is_own(below, width, column, fewer),
             None => false,
         },
     }
@@ -74,18 +74,18 @@ fn add_redirect(
     made: &mut Vec<Redirect>,
     left: &Operator,
     right: &Operator,
-    wide: usize,
+    left_width: usize,
     key: KeyColumns,
 ) -> Result<(), Fault>
     requires left { IsWellFormed (plan_of left.now) }
     requires right { IsWellFormed (plan_of right.now) }
-    requires wide { wide ≡ width (plan_of left.now) }
-    requires room { wide + key.right ≤ greatest_width }
-    ensures { OnOk result ((keys : List KeyColumns) → Contains keys key → AllByRecursion (spec.IsRedirect keys wide) made.old.items → AllByRecursion (spec.IsRedirect keys wide) made.new.items) }
+    requires wide { left_width ≡ plan.width (plan_of left.now) }
+    requires room { left_width + key.right ≤ greatest_width }
+    ensures { OnOk result ((keys : List KeyColumns) → Contains keys key → AllByRecursion (spec.IsRedirect keys left_width) made.old.items → AllByRecursion (spec.IsRedirect keys left_width) made.new.items) }
 {
-    let on_left = is_own(left, wide, key.left, MOST_PARTS);
+    let on_left = is_own(left, left_width, key.left, MOST_PARTS);
     let on_right = is_own(right, right.width(), key.right, MOST_PARTS);
-    let other = wide + key.right;
+    let other = left_width + key.right;
     if on_left == on_right {
         Ok(())
     } else if on_right {
@@ -112,9 +112,9 @@ pub(crate) fn redirects(
 ) -> Result<Vec<Redirect>, Fault>
     requires left { IsWellFormed (plan_of left.now) }
     requires right { IsWellFormed (plan_of right.now) }
-    requires keys { All (IsKeyBetween (width (plan_of left.now)) (width (plan_of right.now))) keys.now }
-    requires room { width (plan_of left.now) + width (plan_of right.now) ≤ greatest_width }
-    ensures { IfOk result (λ made. AllByRecursion (spec.IsRedirect keys.now (width (plan_of left.now))) made.items) }
+    requires keys { All (IsKeyBetween (plan.width (plan_of left.now)) (plan.width (plan_of right.now))) keys.now }
+    requires room { plan.width (plan_of left.now) + plan.width (plan_of right.now) ≤ greatest_width }
+    ensures { IfOk result (λ made. AllByRecursion (spec.IsRedirect keys.now (plan.width (plan_of left.now))) made.items) }
 {
     let width = left.width();
     let mut made = Vec::new(alloc);

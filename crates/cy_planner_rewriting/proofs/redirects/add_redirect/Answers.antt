@@ -6,5 +6,5 @@ use Rattle.cy_planner_rewriting.proofs.redirects.add_redirect.Goals as goal
 
 pub returns-in_ok-push : goal.returns-in_ok-push
 returns-in_ok-push c keys there each =
-    subst (AllByRecursion (IsRedirect keys c.args.wide)) (sym c.in_ok-push.ensures.items)
-    (each_pushed (IsRedirect keys c.args.wide) c.args.made.now.items (record { from = c.args.key.left; to = c.args.wide + c.args.key.right }) each (c.args.key, there, inl (refl, refl)))
+    subst (AllByRecursion (IsRedirect keys c.args.left_width)) (sym c.in_ok-push.ensures.items)
+    (each_pushed (IsRedirect keys c.args.left_width) c.args.made.now.items (record { from = c.args.key.left; to = c.args.left_width + c.args.key.right }) each (c.args.key, there, inl (refl, refl)))

@@ -51,6 +51,13 @@ rest_of_rels (suc (suc zero)) least = absurd (omega (arith, least))
 rest_of_rels (suc (suc (suc zero))) least = absurd (omega (arith, least))
 rest_of_rels (suc (suc (suc (suc n)))) least = refl
 
+-- a column after those of the left one of two inputs that stand side by side
+pub beside : (left right : Plan) (column n : ℕ) → n ≡ width left → nat_lt column n ≡ false
+    → cond (nat_lt column (width left)) (kind_at left column) (kind_at right (column - width left)) ≡ kind_at right (column - n)
+beside left right column n wide past =
+    (λ i. cond (nat_lt column (sym wide i)) (kind_at left column) (kind_at right (column - sym wide i)))
+    ∙ ap (λ b. cond b (kind_at left column) (kind_at right (column - n))) past
+
 -- what two columns have in common
 pub both_kinds : (a b : Option Kind) (k : Kind) → common_kind a b ≡ Some k → (a ≡ Some k) × (b ≡ Some k)
 both_kinds (Some kind.Node) (Some kind.Node) k at = (at, at)

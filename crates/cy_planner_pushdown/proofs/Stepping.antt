@@ -9,11 +9,13 @@ use Rattle.cy_graph.specs.Graph.{Content}
 use Rattle.cy_planner_algebra.specs.declared.operators.Attribute.{Attribute}
 use Rattle.cy_planner_algebra.specs.declared.operators.Keeping.{Keeping}
 use Rattle.cy_planner_algebra.specs.declared.operators.KeyColumns.{KeyColumns}
+use Rattle.cy_planner_algebra.specs.declared.operators.Operator.{Operator}
 use Rattle.cy_planner_algebra.specs.Plans as plan
 use Rattle.cy_planner_algebra.specs.Plans.{Plan, Output, width}
 use Rattle.cy_planner_algebra.specs.PlanModels.{plan_of}
 use Rattle.cy_planner_algebra.specs.WellFormed.{IsColumn, IsKeyBetween, IsOutputOver, IsOver, IsWellFormed, greatest_width}
 use Rattle.cy_planner_pushdown.specs.declared.above.Above.{Above}
+use Rattle.cy_planner_pushdown.specs.declared.places.Place.{Place}
 use Rattle.cy_planner_pushdown.specs.declared.splits.Split.{Split}
 use Rattle.cy_planner_pushdown.specs.declared.ways.Step.{Step}
 use Rattle.cy_planner_pushdown.specs.declared.ways.Step.TheVariants as step
@@ -198,3 +200,21 @@ steps_below whole tests a p split (step.Below frame place) is leads =
     (subst (λ (q : Plan). LeadsTo whole tests q (tests_of place.tests.items) (tests_of split.here.items) (placed a)) (sym is.2)
     (subst (λ (h : Vec CellsTest Global). LeadsTo whole tests p (tests_of h.items) (tests_of split.here.items) (placed a)) (sym is.3) leads)))
 steps_below whole tests a p split (step.Both pair here left right) is leads = absurd is
+
+-- the same, of places that stand for operators and conditions
+module _ (whole : Plan) (tests here : List (List ℕ × Expression)) where
+  pub at_place : (around : Plan → Plan) (part : Operator) (others : Vec CellsTest Global) (place : Place) → place.part ≡ part → place.tests ≡ others
+      → LeadsTo whole tests (plan_of part) (tests_of others.items) here around → LeadsTo whole tests (plan_of place.part) (tests_of place.tests.items) here around
+  at_place around part others place is are leads =
+      subst (λ (q : Operator). LeadsTo whole tests (plan_of q) (tests_of place.tests.items) here around) (sym is)
+      (subst (λ (h : Vec CellsTest Global). LeadsTo whole tests (plan_of part) (tests_of h.items) here around) (sym are) leads)
+
+  pub at_places : (around : Plan → Plan → Plan) (left right : Operator) (lefts rights : Vec CellsTest Global) (l r : Place)
+      → l.part ≡ left → l.tests ≡ lefts → r.part ≡ right → r.tests ≡ rights
+      → LeadsToBoth whole tests (plan_of left) (tests_of lefts.items) (plan_of right) (tests_of rights.items) here around
+      → LeadsToBoth whole tests (plan_of l.part) (tests_of l.tests.items) (plan_of r.part) (tests_of r.tests.items) here around
+  at_places around left right lefts rights l r is_left are_left is_right are_right leads =
+      subst (λ (q : Operator). LeadsToBoth whole tests (plan_of q) (tests_of l.tests.items) (plan_of r.part) (tests_of r.tests.items) here around) (sym is_left)
+      (subst (λ (h : Vec CellsTest Global). LeadsToBoth whole tests (plan_of left) (tests_of h.items) (plan_of r.part) (tests_of r.tests.items) here around) (sym are_left)
+      (subst (λ (q : Operator). LeadsToBoth whole tests (plan_of left) (tests_of lefts.items) (plan_of q) (tests_of r.tests.items) here around) (sym is_right)
+      (subst (λ (h : Vec CellsTest Global). LeadsToBoth whole tests (plan_of left) (tests_of lefts.items) (plan_of right) (tests_of h.items) here around) (sym are_right) leads)))

@@ -11,3 +11,4 @@ pub mod Finding
 pub mod Ends
 pub mod Pairs
 pub mod Inputs
+pub mod Widths

@@ -6,7 +6,6 @@ ghost use Rattle.cy_trees.specs.TreeModels.{expression_of};
 ghost use Rattle.cy_planner_algebra.specs.Plans as plan;
 ghost use Rattle.cy_planner_algebra.specs.PlanModels.{output_of, plan_of};
 ghost use Rattle.cy_planner_algebra.specs.WellFormed.{IsWellFormed};
-ghost use Rattle.cy_planner_pushdown.specs.internal.Conditions as conditions;
 ghost use Rattle.cy_planner_pushdown.specs.internal.Inputs.{AreWellFormed};
 ghost use Rattle.cy_planner_pushdown.specs.internal.Pushed as spec;
 ghost use Rattle.cy_planner_pushdown.specs.internal.Sources as sources;
@@ -79,54 +78,62 @@ pub(crate) fn kind_of_rels(column: usize) -> Option<Kind>
     }
 }
 
-/// The kind of what stands in a column, as far as the plan's operators show it. The rows are this wide.
+/// The kind of what stands in a column, as far as the plan's operators show it. The rows are this wide. A column of one input is followed in a
+/// loop, so that unions alone are levels.
 pub(crate) fn kind_at(part: &Operator, width: usize, column: usize) -> Option<Kind>
     requires good { IsWellFormed (plan_of part.now) }
     requires wide { width ≡ plan.width (plan_of part.now) }
     ensures { result ≡ spec.kind_at (plan_of part.now) column }
 {
-    match part {
-        Operator::Nodes => kind_of_nodes(column),
-        Operator::Rels(_, _) => kind_of_rels(column),
-        Operator::Join(left, right, _) | Operator::Outer(left, right, _, _) => {
-            let of_right = right.width();
-            let of_left = width_without(left, width, of_right);
-            if column < of_left {
-                kind_at(left, of_left, column)
-            } else {
-                kind_at(right, of_right, column - of_left)
+    let mut part = part;
+    let mut width = width;
+    let mut column = column;
+    loop {
+        match part {
+            Operator::Nodes => return kind_of_nodes(column),
+            Operator::Rels(_, _) => return kind_of_rels(column),
+            Operator::Join(left, right, _) | Operator::Outer(left, right, _, _) => {
+                let right_width = right.width();
+                let left_width = width_without(left, width, right_width);
+                if column < left_width {
+                    part = left;
+                    width = left_width;
+                } else {
+                    part = right;
+                    width = right_width;
+                    column -= left_width;
+                }
             }
-        }
-        Operator::Lookup(below, _, _) => {
-            let of_below = width_without(below, width, 1);
-            if column < of_below {
-                kind_at(below, of_below, column)
-            } else if column == of_below {
-                Some(Kind::Value)
-            } else {
-                None
+            Operator::Lookup(below, _, _) => {
+                let below_width = width_without(below, width, 1);
+                if column == below_width {
+                    return Some(Kind::Value);
+                }
+                if column > below_width {
+                    return None;
+                }
+                part = below;
+                width = below_width;
             }
+            Operator::Distinct(below) => part = below,
+            Operator::Project(below, outputs) => match output_column(outputs, column) {
+                Some(other) => {
+                    part = below;
+                    width = below.width();
+                    column = other;
+                }
+                None => return kind_made(outputs, column),
+            },
+            Operator::Union(left, right) => return common_kind(
+                kind_at(left, width, column),
+                kind_at(right, width, column),
+            ),
+            _ => match part.sifted() {
+                Some(below) => part = below,
+                None => return None,
+            },
         }
-        Operator::Distinct(below) => kind_at(below, width, column),
-        Operator::Project(below, outputs) => match output_column(outputs, column) {
-            Some(column) => kind_at(below, below.width(), column),
-            None => kind_made(outputs, column),
-        },
-        Operator::Union(left, right) => {
-            common_kind(kind_at(left, width, column), kind_at(right, width, column))
-        }
-        _ => match part.sifted() {
-            Some(below) => kind_at(below, width, column),
-            None => None,
-        },
     }
-}
-
-/// Whether a column is one of several.
-pub(crate) fn is_among(columns: &[usize], column: usize) -> bool
-    ensures { result ≡ conditions.is_among columns.now column }
-{
-    columns.iter().any(|other| *other == column)
 }
 
 /// Whether the columns are among the first ones.
@@ -230,7 +237,7 @@ pub(crate) fn columns_in(
         let Some(other) = column_in(source, *column) else {
             return Ok(None);
         };
-        if is_among(found.as_slice(), other) {
+        if found.contains(&other) {
             return Ok(None);
         }
         found.push(other)?;

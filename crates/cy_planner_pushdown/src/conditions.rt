@@ -6,7 +6,7 @@ ghost use Rattle.cy_planner_algebra.specs.PlanModels.{plan_of};
 ghost use Rattle.cy_planner_pushdown.specs.internal.Conditions as spec;
 ghost use Rattle.cy_planner_pushdown.specs.internal.Pushed as pushed;
 
-use crate::columns::{is_among, kind_at};
+use crate::columns::kind_at;
 use cy_planner_algebra::Plan;
 use cy_scope_kinds::{Scope, check_expression, is_sure_flag, resolved};
 use cy_trees::{Arm, Expr, Link, Variable};
@@ -103,7 +103,7 @@ pub(crate) struct Reading {
 fn is_new(scope: &Scope, columns: &[usize], name: &str, column: usize) -> bool
     ensures { result ≡ spec.is_new scope.now columns.now name.now column }
 {
-    scope.find_kind(name).is_none() && !is_among(columns, column)
+    scope.find_kind(name).is_none() && !columns.contains(&column)
 }
 
 /// The variables, if each has a column of its own after the first ones, whose kind the plan shows.

@@ -14,7 +14,7 @@ use crate::conditions::{cells_test, find_reading};
 use crate::places::Place;
 use crate::pushing::push;
 use crate::tests::CellsTest;
-use cy_planner_algebra::{Below, Operator, Plan};
+use cy_planner_algebra::Plan;
 use cy_planner_rows::{WantedList, add_asked, conjuncts, filter_where};
 use cy_trees::Expr;
 use cy_values::Fault;
@@ -24,26 +24,9 @@ use std::alloc::Global;
 /// conditions stay above the plan.
 const MOST_STEPS: usize = 131_072;
 
-/// What is left of `count` after one for each operator of a plan; none where the plan has more.
-pub fn left_after(part: &Operator, count: usize) -> Option<usize> {
-    let mut part = part;
-    let mut rest = count;
-    loop {
-        rest = rest.checked_sub(1)?;
-        match part.below() {
-            Below::None => return Some(rest),
-            Below::One(below) => part = below,
-            Below::Two(left, right) => {
-                rest = left_after(right, rest)?;
-                part = left;
-            }
-        }
-    }
-}
-
 /// How many conditions may go down in a plan.
 fn most_tests(plan: &Plan) -> usize {
-    match left_after(plan.root(), MOST_STEPS) {
+    match plan.root().left_after(MOST_STEPS) {
         Some(rest) => MOST_STEPS
             .checked_div(MOST_STEPS.saturating_sub(rest))
             .unwrap_or(0),

@@ -18,4 +18,4 @@ mod tests;
 mod ways;
 
 pub use above::{Above, placed_over};
-pub use filters::{Kept, filter_low, keep_after, left_after};
+pub use filters::{Kept, filter_low, keep_after};

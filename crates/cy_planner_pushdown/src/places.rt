@@ -34,4 +34,18 @@ impl Place {
             looks_for_ends: true,
         }
     }
+
+    /// Conditions on columns of an operator whose rows are this wide, where ends of relationships are looked for.
+    pub(crate) fn at(part: Box<Operator>, width: usize, tests: Vec<CellsTest>) -> Self
+        requires { width ≡ plan.width (plan_of part.value) }
+        ensures part { result.part ≡ part.value }
+        ensures tests { result.tests ≡ tests }
+    {
+        Place {
+            part: Box::into_inner(part),
+            width,
+            tests,
+            looks_for_ends: true,
+        }
+    }
 }

@@ -16,13 +16,6 @@ use cy_planner_algebra::Plan;
 use cy_values::Fault;
 use std::alloc::Global;
 
-/// A plan is one that can be meant.
-fn meant(plan: &Plan)
-    ensures { IsWellFormed (plan_of plan.now) }
-{
-    let _root = plan.root();
-}
-
 /// The conditions can be put on an operator.
 fn can_go_on(place: &Place)
     requires good { IsWellFormed (plan_of place.now.part) }
@@ -64,7 +57,7 @@ pub(crate) fn push(alloc: Global, place: Place) -> Result<Plan, Fault>
             Step::Both(pair, here, left, right) => {
                 can_go_on(&right);
                 let right = push(alloc, right)?;
-                meant(&right);
+                right.meant();
                 frames.push(Frame {
                     above: above_left(pair, right),
                     here,
@@ -73,10 +66,10 @@ pub(crate) fn push(alloc: Global, place: Place) -> Result<Plan, Fault>
             }
         }
     };
-    meant(&plan);
+    plan.meant();
     while let Some(frame) = frames.pop() {
         plan = put_back(alloc, plan, frame)?;
-        meant(&plan);
+        plan.meant();
     }
     Ok(plan)
 }

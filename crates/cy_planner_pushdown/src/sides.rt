@@ -2,11 +2,13 @@
 //! tables of nodes and to trails, of which fewer are made then. Beside these it doesn't go to the ends of single relationships: a change of a
 //! node that it doesn't concern goes no further than the table of nodes then, however many relationships the node has.
 
-ghost use Rattle.std.specs.Prelude.{◌≡◌, IfOk};
+ghost use Rattle.std.specs.Prelude.{◌≡◌, IfOk, IfSome};
 ghost use Rattle.cy_planner_algebra.specs.Plans as plan;
 ghost use Rattle.cy_planner_algebra.specs.PlanModels.{plan_of};
 ghost use Rattle.cy_planner_algebra.specs.WellFormed.{IsWellFormed};
 ghost use Rattle.cy_planner_pushdown.specs.internal.Inputs.{AreWellFormed};
+ghost use Rattle.cy_planner_pushdown.specs.internal.Pushed as pushed;
+ghost use Rattle.cy_planner_pushdown.specs.internal.Sources as sources;
 ghost use Rattle.cy_planner_pushdown.specs.internal.Ways as spec;
 
 use crate::columns::{Source, columns_in};
@@ -44,25 +46,25 @@ fn is_of_nodes_or_trails(part: &Operator, width: usize, column: usize, most: usi
     match part {
         Operator::Nodes => true,
         Operator::Join(left, right, keys) => {
-            let of_right = right.width();
-            let of_left = width_without(left, width, of_right);
-            let sides = sides_of(of_left, keys, column);
+            let right_width = right.width();
+            let left_width = width_without(left, width, right_width);
+            let sides = sides_of(left_width, keys, column);
             let on_right = match sides.right {
-                Some(column) => is_of_nodes_or_trails(right, of_right, column, fewer),
+                Some(column) => is_of_nodes_or_trails(right, right_width, column, fewer),
                 None => false,
             };
             match sides.left {
-                Some(column) => on_right || is_of_nodes_or_trails(left, of_left, column, fewer),
+                Some(column) => on_right || is_of_nodes_or_trails(left, left_width, column, fewer),
                 None => on_right,
             }
         }
         Operator::Outer(left, right, _, _) => {
-            let of_left = width_without(left, width, right.width());
-            column < of_left && is_of_nodes_or_trails(left, of_left, column, fewer)
+            let left_width = width_without(left, width, right.width());
+            column < left_width && is_of_nodes_or_trails(left, left_width, column, fewer)
         }
         Operator::Lookup(below, _, _) => {
-            let of_below = width_without(below, width, 1);
-            column < of_below && is_of_nodes_or_trails(below, of_below, column, fewer)
+            let below_width = width_without(below, width, 1);
+            column < below_width && is_of_nodes_or_trails(below, below_width, column, fewer)
         }
         Operator::Project(below, outputs) => {
             if outputs
@@ -110,75 +112,49 @@ fn sides_of(width: usize, keys: &[KeyColumns], column: usize) -> SideColumns {
     }
 }
 
-/// Whether a condition on these columns of a join goes to the left side, if it can.
-fn goes_left(inputs: &Inputs<'_>, columns: &[usize]) -> bool
+/// Whether a condition goes to each of the sides of a join.
+#[derive(Clone, Copy)]
+struct Sides {
+    left: bool,
+    right: bool,
+}
+
+/// To which sides of a join a condition on these columns goes, if it can.
+fn sides_for(inputs: &Inputs<'_>, columns: &[usize]) -> Sides
     requires { AreWellFormed inputs.now }
 {
-    if columns.len() != 1 {
-        return true;
-    }
-    let sides = sides_of(inputs.left_width, inputs.keys, columns[0]);
-    match (sides.left, sides.right) {
-        (Some(column), Some(other)) => {
-            sides.is_left && !is_on_right(inputs, other) || is_on_left(inputs, column)
-        }
-        _ => true,
+    let both = Sides {
+        left: true,
+        right: true,
+    };
+    let [column] = columns else {
+        return both;
+    };
+    let sides = sides_of(inputs.left_width, inputs.keys, *column);
+    let (Some(left), Some(right)) = (sides.left, sides.right) else {
+        return both;
+    };
+    let on_right = is_of_nodes_or_trails(inputs.right, inputs.right_width, right, MOST_BELOW);
+    let to_left = sides.is_left && !on_right
+        || is_of_nodes_or_trails(inputs.left, inputs.left_width, left, MOST_BELOW);
+    Sides {
+        left: to_left,
+        right: on_right || !sides.is_left && !to_left,
     }
 }
 
-/// Whether a condition on these columns of a join goes to the right side, if it can.
-fn goes_right(inputs: &Inputs<'_>, columns: &[usize]) -> bool
-    requires { AreWellFormed inputs.now }
-{
-    if columns.len() != 1 {
-        return true;
-    }
-    let sides = sides_of(inputs.left_width, inputs.keys, columns[0]);
-    match (sides.left, sides.right) {
-        (Some(other), Some(column)) => {
-            is_on_right(inputs, column) || !sides.is_left && !is_on_left(inputs, other)
-        }
-        _ => true,
-    }
-}
-
-fn is_on_left(inputs: &Inputs<'_>, column: usize) -> bool
-    requires { AreWellFormed inputs.now }
-{
-    is_of_nodes_or_trails(inputs.left, inputs.left_width, column, MOST_BELOW)
-}
-
-fn is_on_right(inputs: &Inputs<'_>, column: usize) -> bool
-    requires { AreWellFormed inputs.now }
-{
-    is_of_nodes_or_trails(inputs.right, inputs.right_width, column, MOST_BELOW)
-}
-
-fn columns_of_left(
+/// The columns of a side in which there stands what stands in columns of a join, where it goes to that side.
+fn columns_on(
     alloc: Global,
-    inputs: &Inputs<'_>,
+    side: &Source<'_>,
+    goes: bool,
     columns: &[usize],
 ) -> Result<Option<Vec<usize>>, Fault>
-    requires { AreWellFormed inputs.now }
-    ensures { IfOk result (λ made. spec.IsLeftWay (plan_of inputs.now.left.now) (plan_of inputs.now.right.now) inputs.now.keys.now columns.now made) }
+    requires { sources.IsWellFormed side.now }
+    ensures { IfOk result (λ made. IfSome made (λ others. pushed.AreMoved (sources.stands side.now) columns.now others.items)) }
 {
-    if goes_left(inputs, columns) {
-        columns_in(alloc, &Source::Left(inputs), columns)
-    } else {
-        Ok(None)
-    }
-}
-
-fn columns_of_right(
-    alloc: Global,
-    inputs: &Inputs<'_>,
-    columns: &[usize],
-) -> Result<Option<Vec<usize>>, Fault>
-    requires { AreWellFormed inputs.now }
-    ensures { IfOk result (λ made. spec.IsRightWay (plan_of inputs.now.left.now) (plan_of inputs.now.right.now) inputs.now.keys.now columns.now made) }
-{
-    if goes_right(inputs, columns) {
-        columns_in(alloc, &Source::Right(inputs), columns)
+    if goes {
+        columns_in(alloc, side, columns)
     } else {
         Ok(None)
     }
@@ -204,7 +180,8 @@ pub(crate) fn way_from_join(
     requires { AreWellFormed inputs.now }
     ensures { IfOk result (λ way. spec.IsWay way (plan.join (plan_of inputs.now.left.now) (plan_of inputs.now.right.now) inputs.now.keys.now) columns.items) }
 {
-    let on_left = columns_of_left(alloc, inputs, &columns)?;
-    let on_right = columns_of_right(alloc, inputs, &columns)?;
+    let goes = sides_for(inputs, &columns);
+    let on_left = columns_on(alloc, &Source::Left(inputs), goes.left, &columns)?;
+    let on_right = columns_on(alloc, &Source::Right(inputs), goes.right, &columns)?;
     Ok(both_ways(columns, on_left, on_right))
 }

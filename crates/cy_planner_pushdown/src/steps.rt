@@ -11,6 +11,7 @@ ghost use Rattle.cy_planner_pushdown.specs.internal.Steps as spec;
 ghost use Rattle.cy_planner_pushdown.specs.internal.Tests.{CanAllBePushed, test_of, tests_of};
 
 use crate::ends::asked_end;
+use crate::inputs::Measured;
 use crate::places::Place;
 use crate::sides::Way;
 use crate::splits::Split;
@@ -24,16 +25,14 @@ use std::alloc::Global;
 fn add_test(
     alloc: Global,
     split: &mut Split,
-    part: &Operator,
-    width: usize,
+    measured: &Measured<'_>,
     looks_for_ends: bool,
     test: CellsTest,
 ) -> Result<(), Fault>
-    requires good { IsWellFormed (plan_of part.now) }
-    requires wide { width ≡ plan.width (plan_of part.now) }
-    ensures { OnOk result ((all rest : List (List ℕ × Expression)) → splits.IsSplit (plan_of part.now) all (rest ++ test_of test ∷ []) (splits.tests_in split.old) → splits.IsSplit (plan_of part.now) all rest (splits.tests_in split.new)) }
+    requires { IsWellFormed (plan_of measured.now.part.now) }
+    ensures { OnOk result ((all rest : List (List ℕ × Expression)) → splits.IsSplit (plan_of measured.now.part.now) all (rest ++ test_of test ∷ []) (splits.tests_in split.old) → splits.IsSplit (plan_of measured.now.part.now) all rest (splits.tests_in split.new)) }
 {
-    let is_asked = looks_for_ends && asked_end(part, &test).is_some();
+    let is_asked = looks_for_ends && asked_end(measured.part, &test).is_some();
     let CellsTest {
         columns,
         test,
@@ -42,7 +41,7 @@ fn add_test(
     let way = if is_asked {
         Way::Here(columns)
     } else {
-        way_from(alloc, part, width, columns)?
+        way_from(alloc, measured, columns)?
     };
     split.add(alloc, way, test, asks)
 }
@@ -63,11 +62,12 @@ fn split_tests(
     if !looks_for_ends && takes_all(part) {
         return Ok(Split::of_first(alloc, tests));
     }
+    let measured = Measured::new(part, width);
     let mut split = Split::new(alloc);
     let mut rest = tests;
     rest.reverse();
     while let Some(test) = rest.pop() {
-        add_test(alloc, &mut split, part, width, looks_for_ends, test)?;
+        add_test(alloc, &mut split, &measured, looks_for_ends, test)?;
     }
     Ok(split)
 }

@@ -14,7 +14,7 @@ ghost use Rattle.cy_planner_pushdown.specs.internal.Ways as spec;
 
 use crate::above::{Above, Pair};
 use crate::columns::{Source, are_below, columns_in};
-use crate::inputs::Inputs;
+use crate::inputs::{Inputs, Measured};
 use crate::places::Place;
 use crate::sides::{Way, way_from_join};
 use crate::splits::Split;
@@ -33,29 +33,6 @@ fn way_among_first(columns: Vec<usize>, width: usize) -> Way
     } else {
         Way::Here(columns)
     }
-}
-
-fn way_from_sides(
-    alloc: Global,
-    left: &Operator,
-    right: &Operator,
-    keys: &[KeyColumns],
-    width: usize,
-    columns: Vec<usize>,
-) -> Result<Way, Fault>
-    requires good { IsWellFormed (plan.join (plan_of left.now) (plan_of right.now) keys.now) }
-    requires wide { width ≡ plan.width (plan.join (plan_of left.now) (plan_of right.now) keys.now) }
-    ensures { IfOk result (λ way. spec.IsWay way (plan.join (plan_of left.now) (plan_of right.now) keys.now) columns.items) }
-{
-    let right_width = right.width();
-    let inputs = Inputs {
-        left,
-        right,
-        keys,
-        left_width: width_without(left, width, right_width),
-        right_width,
-    };
-    way_from_join(alloc, &inputs, columns)
 }
 
 /// It goes on where a projection takes the columns over.
@@ -77,24 +54,34 @@ fn way_from_union(alloc: Global, columns: Vec<usize>) -> Result<Way, Fault>
     Ok(Way::Both(columns, others))
 }
 
-/// Where a condition on these columns goes on from an operator whose rows are this wide.
+/// Where a condition on these columns goes on from an operator.
 pub(crate) fn way_from(
     alloc: Global,
-    part: &Operator,
-    width: usize,
+    measured: &Measured<'_>,
     columns: Vec<usize>,
 ) -> Result<Way, Fault>
-    requires good { IsWellFormed (plan_of part.now) }
-    requires wide { width ≡ plan.width (plan_of part.now) }
-    ensures { IfOk result (λ way. spec.IsWay way (plan_of part.now) columns.items) }
+    requires { IsWellFormed (plan_of measured.now.part.now) }
+    ensures { IfOk result (λ way. spec.IsWay way (plan_of measured.now.part.now) columns.items) }
 {
+    let Measured {
+        part,
+        width,
+        right_width,
+    } = *measured;
     match part {
         Operator::Unit | Operator::Nodes | Operator::Rels(_, _) => Ok(Way::Here(columns)),
         Operator::Join(left, right, keys) => {
-            way_from_sides(alloc, left, right, keys, width, columns)
+            let inputs = Inputs {
+                left,
+                right,
+                keys,
+                left_width: width_without(left, width, right_width),
+                right_width,
+            };
+            way_from_join(alloc, &inputs, columns)
         }
-        Operator::Outer(left, right, _, _) => {
-            Ok(way_among_first(columns, width_without(left, width, right.width())))
+        Operator::Outer(left, _, _, _) => {
+            Ok(way_among_first(columns, width_without(left, width, right_width)))
         }
         Operator::Lookup(below, _, _) => {
             Ok(way_among_first(columns, width_without(below, width, 1)))
@@ -165,39 +152,17 @@ fn below_join(
             above: Above::JoinLeft(right, keys),
             here,
         };
-        let left = Place {
-            part: Box::into_inner(left),
-            width: left_width,
-            tests: first,
-            looks_for_ends: true,
-        };
-        Step::Below(frame, left)
+        Step::Below(frame, Place::at(left, left_width, first))
     } else if first.is_empty() {
         let left = Plan::from_root(Box::into_inner(left));
         let frame = Frame {
             above: Above::JoinRight(left, keys),
             here,
         };
-        let right = Place {
-            part: Box::into_inner(right),
-            width: right_width,
-            tests: second,
-            looks_for_ends: true,
-        };
-        Step::Below(frame, right)
+        Step::Below(frame, Place::at(right, right_width, second))
     } else {
-        let left = Place {
-            part: Box::into_inner(left),
-            width: left_width,
-            tests: first,
-            looks_for_ends: true,
-        };
-        let right = Place {
-            part: Box::into_inner(right),
-            width: right_width,
-            tests: second,
-            looks_for_ends: true,
-        };
+        let left = Place::at(left, left_width, first);
+        let right = Place::at(right, right_width, second);
         Step::Both(Pair::Join(keys), here, left, right)
     }
 }
@@ -239,18 +204,8 @@ fn below_union(left: Box<Operator>, right: Box<Operator>, width: usize, split: S
         first,
         second,
     } = split;
-    let left = Place {
-        part: Box::into_inner(left),
-        width,
-        tests: first,
-        looks_for_ends: true,
-    };
-    let right = Place {
-        part: Box::into_inner(right),
-        width,
-        tests: second,
-        looks_for_ends: true,
-    };
+    let left = Place::at(left, width, first);
+    let right = Place::at(right, width, second);
     Step::Both(Pair::Union, here, left, right)
 }
 

@@ -17,7 +17,7 @@ on_ok (Err e) f is = is
 
 pub returns : goal.returns
 returns c =
-    let p : Plan = plan_of c.args.part.now in
+    let p : Plan = plan_of c.args.measured.now.part.now in
     let columns : List ℕ = c.args.test.columns.items in
     let test : Expression = expression_of c.args.test.test in
     let way : IsWay c.if-is_asked.way' p columns = elim c.if-is_asked.branch [

@@ -22,7 +22,10 @@ loop-test-preserved c =
     let all : List (List ℕ × Expression) = tests_of c.args.tests.items in
     let rest : List (List ℕ × Expression) = tests_of c.pop.new.self.items in
     let last : tests_of c.loop-test.rest.items ≡ rest ++ test_of c.in-Some.test ∷ [] = ap tests_of c.in-Some.ensures.items ∙ map-append test_of c.pop.new.self.items (c.in-Some.test ∷ []) in
-    c.in_ok-add_test.ensures all rest (subst (λ (rs : List (List ℕ × Expression)). IsSplit p all rs (tests_in c.loop-test.split)) last c.loop-test.invariant)
+    let same : p ≡ plan_of c.new-measured.result.part.now = ap plan_of (sym c.new-measured.ensures) in
+    subst (λ (q : Plan). IsSplit q all rest (tests_in c.add_test.new.split)) (sym same)
+    (c.in_ok-add_test.ensures all rest (subst (λ (q : Plan). IsSplit q all (rest ++ test_of c.in-Some.test ∷ []) (tests_in c.loop-test.split)) same
+    (subst (λ (rs : List (List ℕ × Expression)). IsSplit p all rs (tests_in c.loop-test.split)) last c.loop-test.invariant)))
 
 pub returns-then-takes_all : goal.returns-then-takes_all
 returns-then-takes_all c =

@@ -4,7 +4,6 @@ ghost use Rattle.std.specs.Prelude.{◌≡◌, ◌<◌, ◌↔◌, [], IfOk, IsE
 ghost use Rattle.cy_trees.specs.TreeModels.{clause_of, query_of, statement_of};
 ghost use Rattle.cy_scope.specs.Checked.{IsViewQuery, single};
 ghost use Rattle.cy_planner_algebra.specs.PlanModels.{plan_of};
-ghost use Rattle.cy_planner_algebra.specs.WellFormed.{IsWellFormed};
 ghost use Rattle.cy_planner.specs.Serves.{Serves};
 ghost use Rattle.cy_planner.specs.Weight.{greatest_weight, weight};
 ghost use Rattle.cy_planner.specs.internal.QueryPlans.{AreViewQueries, IsPlanOfAll, IsQueryPlan};
@@ -21,13 +20,6 @@ use cy_trees::{Clause, Query, Statement};
 use cy_values::{Fault, row_order_laws};
 use std::alloc::Global;
 
-/// A plan is one that can be meant.
-fn meant(plan: &Plan)
-    ensures { IsWellFormed (plan_of plan.now) }
-{
-    let _root = plan.root();
-}
-
 /// The plan of the clauses of a query of a view, one after another. Fails only when out of memory.
 fn query_rows(alloc: Global, clauses: &[Clause]) -> Result<Plan, Fault>
     requires { IsViewQuery (single (record { clauses = map clause_of clauses.now })) }
@@ -41,7 +33,7 @@ fn query_rows(alloc: Global, clauses: &[Clause]) -> Result<Plan, Fault>
     for clause in clauses {
         rows = clause_rows(alloc, rows, clause)?;
     }
-    meant(&rows);
+    rows.meant();
     Ok(rows)
 }
 
@@ -72,7 +64,7 @@ fn united_rows(alloc: Global, statement: &Statement) -> Result<Plan, Fault>
     checked_statements();
     let queries = statement.queries.as_slice();
     let rows = rows_of_all(alloc, queries)?;
-    meant(&rows);
+    rows.meant();
     if statement.all || queries.len() == 1 {
         return Ok(rows);
     }

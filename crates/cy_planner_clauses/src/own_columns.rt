@@ -1,7 +1,6 @@
 //! The columns of the variables of a pattern.
 
-ghost use Rattle.std.specs.Prelude.{◌≡◌, ◌+◌, ◌≤◌, ◌==◌, IfOk, OnOk, length, map};
-ghost use Rattle.std.specs.List.{list_any};
+ghost use Rattle.std.specs.Prelude.{◌≡◌, ◌+◌, ◌≤◌, IfOk, OnOk, length, map};
 ghost use Rattle.cy_oneshot_patterns.specs.internal.Patterns.{place_of};
 ghost use Rattle.cy_planner_clauses.specs.OwnPatterns as spec;
 
@@ -23,18 +22,12 @@ pub(crate) fn position(columns: &[usize], column: usize) -> usize
     number
 }
 
-fn is_among(columns: &[usize], column: usize) -> bool
-    ensures { result ≡ list_any (λ k. k == column) columns.now }
-{
-    columns.iter().any(|other| *other == column)
-}
-
 /// Adds a column, unless it is there.
 fn add_column(columns: &mut Vec<usize>, column: Option<usize>) -> Result<(), Fault>
     ensures { OnOk result (columns.new.items ≡ spec.with_column columns.old.items column) }
 {
     if let Some(column) = column {
-        if !is_among(columns.as_slice(), column) {
+        if !columns.contains(&column) {
             columns.push(column)?;
         }
     }

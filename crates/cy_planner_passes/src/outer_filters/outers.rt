@@ -5,7 +5,7 @@ ghost use Rattle.std.specs.List.{All};
 ghost use Rattle.cy_trees.specs.TreeModels.{expression_of};
 ghost use Rattle.cy_planner_algebra.specs.Plans as plan;
 ghost use Rattle.cy_planner_algebra.specs.PlanModels.{plan_of};
-ghost use Rattle.cy_planner_algebra.specs.WellFormed.{IsKeyBetween, IsOver, IsWellFormed, greatest_width};
+ghost use Rattle.cy_planner_algebra.specs.WellFormed.{IsKeyBetween, IsOver, greatest_width};
 ghost use Rattle.cy_planner_passes.specs.Standing.{StandsFor};
 
 use crate::outer_filters::splitting::{Split, taken_apart};
@@ -14,13 +14,6 @@ use cy_planner_rows::or_true;
 use cy_trees::Expr;
 use cy_values::Fault;
 use std::alloc::Global;
-
-/// A plan is one that can be meant.
-fn meant(plan: &Plan)
-    ensures { IsWellFormed (plan_of plan.now) }
-{
-    let _root = plan.root();
-}
 
 /// An outer join: what its predicate asks of the right rows alone is asked of the right input. Fails only when out of memory.
 pub(crate) fn outer(
@@ -37,6 +30,6 @@ pub(crate) fn outer(
 {
     let Split { right, rest } = taken_apart(alloc, left.width(), right, test)?;
     let made = Plan::outer(alloc, left, right, keys, or_true(rest))?;
-    meant(&made);
+    made.meant();
     Ok(made)
 }

@@ -24,7 +24,9 @@ loop-part-preserved t c =
     let whole : kind_at (plan_of c.loop-part.part.now) column ≡ cond (nat_lt column (width left)) (kind_at left column) (kind_at right (column - width left)) = search (rules, the_lemmas) in
     let wide : left_width ≡ width left = search (rules, the_lemmas) in
     let past : nat_lt column left_width ≡ false = first_of (search rules, grind (arith, common_steps)) in
-    let below : c.in-Join.right.value ≡ c.deref-part-else-column-left_width.result.now = search (rules, the_lemmas) in
-    (search (rules, the_lemmas), search (rules, the_lemmas),
-    c.loop-part.invariant.2 ∙ whole ∙ beside left right column left_width wide past ∙ ap (λ q. kind_at (plan_of q) (column - left_width)) below,
-    first_of (search (rules, the_lemmas), grind (arith, common_steps)))
+    let below : c.in-Join.right.value ≡ c.deref-part-else-column-left_width.result.now = search (rules, the_lemmas) in (
+      search (rules, the_lemmas),
+      search (rules, the_lemmas),
+      c.loop-part.invariant.2 ∙ whole ∙ beside left right column left_width wide past ∙ ap (λ q. kind_at (plan_of q) (column - left_width)) below,
+      first_of (search (rules, the_lemmas), grind (arith, common_steps)),
+    )

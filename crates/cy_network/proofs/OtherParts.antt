@@ -1,10 +1,13 @@
 -- What each part is but a few.
-use Rattle.std.proofs.Common.{◌≡◌, false, [], refl, ◌∙◌, arith}
+use Rattle.std.proofs.Common.{◌≡◌, Box, Global, Vec, false, [], refl, ◌∙◌, arith}
+use Rattle.cy_planner_algebra.specs.declared.operators.Keeping.{Keeping}
+use Rattle.cy_planner_algebra.specs.declared.operators.KeyColumns.{KeyColumns}
 use Rattle.cy_planner_algebra.specs.declared.operators.Operator.{Operator, roll-Operator}
 use Rattle.cy_planner_algebra.specs.declared.operators.Operator.TheOpen.{Operator-F}
-use Rattle.cy_planner_algebra.specs.declared.operators.Operator.TheVariants.{rolls-Join, rolls-Lookup, rolls-Filter, rolls-AllDifferent, rolls-Project, rolls-Distinct}
+use Rattle.cy_planner_algebra.specs.declared.operators.Operator.TheVariants as operator
+use Rattle.cy_planner_algebra.specs.declared.operators.Operator.TheVariants.{rolls-Join, rolls-Outer, rolls-Semi, rolls-Union, rolls-Lookup, rolls-Filter, rolls-AllDifferent, rolls-Project, rolls-Distinct}
 use Rattle.cy_planner_algebra.specs.PlanModels.{plan_of}
-use Rattle.cy_planner_algebra.proofs.Layers.{IsNoJoin, IsNoLookup, IsNoFilter, IsNoAllDifferent, IsNoProject, IsNoDistinct, by_layer, plan_from}
+use Rattle.cy_planner_algebra.proofs.Layers.{IsNoJoin, IsNoOuter, IsNoUnion, IsNoLookup, IsNoFilter, IsNoAllDifferent, IsNoProject, IsNoDistinct, by_layer, plan_from}
 use Rattle.cy_network_parts.specs.Parts.{below_count}
 use Rattle.cy_network.specs.internal.Images.{different_of, is_all_different, is_join, is_project, keys_of, outputs_of}
 
@@ -71,3 +74,17 @@ single_else part no_lookup no_filter no_different no_project no_distinct = by_la
     go (Operator-F.Distinct below) is = absurd (no_distinct below (is ∙ rolls-Distinct below))
     go Operator-F.Unit is = λ one. omega (arith, one)
     go _ is = λ one. omega (arith, one)
+
+-- no other part than these has two parts below it
+pub pair_else : (part : Operator) → IsNoJoin part → IsNoOuter part
+    → ((left right : Box Operator Global) (keys : Vec KeyColumns Global) (keeping : Keeping) → part ≡ operator.Semi left right keys keeping → ⊥) → IsNoUnion part
+    → (below_count (plan_of part) ≡ 2 → ⊥)
+pair_else part no_join no_outer no_semi no_union = by_layer (λ p. (below_count p ≡ 2 → ⊥)) part go
+  where
+    go : (layer : Operator-F Operator) → part ≡ roll-Operator layer → (below_count (plan_from layer) ≡ 2 → ⊥)
+    go (Operator-F.Join left right keys) is = absurd (no_join left right keys (is ∙ rolls-Join left right keys))
+    go (Operator-F.Outer left right keys test) is = absurd (no_outer left right keys test (is ∙ rolls-Outer left right keys test))
+    go (Operator-F.Semi left right keys keeping) is = absurd (no_semi left right keys keeping (is ∙ rolls-Semi left right keys keeping))
+    go (Operator-F.Union left right) is = absurd (no_union left right (is ∙ rolls-Union left right))
+    go Operator-F.Unit is = λ two. omega (arith, two)
+    go _ is = λ two. omega (arith, two)

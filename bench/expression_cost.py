@@ -15,28 +15,15 @@ counted with settings by which it merges each block when it is freed, and copies
 """
 import os
 import re
-import shutil
 import subprocess
 import sys
 import tempfile
 
-from lexer_cost import LIMIT, built, filled, instructions
+from lexer_cost import LIMIT, filled, instructions
+from libraries import built
 
 FEW, MANY = 10, 30
 SETTINGS = "glibc.malloc.mxfast=0:glibc.cpu.x86_rep_movsb_threshold=1000000000"
-# The crates that are copied, with what each stands on.
-CRATES = {
-    "cy_values": "thiserror",
-    "cy_lexer": "thiserror unicode_ident",
-    "cy_trees": "cy_lexer cy_values",
-    "cy_parser_grammar": "cy_lexer cy_trees cy_values",
-    "cy_parser": "cy_parser_grammar cy_lexer cy_trees cy_values thiserror",
-    "cy_scope_kinds": "cy_trees cy_values thiserror",
-    "cy_scope": "cy_scope_kinds cy_trees cy_values thiserror",
-    "cy_graph": "cy_values indexmap smallvec thiserror",
-    "cy_index": "cy_graph cy_values indexmap thiserror",
-    "cy_expr": "cy_graph cy_index cy_scope_kinds cy_trees cy_values thiserror",
-}
 LIBRARIES = "cy_expr cy_lexer cy_parser cy_scope cy_trees cy_values"
 # Reads a number and a statement, and evaluates what the statement returns so many times. Prints the last value.
 PROGRAM = """#![tactic(auto)]
@@ -234,10 +221,6 @@ def of_shapes(program):
 
 def main():
     with tempfile.TemporaryDirectory() as folder:
-        for crate in CRATES:
-            shutil.copytree(f"crates/{crate}", f"{folder}/crates/{crate}")
-        with open(f"{folder}/crates.txt", "w") as it:
-            it.writelines(f"{crate}: {below}\n" for crate, below in CRATES.items())
         program = built(folder, "expression_cost", PROGRAM, LIBRARIES)
         is_within = of_typical(program)
         os.environ["GLIBC_TUNABLES"] = SETTINGS

@@ -7,13 +7,14 @@ once. More than 70 end the script with status 1. Then it prints for each shape o
 empty line, and their ratio. Linear work has a ratio of about 4. A ratio of 4.4 or more ends the script with status 1,
 and so does a line that isn't answered as it should be.
 """
-import os
 import re
-import shutil
 import subprocess
 import sys
 import tempfile
 
+from libraries import built
+
+LIBRARY = "cy_lexer"
 LIMIT = 4.4
 # Instructions a byte of typical statements.
 STATEMENTS_LIMIT = 70
@@ -114,17 +115,6 @@ def instructions(program, line, answer):
     return int(re.search(rb"Collected : (\d+)", run.stderr).group(1))
 
 
-def built(folder, name, program, libraries="cy_lexer"):
-    """The program over the crates in the folder, by its path."""
-    os.makedirs(f"{folder}/crates/{name}/src")
-    with open(f"{folder}/crates/{name}/src/main.rt", "w") as it:
-        it.write(program)
-    with open(f"{folder}/crates.txt", "a") as it:
-        it.write(f"{name}: {libraries}\n")
-    subprocess.run(["rt", "run"], cwd=f"{folder}/crates/{name}", stdin=subprocess.DEVNULL, check=True)
-    return f"{folder}/crates/{name}/out/{name}"
-
-
 def of_statements(program):
     """How many instructions a byte of typical statements takes."""
     with open("bench/statements.cypher") as it:
@@ -135,12 +125,9 @@ def of_statements(program):
 
 def main():
     with tempfile.TemporaryDirectory() as folder:
-        shutil.copytree("crates/cy_lexer", f"{folder}/crates/cy_lexer", ignore=shutil.ignore_patterns("out"))
-        with open(f"{folder}/crates.txt", "w") as it:
-            it.write("cy_lexer: thiserror unicode_ident\n")
-        a_byte = of_statements(built(folder, "statements_cost", STATEMENTS_PROGRAM))
+        a_byte = of_statements(built(folder, "statements_cost", STATEMENTS_PROGRAM, LIBRARY))
         print(f"{'typical statements, a byte':36} {a_byte:12.1f}", flush=True)
-        program = built(folder, "lexer_cost", PROGRAM)
+        program = built(folder, "lexer_cost", PROGRAM, LIBRARY)
         empty = instructions(program, "", tokens(0))
         short, long = shapes(16384), shapes(65536)
         worst = 0.0

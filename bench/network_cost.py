@@ -12,14 +12,13 @@ temporary folder, which puts rows into a memory and looks them up, and prints wh
 in each kind. A ratio or a count above its limit ends the script with status 1, and so does a line that isn't answered as it should be.
 """
 import json
-import shutil
 import subprocess
 import sys
 import tempfile
 from statistics import median
 
 import graph_cost
-import lexer_cost
+from libraries import built
 from plan_bound import Graph, bound
 from session import Session, peak
 
@@ -317,12 +316,7 @@ def look_up(program, nodes):
 
 def memory_program(folder):
     """The program that puts rows into memories, built in a folder."""
-    crates = {"cy_values": "thiserror", "cy_network_memory": "cy_values indexmap slab thiserror"}
-    for name, below in crates.items():
-        shutil.copytree(f"crates/{name}", f"{folder}/crates/{name}", symlinks=True)
-        with open(f"{folder}/crates.txt", "a") as it:
-            it.write(f"{name}: {below}\n")
-    return lexer_cost.built(folder, "memory_cost", PROGRAM, " ".join(crates))
+    return built(folder, "memory_cost", PROGRAM, "cy_network_memory cy_values")
 
 
 def all_upkeep(program, plans):

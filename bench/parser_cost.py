@@ -12,24 +12,16 @@ The C library merges small blocks that were freed all at one time, once a large 
 longer lines alone. So the lines of each shape are counted with a setting by which it merges each block when it is freed.
 """
 import os
-import shutil
 import sys
 import tempfile
 
-from lexer_cost import LIMIT, built, fault, filled, instructions
+from lexer_cost import LIMIT, fault, filled, instructions
+from libraries import built
 
 # Instructions a byte of typical statements, of lexer and parser together.
 STATEMENTS_LIMIT = 160
 # The lines of bench/statements.cypher.
 STATEMENTS = 60
-# The crates that are copied, with what each stands on.
-CRATES = {
-    "cy_values": "thiserror",
-    "cy_lexer": "thiserror unicode_ident",
-    "cy_trees": "cy_lexer cy_values",
-    "cy_parser_grammar": "cy_lexer cy_trees cy_values",
-    "cy_parser": "cy_parser_grammar cy_lexer cy_trees cy_values thiserror",
-}
 LIBRARIES = "cy_lexer cy_parser"
 # Prints how many of its lines are statements, after the number and the offset of each fault.
 PROGRAM = """#![tactic(auto)]
@@ -190,10 +182,6 @@ def of_statements(program):
 
 def main():
     with tempfile.TemporaryDirectory() as folder:
-        for crate in CRATES:
-            shutil.copytree(f"crates/{crate}", f"{folder}/crates/{crate}")
-        with open(f"{folder}/crates.txt", "w") as it:
-            it.writelines(f"{crate}: {below}\n" for crate, below in CRATES.items())
         program = built(folder, "parser_cost", PROGRAM, LIBRARIES)
         a_byte = of_statements(program)
         print(f"{'typical statements, a byte':36} {a_byte:12.1f}", flush=True)

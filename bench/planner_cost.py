@@ -11,11 +11,11 @@ The C library merges small blocks that were freed all at one time, once a large 
 with a setting by which it merges each block when it is freed.
 """
 import os
-import shutil
 import sys
 import tempfile
 
-from lexer_cost import built, instructions
+from lexer_cost import instructions
+from libraries import built
 
 LIMIT = 10
 WEIGHTS = 64, 512
@@ -64,19 +64,6 @@ fn main(rt: HostRuntime) -> io::Result<()> {
 """
 
 
-def below(libraries):
-    """The lines of crates.txt for libraries and what they stand on, lowest first."""
-    with open("crates.txt") as it:
-        lines = dict(line.split(":") for line in it if ":" in line)
-    wanted, left = set(), libraries.split()
-    while left:
-        crate = left.pop()
-        if crate in lines and crate not in wanted:
-            wanted.add(crate)
-            left += lines[crate].split()
-    return {crate: lines[crate].strip() for crate in lines if crate in wanted}
-
-
 def some(piece, count, between=","):
     """So many pieces, each with its number for its `@`."""
     return between.join(piece.replace("@", str(number)) for number in range(count))
@@ -106,11 +93,6 @@ def shapes(weight):
 
 def main():
     with tempfile.TemporaryDirectory() as folder:
-        crates = below(LIBRARIES)
-        for crate in crates:
-            shutil.copytree(f"crates/{crate}", f"{folder}/crates/{crate}")
-        with open(f"{folder}/crates.txt", "w") as it:
-            it.writelines(f"{crate}: {stands_on}\n" for crate, stands_on in crates.items())
         program = built(folder, "planner_cost", PROGRAM, LIBRARIES)
         os.environ["GLIBC_TUNABLES"] = "glibc.malloc.mxfast=0"
 

@@ -12,26 +12,16 @@ The C library merges small blocks that were freed all at one time, once a large 
 longer lines alone. So the lines are counted with a setting by which it merges each block when it is freed.
 """
 import os
-import shutil
 import string
 import sys
 import tempfile
 
-from lexer_cost import built, filled, instructions
+from lexer_cost import filled, instructions
+from libraries import built
 
 LIMIT = 6
 # Instructions for a line of 65,536 bytes, beside those of the lexer and the parser.
 LINE_LIMIT = 300_000_000
-# The crates that are copied, with what each stands on.
-CRATES = {
-    "cy_values": "thiserror",
-    "cy_lexer": "thiserror unicode_ident",
-    "cy_trees": "cy_lexer cy_values",
-    "cy_parser_grammar": "cy_lexer cy_trees cy_values",
-    "cy_parser": "cy_parser_grammar cy_lexer cy_trees cy_values thiserror",
-    "cy_scope_kinds": "cy_trees cy_values thiserror",
-    "cy_scope": "cy_scope_kinds cy_trees cy_values thiserror",
-}
 LIBRARIES = "cy_lexer cy_parser cy_scope"
 # Reads a word and a line. Prints the number of the fault of the statement or of the query, or 0; where the word is `parse`, the
 # statement is not tested.
@@ -193,10 +183,6 @@ def shapes(n):
 
 def main():
     with tempfile.TemporaryDirectory() as folder:
-        for crate in CRATES:
-            shutil.copytree(f"crates/{crate}", f"{folder}/crates/{crate}")
-        with open(f"{folder}/crates.txt", "w") as it:
-            it.writelines(f"{crate}: {below}\n" for crate, below in CRATES.items())
         program = built(folder, "scope_cost", PROGRAM, LIBRARIES)
         os.environ["GLIBC_TUNABLES"] = "glibc.malloc.mxfast=0"
 

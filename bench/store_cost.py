@@ -9,11 +9,10 @@ limit above one that finds no node, memory that stays of what was made and remov
 be. What a change touched is asked for before it ends, as the engine does.
 """
 import os
-import shutil
 import sys
 import tempfile
 
-from lexer_cost import built
+from libraries import built
 from session import Session, peak, report
 
 LIMIT = 1.3
@@ -26,12 +25,6 @@ MANY = 5000
 SET_LIMIT = 1500
 # How often a store is filled and emptied, by six lines or so each time, and how many bytes may stay each time.
 ROUNDS, ROUND_LIMIT = (1_700, 180_000), 1
-# The crates that are copied, with what each stands on.
-CRATES = {
-    "cy_values": "thiserror",
-    "cy_graph": "cy_values indexmap smallvec thiserror",
-    "cy_index": "cy_graph cy_values indexmap thiserror",
-}
 LIBRARIES = "cy_graph cy_index cy_values"
 # Each line is a step after `keep` or `undo`, which says how its change ends, or a look-up. It is answered by the number of what
 # was found, by 0 after a step, or by a fault's number.
@@ -368,10 +361,6 @@ def keeps_nothing(program):
 
 def main():
     with tempfile.TemporaryDirectory() as folder:
-        for name, libraries in CRATES.items():
-            shutil.copytree(f"crates/{name}", f"{folder}/crates/{name}", symlinks=True)
-            with open(f"{folder}/crates.txt", "a") as it:
-                it.write(f"{name}: {libraries}\n")
         for function, invariant in INVARIANTS.items():
             os.makedirs(f"{folder}/crates/store_cost/proofs/{function}")
             with open(f"{folder}/crates/store_cost/proofs/{function}/Invariants.antt", "w") as it:

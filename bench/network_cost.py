@@ -40,7 +40,7 @@ KEYED_LIMIT = 3 * 2 * 16 + 64
 # reads numbers of nodes, looks up the rows of each, and prints how many there are.
 PROGRAM = """#![tactic(auto)]
 
-use cy_network_memory::{KeyedMemory, ListMemory, Memory, MemoryFault};
+use cy_network_memory::{KeyedMemory, ListMemory, Made, Memory, MemoryFault};
 use cy_values::{Cell, NodeId, Row, Sequence, Value};
 use std::alloc::{AllocError, Global};
 use std::io::{self, BufRead, BufReader};
@@ -58,7 +58,7 @@ fn row_of(alloc: Global, node: u32, number: u32) -> Result<Row, AllocError> {
     Ok(Sequence::new(cells))
 }
 
-fn filled<M: Memory>(alloc: Global, nodes: u32, degree: u32) -> Result<M, MemoryFault> {
+fn filled<M: Made>(alloc: Global, nodes: u32, degree: u32) -> Result<M, MemoryFault> {
     let mut memory = M::new(alloc, Vec::from_array(alloc, [0])?);
     for node in 0..nodes {
         for number in 0..degree {
@@ -88,7 +88,7 @@ fn answered<M: Memory>(alloc: Global, memory: &mut M, line: &str) -> Result<u32,
     }
 }
 
-fn serve<M: Memory>(rt: &HostRuntime, lines: &mut impl BufRead, nodes: u32, degree: u32) -> io::Result<()> {
+fn serve<M: Made>(rt: &HostRuntime, lines: &mut impl BufRead, nodes: u32, degree: u32) -> io::Result<()> {
     let alloc = rt.alloc();
     let Ok(mut memory) = filled::<M>(alloc, nodes, degree) else {
         return println!(rt; "refused");

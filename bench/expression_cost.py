@@ -83,7 +83,7 @@ fn row(alloc: Global) -> Result<Row, EvalFault>
 }
 
 fn returned(statement: &Statement) -> Option<&Expr> {
-    match statement.clauses.last()? {
+    match statement.queries.first()?.clauses.last()? {
         Clause::Return(projection) => Some(&projection.items.first()?.expression),
         _ => None,
     }

@@ -12,35 +12,45 @@ use cy_scope_kinds::{Scope, check_expression, is_sure_flag, resolved};
 use cy_trees::{Arm, Expr, Link, Variable};
 use cy_values::{Duplicate, Fault};
 use std::alloc::Global;
+use std::collections::BTreeSet;
 
-/// A variable is one of them where it has the column of one of them.
-fn is_found(found: &[Variable], variable: &Variable) -> bool {
-    found.iter().any(|other| other.column == variable.column)
+/// Variables that were found, those of each column once.
+#[derive(Drop)]
+struct Found {
+    variables: Vec<Variable>,
+    columns: BTreeSet<usize>,
 }
 
-fn add_variable(
-    alloc: Global,
-    found: &mut Vec<Variable>,
-    variable: &Variable,
-) -> Result<(), Fault> {
-    if is_found(found.as_slice(), variable) {
-        return Ok(());
+impl Found {
+    fn new(alloc: Global) -> Self {
+        Found {
+            variables: Vec::new(alloc),
+            columns: BTreeSet::new(alloc),
+        }
     }
-    found.push(Variable {
-        name: variable.name.copy(alloc)?,
-        column: variable.column,
-    })?;
-    Ok(())
+
+    fn add(&mut self, alloc: Global, variable: &Variable) -> Result<(), Fault> {
+        if let Some(column) = variable.column {
+            if !self.columns.insert(column)? {
+                return Ok(());
+            }
+        }
+        self.variables.push(Variable {
+            name: variable.name.copy(alloc)?,
+            column: variable.column,
+        })?;
+        Ok(())
+    }
 }
 
 /// Adds the variables of an expression, those of each column once.
 #[cycle(finding)]
-fn add_variables(alloc: Global, found: &mut Vec<Variable>, expression: &Expr) -> Result<(), Fault> {
+fn add_variables(alloc: Global, found: &mut Found, expression: &Expr) -> Result<(), Fault> {
     match expression {
         Expr::Null | Expr::Boolean(_) | Expr::Integer(_) | Expr::Text(_) | Expr::CallStar(_) => Ok(
             (),
         ),
-        Expr::Variable(variable) => add_variable(alloc, found, variable),
+        Expr::Variable(variable) => found.add(alloc, variable),
         Expr::Property(owner, _) | Expr::HasLabels(owner, _) => add_variables(alloc, found, owner),
         Expr::Unary(_, operand) => add_variables(alloc, found, operand),
         Expr::Binary(_, left, right) => {
@@ -64,11 +74,7 @@ fn add_variables(alloc: Global, found: &mut Vec<Variable>, expression: &Expr) ->
 }
 
 #[cycle(finding)]
-fn add_of_elements(
-    alloc: Global,
-    found: &mut Vec<Variable>,
-    elements: &[Expr],
-) -> Result<(), Fault> {
+fn add_of_elements(alloc: Global, found: &mut Found, elements: &[Expr]) -> Result<(), Fault> {
     for element in elements {
         add_variables(alloc, found, element)?;
     }
@@ -76,7 +82,7 @@ fn add_of_elements(
 }
 
 #[cycle(finding)]
-fn add_of_links(alloc: Global, found: &mut Vec<Variable>, links: &[Link]) -> Result<(), Fault> {
+fn add_of_links(alloc: Global, found: &mut Found, links: &[Link]) -> Result<(), Fault> {
     for link in links {
         add_variables(alloc, found, &link.operand)?;
     }
@@ -84,7 +90,7 @@ fn add_of_links(alloc: Global, found: &mut Vec<Variable>, links: &[Link]) -> Res
 }
 
 #[cycle(finding)]
-fn add_of_arms(alloc: Global, found: &mut Vec<Variable>, arms: &[Arm]) -> Result<(), Fault> {
+fn add_of_arms(alloc: Global, found: &mut Found, arms: &[Arm]) -> Result<(), Fault> {
     for arm in arms {
         add_variables(alloc, found, &arm.condition)?;
         add_variables(alloc, found, &arm.outcome)?;
@@ -155,12 +161,12 @@ pub(crate) fn find_reading(
     ensures stand { IfOk result (λ made. IfSome made (λ r. pushed.StandIn (plan_of below.now) r.columns.items r.scope)) }
     ensures written { IfOk result (λ made. IfSome made (λ r. r.written.items ≡ map (λ c. before + c) r.columns.items)) }
 {
-    let mut found = Vec::new(alloc);
+    let mut found = Found::new(alloc);
     add_variables(alloc, &mut found, test)?;
-    if found.is_empty() {
+    if found.variables.is_empty() {
         return Ok(None);
     }
-    reading_of(alloc, below, before, found.as_slice())
+    reading_of(alloc, below, before, found.variables.as_slice())
 }
 
 /// The column of a name, where the variables of a scope stand in these columns.

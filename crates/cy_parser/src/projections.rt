@@ -14,7 +14,7 @@ use crate::source::Source;
 use cy_lexer::{Keyword, Symbol, Token, TokenKind};
 use cy_parser_grammar::slice_in;
 use cy_trees::{Expr, Item, Key, Projection};
-use cy_values::Text;
+use cy_values::{Duplicate, Text};
 
 /// Whether a key's order falls, by the word after it.
 #[tactic(auto, unfolding(cy_parser_grammar::specs::internal::Reader::and_then, cy_parser_grammar::specs::internal::Clauses::is_descending))]
@@ -63,7 +63,7 @@ impl<'l> Source<'l> {
         ensures memory { IfErr result (λ e. e ≡ NoMemory) }
     {
         match expression {
-            Expr::Variable(variable) => Ok(Text::from_str(self.alloc, variable.name.as_str())?),
+            Expr::Variable(variable) => Ok(variable.name.copy(self.alloc)?),
             _ => self.written(before, after),
         }
     }

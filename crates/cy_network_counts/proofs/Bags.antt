@@ -1,7 +1,6 @@
 -- How many rows pass a test, after a change of the bag that they are.
 use Rattle.std.proofs.Common.{◌≡◌, ℕ, ◌+◌, ◌*◌, ◌≤◌, ◌==◌, Bool, true, false, cond, List, [], ◌∷◌, ◌++◌, filter, refl, sym, ap, subst, ◌∙◌, arith}
 use Rattle.std.specs.Prelude.{count_by, sum_by, flat_map, replicate}
-use Rattle.std.proofs.lemmas.Bool.Decides.{nat_tests}
 use Rattle.std.proofs.lemmas.List.Folds.{sum_by-replicate}
 use Rattle.std.proofs.lemmas.List.Sums.{sum_by-append, sum_by-cons}
 use Rattle.cy_values.specs.declared.rows.Cell.{Cell}
@@ -11,6 +10,7 @@ use Rattle.cy_planner_algebra.proofs.Counts.{count_append, count_cons}
 use Rattle.cy_network_memory.specs.declared.memory.RowDelta.{RowDelta}
 use Rattle.cy_network_operators.specs.Deltas.{IsDelta, counts}
 use Rattle.cy_network_operators.proofs.Same.{row_itself, same_row}
+use Rattle.cy_network_counts.proofs.Naturals.{equal}
 
 none_more : (n : ℕ) → 0 + n ≡ n
 none_more n = omega arith
@@ -89,9 +89,6 @@ of_row weight row before after deltas delta =
     step : (b : Bool) → sum_by weight (cond b [] (own ∷ [])) ≡ cond b 0 (weight own)
     step true = refl
     step false = none_more (weight own)
-
-equal : (m n : ℕ) → (m == n) ≡ true → m ≡ n
-equal m n h = grind (arith, nat_tests)
 
 module _ (before after : List (List Cell)) (deltas : List RowDelta) (delta : IsDelta (counts before) (counts after) deltas) where
   befores : (row : List Cell) → count_of row (repeated (λ s. s.before) deltas) ≡ cond (count_of row before == count_of row after) 0 (count_of row before)

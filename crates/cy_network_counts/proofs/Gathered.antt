@@ -21,6 +21,7 @@ use Rattle.cy_network_counts.specs.internal.Sums.{gained, greatest, lost, most_a
 use Rattle.cy_network_counts.proofs.OneToOne.{all_counted, both_same, count_alike, filter_alike, image_between, no_weight, none_between, deltas_of_images}
 use Rattle.cy_network_counts.proofs.GreatestCounts.{greatest_below, greatest_more}
 use Rattle.cy_network_counts.proofs.Totals.{adds, sum_of_images, takes}
+use Rattle.cy_network_counts.proofs.Naturals.{equal}
 
 -- ---- counts and images
 
@@ -153,9 +154,6 @@ module _ (outputs : List Output) (near far : List (List Cell)) (deltas : List Ro
 
 differ : (m n : ℕ) → (m == n) ≡ false → m ≡ n → ⊥
 differ m n is same = grind (arith, nat_tests)
-
-equal : (m n : ℕ) → (m == n) ≡ true → m ≡ n
-equal m n is = grind (arith, nat_tests)
 
 module _ (outputs : List Output) (before after : List (List Cell)) (deltas : List RowDelta) (one_before : IsOneToOneOn before outputs) (one_after : IsOneToOneOn after outputs)
     (delta : IsDelta (counts before) (counts after) deltas) where

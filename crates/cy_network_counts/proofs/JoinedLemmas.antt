@@ -25,6 +25,7 @@ use Rattle.cy_network_counts.specs.internal.Matches.{matched_counts}
 use Rattle.cy_network_counts.specs.internal.Nulls.{null_count, outer_counts}
 use Rattle.cy_network_counts.proofs.Rows.{both}
 use Rattle.cy_network_counts.proofs.NumberLemmas.{a_row_passes, some_number}
+use Rattle.cy_network_counts.proofs.Naturals.{factors, not_zero, positive}
 
 -- ---- a row that is made of two
 
@@ -88,9 +89,6 @@ one_that_passes p xs some = by (filter p xs) refl
 
 -- ---- the count of a row
 
-not_zero : (n : ℕ) → (suc n == 0) ≡ false
-not_zero n = grind (arith, nat_tests)
-
 product_if : (b : Bool) (m n : ℕ) → m * cond b n 0 ≡ cond b (m * n) 0
 product_if true m n = refl
 product_if false m n = mul-zero m
@@ -101,16 +99,8 @@ two_tests true false n = refl
 two_tests false true n = refl
 two_tests false false n = refl
 
-positive : (n : ℕ) → 0 < n → nat_lt 0 n ≡ true
-positive n h = grind (arith, nat_tests)
-
 above : (n : ℕ) → nat_lt 0 n ≡ true → 0 < n
 above n h = grind (arith, nat_tests)
-
-pub factors : (a b : ℕ) → 0 < a * b → (0 < a) × (0 < b)
-factors zero b some = absurd (omega (arith, zero-mul b, some))
-factors (suc a) zero some = absurd (omega (arith, mul-zero (suc a), some))
-factors (suc a) (suc b) some = (omega arith, omega arith)
 
 pub multiplied : (a b : ℕ) → 0 < a → 0 < b → 0 < a * b
 multiplied zero b one other = absurd (omega (arith, one))

@@ -1,3 +1,4 @@
+pub mod Naturals
 pub mod Rows
 pub mod MatchLemmas
 pub mod NumberLemmas

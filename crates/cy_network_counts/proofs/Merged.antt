@@ -3,7 +3,6 @@ use Rattle.std.proofs.Common.{◌≡◌, ℕ, suc, ◌+◌, ◌≤◌, ◌==◌,
 use Rattle.std.specs.Prelude.{flat_map, replicate}
 use Rattle.std.specs.List.{All, list_any}
 use Rattle.std.proofs.lemmas.Bool.{false≢true}
-use Rattle.std.proofs.lemmas.Bool.Decides.{nat_tests}
 use Rattle.std.proofs.lemmas.List.{append-nil, length_push}
 use Rattle.std.proofs.lemmas.List.Elements.{All-append, All-cons, All-nil}
 use Rattle.std.proofs.lemmas.List.Folds.{list_any-append}
@@ -20,9 +19,7 @@ use Rattle.cy_network_operators.proofs.DeltaLemmas.{deltas_made, deltas_between}
 use Rattle.cy_network_counts.specs.Merges.{AreBounded}
 use Rattle.cy_network_counts.specs.internal.Sums.{AreRowDeltasOf, lost, gained, is_changed, deltas_at}
 use Rattle.cy_network_counts.proofs.Totals.{takes, adds, weights_none}
-
-itself : (n : ℕ) → (n == n) ≡ true
-itself n = grind (arith, nat_tests)
+use Rattle.cy_network_counts.proofs.Naturals.{itself}
 
 -- what is the same before and after has no row delta
 pub no_row_delta : (row : List Cell) (m n : ℕ) → m ≡ n → row_delta_between row m n ≡ []

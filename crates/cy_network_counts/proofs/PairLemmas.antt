@@ -1,12 +1,10 @@
 -- Whether the rows of a pair are there together.
-use Rattle.std.proofs.Common.{◌≡◌, ℕ, ◌+◌, ◌*◌, ◌<◌, true, false, ap, sym, ◌∙◌, suc, zero, arith}
+use Rattle.std.proofs.Common.{◌≡◌, ℕ, ◌+◌, ◌*◌, true, false, ap, sym, ◌∙◌, suc, zero, arith}
 use Rattle.std.specs.Prelude.{nat_lt}
 use Rattle.std.proofs.lemmas.Bool.{false≢true, true≢false}
 use Rattle.std.proofs.lemmas.Bool.Decides.{nat_tests}
 use Rattle.std.proofs.Math.Nat.{mul-zero, zero-mul}
-
-positive : (n : ℕ) → 0 < n → nat_lt 0 n ≡ true
-positive n some = grind (arith, nat_tests)
+use Rattle.cy_network_counts.proofs.Naturals.{positive}
 
 -- where the one is there, both are where the other is
 pub together : (m n : ℕ) → nat_lt 0 m ≡ true → nat_lt 0 (m * n) ≡ nat_lt 0 n

@@ -14,6 +14,7 @@ use Rattle.cy_planner_algebra.proofs.Counts.{count_once, count_passing}
 use Rattle.cy_network_operators.specs.Deltas.{counts}
 use Rattle.cy_network_operators.proofs.BagLemmas.{length_within}
 use Rattle.cy_network_counts.specs.Outer.{AreNumbersOfPartners, IsNumberOf, are_matched, numbers_of_partners}
+use Rattle.cy_network_counts.proofs.Naturals.{positive}
 
 -- only one number of rows passes a test
 one_number : (passes : List Cell → Bool) (m n : ℕ) → IsNumberOf passes m → IsNumberOf passes n → m ≡ n
@@ -23,9 +24,6 @@ one_number passes m n first second =
     let long = first.long in
     let other = second.long in
     omega (arith, most, least, long, other)
-
-positive : (n : ℕ) → nat_lt 0 (suc n) ≡ true
-positive n = grind (arith, nat_tests)
 
 module _ (keys : List KeyColumns) (test : Expression) (rights : List (List Cell)) (row : List Cell) where
   abbrev partner : List Cell → Bool
@@ -55,7 +53,7 @@ module _ (keys : List KeyColumns) (test : Expression) (rights : List (List Cell)
   numbered (suc n) = record {
     rows = filter partner (each_once rights);
     once = λ other. count_passing partner other (each_once rights) ∙ ap (λ k. cond (partner other) k 0) (count_once other rights) ∙ once_counted (partner other) n (count_of other rights);
-    long = length-filter partner (each_once rights) ∙ sym (ap (λ b. cond b number 0) (positive n));
+    long = length-filter partner (each_once rights) ∙ sym (ap (λ b. cond b number 0) (positive (suc n) (omega arith)));
   }
 
 pub are_numbers : (keys : List KeyColumns) (test : Expression) (lefts rights : List (List Cell)) → AreNumbersOfPartners keys test (counts lefts) (counts rights) (numbers_of_partners keys test lefts rights)

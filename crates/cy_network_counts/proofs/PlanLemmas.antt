@@ -26,7 +26,8 @@ use Rattle.cy_network_operators.specs.Deltas.{counts, rows_at}
 use Rattle.cy_network_operators.proofs.PlanLemmas.{parts_wide}
 use Rattle.cy_network_operators.proofs.Same.{same_row}
 use Rattle.cy_network_counts.specs.Outer.{AreSurePairs, HasTooMany}
-use Rattle.cy_network_counts.proofs.JoinedLemmas.{factors, some_pass}
+use Rattle.cy_network_counts.proofs.JoinedLemmas.{some_pass}
+use Rattle.cy_network_counts.proofs.Naturals.{factors}
 
 -- what holds of all rows holds of each that counts
 of_counted : (P : List Cell → Type 0) (rows : List (List Cell)) → All P rows → (row : List Cell) → 0 < count_of row rows → P row

@@ -2,7 +2,6 @@
 use Rattle.std.proofs.Common.{◌≡◌, ℕ, ◌+◌, ◌<◌, ◌≤◌, Bool, true, false, cond, List, [], ◌∷◌, Option, Some, None, refl, sym, ap, subst, ◌∙◌, length, map, arith}
 use Rattle.std.specs.Prelude.{count_by, nat_lt, ◌||◌}
 use Rattle.std.specs.List.{list_any}
-use Rattle.std.proofs.lemmas.Bool.Decides.{nat_tests}
 use Rattle.std.proofs.lemmas.List.Elements.{All-map, All-weaker}
 use Rattle.std.proofs.lemmas.List.Sums.{sum_by-cons}
 use Rattle.cy_values.specs.declared.rows.Cell.{Cell}
@@ -24,6 +23,7 @@ use Rattle.cy_network_operators.proofs.Same.{same_row}
 use Rattle.cy_network_operators.proofs.DeltaLemmas.{delta_alike}
 use Rattle.cy_network_counts.specs.Semi.{numbers_of_keys}
 use Rattle.cy_network_counts.specs.internal.Keys.{kept_counts}
+use Rattle.cy_network_counts.proofs.Naturals.{positive}
 
 -- a row that passes and is among others is one of them that passes
 passing_among : (p : List Cell → Bool) (x : List Cell) (xs : List (List Cell)) → p x ≡ true → is_among x xs ≡ true → list_any p xs ≡ true
@@ -38,9 +38,6 @@ passing_among p x (y ∷ xs) passes among = by (passing_among p x xs passes) (is
     by rest true same h = ap (λ b. b || list_any p xs) (ap p (sym (same_row x y same)) ∙ passes)
     by rest false other h = ap (λ b. p y || b) (rest h) ∙ or_true (p y)
 
-positive : (n : ℕ) → nat_lt 0 (1 + n) ≡ true
-positive n = grind (arith, nat_tests)
-
 -- some of the different rows pass where some row does
 some_once : (p : List Cell → Bool) (xs : List (List Cell)) → nat_lt 0 (count_by p (each_once xs)) ≡ list_any p xs
 some_once p [] = refl
@@ -51,7 +48,7 @@ some_once p (x ∷ xs) = by (some_once p xs) (is_among x xs) refl
     there false passes among = refl
 
     counted : nat_lt 0 (count_by p (each_once xs)) ≡ list_any p xs → (b : Bool) → nat_lt 0 (cond b 1 0 + count_by p (each_once xs)) ≡ (b || list_any p xs)
-    counted rest true = positive (count_by p (each_once xs))
+    counted rest true = positive (1 + count_by p (each_once xs)) (omega arith)
     counted rest false = ap (λ n. nat_lt 0 n) (let e : 0 + count_by p (each_once xs) ≡ count_by p (each_once xs) = omega arith in e) ∙ rest
 
     by : nat_lt 0 (count_by p (each_once xs)) ≡ list_any p xs → (b : Bool) → is_among x xs ≡ b → nat_lt 0 (count_by p (cond b (each_once xs) (x ∷ each_once xs))) ≡ (p x || list_any p xs)

@@ -13,7 +13,7 @@ use Rattle.cy_network_counts.specs.internal.Sums.{loss, lost, gain, gained}
 use Rattle.cy_network_counts.proofs.Bags.{weights}
 use Rattle.cy_network_counts.proofs.Totals.{takes, adds, weights_more}
 
-sum_of_change : (n k before after : ℕ) (change : ℤ) → (pos before +ℤ change) ≡ pos after → k + before ≡ n + after → (pos n +ℤ change) ≡ pos k
+pub sum_of_change : (n k before after : ℕ) (change : ℤ) → (pos before +ℤ change) ≡ pos after → k + before ≡ n + after → (pos n +ℤ change) ≡ pos k
 sum_of_change n k before after change makes is = omega (arith, ints)
 
 -- what a change makes of a count

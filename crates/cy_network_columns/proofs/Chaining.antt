@@ -1,19 +1,13 @@
 -- Chains after a number left one or joined one.
-use Rattle.std.proofs.Common.{◌≡◌, ◌≢◌, ℕ, zero, suc, ◌+◌, ◌<◌, ◌≤◌, Bool, true, false, cond, List, [], ◌∷◌, length, Option, None, Some, IfSome, option_map, slice_get, slice_set, refl, sym, ap, subst, ◌∙◌, nat_eq, nat_lt, arith}
+use Rattle.std.proofs.Common.{◌≡◌, ℕ, suc, ◌+◌, ◌<◌, ◌≤◌, Bool, true, false, cond, List, length, Option, None, Some, IfSome, option_map, slice_get, slice_set, refl, sym, ap, subst, ◌∙◌, nat_eq, nat_lt, arith}
 use Rattle.std.specs.Option.{option_map_or}
 use Rattle.std.proofs.lemmas.Bool.{eqb-true, ltb-true, ltb-false}
-use Rattle.std.proofs.lemmas.Bool.Decides.{nat_tests}
 use Rattle.std.proofs.lemmas.List.{length-set}
 use Rattle.std.proofs.lemmas.Option.{slice_get_within}
 use Rattle.cy_network_columns.specs.declared.chains.Link.{Link}
 use Rattle.cy_network_columns.specs.internal.Chains.{IsLinked, is_at, rank_below, with_place, without}
 use Rattle.cy_network_columns.proofs.Ranks.{above, before, higher, put_in, rank_at, rank_down, rank_le, rank_least, rank_past, rank_same, still, taken_out, true_false}
-
-pub number_itself : (n : ℕ) → nat_eq n n ≡ true
-number_itself n = grind (arith, nat_tests)
-
-pub numbers_apart : (a b : ℕ) → nat_eq a b ≡ false → a ≢ b
-numbers_apart a b e same = grind (arith, nat_tests)
+use Rattle.cy_network_columns.proofs.Elements.{number_itself, numbers_apart, set_at}
 
 pub apart_numbers : (a b : ℕ) → (a ≡ b → ⊥) → nat_eq a b ≡ false
 apart_numbers a b apart = by (nat_eq a b) refl
@@ -22,24 +16,7 @@ apart_numbers a b apart = by (nat_eq a b) refl
     by true e = absurd (apart (eqb-true a b e))
     by false e = e
 
-none_after : (i : ℕ) → nat_eq 0 (suc i) ≡ false
-none_after i = grind (arith, nat_tests)
-
-none_before : (i : ℕ) → nat_eq (suc i) 0 ≡ false
-none_before i = grind (arith, nat_tests)
-
-next_same : (m n : ℕ) → nat_eq (suc m) (suc n) ≡ nat_eq m n
-next_same m n = grind (arith, nat_tests)
-
--- an element that was written
-pub set_at : {X : Type 0} (xs : List X) (i : ℕ) (x : X) (j : ℕ) → i < length xs → slice_get (slice_set xs i x) j ≡ cond (nat_eq i j) (Some x) (slice_get xs j)
-set_at [] i x j inside = absurd (omega (arith, inside))
-set_at (y ∷ xs) zero x zero inside = refl
-set_at (y ∷ xs) zero x (suc j) inside = ap (λ b. cond b (Some x) (slice_get xs j)) (sym (none_after j))
-set_at (y ∷ xs) (suc i) x zero inside = ap (λ b. cond b (Some x) (Some y)) (sym (none_before i))
-set_at (y ∷ xs) (suc i) x (suc j) inside = set_at xs i x j (omega (arith, inside)) ∙ ap (λ b. cond b (Some x) (slice_get xs j)) (sym (next_same i j))
-
-same_some : {X : Type 0} (x y : X) → Some x ≡ Some y → x ≡ y
+pub same_some : {X : Type 0} (x y : X) → Some x ≡ Some y → x ≡ y
 same_some x y e = cc
 
 pub some_inside : {X Y : Type 0} (f : X → Y) (xs : List X) (i : ℕ) (y : Y) → option_map f (slice_get xs i) ≡ Some y → i < length xs

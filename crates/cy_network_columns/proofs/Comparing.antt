@@ -8,9 +8,7 @@ use Rattle.cy_values.specs.declared.rows.Cell.{Cell}
 use Rattle.cy_network_columns.specs.Rows.{is_cell, is_row}
 use Rattle.cy_network_columns.proofs.Elements.{same_elements}
 use Rattle.cy_network_columns.proofs.SameRows.{cell_is_itself, cell_same, row_itself, rows_apart}
-
-twice : {P : Type 0} → true ≡ false → P
-twice e = cc
+use Rattle.cy_network_columns.proofs.Ranks.{true_false}
 
 module _ (row self cells : List Cell) (place : ℕ) (x : Cell) (same : cells ≡ row) (inside : place < length cells) (is : x ≡ get_or cells place x) where
   there : slice_get row place ≡ Some x
@@ -18,7 +16,7 @@ module _ (row self cells : List Cell) (place : ℕ) (x : Cell) (same : cells ≡
 
   -- a cell that differs
   pub differs : option_map_or (λ mine. is_cell x mine) (slice_get self place) false ≡ false → false ≡ is_row row self
-  differs off = sym (rows_apart row self (λ e. twice (sym (ap (λ o. option_map_or (λ mine. is_cell x mine) o false) (ap (λ (r : List Cell). slice_get r place) (sym e) ∙ there) ∙ cell_is_itself x) ∙ off)))
+  differs off = sym (rows_apart row self (λ e. true_false (sym (ap (λ o. option_map_or (λ mine. is_cell x mine) o false) (ap (λ (r : List Cell). slice_get r place) (sym e) ∙ there) ∙ cell_is_itself x) ∙ off)))
 
   -- one cell more is the same
   pub one_same : ((p : ℕ) → p < place → slice_get self p ≡ slice_get row p) → option_map_or (λ mine. is_cell x mine) (slice_get self place) false ≡ true

@@ -1,16 +1,16 @@
 -- Rows, column by column.
-use Rattle.std.proofs.Common.{◌≡◌, ◌≢◌, ℕ, zero, suc, ◌+◌, ◌-◌, ◌<◌, ◌≤◌, Bool, true, false, cond, ◌&&◌, List, [], ◌∷◌, ◌++◌, drop, length, map, take, Option, None, Some, IfSome, IsSome, option_map, slice_get, slice_set, refl, sym, ap, subst, ◌∙◌, nat_eq, nat_lt, arith}
+use Rattle.std.proofs.Common.{◌≡◌, ◌≢◌, ℕ, zero, suc, ◌+◌, ◌-◌, ◌<◌, ◌≤◌, Bool, true, false, cond, ◌&&◌, List, [], ◌∷◌, ◌++◌, length, map, take, Option, None, Some, IfSome, IsSome, option_map, slice_get, slice_set, refl, sym, ap, subst, ◌∙◌, nat_eq, nat_lt, arith}
 use Rattle.std.specs.List.{cons_option, list_all, swap_remove}
 use Rattle.std.specs.Option.{option_and_then}
 use Rattle.std.proofs.lemmas.Bool.{eqb-true, ltb-true, ltb-false}
 use Rattle.std.proofs.lemmas.Bool.Decides.{nat_tests}
-use Rattle.std.proofs.lemmas.List.{append-nil, drop_all, length-append, length-set, length-take-le, take_all}
+use Rattle.std.proofs.lemmas.List.{length-append, length-set, length-take-le}
 use Rattle.std.proofs.lemmas.Option.{slice_get-map, slice_get_past, slice_get_within}
 use Rattle.cy_values.specs.declared.rows.Cell.{Cell}
 use Rattle.cy_network_columns.specs.Hashes.{IsFilled}
 use Rattle.cy_network_columns.specs.Rows.{are_alike}
 use Rattle.cy_network_columns.specs.internal.Columns.{AreKept, EndsOnce, FilledTo, cell_at, cell_in, next_in, removed, row_in, rows_below}
-use Rattle.cy_network_columns.proofs.Elements.{filled, next_same, none_after, none_before, number_itself, put_last, same_elements, shorter}
+use Rattle.cy_network_columns.proofs.Elements.{filled, number_itself, numbers_apart, put_last, same_elements, set_at, shorter}
 
 abbrev Column : Type 0
 Column = List (Option Cell)
@@ -297,9 +297,6 @@ inside_is a b lt = grind (arith, nat_tests)
 pub past_is : (a b : ℕ) → b ≤ a → nat_lt a b ≡ false
 past_is a b le = grind (arith, nat_tests)
 
-pub apart_numbers : (a b : ℕ) → nat_eq a b ≡ false → a ≢ b
-apart_numbers a b e same = grind (arith, nat_tests)
-
 -- a number that is there goes
 really : (number count : ℕ) (column : Column) → number < count → count ≤ length column → removed number count column ≡ swap_remove (take count column) number None
 really number count column inside long =
@@ -484,13 +481,6 @@ grown_cell columns column none place i = ap (option_and_then (cell_in i)) (put_l
 pub fill_none : (row : List Cell) (columns : List Column) → FilledTo 0 row columns columns
 fill_none row columns = record { as_many = refl; filled = λ place less. absurd (omega (arith, less)); left = λ place le. refl }
 
-set_at : {X : Type 0} (xs : List X) (i : ℕ) (x : X) (j : ℕ) → i < length xs → slice_get (slice_set xs i x) j ≡ cond (nat_eq i j) (Some x) (slice_get xs j)
-set_at [] i x j inside = absurd (omega (arith, inside))
-set_at (y ∷ xs) zero x zero inside = refl
-set_at (y ∷ xs) zero x (suc j) inside = ap (λ b. cond b (Some x) (slice_get xs j)) (sym (none_after j))
-set_at (y ∷ xs) (suc i) x zero inside = ap (λ b. cond b (Some x) (Some y)) (sym (none_before i))
-set_at (y ∷ xs) (suc i) x (suc j) inside = set_at xs i x j (omega (arith, inside)) ∙ ap (λ b. cond b (Some x) (slice_get xs j)) (sym (next_same i j))
-
 pub fill_step : (k : ℕ) (row : List Cell) (old new : List Column) (column : Column) → FilledTo k row old new → slice_get new k ≡ Some column
     → FilledTo (k + 1) row old (slice_set new k (column ++ slice_get row k ∷ []))
 fill_step k row old new column fill there = record {
@@ -508,7 +498,7 @@ fill_step k row old new column fill there = record {
         let it : k ≡ place = eqb-true k place e in
         sym (ap (option_map (λ (c : Column). c ++ slice_get row place ∷ [])) (ap (slice_get old) (sym it) ∙ sym (fill.left k (omega arith)) ∙ there)
         ∙ ap (λ (j : ℕ). Some (column ++ slice_get row j ∷ [])) (sym it))
-    done place less false e = fill.filled place (omega (arith, less, apart_numbers k place e))
+    done place less false e = fill.filled place (omega (arith, less, numbers_apart k place e))
 
     rest : (place : ℕ) → k + 1 ≤ place → (b : Bool) → nat_eq k place ≡ b → cond b (Some (column ++ slice_get row k ∷ [])) (slice_get new place) ≡ slice_get old place
     rest place le true e = absurd (omega (arith, le, eqb-true k place e))
@@ -524,11 +514,6 @@ fill_same k row old new column fill there = subst (FilledTo k row old) (sym (set
     set_own [] i x is = refl
     set_own (y ∷ xs) zero x is = ap (λ (z : Column). z ∷ xs) (sym (same_some y x is))
     set_own (y ∷ xs) (suc i) x is = ap (λ (zs : List Column). y ∷ zs) (set_own xs i x is)
-
--- a slice that was lent and came back as long
-pub back : {X : Type 0} (n : ℕ) (new old : List X) → length new ≡ n → length old ≡ n → take n (new ++ drop (length new) old) ≡ new
-back n new old long was =
-    ap (λ (rest : List _). take n (new ++ rest)) (drop_all (length new) old (omega (arith, long, was))) ∙ ap (take n) (append-nil new) ∙ take_all n new (omega (arith, long))
 
 -- ---- what the rows do, over lists that are the same
 

@@ -1,19 +1,17 @@
 -- What links and places hold, and what they hold once numbers went and came.
-use Rattle.std.proofs.Common.{◌≡◌, ℕ, zero, suc, ◌+◌, ◌-◌, ◌%◌, ◌^◌, ◌<◌, ◌≤◌, Bool, true, false, cond, List, [], ◌∷◌, ◌++◌, drop, length, replicate, take, Option, None, Some, IfSome, IsSome, option_map, slice_get, slice_set, slice_index_or, refl, sym, ap, subst, ◌∙◌, nat_eq, nat_lt, arith}
+use Rattle.std.proofs.Common.{◌≡◌, ℕ, zero, suc, ◌+◌, ◌-◌, ◌%◌, ◌^◌, ◌<◌, ◌≤◌, Bool, true, false, cond, List, [], ◌∷◌, ◌++◌, length, replicate, Option, None, Some, IfSome, IsSome, option_map, slice_get, slice_set, slice_index_or, refl, sym, ap, subst, ◌∙◌, nat_eq, nat_lt, arith}
 use Rattle.std.specs.Option.{option_map_or, option_to_list}
 use Rattle.std.proofs.Math.Nat.{mod-lt}
 use Rattle.std.proofs.lemmas.Bool.{eqb-true, ltb-true, ltb-false}
 use Rattle.std.proofs.lemmas.Bool.Decides.{nat_tests}
-use Rattle.std.proofs.lemmas.List.{append-nil, drop_all, get_or-set_other, length-append, length-map, take_all}
+use Rattle.std.proofs.lemmas.List.{get_or-set_other, length-append, length-map}
 use Rattle.std.proofs.lemmas.Option.{slice_get-get_or, slice_get-map, slice_get_past, slice_get_within}
 use Rattle.cy_network_columns.specs.Hashes.{IsFilled, has_hash, last_below}
 use Rattle.cy_network_columns.specs.declared.chains.Link.{Link}
 use Rattle.cy_network_columns.specs.internal.Chains.{AreChained, Descend, IsIndex, IsLinked, hashes_of, is_at, placed_at, rank_below, those_below, with_place, without}
-use Rattle.cy_network_columns.proofs.Chaining.{apart_numbers, is_here, number_itself, numbers_apart, set_at, some_inside, there_is}
+use Rattle.cy_network_columns.proofs.Chaining.{apart_numbers, is_here, same_some, some_inside, there_is}
 use Rattle.cy_network_columns.proofs.Ranks.{last_skip, rank_at, rank_le, rank_never, rank_past, true_false}
-
-same_some : {X : Type 0} (x y : X) → Some x ≡ Some y → x ≡ y
-same_some x y e = cc
+use Rattle.cy_network_columns.proofs.Elements.{before_end, number_itself, numbers_apart, set_at}
 
 -- what stands where no link does
 abbrev pub no_link : Link
@@ -215,31 +213,23 @@ past_last count links i more = placed_past count links i (omega (arith, more))
 pub link_more : (at : ℕ → Option ℕ) (heads : List ℕ) (links : List Link) (l : Link) → IsLinked at heads links → l.below ≡ 0 → IsLinked at heads (links ++ l ∷ [])
 link_more at heads links l linked zero_below = record {
   greatest = λ p lt. linked.greatest p lt ∙ ap Some (sym (as_far p));
-  chained = λ i p is. ap (option_map (λ (k : Link). k.below)) (before_end i (some_inside (λ k. k.below) links i _ (linked.chained i p is))) ∙ linked.chained i p is;
+  chained = λ i p is. ap (option_map (λ (k : Link). k.below)) (before_end links l i (some_inside (λ k. k.below) links i _ (linked.chained i p is))) ∙ linked.chained i p is;
   placed = linked.placed;
   descend = λ i. by i (nat_lt i (length links)) refl;
 }
   where
-    before_at : {X : Type 0} (xs : List X) (x : X) (i : ℕ) → i < length xs → slice_get (xs ++ x ∷ []) i ≡ slice_get xs i
-    before_at [] x i less = absurd (omega (arith, less))
-    before_at (y ∷ xs) x zero less = refl
-    before_at (y ∷ xs) x (suc i) less = before_at xs x i (omega (arith, less))
-
     after_at : (xs : List Link) (i : ℕ) → length xs ≤ i → IfSome (slice_get (xs ++ l ∷ []) i) (λ k. k.below ≤ 0)
     after_at [] zero le = omega (arith, zero_below)
     after_at [] (suc i) le = tt
     after_at (y ∷ xs) zero le = absurd (omega (arith, le))
     after_at (y ∷ xs) (suc i) le = after_at xs i (omega (arith, le))
 
-    before_end : (i : ℕ) → i < length links → slice_get (links ++ l ∷ []) i ≡ slice_get links i
-    before_end i less = before_at links l i less
-
     weaker : (i : ℕ) (o : Option Link) → IfSome o (λ k. k.below ≤ 0) → IfSome o (λ k. k.below ≤ i)
     weaker i None p = tt
     weaker i (Some k) p = omega (arith, p)
 
     by : (i : ℕ) (b : Bool) → nat_lt i (length links) ≡ b → IfSome (slice_get (links ++ l ∷ []) i) (λ k. k.below ≤ i)
-    by i true less = subst (λ o. IfSome o (λ k. k.below ≤ i)) (sym (before_end i (ltb-true i (length links) less))) (linked.descend i)
+    by i true less = subst (λ o. IfSome o (λ k. k.below ≤ i)) (sym (before_end links l i (ltb-true i (length links) less))) (linked.descend i)
     by i false past = weaker i (slice_get (links ++ l ∷ []) i) (after_at links i (ltb-false i (length links) past))
 
     off : (p : ℕ) → is_at at p (length links) ≡ false
@@ -260,16 +250,11 @@ link_more at heads links l linked zero_below = record {
 pub link_less : (at : ℕ → Option ℕ) (heads : List ℕ) (links : List Link) (l : Link) → IsLinked at heads (links ++ l ∷ []) → at (length links) ≡ None → IsLinked at heads links
 link_less at heads links l linked out = record {
   greatest = λ p lt. linked.greatest p lt ∙ ap Some (as_far p);
-  chained = λ i p is. sym (ap (option_map (λ (k : Link). k.below)) (before_at links l i (inside i p is))) ∙ linked.chained i p is;
+  chained = λ i p is. sym (ap (option_map (λ (k : Link). k.below)) (before_end links l i (inside i p is))) ∙ linked.chained i p is;
   placed = linked.placed;
   descend = λ i. by i (nat_lt i (length links)) refl;
 }
   where
-    before_at : {X : Type 0} (xs : List X) (x : X) (i : ℕ) → i < length xs → slice_get (xs ++ x ∷ []) i ≡ slice_get xs i
-    before_at [] x i less = absurd (omega (arith, less))
-    before_at (y ∷ xs) x zero less = refl
-    before_at (y ∷ xs) x (suc i) less = before_at xs x i (omega (arith, less))
-
     none_some : {Q : Type 0} (p : ℕ) → None ≡ Some p → Q
     none_some p e = cc
 
@@ -282,7 +267,7 @@ link_less at heads links l linked out = record {
             omega (arith, numbers_apart (length links) i e, some_inside (λ k. k.below) (links ++ l ∷ []) i _ (linked.chained i p is), length-append links (l ∷ []))
 
     by : (i : ℕ) (b : Bool) → nat_lt i (length links) ≡ b → IfSome (slice_get links i) (λ k. k.below ≤ i)
-    by i true less = subst (λ o. IfSome o (λ k. k.below ≤ i)) (before_at links l i (ltb-true i (length links) less)) (linked.descend i)
+    by i true less = subst (λ o. IfSome o (λ k. k.below ≤ i)) (before_end links l i (ltb-true i (length links) less)) (linked.descend i)
     by i false past = subst (λ o. IfSome o (λ k. k.below ≤ i)) (sym (slice_get_past links i (ltb-false i (length links) past))) tt
 
     as_far : (p : ℕ) → rank_below (is_at at p) (length (links ++ l ∷ [])) ≡ rank_below (is_at at p) (length links)
@@ -382,13 +367,8 @@ out_past count links = placed_past count links (length links) (omega arith)
 
 -- ---- the last link goes
 
-before_one : {X : Type 0} (xs : List X) (x : X) (i : ℕ) → i < length xs → slice_get (xs ++ x ∷ []) i ≡ slice_get xs i
-before_one [] x i less = absurd (omega (arith, less))
-before_one (y ∷ xs) x zero less = refl
-before_one (y ∷ xs) x (suc i) less = before_one xs x i (omega (arith, less))
-
 pub hashes_before : (links : List Link) (l : Link) (i : ℕ) → i < length links → slice_get (hashes_of (links ++ l ∷ [])) i ≡ slice_get (hashes_of links) i
-hashes_before links l i less = slice_get-map (λ k. k.hash) (links ++ l ∷ []) i ∙ ap (option_map (λ k. k.hash)) (before_one links l i less) ∙ sym (slice_get-map (λ k. k.hash) links i)
+hashes_before links l i less = slice_get-map (λ k. k.hash) (links ++ l ∷ []) i ∙ ap (option_map (λ k. k.hash)) (before_end links l i less) ∙ sym (slice_get-map (λ k. k.hash) links i)
 
 pub place_less : (links : List Link) (l : Link) (count : ℕ) (i : ℕ) → those_below (length links) (placed_at count (hashes_of (links ++ l ∷ []))) i ≡ placed_at count (hashes_of links) i
 place_less links l count i = by (nat_lt i (length links)) refl
@@ -413,11 +393,6 @@ filled_less old links l number longer moved i = by (nat_lt (i + 1) (length old))
     by false e = slice_get_past (hashes_of links) i (omega (arith, longer, hashes_long links, ltb-false (i + 1) (length old) e))
 
 -- ---- what the index does, over lists that are the same
-
--- a slice that was lent and came back as long
-pub back : {X : Type 0} (n : ℕ) (new old : List X) → length new ≡ n → length old ≡ n → take n (new ++ drop (length new) old) ≡ new
-back n new old long was =
-    ap (λ (rest : List _). take n (new ++ rest)) (drop_all (length new) old (omega (arith, long, was))) ∙ ap (take n) (append-nil new) ∙ take_all n new (omega (arith, long))
 
 module _ (heads hs : List ℕ) (links ls : List Link) (l : Link) (index : IsIndex heads links) (hs_is : hs ≡ heads) (ls_is : ls ≡ links ++ l ∷ []) (none_below : l.below ≡ 0)
     (number : ℕ) (number_is : number ≡ length links) where

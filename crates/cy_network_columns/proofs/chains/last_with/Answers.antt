@@ -1,9 +1,10 @@
 use Rattle.std.proofs.Common.{suc, ◌-◌, ◌<◌, ◌≡◌, cond, Some, length, nat_eq, sym, ap, ◌∙◌, arith}
 use Rattle.cy_network_columns.specs.Hashes.{has_hash, last_below}
 use Rattle.cy_network_columns.specs.internal.Chains.{hashes_of, is_at}
-use Rattle.cy_network_columns.proofs.Chaining.{apart_numbers, number_itself, there_is}
+use Rattle.cy_network_columns.proofs.Chaining.{apart_numbers, there_is}
 use Rattle.cy_network_columns.proofs.Links.{below_is, has_hash_at, no_link, not_up, skipped, step}
 use Rattle.cy_network_columns.proofs.Ranks.{rank_at}
+use Rattle.cy_network_columns.proofs.Elements.{number_itself}
 use Rattle.cy_network_columns.proofs.chains.last_with.Goals as goal
 
 pub loop-rank-init : goal.loop-rank-init

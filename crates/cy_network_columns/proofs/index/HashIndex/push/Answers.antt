@@ -1,7 +1,8 @@
 use Rattle.std.proofs.Common.{◌++◌, List, ℕ, length, take, drop, refl, sym, ap, subst, ◌∙◌, arith}
 use Rattle.cy_network_columns.specs.declared.chains.Link.{Link}
 use Rattle.cy_network_columns.specs.internal.Chains.{IsIndex, hashes_of}
-use Rattle.cy_network_columns.proofs.Links.{back, push_hashes, push_index, push_linked}
+use Rattle.cy_network_columns.proofs.Links.{push_hashes, push_index, push_linked}
+use Rattle.cy_network_columns.proofs.Elements.{back}
 use Rattle.cy_network_columns.proofs.index.HashIndex.push.Goals as goal
 
 pub join_chain-requires-clause-linked : goal.join_chain-requires-clause-linked

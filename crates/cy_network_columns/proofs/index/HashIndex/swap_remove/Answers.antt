@@ -1,6 +1,7 @@
 use Rattle.std.proofs.Common.{◌-◌, List, ℕ, length, sym, ap, subst, ◌∙◌, arith}
 use Rattle.cy_network_columns.specs.internal.Chains.{IsIndex}
-use Rattle.cy_network_columns.proofs.Links.{back, hashes_long, pop_filled, pop_index, popped}
+use Rattle.cy_network_columns.proofs.Links.{hashes_long, pop_filled, pop_index, popped}
+use Rattle.cy_network_columns.proofs.Elements.{back}
 use Rattle.cy_network_columns.proofs.index.HashIndex.swap_remove.Goals as goal
 
 pub invariant_of-self : goal.invariant_of-self

@@ -2,7 +2,8 @@ use Rattle.std.proofs.Common.{◌≡◌, ◌≤◌, ℕ, List, Option, Some, IfS
 use Rattle.std.proofs.lemmas.List.{length-map}
 use Rattle.cy_values.specs.declared.rows.Cell.{Cell}
 use Rattle.cy_network_columns.specs.internal.Columns.{AreKept, FilledTo, cell_at, next_in, rows_below}
-use Rattle.cy_network_columns.proofs.Keeping.{back, next_is, put_kept, put_rows, trimmed_long, wider_kept, wider_rows}
+use Rattle.cy_network_columns.proofs.Keeping.{next_is, put_kept, put_rows, trimmed_long, wider_kept, wider_rows}
+use Rattle.cy_network_columns.proofs.Elements.{back}
 use Rattle.cy_network_columns.proofs.rows.Columns.put_next.Goals as goal
 
 on_ok : {X E P Q : Type 0} (r : Result X E) → OnOk r P → (P → Q) → OnOk r Q

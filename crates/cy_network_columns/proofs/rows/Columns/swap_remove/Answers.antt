@@ -3,7 +3,8 @@ use Rattle.std.proofs.lemmas.List.{length-map}
 use Rattle.cy_values.specs.declared.rows.Cell.{Cell}
 use Rattle.cy_network_columns.specs.Hashes.{IsFilled}
 use Rattle.cy_network_columns.specs.internal.Columns.{AreKept, removed, rows_below}
-use Rattle.cy_network_columns.proofs.Keeping.{back, gone_kept, gone_rows}
+use Rattle.cy_network_columns.proofs.Keeping.{gone_kept, gone_rows}
+use Rattle.cy_network_columns.proofs.Elements.{back}
 use Rattle.cy_network_columns.proofs.rows.Columns.swap_remove.Goals as goal
 
 pub invariant_of-self : goal.invariant_of-self

@@ -16,6 +16,7 @@ use Rattle.cy_planner_rewriting.specs.declared.layers.Joint.TheVariants as joint
 use Rattle.cy_planner_passes.specs.internal.Above.{StandsBelow, over_all, over_one}
 use Rattle.cy_planner_passes.specs.internal.Narrows.{restored}
 use Rattle.cy_planner_rewriting.specs.Opened.{together}
+use Rattle.cy_planner_passes.proofs.Together.{well_sides}
 
 -- ---- two plans in place of two others
 
@@ -24,10 +25,6 @@ together_alike (joint.Join keys) p q r s left right = over_join p q r s left rig
 together_alike (joint.Outer keys test) p q r s left right = over_outer p q r s left right keys.items (expression_of test)
 together_alike (joint.Semi keys keeping) p q r s left right = over_semi p q r s left right keys.items keeping
 together_alike joint.Union p q r s left right = over_union p q r s left right
-
-pub well_parts : (j : Joint) (p q : Plan) → IsWellFormed (together j p q) → IsWellFormed p × IsWellFormed q
-well_parts (joint.Join keys) p q well = (well.0, well.1)
-well_parts _ p q well = (well.0, well.1)
 
 -- ---- another plan in the place of the left one
 
@@ -41,7 +38,7 @@ all_alike (a ∷ rest) p q is = one_alike a (over_all rest p) (over_all rest q) 
 
 well_one : (a : Above) (p : Plan) → IsWellFormed (over_one a p) → IsWellFormed p
 well_one (above.Layer l) p well = well_below (l ∷ []) p well
-well_one (above.Joint j right) p well = (well_parts j p (restored right) well).0
+well_one (above.Joint j right) p well = (well_sides j p (restored right) well).0
 
 pub well_under : (rest : List Above) (p : Plan) → IsWellFormed (over_all rest p) → IsWellFormed p
 well_under [] p well = well

@@ -18,6 +18,7 @@ pub use columns::row_columns;
 pub use joining::outer_rows;
 pub use lookups::right_lookups;
 pub use paths::assigned::assigned_rows;
+pub use paths::conditions::other_count;
 pub use paths::unassigned::unassigned_rows;
 pub use place_keys::keys;
 pub use values::{open_values, with_values};

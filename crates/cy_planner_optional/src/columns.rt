@@ -11,18 +11,6 @@ use cy_oneshot_patterns::Place;
 use cy_values::Fault;
 use std::alloc::Global;
 
-/// The columns of a row. Fails only when out of memory.
-#[tactic(auto, using(crate::proofs::CodeLemmas::range_next))]
-pub fn row_columns(alloc: Global, width: usize) -> Result<Vec<usize>, Fault>
-    ensures { IfOk result (λ columns. columns.items ≡ range_with_len 0 width) }
-{
-    let mut columns = Vec::with_capacity(alloc, width)?;
-    for column in 0..width {
-        columns.push(column)?;
-    }
-    Ok(columns)
-}
-
 /// Adds the column of a place whose variable is a new one.
 #[tactic(auto, using(crate::proofs::CodeLemmas::place_kept))]
 fn add_column(kept: &mut Vec<usize>, column: usize, place: Place<'_>) -> Result<(), Fault>

@@ -14,7 +14,6 @@ mod trails;
 mod values;
 
 pub use assigned::{optional_rows, own_table};
-pub use columns::row_columns;
 pub use joining::outer_rows;
 pub use lookups::right_lookups;
 pub use paths::assigned::assigned_rows;

@@ -1,7 +1,6 @@
 //! Plans with columns of their rows. Each call fails only when out of memory.
 
-ghost use Rattle.std.specs.Prelude.{◌≡◌, ◌≤◌, IfOk, IsTrue, length};
-ghost use Rattle.std.specs.List.{range_with_len};
+ghost use Rattle.std.specs.Prelude.{◌≤◌, IfOk, IsTrue, length};
 ghost use Rattle.cy_planner_algebra.specs.Plans.{width};
 ghost use Rattle.cy_planner_algebra.specs.PlanModels.{plan_of};
 ghost use Rattle.cy_planner_algebra.specs.WellFormed.{IsWellFormed};
@@ -11,7 +10,7 @@ ghost use Rattle.cy_planner_passes.specs.internal.Narrows as spec;
 use crate::narrowing::ranks::{Ranks, ranked};
 use cy_planner_algebra::{Operator, Plan};
 use cy_planner_rewriting::{Layer, layered};
-use cy_planner_rows::column_outputs;
+use cy_planner_rows::{column_outputs, row_columns};
 use cy_values::{Fault, row_order_laws};
 use std::alloc::Global;
 
@@ -22,21 +21,11 @@ pub(crate) struct Narrow {
     pub(crate) columns: Vec<usize>,
 }
 
-fn first_columns(alloc: Global, count: usize) -> Result<Vec<usize>, Fault>
-    ensures { IfOk result (λ columns. columns.items ≡ range_with_len 0 count) }
-{
-    let mut columns = Vec::with_capacity(alloc, count)?;
-    for column in 0..count {
-        columns.push(column)?;
-    }
-    Ok(columns)
-}
-
 /// A plan with all columns of its rows.
 pub(crate) fn whole(alloc: Global, plan: Plan) -> Result<Narrow, Fault>
     ensures { IfOk result (λ n. IsRewritten (plan_of plan) (spec.restored n)) }
 {
-    let columns = first_columns(alloc, plan.width())?;
+    let columns = row_columns(alloc, plan.width())?;
     Ok(Narrow { plan, columns })
 }
 

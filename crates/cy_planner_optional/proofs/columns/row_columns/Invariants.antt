@@ -1,7 +1,0 @@
--- The columns so far.
-use Rattle.std.proofs.Common.{◌≡◌}
-use Rattle.std.specs.List.{range_with_len}
-use Rattle.cy_planner_optional.proofs.columns.row_columns.Given as goal
-
-abbrev pub invariant-loop-column : goal.invariant-loop-column
-invariant-loop-column l = l.columns.items ≡ range_with_len 0 l.column

@@ -9,7 +9,7 @@ use Rattle.cy_planner_algebra.specs.declared.operators.Operator.TheVariants.{rol
 use Rattle.cy_planner_algebra.specs.PlanModels.{plan_of}
 use Rattle.cy_planner_algebra.proofs.Layers.{IsNoJoin, IsNoOuter, IsNoUnion, IsNoLookup, IsNoFilter, IsNoAllDifferent, IsNoProject, IsNoDistinct, by_layer, plan_from}
 use Rattle.cy_network_parts.specs.Parts.{below_count}
-use Rattle.cy_network.specs.internal.Images.{different_of, is_all_different, is_join, is_project, keys_of, outputs_of}
+use Rattle.cy_network.specs.internal.Passages.{different_of, is_all_different, is_join, is_project, keys_of, outputs_of}
 
 -- another part than a join is none, and has no keys
 pub join_else : (part : Operator) → IsNoJoin part → is_join (plan_of part) ≡ false

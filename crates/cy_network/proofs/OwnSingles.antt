@@ -27,7 +27,7 @@ use Rattle.cy_network_parts.specs.Upkeep.{IsDeltaOf, IsFed, IsOwnBegun, IsOwnDon
 use Rattle.cy_network_operators.specs.Passing.{left_of, row_delta_if}
 use Rattle.cy_planner_algebra.proofs.Counts.{count_passing}
 use Rattle.cy_network_parts.specs.Parts.{first_below}
-use Rattle.cy_network.specs.internal.Images.{AreTaken, keeps, kept}
+use Rattle.cy_network.specs.internal.Passages.{AreTaken, keeps, kept}
 use Rattle.cy_network.proofs.PassageLemmas.{IsOver}
 use Rattle.cy_network.proofs.Shifted.{after_is, either, held_delta, numbered_at, of_counted, of_deltas}
 use Rattle.cy_network_parts.proofs.Slices.{same_at}

@@ -1,8 +1,8 @@
 -- What proofs alone need.
 pub mod Forms
 pub mod Roots
-pub mod Passages
-pub mod KeptUp
+pub mod PassagesPartway
+pub mod PlansKeptUp
 pub mod Inputs
-pub mod Images
+pub mod Passages
 pub mod OperatorsKeptUp

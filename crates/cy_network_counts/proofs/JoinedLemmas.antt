@@ -21,8 +21,8 @@ use Rattle.cy_network_operators.specs.Deltas.{counts}
 use Rattle.cy_network_operators.proofs.Same.{row_itself, same_row}
 use Rattle.cy_network_operators.proofs.PairLemmas.{split_row}
 use Rattle.cy_network_counts.specs.Outer.{AreNumbersOfPartners, are_matched}
-use Rattle.cy_network_counts.specs.internal.Matches.{matched_counts}
-use Rattle.cy_network_counts.specs.internal.Nulls.{null_count, outer_counts}
+use Rattle.cy_network_counts.specs.internal.OuterMatches.{matched_counts}
+use Rattle.cy_network_counts.specs.internal.OuterNulls.{null_count, outer_counts}
 use Rattle.cy_network_counts.proofs.Rows.{both}
 use Rattle.cy_network_counts.proofs.NumberLemmas.{a_row_passes, some_number}
 use Rattle.cy_network_counts.proofs.Naturals.{factors, not_zero, positive}

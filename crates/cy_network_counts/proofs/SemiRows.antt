@@ -22,7 +22,7 @@ use Rattle.cy_network_operators.proofs.PlanLemmas.{parts_wide}
 use Rattle.cy_network_operators.proofs.Same.{same_row}
 use Rattle.cy_network_operators.proofs.DeltaLemmas.{delta_alike}
 use Rattle.cy_network_counts.specs.Semi.{numbers_of_keys}
-use Rattle.cy_network_counts.specs.internal.Keys.{kept_counts}
+use Rattle.cy_network_counts.specs.internal.SemiKeys.{kept_counts}
 use Rattle.cy_network_counts.proofs.Naturals.{positive}
 
 -- a row that passes and is among others is one of them that passes

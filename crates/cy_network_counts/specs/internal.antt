@@ -1,7 +1,7 @@
 -- What proofs alone need.
-pub mod Matches
-pub mod Numbers
-pub mod Nulls
-pub mod Steps
-pub mod Keys
+pub mod OuterMatches
+pub mod OuterNumbers
+pub mod OuterNulls
+pub mod PartnerSteps
+pub mod SemiKeys
 pub mod Sums

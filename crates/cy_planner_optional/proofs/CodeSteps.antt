@@ -10,7 +10,7 @@ use Rattle.cy_oneshot_patterns.specs.Places.{Place}
 use Rattle.cy_planner_clauses.specs.Shared.{other_entries}
 use Rattle.cy_planner_optional.specs.Own.{common_count, common_counts}
 use Rattle.cy_planner_rows.specs.Conditions.{or_true, with_test, with_tests}
-use Rattle.cy_planner_optional.specs.internal.Pairs.{all_of}
+use Rattle.cy_planner_optional.specs.internal.OptionalPairs.{all_of}
 use Rattle.cy_planner_optional.proofs.CodeLemmas.{tests_all, tests_append}
 use Rattle.cy_planner_optional.specs.Columns.{reading_entries}
 use Rattle.cy_planner_optional.specs.internal.PathPairs.{empty_or_equal, empty_or_equal_from, equal_columns, equal_from, looked_count, looked_counts, place_tests, places_tests}

@@ -1,5 +1,5 @@
 -- What proofs and private functions alone need.
-pub mod Pairs
+pub mod OptionalPairs
 pub mod Joined
 pub mod LookupLists
 pub mod Trails

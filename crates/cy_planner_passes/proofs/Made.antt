@@ -18,7 +18,7 @@ use Rattle.cy_planner_rewriting.proofs.Congruent.{over_join, over_lookup, rewrit
 use Rattle.cy_planner_rewriting.proofs.Projections.{member_inside}
 use Rattle.cy_planner_rewriting.proofs.Rising.{up_from_different, up_from_filter}
 use Rattle.cy_planner_passes.specs.internal.Narrows.{taken}
-use Rattle.cy_planner_passes.specs.internal.Pairs.{paired_columns, renumbered_key}
+use Rattle.cy_planner_passes.specs.internal.KeyPairs.{paired_columns, renumbered_key}
 use Rattle.cy_planner_passes.specs.internal.Ranks.{AreRanked}
 use Rattle.cy_planner_passes.proofs.Columns.{are_columns, lookup_through, taken_inside, width_taken}
 use Rattle.cy_planner_passes.proofs.Pairing.{keys_inside, narrowed_join}

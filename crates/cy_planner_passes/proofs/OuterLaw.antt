@@ -25,7 +25,7 @@ use Rattle.cy_planner_pushdown.proofs.Conjunctions.{sifted_both}
 use Rattle.cy_planner_rewriting.proofs.Congruent.{all_split, same_within}
 use Rattle.cy_planner_passes.specs.Standing.{StandsFor}
 use Rattle.cy_planner_rows.specs.Conditions.{or_true}
-use Rattle.cy_planner_passes.specs.internal.Splits.{IsSplit}
+use Rattle.cy_planner_passes.specs.internal.SplitPredicates.{IsSplit}
 use Rattle.cy_planner_passes.proofs.Predicates.{and_over}
 
 flat_alike : {A B : Type 0} (P : A → Type 0) (f g : A → List B) → ((x : A) → P x → f x ≡ g x) → (xs : List A) → AllByRecursion P xs → flat_map f xs ≡ flat_map g xs

@@ -28,7 +28,7 @@ use Rattle.cy_planner_rewriting.proofs.Joining.{below_projection, keys_longer}
 use Rattle.cy_planner_rewriting.proofs.Projections.{cell_moved, member_inside}
 use Rattle.cy_planner_rewriting.proofs.Redirecting.{met_keys}
 use Rattle.cy_planner_passes.specs.internal.Narrows.{taken}
-use Rattle.cy_planner_passes.specs.internal.Pairs.{paired_column, paired_columns, renumbered_key}
+use Rattle.cy_planner_passes.specs.internal.KeyPairs.{paired_column, paired_columns, renumbered_key}
 use Rattle.cy_planner_passes.proofs.Columns.{taken_inside, width_taken}
 
 -- ---- keys of columns

@@ -31,7 +31,7 @@ use Rattle.cy_planner_pushdown.specs.After.{AreKept, keeps_each}
 use Rattle.cy_planner_pushdown.proofs.Conjunctions.{in_cell, joined_truth, truth_back, whole, whole_ok, whole_true}
 use Rattle.cy_planner_pushdown.proofs.Finding.{all_kept, among_each}
 use Rattle.cy_planner_pushdown.proofs.Splitting.{each_more, each_parts}
-use Rattle.cy_planner_passes.specs.internal.Splits.{IsSplit}
+use Rattle.cy_planner_passes.specs.internal.SplitPredicates.{IsSplit}
 
 -- ---- what a condition is
 

@@ -13,7 +13,7 @@ use Rattle.cy_planner_passes.specs.declared.narrowing.Above.TheVariants as above
 use Rattle.cy_planner_passes.specs.declared.narrowing.narrows.Narrow.{Narrow}
 use Rattle.cy_planner_rewriting.specs.declared.layers.Joint.{Joint}
 use Rattle.cy_planner_rewriting.specs.declared.layers.Joint.TheVariants as joint
-use Rattle.cy_planner_passes.specs.internal.Above.{StandsBelow, over_all, over_one}
+use Rattle.cy_planner_passes.specs.internal.NarrowAbove.{StandsBelow, over_all, over_one}
 use Rattle.cy_planner_passes.specs.internal.Narrows.{restored}
 use Rattle.cy_planner_rewriting.specs.Opened.{together}
 use Rattle.cy_planner_passes.proofs.Together.{well_sides}

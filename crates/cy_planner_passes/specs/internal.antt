@@ -1,7 +1,7 @@
 -- What private functions and proofs need.
 pub mod Ranks
 pub mod Narrows
-pub mod Pairs
-pub mod Above
+pub mod KeyPairs
+pub mod NarrowAbove
 pub mod OuterAbove
-pub mod Splits
+pub mod SplitPredicates

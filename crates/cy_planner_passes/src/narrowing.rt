@@ -9,7 +9,7 @@ ghost use Rattle.std.specs.Prelude.{IfOk};
 ghost use Rattle.cy_planner_algebra.specs.PlanModels.{plan_of};
 ghost use Rattle.cy_planner_algebra.specs.WellFormed.{IsWellFormed};
 ghost use Rattle.cy_planner_rewriting.specs.Rewritten.{IsRewritten};
-ghost use Rattle.cy_planner_passes.specs.internal.Above as standing;
+ghost use Rattle.cy_planner_passes.specs.internal.NarrowAbove as standing;
 ghost use Rattle.cy_planner_passes.specs.internal.Narrows.{restored};
 
 use crate::narrowing::joints::put_together;

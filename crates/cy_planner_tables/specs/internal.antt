@@ -2,4 +2,4 @@
 pub mod Growing
 pub mod Asked
 pub mod Firsts
-pub mod Numbers
+pub mod Agreement

@@ -18,7 +18,7 @@ use Rattle.cy_network_touches.specs.Work.{own_reads, own_steps}
 use Rattle.cy_network_parts.specs.Taken.{NoneFalls}
 use Rattle.cy_network_parts.specs.Upkeep.{HasTooMany, IsFed, IsFedByTwo, IsOwnDone, content_of}
 use Rattle.cy_network.specs.declared.operators.pairs.HeldDeltas.{HeldDeltas}
-use Rattle.cy_network.specs.internal.Images.{IsFedHeld, IsFedImages, IsOwnDoneThrough}
+use Rattle.cy_network.specs.internal.Passages.{IsFedHeld, IsFedImages, IsOwnDoneThrough}
 
 -- a change from one graph, or from nothing, to another, on which this holds
 abbrev pub OnSome : (Option State → State → Touches → Type 0) → Type 0

@@ -8,7 +8,7 @@ ghost use Rattle.cy_planner_algebra.specs.WellFormed.{IsWellFormed, greatest_wid
 ghost use Rattle.cy_planner_rows.specs.Renumbered.{new_column};
 ghost use Rattle.cy_planner_rewriting.specs.Rewritten.{IsRewritten};
 ghost use Rattle.cy_planner_passes.specs.internal.Narrows.{restored};
-ghost use Rattle.cy_planner_passes.specs.internal.Pairs as spec;
+ghost use Rattle.cy_planner_passes.specs.internal.KeyPairs as spec;
 ghost use Rattle.cy_planner_rewriting.specs.Opened.{together};
 
 use crate::narrowing::narrows::{Narrow, exact, settled, whole};

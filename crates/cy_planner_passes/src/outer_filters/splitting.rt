@@ -3,7 +3,7 @@
 ghost use Rattle.std.specs.Prelude.{IfOk, option_map};
 ghost use Rattle.cy_trees.specs.TreeModels.{expression_of};
 ghost use Rattle.cy_planner_algebra.specs.PlanModels.{plan_of};
-ghost use Rattle.cy_planner_passes.specs.internal.Splits as spec;
+ghost use Rattle.cy_planner_passes.specs.internal.SplitPredicates as spec;
 
 use cy_planner_algebra::Plan;
 use cy_planner_pushdown::{Kept, keep_after};

@@ -6,7 +6,7 @@ use Rattle.cy_planner_algebra.specs.PlanModels.{plan_of}
 use Rattle.cy_planner_rewriting.specs.Rewritten.{IsRewritten}
 use Rattle.cy_planner_rewriting.proofs.Congruent.{rewritten_again}
 use Rattle.cy_planner_passes.specs.declared.narrowing.Above.{Above}
-use Rattle.cy_planner_passes.specs.internal.Above.{StandsBelow, over_all}
+use Rattle.cy_planner_passes.specs.internal.NarrowAbove.{StandsBelow, over_all}
 use Rattle.cy_planner_passes.specs.internal.Narrows.{restored}
 use Rattle.cy_planner_passes.proofs.Putting.{lowest_in_place, stands_alone, stands_left, stands_under}
 use Rattle.cy_planner_passes.proofs.narrowing.+narrow.Goals as goal

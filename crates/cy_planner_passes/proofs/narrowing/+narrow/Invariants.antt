@@ -2,7 +2,7 @@
 use Rattle.std.proofs.Common.{◌≤◌}
 use Rattle.cy_planner_algebra.specs.declared.operators.Operator.{size-Operator}
 use Rattle.cy_planner_algebra.specs.PlanModels.{plan_of}
-use Rattle.cy_planner_passes.specs.internal.Above.{StandsBelow}
+use Rattle.cy_planner_passes.specs.internal.NarrowAbove.{StandsBelow}
 use Rattle.cy_planner_passes.proofs.narrowing.+narrow.Given as goal
 
 abbrev pub invariant-loop-plan : goal.invariant-loop-plan

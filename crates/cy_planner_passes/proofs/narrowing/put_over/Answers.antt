@@ -1,7 +1,7 @@
 use Rattle.std.proofs.Common.{◌≡◌, rules, [], ◌∷◌, ◌++◌, arith}
 use Rattle.std.proofs.lemmas.Grind.{common_steps}
 use Rattle.cy_planner_passes.specs.declared.narrowing.Above.{Above}
-use Rattle.cy_planner_passes.specs.internal.Above.{over_all}
+use Rattle.cy_planner_passes.specs.internal.NarrowAbove.{over_all}
 use Rattle.cy_planner_passes.specs.internal.Narrows.{restored}
 use Rattle.cy_planner_passes.proofs.Putting.{next_over, well_lowest}
 use Rattle.cy_planner_passes.proofs.narrowing.put_over.Goals as goal

@@ -1,7 +1,7 @@
 -- What is left above the plan so far can stand in place of all above the base.
 use Rattle.std.proofs.Common.{vec_len}
 use Rattle.cy_planner_rewriting.specs.Rewritten.{IsRewritten}
-use Rattle.cy_planner_passes.specs.internal.Above.{over_all}
+use Rattle.cy_planner_passes.specs.internal.NarrowAbove.{over_all}
 use Rattle.cy_planner_passes.specs.internal.Narrows.{restored}
 use Rattle.cy_planner_passes.proofs.narrowing.put_over.Given as goal
 

@@ -10,7 +10,7 @@ use Rattle.cy_network_parts.proofs.RowByRow.{with_memory, without_contents, with
 use Rattle.std.proofs.lemmas.Result.{IfOk-from_err}
 use Rattle.cy_network_parts.proofs.Refusals.{if_memory}
 use Rattle.cy_network_parts.proofs.Taken.{grown_none}
-use Rattle.cy_network.specs.internal.Images.{outputs_of}
+use Rattle.cy_network.specs.internal.Passages.{outputs_of}
 use Rattle.cy_network.proofs.PassageLemmas.{project_is}
 use Rattle.cy_network.proofs.operators.singles.image_deltas.Goals as goal
 

@@ -9,7 +9,7 @@ use Rattle.cy_network_parts.specs.Upkeep.{IsStep}
 use Rattle.cy_network_parts.proofs.Outcomes.{if_err_more, if_ok_more}
 use Rattle.cy_network_parts.proofs.Refusals.{if_memory}
 use Rattle.cy_network_parts.proofs.Taken.{grown_none}
-use Rattle.cy_network.specs.internal.Images.{outputs_of}
+use Rattle.cy_network.specs.internal.Passages.{outputs_of}
 use Rattle.cy_network.proofs.OwnSingles.{project_sure}
 use Rattle.cy_network.proofs.Shifted.{row_delta_numbers}
 use Rattle.cy_network.proofs.operators.singles.projection_deltas.Goals as goal

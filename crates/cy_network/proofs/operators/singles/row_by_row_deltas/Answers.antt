@@ -12,7 +12,7 @@ use Rattle.cy_network_parts.specs.Parts.{first_below}
 use Rattle.cy_network_parts.specs.Upkeep.{IsDeltaOf, IsStep}
 use Rattle.cy_network_parts.proofs.Outcomes.{if_ok_two}
 use Rattle.cy_network_parts.proofs.RowByRow.{gathered, other_told, rearranged}
-use Rattle.cy_network.specs.internal.Images.{outputs_of}
+use Rattle.cy_network.specs.internal.Passages.{outputs_of}
 use Rattle.cy_network.proofs.PassageLemmas.{project_is}
 use Rattle.cy_network.proofs.operators.singles.row_by_row_deltas.Goals as goal
 

@@ -5,7 +5,7 @@ use Rattle.cy_planner_algebra.specs.Plans.{Plan, width}
 use Rattle.cy_planner_algebra.specs.PlanModels.{plan_of}
 use Rattle.cy_planner_algebra.specs.WellFormed.{IsKeyBetween, greatest_width}
 use Rattle.cy_planner_passes.specs.internal.Narrows.{restored}
-use Rattle.cy_planner_passes.specs.internal.Pairs.{paired_columns, renumbered_key}
+use Rattle.cy_planner_passes.specs.internal.KeyPairs.{paired_columns, renumbered_key}
 use Rattle.cy_planner_passes.proofs.Made.{joined_as, keys_there, right_room}
 use Rattle.cy_planner_passes.proofs.narrowing.joints.joined.Goals as goal
 

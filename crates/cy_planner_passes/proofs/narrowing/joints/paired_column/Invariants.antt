@@ -1,6 +1,6 @@
 -- The keys that are left settle the answer.
 use Rattle.std.proofs.Common.{◌≡◌, drop}
-use Rattle.cy_planner_passes.specs.internal.Pairs.{paired_column}
+use Rattle.cy_planner_passes.specs.internal.KeyPairs.{paired_column}
 use Rattle.cy_planner_passes.proofs.narrowing.joints.paired_column.Given as goal
 
 abbrev pub invariant-loop-key : goal.invariant-loop-key

@@ -1,6 +1,6 @@
 -- The columns so far.
 use Rattle.std.proofs.Common.{◌≡◌, take}
-use Rattle.cy_planner_passes.specs.internal.Pairs.{paired_columns}
+use Rattle.cy_planner_passes.specs.internal.KeyPairs.{paired_columns}
 use Rattle.cy_planner_passes.proofs.narrowing.joints.paired_columns.Given as goal
 
 abbrev pub invariant-loop-column : goal.invariant-loop-column

@@ -1,6 +1,6 @@
 -- The keys so far.
 use Rattle.std.proofs.Common.{◌≡◌, map, take}
-use Rattle.cy_planner_passes.specs.internal.Pairs.{renumbered_key}
+use Rattle.cy_planner_passes.specs.internal.KeyPairs.{renumbered_key}
 use Rattle.cy_planner_passes.proofs.narrowing.joints.renumber_keys.Given as goal
 
 abbrev pub invariant-loop-key : goal.invariant-loop-key

@@ -10,7 +10,7 @@ use Rattle.cy_planner_algebra.specs.PlanModels.{plan_of}
 use Rattle.cy_planner_algebra.specs.WellFormed.{IsKeyBetween, IsOver, IsWellFormed, greatest_width}
 use Rattle.cy_planner_passes.specs.Standing.{StandsFor}
 use Rattle.cy_planner_rows.specs.Conditions.{or_true}
-use Rattle.cy_planner_passes.specs.internal.Splits.{IsSplit}
+use Rattle.cy_planner_passes.specs.internal.SplitPredicates.{IsSplit}
 use Rattle.cy_planner_passes.proofs.OuterLaw.{outer_law}
 use Rattle.cy_planner_passes.proofs.outer_filters.outers.outer.Goals as goal
 

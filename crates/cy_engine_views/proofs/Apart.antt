@@ -7,7 +7,7 @@ use Rattle.std.proofs.lemmas.Nat.{and_comm, or_comm, pow_pos}
 use Rattle.std.proofs.lemmas.Nat.Bits.{bit_at_and, bit_at_or, bit_at-zero, same_from_bits}
 use Rattle.cy_trees.specs.Trees.{Name}
 use Rattle.cy_engine_views.specs.declared.masks.bits.Bits.{Bits}
-use Rattle.cy_engine_views.specs.Names.{AreBitsApart, joined_bits, lowest_bits, name_bits, name_sum, place_bit}
+use Rattle.cy_engine_views.specs.NameBits.{AreBitsApart, joined_bits, lowest_bits, name_bits, name_sum, place_bit}
 
 -- ---- one word
 

@@ -10,7 +10,7 @@ use Rattle.cy_network_relevance.specs.internal.Kept.{IsNodeUnchanged, IsRelUncha
 use Rattle.cy_network_relevance.proofs.Untouched.{untouched}
 use Rattle.cy_engine_views.specs.declared.masks.Mask.{Mask}
 use Rattle.cy_engine_views.specs.declared.masks.bits.Bits.{Bits}
-use Rattle.cy_engine_views.specs.Names.{AreBitsApart, joined_bits, no_bits, node_bits, rel_bits}
+use Rattle.cy_engine_views.specs.NameBits.{AreBitsApart, joined_bits, no_bits, node_bits, rel_bits}
 use Rattle.cy_engine_views.specs.Masks.{Covers, with_nodes, with_rels}
 use Rattle.cy_engine_views.specs.internal.Left.{LeavesUnread}
 use Rattle.cy_engine_views.proofs.Apart.{apart_left, apart_right}

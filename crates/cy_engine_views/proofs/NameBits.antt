@@ -8,7 +8,7 @@ use Rattle.cy_trees.specs.Trees.{Name}
 use Rattle.cy_graph.specs.declared.nodes.Node.{Node}
 use Rattle.cy_graph.specs.declared.nodes.Rel.{Rel}
 use Rattle.cy_engine_views.specs.declared.masks.bits.Bits.{Bits}
-use Rattle.cy_engine_views.specs.Names.{AreBitsApart, joined_bits, lowest_bits, name_bits, no_bits, node_bits, place_bit, rel_bits, with_names}
+use Rattle.cy_engine_views.specs.NameBits.{AreBitsApart, joined_bits, lowest_bits, name_bits, no_bits, node_bits, place_bit, rel_bits, with_names}
 use Rattle.cy_engine_views.proofs.Apart.{apart_left, apart_right, not_apart_lowest, not_apart_name, turned}
 
 -- a shift gives the bit

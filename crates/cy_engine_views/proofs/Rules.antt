@@ -20,7 +20,7 @@ use Rattle.cy_network_relevance.specs.internal.Kept.{NodeKept, RelKept}
 use Rattle.cy_network_relevance.proofs.Rules.{no_nodes, no_rels, none_of_types, of_another}
 use Rattle.cy_engine_views.specs.declared.masks.Mask.{Mask}
 use Rattle.cy_engine_views.specs.Masks.{joined}
-use Rattle.cy_engine_views.specs.Names.{AreBitsApart, lowest_bits, no_bits, node_bits, rel_bits}
+use Rattle.cy_engine_views.specs.NameBits.{AreBitsApart, lowest_bits, no_bits, node_bits, rel_bits}
 use Rattle.cy_engine_views.specs.internal.Labelled.{LacksWithout}
 use Rattle.cy_engine_views.specs.internal.Left.{IsLimited, IsReadOf, IsWithin, LeavesUnread, MissesNode, MissesRel, label_mask, rels_mask}
 use Rattle.cy_engine_views.proofs.Apart.{left_apart, right_apart}

@@ -4,7 +4,7 @@ use Rattle.cy_graph.specs.declared.nodes.Node.{Node}
 use Rattle.cy_graph.specs.declared.nodes.Rel.{Rel}
 use Rattle.cy_graph.specs.Graph.{State, node_at, rel_at}
 use Rattle.cy_engine_views.specs.declared.masks.bits.Bits.{Bits}
-use Rattle.cy_engine_views.specs.Names.{joined_bits, node_bits, rel_bits}
+use Rattle.cy_engine_views.specs.NameBits.{joined_bits, node_bits, rel_bits}
 use Rattle.cy_engine_views.specs.Masks.{with_nodes, with_rels}
 
 -- the bits of those that are left, and of the next one

@@ -1,4 +1,4 @@
-pub mod Names
+pub mod NameBits
 pub mod Masks
 pub mod HeldViews
 pub mod RegisteredViews

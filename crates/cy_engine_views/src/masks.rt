@@ -4,7 +4,7 @@ mod attributes;
 mod bits;
 mod conditions;
 mod limits;
-mod names;
+mod name_bits;
 mod plans;
 mod touched;
 

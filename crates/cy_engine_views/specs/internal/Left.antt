@@ -7,7 +7,7 @@ use Rattle.cy_planner_algebra.specs.declared.operators.Attribute.{Attribute}
 use Rattle.cy_planner_algebra.specs.Plans.{Plan}
 use Rattle.cy_network_sources.specs.Scans.{scan_column}
 use Rattle.cy_network_relevance.specs.internal.Kept.{IsNodeUnchanged, IsRelUnchanged, NodeAbsent, NodeKeeps, RelAbsent, RelKeeps}
-use Rattle.cy_engine_views.specs.Names.{AreBitsApart, lowest_bits, name_bits, no_bits, node_bits, rel_bits, with_names}
+use Rattle.cy_engine_views.specs.NameBits.{AreBitsApart, lowest_bits, name_bits, no_bits, node_bits, rel_bits, with_names}
 use Rattle.cy_engine_views.specs.declared.masks.bits.Bits.{Bits}
 use Rattle.cy_engine_views.specs.declared.masks.Mask.{Mask}
 

@@ -1,7 +1,7 @@
 //! Bits of two words.
 
 ghost use Rattle.std.specs.Prelude.{◌≡◌, false};
-ghost use Rattle.cy_engine_views.specs.Names.{AreBitsApart, joined_bits};
+ghost use Rattle.cy_engine_views.specs.NameBits.{AreBitsApart, joined_bits};
 
 /// Some bits of two words.
 #[derive(Clone, Copy, Debug, PartialEq, Eq)]

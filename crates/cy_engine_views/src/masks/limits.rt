@@ -8,7 +8,7 @@ ghost use Rattle.cy_engine_views.specs.internal.Left.{IsLimited};
 use crate::masks::Mask;
 use crate::masks::bits::{LOWEST, NONE};
 use crate::masks::conditions::{keeps_first, label_asked};
-use crate::masks::names::{name_bits, with_names};
+use crate::masks::name_bits::{name_bits, with_names};
 use cy_planner_algebra::Operator;
 use cy_values::Text;
 

@@ -2,10 +2,10 @@
 
 ghost use Rattle.std.specs.Prelude.{◌≡◌};
 ghost use Rattle.cy_engine_views.specs.Masks.{with_nodes, with_rels};
-ghost use Rattle.cy_engine_views.specs.Names.{no_bits};
+ghost use Rattle.cy_engine_views.specs.NameBits.{no_bits};
 
 use crate::masks::bits::{Bits, NONE};
-use crate::masks::names::{node_bits, rel_bits};
+use crate::masks::name_bits::{node_bits, rel_bits};
 use cy_index::Sight;
 use cy_network_touches::GraphChange;
 use cy_values::{NodeId, RelId};

@@ -1,6 +1,6 @@
 use Rattle.std.proofs.Common.{refl, sym, subst}
 use Rattle.cy_engine_views.specs.declared.masks.Mask.{Mask}
-use Rattle.cy_engine_views.specs.Names.{lowest_bits, no_bits}
+use Rattle.cy_engine_views.specs.NameBits.{lowest_bits, no_bits}
 use Rattle.cy_engine_views.specs.internal.Left.{IsReadOf}
 use Rattle.cy_engine_views.proofs.Rules.{read_labels, read_property, read_type}
 use Rattle.cy_engine_views.proofs.masks.attributes.attribute_mask.Goals as goal

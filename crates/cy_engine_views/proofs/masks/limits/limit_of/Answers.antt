@@ -8,7 +8,7 @@ use Rattle.cy_planner_algebra.specs.Plans.{Plan}
 use Rattle.cy_planner_algebra.specs.PlanModels.{output_of, plan_of, plan_step}
 use Rattle.cy_network_sources.specs.Scans.{kept_at}
 use Rattle.cy_engine_views.specs.declared.masks.Mask.{Mask}
-use Rattle.cy_engine_views.specs.Names.{lowest_bits, no_bits}
+use Rattle.cy_engine_views.specs.NameBits.{lowest_bits, no_bits}
 use Rattle.cy_engine_views.specs.internal.Labelled.{LacksWithout}
 use Rattle.cy_engine_views.specs.internal.Left.{IsLimited, label_mask, rels_mask}
 use Rattle.cy_engine_views.proofs.Rules.{limited_filter, limited_label, limited_lookup, limited_nodes, limited_project, limited_rels}

@@ -8,7 +8,7 @@ use Rattle.cy_planner_algebra.specs.Plans as plan
 use Rattle.cy_planner_algebra.specs.Plans.{Plan}
 use Rattle.cy_planner_algebra.specs.PlanModels.{output_of, plan_of, plan_step}
 use Rattle.cy_engine_views.specs.declared.masks.Mask.{Mask}
-use Rattle.cy_engine_views.specs.Names.{lowest_bits, no_bits}
+use Rattle.cy_engine_views.specs.NameBits.{lowest_bits, no_bits}
 use Rattle.cy_engine_views.specs.internal.Left.{IsLimited, LeavesUnread, rels_mask}
 use Rattle.cy_engine_views.proofs.Rules.{limited_nodes, limited_rels, unread_nodes, unread_rels}
 use Rattle.cy_engine_views.proofs.Walk.{Leads, ends_filter, ends_here, ends_lookup, leads_different, leads_distinct, leads_filter, leads_join, leads_lookup, leads_outer, leads_project, leads_semi, leads_union}

@@ -3,7 +3,7 @@ use Rattle.std.specs.Option.{option_copied}
 use Rattle.cy_graph.specs.Graph.{Versions, node_at}
 use Rattle.cy_index.specs.Index.{SightState}
 use Rattle.cy_engine_views.specs.declared.masks.bits.Bits.{Bits}
-use Rattle.cy_engine_views.specs.Names.{joined_bits, node_bits, no_bits}
+use Rattle.cy_engine_views.specs.NameBits.{joined_bits, node_bits, no_bits}
 use Rattle.cy_engine_views.specs.Masks.{with_nodes}
 use Rattle.cy_engine_views.proofs.TouchedBits.{next_node}
 use Rattle.cy_engine_views.proofs.masks.touched.touched_nodes.Goals as goal

@@ -1,6 +1,6 @@
 use Rattle.std.proofs.Common.{◌≡◌}
 use Rattle.cy_engine_views.specs.Masks.{with_nodes}
-use Rattle.cy_engine_views.specs.Names.{no_bits}
+use Rattle.cy_engine_views.specs.NameBits.{no_bits}
 use Rattle.cy_engine_views.proofs.masks.touched.touched_nodes.Given as goal
 
 -- what is left settles the bits

@@ -1,6 +1,6 @@
 use Rattle.std.proofs.Common.{◌≡◌, ◌<◌, drop}
-use Rattle.cy_engine_views.specs.Names as spec
-use Rattle.cy_engine_views.proofs.masks.names.name_sum.Given as goal
+use Rattle.cy_engine_views.specs.NameBits as spec
+use Rattle.cy_engine_views.proofs.masks.name_bits.name_sum.Given as goal
 
 -- the bytes that are left settle the sum
 abbrev pub invariant-loop-byte : goal.invariant-loop-byte

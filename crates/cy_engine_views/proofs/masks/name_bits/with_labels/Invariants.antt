@@ -1,6 +1,6 @@
 use Rattle.std.proofs.Common.{◌≡◌, drop, map}
-use Rattle.cy_engine_views.specs.Names as spec
-use Rattle.cy_engine_views.proofs.masks.names.with_labels.Given as goal
+use Rattle.cy_engine_views.specs.NameBits as spec
+use Rattle.cy_engine_views.proofs.masks.name_bits.with_labels.Given as goal
 
 -- the labels that are left settle the bits
 abbrev pub invariant-loop-label : goal.invariant-loop-label

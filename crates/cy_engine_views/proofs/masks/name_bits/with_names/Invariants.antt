@@ -1,6 +1,6 @@
 use Rattle.std.proofs.Common.{◌≡◌, drop}
-use Rattle.cy_engine_views.specs.Names as spec
-use Rattle.cy_engine_views.proofs.masks.names.with_names.Given as goal
+use Rattle.cy_engine_views.specs.NameBits as spec
+use Rattle.cy_engine_views.proofs.masks.name_bits.with_names.Given as goal
 
 -- the names that are left settle the bits
 abbrev pub invariant-loop-name : goal.invariant-loop-name

@@ -2,7 +2,7 @@
 
 ghost use Rattle.std.specs.Prelude.{◌≡◌, ◌<◌, map};
 ghost use Rattle.std.specs.Option.{option_copied};
-ghost use Rattle.cy_engine_views.specs.Names as spec;
+ghost use Rattle.cy_engine_views.specs.NameBits as spec;
 
 use crate::masks::bits::{Bits, LOWEST, NONE};
 use cy_graph::{Node, Rel};

@@ -7,7 +7,7 @@ pub mod TrailLemmas
 pub mod PairRows
 pub mod WholePlans
 pub mod CodeLemmas
-pub mod Predicates
+pub mod PredicateLemmas
 pub mod JoinedParts
 pub mod LookupLemmas
 pub mod Extended

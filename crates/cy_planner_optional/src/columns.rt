@@ -1,4 +1,4 @@
-//! The columns that MATCH keeps: those of the row before it, and those of the places of its new variables.
+//! The columns that an OPTIONAL MATCH keeps: those of the row before it, and those of the places of its new variables.
 
 ghost use Rattle.std.specs.Prelude.{◌≡◌, ◌+◌, ◌≤◌, IfOk, OnOk, length, map};
 ghost use Rattle.std.specs.List.{range_with_len};

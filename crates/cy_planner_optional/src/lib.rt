@@ -2,22 +2,22 @@
 //! rows before it, by the values that its maps ask for in columns after these.
 #![tactic(auto)]
 
-mod assigned;
 mod columns;
-mod conditions;
 mod joining;
 mod lookup_lists;
 mod lookups;
+mod optional;
 mod paths;
 mod place_keys;
+mod predicates;
 mod trails;
 mod values;
 
-pub use assigned::{optional_rows, own_table};
 pub use joining::outer_rows;
 pub use lookups::right_lookups;
-pub use paths::assigned::assigned_rows;
+pub use optional::{optional_rows, own_table};
 pub use paths::conditions::other_count;
-pub use paths::unassigned::unassigned_rows;
+pub use paths::met::assigned_rows;
+pub use paths::unmet::unassigned_rows;
 pub use place_keys::keys;
 pub use values::{open_values, with_values};

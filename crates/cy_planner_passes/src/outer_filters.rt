@@ -19,21 +19,21 @@ use std::alloc::Global;
 
 /// What stands above the left one of two inputs: how they go together, the right one, and the layers on that.
 #[derive(Drop)]
-pub(crate) struct Above {
+pub(crate) struct OuterAbove {
     joint: Joint,
     right: Plan,
     layers: Vec<Layer>,
 }
 
 /// A plan with what stands above it, the uppermost first.
-fn put_over(alloc: Global, base: Plan, above: Vec<Above>) -> Result<Plan, Fault>
-    requires { IsWellFormed (spec.put_over above.items (plan_of base)) }
-    ensures { IfOk result (λ p. StandsFor (spec.put_over above.items (plan_of base)) (plan_of p)) }
+fn put_outer_over(alloc: Global, base: Plan, above: Vec<OuterAbove>) -> Result<Plan, Fault>
+    requires { IsWellFormed (spec.put_outer_over above.items (plan_of base)) }
+    ensures { IfOk result (λ p. StandsFor (spec.put_outer_over above.items (plan_of base)) (plan_of p)) }
 {
     let mut above = above;
     let mut plan = base;
     while let Some(
-        Above {
+        OuterAbove {
             joint,
             right,
             layers,
@@ -66,12 +66,12 @@ fn lowered(alloc: Global, part: Operator) -> Result<Plan, Fault>
         match open_operator(base) {
             Part::Leaf(leaf) => {
                 let plan = layered(alloc, leaf, layers)?;
-                return put_over(alloc, plan, above);
+                return put_outer_over(alloc, plan, above);
             }
             Part::Both(joint, left, right) => {
                 each_meant(&joint, &left, &right);
                 let right = lowered(alloc, right)?;
-                above.push(Above {
+                above.push(OuterAbove {
                     joint,
                     right,
                     layers,

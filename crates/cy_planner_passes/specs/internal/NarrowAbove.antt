@@ -1,4 +1,4 @@
--- What stands above an operator, the left one of two that go together. (own)
+-- What stands above an operator whose columns are narrowed: layers, and right inputs with how they go together with it. (own)
 use Rattle.std.specs.Prelude.{List, [], ◌∷◌}
 use Rattle.cy_planner_algebra.specs.Plans.{Plan}
 use Rattle.cy_planner_algebra.specs.WellFormed.{IsWellFormed}

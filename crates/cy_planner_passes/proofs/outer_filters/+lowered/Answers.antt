@@ -9,8 +9,8 @@ use Rattle.cy_planner_rewriting.specs.Rewritten.{IsRewritten}
 use Rattle.cy_planner_rewriting.specs.declared.layers.Layer.{Layer}
 use Rattle.cy_planner_rewriting.proofs.Congruent.{rewritten_again}
 use Rattle.cy_planner_passes.specs.Standing.{StandsFor}
-use Rattle.cy_planner_passes.specs.declared.outer_filters.Above.{Above}
-use Rattle.cy_planner_passes.specs.internal.OuterAbove.{StandsBelow, put_over}
+use Rattle.cy_planner_passes.specs.declared.outer_filters.OuterAbove.{OuterAbove}
+use Rattle.cy_planner_passes.specs.internal.OuterAbove.{StandsBelowOuters, put_outer_over}
 use Rattle.cy_planner_rewriting.specs.Opened.{together}
 use Rattle.cy_planner_passes.proofs.Congruent.{on_graphs, stands_again}
 use Rattle.cy_planner_passes.proofs.Together.{no_layer, well_base, well_sides}
@@ -19,7 +19,7 @@ use Rattle.cy_planner_passes.proofs.outer_filters.+lowered.Goals as goal
 
 pub loop-above-init : goal.loop-above-init
 loop-above-init t c = (
-  subst (λ (parts : List Above). StandsBelow (plan_of c.args.part) parts (plan_of c.args.part)) (sym c.new-above.ensures.items) (stands_alone (plan_of c.args.part) c.requires),
+  subst (λ (parts : List OuterAbove). StandsBelowOuters (plan_of c.args.part) parts (plan_of c.args.part)) (sym c.new-above.ensures.items) (stands_alone (plan_of c.args.part) c.requires),
   omega arith,
 )
 
@@ -42,8 +42,8 @@ layered-requires t c =
     let opened : plan_of c.in_ok-layers.field-0.base ≡ plan_of c.in-Leaf.leaf = rw c.in-Leaf.is at c.open_operator.ensures in
     (subst (λ (q : Plan). IsRewritten part (layered ls q)) opened c.in_ok-layers.ensures.same).well_formed c.loop-above.invariant.0.good
 
-pub put_over-requires : goal.put_over-requires
-put_over-requires t c =
+pub put_outer_over-requires : goal.put_outer_over-requires
+put_outer_over-requires t c =
     let part : Plan = plan_of c.loop-above.part in
     let ls : List Layer = c.in_ok-layers.field-0.layers.items in
     let leaf : Plan = plan_of c.in-Leaf.leaf in
@@ -61,15 +61,15 @@ returns-in-Leaf t c =
     let made : Plan = plan_of c.in_ok-plan-in-Leaf.plan in
     let opened : plan_of c.in_ok-layers.field-0.base ≡ leaf = rw c.in-Leaf.is at c.open_operator.ensures in
     let before : IsRewritten part (layered ls leaf) = subst (λ (q : Plan). IsRewritten part (layered ls q)) opened c.in_ok-layers.ensures.same in
-    let all : StandsFor whole (put_over c.loop-above.above.items made) = c.loop-above.invariant.0.placed made (on_graphs part made (rewritten_again part (layered ls leaf) made before c.in_ok-plan-in-Leaf.ensures)) in
-    IfOk-weaker c.put_over.result _ _ (λ p is. stands_again whole (put_over c.loop-above.above.items made) (plan_of p) all is) c.put_over.ensures
+    let all : StandsFor whole (put_outer_over c.loop-above.above.items made) = c.loop-above.invariant.0.placed made (on_graphs part made (rewritten_again part (layered ls leaf) made before c.in_ok-plan-in-Leaf.ensures)) in
+    IfOk-weaker c.put_outer_over.result _ _ (λ p is. stands_again whole (put_outer_over c.loop-above.above.items made) (plan_of p) all is) c.put_outer_over.ensures
 
 pub loop-above-preserved : goal.loop-above-preserved
 loop-above-preserved t c =
     let base : Plan = plan_of c.in_ok-layers.field-0.base in
     let left : Plan = plan_of c.in-Both.left in
     let right : Plan = plan_of c.in-Both.right in
-    let a : Above = record { joint = c.in-Both.joint; right = c.in_ok-right-in-Both.right; layers = c.in_ok-layers.field-0.layers } in
+    let a : OuterAbove = record { joint = c.in-Both.joint; right = c.in_ok-right-in-Both.right; layers = c.in_ok-layers.field-0.layers } in
     let both = rw c.in-Both.is at c.open_operator.ensures in
     let opened : base ≡ together c.in-Both.joint left right = both.0 in
     let whole : IsWellFormed base = well_base (plan_of c.loop-above.part) base c.in_ok-layers.field-0.layers.items c.loop-above.invariant.0.good c.in_ok-layers.ensures.same in

@@ -4,7 +4,6 @@ use Rattle.cy_trees.specs.TreeModels.{expression_of}
 use Rattle.cy_planner_algebra.specs.Plans.{Plan}
 use Rattle.cy_planner_algebra.specs.WellFormed.{IsWellFormed}
 use Rattle.cy_planner_rewriting.specs.declared.layers.Layer.{Layer}
-use Rattle.cy_planner_rewriting.specs.internal.Layers.{over_layer}
 use Rattle.cy_planner_rewriting.specs.Rewritten.{IsRewritten}
 use Rattle.cy_planner_rewriting.proofs.Congruent.{equal_plans, over_join, over_outer, over_semi, over_union, rewritten_again, same_plan}
 use Rattle.cy_planner_rewriting.proofs.Layering.{over_any, well_below}
@@ -15,7 +14,7 @@ use Rattle.cy_planner_rewriting.specs.declared.layers.Joint.{Joint}
 use Rattle.cy_planner_rewriting.specs.declared.layers.Joint.TheVariants as joint
 use Rattle.cy_planner_passes.specs.internal.NarrowAbove.{StandsBelow, over_all, over_one}
 use Rattle.cy_planner_passes.specs.internal.Narrows.{restored}
-use Rattle.cy_planner_rewriting.specs.Opened.{together}
+use Rattle.cy_planner_rewriting.specs.Opened.{over_layer, together}
 use Rattle.cy_planner_passes.proofs.Together.{well_sides}
 
 -- ---- two plans in place of two others

@@ -4,7 +4,7 @@ use Rattle.cy_trees.specs.TreeModels.{expression_of}
 use Rattle.cy_planner_algebra.specs.Plans.{Plan}
 use Rattle.cy_planner_algebra.specs.PlanModels.{output_of}
 use Rattle.cy_planner_algebra.specs.WellFormed.{IsWellFormed}
-use Rattle.cy_planner_rewriting.specs.internal.Layers.{IsBase, layered, over_layer}
+use Rattle.cy_planner_rewriting.specs.internal.Layers.{IsBase, layered}
 use Rattle.cy_planner_rewriting.specs.Rewritten.{IsRewritten}
 use Rattle.cy_planner_rewriting.specs.declared.layers.Layer.{Layer}
 use Rattle.cy_planner_rewriting.specs.declared.layers.Layer.TheVariants as layer
@@ -12,7 +12,7 @@ use Rattle.cy_planner_rewriting.proofs.Layering.{layers_over, well_below}
 use Rattle.cy_planner_passes.specs.Standing.{StandsFor}
 use Rattle.cy_planner_rewriting.specs.declared.layers.Joint.{Joint}
 use Rattle.cy_planner_rewriting.specs.declared.layers.Joint.TheVariants as joint
-use Rattle.cy_planner_rewriting.specs.Opened.{together}
+use Rattle.cy_planner_rewriting.specs.Opened.{over_layer, together}
 use Rattle.cy_planner_passes.proofs.Congruent.{on_graphs, over_different, over_distinct, over_filter, over_join, over_lookup, over_outer, over_project, over_semi, over_union, stands_again}
 
 over_any : (l : Layer) (p q : Plan) → StandsFor p q → StandsFor (over_layer l p) (over_layer l q)

@@ -1,15 +1,24 @@
--- What the operators of plans are. (own)
-use Rattle.std.specs.Prelude.{◌≡◌, ◌<◌}
+-- What the operators of plans are, with the layers and the joints that they are made of. (own)
+use Rattle.std.specs.Prelude.{◌≡◌, ◌<◌, map}
 use Rattle.cy_trees.specs.TreeModels.{expression_of}
 use Rattle.cy_planner_algebra.specs.declared.operators.Operator.{Operator, size-Operator}
 use Rattle.cy_planner_algebra.specs.Plans as plan
 use Rattle.cy_planner_algebra.specs.Plans.{Plan}
-use Rattle.cy_planner_algebra.specs.PlanModels.{plan_of}
-use Rattle.cy_planner_rewriting.specs.internal.Layers.{over_layer}
+use Rattle.cy_planner_algebra.specs.PlanModels.{output_of, plan_of}
 use Rattle.cy_planner_rewriting.specs.declared.layers.Joint.{Joint}
 use Rattle.cy_planner_rewriting.specs.declared.layers.Joint.TheVariants as joint
+use Rattle.cy_planner_rewriting.specs.declared.layers.Layer.{Layer}
+use Rattle.cy_planner_rewriting.specs.declared.layers.Layer.TheVariants as layer
 use Rattle.cy_planner_rewriting.specs.declared.layers.Part.{Part}
 use Rattle.cy_planner_rewriting.specs.declared.layers.Part.TheVariants as opened
+
+-- a layer over a plan
+abbrev pub over_layer : Layer → Plan → Plan
+over_layer (layer.Lookup column attribute) p = plan.lookup p column attribute
+over_layer (layer.Filter test) p = plan.filter p (expression_of test)
+over_layer (layer.AllDifferent columns) p = plan.all_different p columns.items
+over_layer (layer.Project outputs) p = plan.project p (map output_of outputs.items)
+over_layer layer.Distinct p = plan.distinct p
 
 -- two plans together
 abbrev pub together : Joint → Plan → Plan → Plan

@@ -313,7 +313,7 @@ fn put_projection(
     below: &Operator,
 ) -> Result<(), Fault>
     requires { IsWellFormed (plan_of below.now) }
-    ensures { OnOk result (spec.GoesOn layers.old.items pending.old.items (spec.over_layer (layer.Project outputs) (plan_of below.now)) layers.new.items pending.new.items (plan_of below.now)) }
+    ensures { OnOk result (spec.GoesOn layers.old.items pending.old.items (opened.over_layer (layer.Project outputs) (plan_of below.now)) layers.new.items pending.new.items (plan_of below.now)) }
 {
     if pending.is_empty() {
         return add_projection(alloc, layers, outputs);
@@ -341,7 +341,7 @@ fn put(
     below: &Operator,
 ) -> Result<(), Fault>
     requires { IsWellFormed (plan_of below.now) }
-    ensures { OnOk result (spec.GoesOn layers.old.items pending.old.items (spec.over_layer layer (plan_of below.now)) layers.new.items pending.new.items (plan_of below.now)) }
+    ensures { OnOk result (spec.GoesOn layers.old.items pending.old.items (opened.over_layer layer (plan_of below.now)) layers.new.items pending.new.items (plan_of below.now)) }
 {
     match layer {
         Layer::Lookup(column, attribute) => {

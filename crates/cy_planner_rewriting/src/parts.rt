@@ -5,6 +5,7 @@ ghost use Rattle.cy_planner_algebra.specs.Plans as plan;
 ghost use Rattle.cy_planner_algebra.specs.PlanModels.{output_of, plan_of};
 ghost use Rattle.cy_planner_algebra.specs.WellFormed.{IsWellFormed};
 ghost use Rattle.cy_planner_rows.specs.internal.Lookups.{over};
+ghost use Rattle.cy_planner_rewriting.specs.Opened.{over_layer};
 ghost use Rattle.cy_planner_rewriting.specs.Rewritten.{IsRewritten};
 ghost use Rattle.cy_planner_rewriting.specs.internal.Layers as spec;
 
@@ -29,8 +30,8 @@ fn projected(alloc: Global, below: Plan, outputs: Vec<Output>) -> Result<Plan, F
 
 /// A layer over a plan.
 fn with_layer(alloc: Global, below: Plan, layer: Layer) -> Result<Plan, Fault>
-    requires { IsWellFormed (spec.over_layer layer (plan_of below)) }
-    ensures { IfOk result (λ p. IsRewritten (spec.over_layer layer (plan_of below)) (plan_of p)) }
+    requires { IsWellFormed (over_layer layer (plan_of below)) }
+    ensures { IfOk result (λ p. IsRewritten (over_layer layer (plan_of below)) (plan_of p)) }
 {
     match layer {
         Layer::Lookup(column, attribute) => below.lookup(alloc, column, attribute),

@@ -2,12 +2,11 @@
 use Rattle.std.specs.Prelude.{List, [], ◌∷◌}
 use Rattle.cy_planner_algebra.specs.Plans.{Plan}
 use Rattle.cy_planner_algebra.specs.WellFormed.{IsWellFormed}
-use Rattle.cy_planner_rewriting.specs.internal.Layers.{over_layer}
 use Rattle.cy_planner_rewriting.specs.Rewritten.{IsRewritten}
 use Rattle.cy_planner_passes.specs.declared.narrowing.Above.{Above}
 use Rattle.cy_planner_passes.specs.declared.narrowing.Above.TheVariants as above
 use Rattle.cy_planner_passes.specs.internal.Narrows.{restored}
-use Rattle.cy_planner_rewriting.specs.Opened.{together}
+use Rattle.cy_planner_rewriting.specs.Opened.{over_layer, together}
 
 abbrev pub over_one : Above → Plan → Plan
 over_one (above.Layer l) p = over_layer l p

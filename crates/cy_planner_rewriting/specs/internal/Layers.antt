@@ -2,7 +2,6 @@
 use Rattle.std.specs.Prelude.{◌≡◌, ◌<◌, ◌≤◌, List, [], ◌∷◌, map, reverse, None, Option, Some, ⊤}
 use Rattle.std.specs.declared.alloc.Global.{Global}
 use Rattle.std.specs.declared.vec.Vec.{Vec}
-use Rattle.cy_trees.specs.TreeModels.{expression_of}
 use Rattle.cy_planner_algebra.specs.declared.operators.Operator.{Operator, size-Operator}
 use Rattle.cy_planner_algebra.specs.declared.operators.Output.{Output}
 use Rattle.cy_planner_algebra.specs.Plans as plan
@@ -11,19 +10,12 @@ use Rattle.cy_planner_algebra.specs.PlanModels.{output_of, plan_of}
 use Rattle.cy_planner_algebra.specs.WellFormed.{IsWellFormed}
 use Rattle.cy_planner_rows.specs.declared.places.Wanted.{Wanted}
 use Rattle.cy_planner_rows.specs.internal.Lookups.{over}
+use Rattle.cy_planner_rewriting.specs.Opened.{over_layer}
 use Rattle.cy_planner_rewriting.specs.Rewritten.{IsRewritten}
 use Rattle.cy_planner_rewriting.specs.declared.layers.Layer.{Layer}
 use Rattle.cy_planner_rewriting.specs.declared.layers.Layer.TheVariants as layer
 use Rattle.cy_planner_rewriting.specs.declared.layers.Opened.{Opened}
 use Rattle.cy_planner_rewriting.specs.declared.layers.Opened.TheVariants as opened
-
--- a layer over a plan
-abbrev pub over_layer : Layer → Plan → Plan
-over_layer (layer.Lookup column attribute) p = plan.lookup p column attribute
-over_layer (layer.Filter test) p = plan.filter p (expression_of test)
-over_layer (layer.AllDifferent columns) p = plan.all_different p columns.items
-over_layer (layer.Project outputs) p = plan.project p (map output_of outputs.items)
-over_layer layer.Distinct p = plan.distinct p
 
 -- several over a plan, the uppermost first
 abbrev pub layered : List Layer → Plan → Plan

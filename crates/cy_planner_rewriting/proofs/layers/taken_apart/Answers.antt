@@ -5,7 +5,8 @@ use Rattle.cy_planner_algebra.specs.PlanModels.{plan_of}
 use Rattle.cy_planner_algebra.specs.WellFormed.{IsWellFormed}
 use Rattle.cy_planner_rows.specs.declared.places.Wanted.{Wanted}
 use Rattle.cy_planner_rows.specs.internal.Lookups.{over}
-use Rattle.cy_planner_rewriting.specs.internal.Layers.{over_layer, stacked}
+use Rattle.cy_planner_rewriting.specs.Opened.{over_layer}
+use Rattle.cy_planner_rewriting.specs.internal.Layers.{stacked}
 use Rattle.cy_planner_rewriting.specs.Rewritten.{IsRewritten}
 use Rattle.cy_planner_rewriting.proofs.Congruent.{equal_plans}
 use Rattle.cy_planner_rewriting.proofs.Stacking.{next_stack, part_in_stack, well_in_stack, well_under_layer}

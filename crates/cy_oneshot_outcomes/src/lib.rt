@@ -14,7 +14,7 @@ mod outcomes;
 
 pub use certain::{Shape, is_certain_condition, shapes};
 pub use columns::columns_read;
-pub use conditions::{copied_if, selected};
+pub use conditions::copied_if;
 pub use evaluation::{cell_on, truth_on, value_on};
 pub use order::{cell_order, sort_all, sort_once};
 pub use outcomes::{Gathered, smallest};

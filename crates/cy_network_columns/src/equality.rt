@@ -8,7 +8,7 @@ ghost use Rattle.cy_network_columns.specs.Rows.{is_cell, is_row};
 use cy_values::{Cell, Row, row_order_laws};
 
 /// `==` of rows tells whether they are the same: a law, for whoever keeps rows in a hashed set or map.
-pub fn rows_equal()
+pub(crate) fn rows_equal()
     ensures { (x y : List Cell) → ⟦<Row as PartialEq>⟧.eq x y ≡ is_row x y }
 {
     row_order_laws();

@@ -7,6 +7,5 @@ mod equality;
 mod index;
 mod rows;
 
-pub use equality::rows_equal;
 pub use index::HashIndex;
 pub use rows::{Columns, RowRef};

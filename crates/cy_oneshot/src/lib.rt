@@ -11,5 +11,5 @@ mod table;
 mod unwinding;
 
 pub use clauses::{answer, no_table, read_clause, read_clause_before, unit, unite};
-pub use names::{add_names, names_of};
+pub use names::add_names;
 pub use table::Table;

@@ -11,7 +11,7 @@ use cy_values::{Duplicate, Fault, Text};
 use std::alloc::Global;
 
 /// The columns of the items of WITH or RETURN. Fails only when out of memory.
-pub fn names_of(alloc: Global, items: &[Item]) -> Result<Vec<Text>, Fault>
+pub(crate) fn names_of(alloc: Global, items: &[Item]) -> Result<Vec<Text>, Fault>
     ensures { IfOk result (λ names. names.items ≡ map (λ i. i.column) (map item_of items.now)) }
 {
     let mut names = Vec::with_capacity(alloc, items.len())?;

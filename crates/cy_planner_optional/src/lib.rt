@@ -13,7 +13,6 @@ mod predicates;
 mod trails;
 mod values;
 
-pub use joining::outer_rows;
 pub use lookups::right_lookups;
 pub use optional::{optional_rows, own_table};
 pub use paths::conditions::other_count;

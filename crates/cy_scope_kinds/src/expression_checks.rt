@@ -138,7 +138,7 @@ fn check_star(whole: bool, name: &str) -> Result<Kind, ScopeFault>
 
 /// What is known of the kinds of operands.
 #[derive(Clone, Copy)]
-pub struct OperandKinds {
+pub(crate) struct OperandKinds {
     /// Whether each is of a kind that its place takes.
     taken: bool,
     /// Whether each is a flag.

@@ -11,7 +11,7 @@ use crate::scopes::Scope;
 use cy_trees::{Arm, BinaryOperator, Expr, UnaryOperator};
 
 /// The kind of what an operator with one operand gives.
-pub fn unary_kind(operator: UnaryOperator) -> Kind
+pub(crate) fn unary_kind(operator: UnaryOperator) -> Kind
     ensures { result ≡ spec.unary_kind operator }
 {
     match operator {
@@ -21,7 +21,7 @@ pub fn unary_kind(operator: UnaryOperator) -> Kind
 }
 
 /// The kind of what an operator with two operands gives.
-pub fn binary_kind(operator: BinaryOperator) -> Kind
+pub(crate) fn binary_kind(operator: BinaryOperator) -> Kind
     ensures { result ≡ spec.binary_kind operator }
 {
     match operator {
@@ -41,7 +41,7 @@ pub fn binary_kind(operator: BinaryOperator) -> Kind
 }
 
 /// The kind of what a call gives, by whether its operands are all flags.
-pub fn call_kind(function: Option<Function>, flags: bool) -> Kind
+pub(crate) fn call_kind(function: Option<Function>, flags: bool) -> Kind
     ensures { result ≡ spec.call_kind function flags }
 {
     match function {

@@ -42,7 +42,7 @@ impl Kind {
 }
 
 /// A flag where each part is one.
-pub fn flag_if(flags: bool) -> Kind
+pub(crate) fn flag_if(flags: bool) -> Kind
     ensures { result ≡ spec.flag_if flags }
 {
     if flags { Kind::Flag } else { Kind::Value }

@@ -1,2 +1,3 @@
+-- What proofs and the crate's own functions need.
 pub mod Counting
 pub mod Surplus

@@ -1,4 +1,4 @@
--- What proofs alone need.
+-- What proofs and the crate's own functions need.
 pub mod Labelled
 pub mod Left
 pub mod Loops

@@ -1,4 +1,4 @@
--- What proofs alone need.
+-- What proofs and the crate's own functions need.
 pub mod Adjacency
 pub mod BeforeImages
 pub mod Contents

@@ -1,2 +1,2 @@
--- What proofs alone need.
+-- What proofs and the crate's own functions need.
 pub mod Kept

@@ -1,1 +1,2 @@
+-- What proofs and the crate's own functions need.
 pub mod Collected

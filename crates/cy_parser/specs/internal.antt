@@ -1,3 +1,4 @@
+-- What proofs and the crate's own functions need.
 pub mod Reads
 pub mod Nests
 pub mod ReadsOperations

@@ -1,3 +1,4 @@
+-- What proofs and the crate's own functions need.
 pub mod Reader
 pub mod Chains
 pub mod Expressions

@@ -1,4 +1,4 @@
--- What proofs and private functions alone need.
+-- What proofs and the crate's own functions need.
 pub mod Keys
 pub mod Patterns
 pub mod Copies

@@ -1,4 +1,4 @@
--- What private functions and proofs need.
+-- What proofs and the crate's own functions need.
 pub mod Conditions
 pub mod Pushed
 pub mod Sources

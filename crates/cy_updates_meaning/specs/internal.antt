@@ -1,3 +1,3 @@
--- What proofs alone need.
+-- What proofs and the crate's own functions need.
 pub mod Answers
 pub mod Gone

@@ -1,4 +1,5 @@
-//! How a change of rows goes through each operator of a plan: what changes above it when rows change below it.
+//! How a change of rows goes through the operators whose rows are rows below them, or pairs of these: `Filter`, `AllDifferent`, `Distinct`
+//! and `Join`. What changes above them when rows change below them.
 #![tactic(auto)]
 
 mod deltas;

@@ -1,8 +1,10 @@
 """The sessions of examples/: what each line of them is answered."""
+import json
 import re
+from collections import Counter
 from dataclasses import dataclass, field
 from pathlib import Path
-from typing import Iterator, List, Tuple
+from typing import Dict, Iterator, List, Tuple
 
 from checks.program import TOP, Failure, run, shown
 
@@ -14,6 +16,8 @@ OPTIONS = [[], ["--feed"], ["--history=2"]]
 # How an entry and a fault begin.
 ENTRY = '{"added"'
 FAULT = '{"at"'
+# What stands before the query in a line that makes a view: the command, a gap, and a name, which may be quoted.
+BEFORE_QUERY = re.compile(r"\s*:\s*view\s+(?:`(?:[^`]|``)*`|\w+)\s+", re.I)
 
 
 @dataclass
@@ -95,6 +99,51 @@ def test_sessions(program: Path) -> str:
         raise Failure("examples/ has no sessions")
     count = sum(try_file(program, file) for file in files)
     return f"{count} sessions of {len(files)} files as they stand, without their refused lines and without entries"
+
+
+def standing(session: List[Exchange]) -> Iterator[Tuple[Exchange, Dict[str, str]]]:
+    """Each line of a session, with the views that stand after it and their queries."""
+    views: Dict[str, str] = {}
+    for exchange in session:
+        reply = json.loads(exchange.answers[0]) if exchange.answers else {}
+        if {*reply} == {"columns", "tick", "view"}:
+            before = BEFORE_QUERY.match(exchange.line)
+            if not before:
+                raise Failure(f"line {exchange.place} makes a view, and its query wasn't found")
+            views[reply["view"]] = exchange.line[before.end() :]
+        elif {*reply} == {"dropped"}:
+            del views[reply["dropped"]]
+        yield exchange, dict(views)
+
+
+def compare_views(program: Path, options: List[str], session: List[Exchange], what: str) -> int:
+    """Asks after each line for the rows of each view that stands, and sends its query. Fails where the two differ, and returns how often they were compared."""
+    lines, asked = [], []
+    replies = 0
+    for exchange, views in standing(session):
+        lines.append(exchange.line)
+        replies += bool(exchange.answers)
+        for name, query in views.items():
+            quoted = name.replace("`", "``")
+            lines += [f":rows `{quoted}`", query]
+            asked.append((replies, exchange.place, name))
+            replies += 2
+    found = run(program, options, "".join(f"{it}\n" for it in lines).encode()).output.decode(errors="backslashreplace").split("\n")[:-1]
+    for at, place, name in asked:
+        kept, queried = json.loads(found[at]), json.loads(found[at + 1])
+        counted = Counter({json.dumps(row): count for row, count in kept["rows"]})
+        if counted != Counter(json.dumps(row) for row in queried["rows"]):
+            raise Failure(f"{what}, after line {place}: the view {name} has other rows than its query gives")
+    return len(asked)
+
+
+def test_views(program: Path) -> str:
+    count = 0
+    for file in sorted((TOP / "examples").glob("*.session")):
+        options = [f"--history={HISTORY[file.name]}"] if file.name in HISTORY else []
+        for session in read_sessions(file.name, file.read_bytes().decode()):
+            count += compare_views(program, options, session, file.name)
+    return f"{count} times the rows of a view and of its query, after each line of each session"
 
 
 def page_sessions() -> Iterator[Tuple[str, List[Exchange]]]:

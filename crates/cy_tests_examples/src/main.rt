@@ -1,16 +1,13 @@
-//! Runs the sessions of the transcripts again, and reports where what is written is something else, and where a view isn't what
-//! its query gives.
+//! Runs the sessions of the transcripts again, and reports where what is written is something else.
 #![tactic(auto)]
 
 ghost use Rattle.std.specs.Prelude.{◌≤◌};
 
 mod replay;
 mod transcript;
-mod views;
 
 use crate::replay::{Way, difference};
 use crate::transcript::{Session, sessions};
-use crate::views::compared;
 use cy_shell::Settings;
 use std::rt::Files;
 use std::{fs, io};
@@ -73,31 +70,13 @@ fn replay_file<R: Files + Print + AllocGlobal>(
     let text = fs::read_to_string(rt, name)?;
     let sessions = sessions(rt.alloc(), text.as_str())?;
     let mut as_written = 0usize;
-    let mut views = 0usize;
     for session in &sessions {
         if is_as_written(rt, name, session, settings)? {
             as_written = as_written.saturating_add(1);
         }
-        views = views.saturating_add(views_as_queried(rt, name, session)?);
     }
     let count = sessions.len();
-    println!(rt; "{name}: {as_written} of {count} sessions as written, views as queried: {views}")
-}
-
-// How many views a session makes, where each is after each line what its query gives. Else the line is printed.
-fn views_as_queried<R: Print + AllocGlobal>(
-    rt: &R,
-    name: &str,
-    session: &Session,
-) -> io::Result<usize> {
-    let (views, line) = compared(rt.alloc(), session)?;
-    let Some(line) = line else {
-        return Ok(views);
-    };
-    let place = session.place;
-    println!(rt; "{name}: the session at line {place}: a view isn't what its query gives after")?;
-    println!(rt; "{line}")?;
-    Ok(0)
+    println!(rt; "{name}: {as_written} of {count} sessions as written")
 }
 
 // Whether a session is answered as it says in each way. What is written in the first way where it isn't is printed.

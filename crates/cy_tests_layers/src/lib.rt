@@ -1,7 +1,6 @@
 //! What no transcript holds of what stands below views: texts of trees, expressions as deep as they may be, statements on stores whose next
-//! numbers are the last ones, patterns on all small graphs, beside a plain reading of them, which tries each choice of nodes and relationships
-//! for their places, and calls of memories and of a network by itself, over both kinds of memory. Only tests stand here, and worked examples
-//! of the definitions of expressions (`proofs/`).
+//! numbers are the last ones, and calls of memories and of a network by itself, over both kinds of memory. Only tests stand here, and worked
+//! examples of the definitions of expressions (`proofs/`).
 #![tactic(auto)]
 
 #[cfg(test)]
@@ -10,10 +9,6 @@ mod depths;
 mod following;
 #[cfg(test)]
 mod memories;
-#[cfg(test)]
-mod plain_readings;
-#[cfg(test)]
-mod small_graphs;
 #[cfg(test)]
 mod statements;
 #[cfg(test)]

@@ -40,8 +40,8 @@ fn statement_of(alloc: Global, line: &str) -> Result<Checked, Fail> {
     Ok(check(alloc, statement)?)
 }
 
-/// Executes a statement, and gives the number of its fault, or 0.
-pub(crate) fn executed(alloc: Global, store: &mut Store, line: &str) -> Result<u16, Fail>
+// Executes a statement, and gives the number of its fault, or 0.
+fn executed(alloc: Global, store: &mut Store, line: &str) -> Result<u16, Fail>
     requires { IsNone store.old.graph.was }
     ensures { OnOk result (IsNone store.new.graph.was) }
 {
@@ -66,8 +66,8 @@ fn any_updates(queries: &[Query]) -> bool
     false
 }
 
-/// The rows of a query.
-pub(crate) fn answered(alloc: Global, store: &Store, line: &str) -> Result<Vec<Row>, Fail> {
+// The rows of a query.
+fn answered(alloc: Global, store: &Store, line: &str) -> Result<Vec<Row>, Fail> {
     let checked = statement_of(alloc, line)?;
     if any_updates(&checked.statement().queries) {
         return Err(Fail::from("no query"));
@@ -75,8 +75,9 @@ pub(crate) fn answered(alloc: Global, store: &Store, line: &str) -> Result<Vec<R
     Ok(answer(alloc, store, &checked)?.rows)
 }
 
-// Reads the first clause of a query by itself.
-fn expect_first_clause(rt: &impl Abort, alloc: Global, store: &Store) -> Result<(), Fail> {
+// Answers a query, and reads the first clause of one by itself.
+fn expect_reads(rt: &impl Abort, alloc: Global, store: &Store) -> Result<(), Fail> {
+    assert_eq!(rt; answered(alloc, store, "UNWIND [2, 1] AS x RETURN x")?.len(), 2);
     let checked = statement_of(alloc, "OPTIONAL MATCH (n:Z) RETURN n")?;
     let query = checked.statement().queries.first().ok_or("no query")?;
     let clause = query.clauses.first().ok_or("no clause")?;
@@ -96,7 +97,7 @@ fn expect_faults(rt: &impl Abort, alloc: Global, store: &mut Store, cases: &str)
         let code = executed(alloc, store, line)?;
         assert_eq!(rt; wanted.parse::<u16>(), Ok(code), "{line}");
     }
-    expect_first_clause(rt, alloc, store)
+    expect_reads(rt, alloc, store)
 }
 
 // Statements have these faults on a store with these next numbers.

@@ -77,7 +77,10 @@ fn answered(alloc: Global, store: &Store, line: &str) -> Result<Vec<Row>, Fail> 
 
 // Answers a query, and reads the first clause of one by itself.
 fn expect_reads(rt: &impl Abort, alloc: Global, store: &Store) -> Result<(), Fail> {
-    assert_eq!(rt; answered(alloc, store, "UNWIND [2, 1] AS x RETURN x")?.len(), 2);
+    assert_eq!(rt;
+        answered(alloc, store, "UNWIND [2, 1] AS x RETURN x")?.len(),
+        2
+    );
     let checked = statement_of(alloc, "OPTIONAL MATCH (n:Z) RETURN n")?;
     let query = checked.statement().queries.first().ok_or("no query")?;
     let clause = query.clauses.first().ok_or("no clause")?;

@@ -2,7 +2,8 @@
 
 use crate::LINES;
 use crate::lines::written;
-use std::alloc::AllocError;
+use std::alloc::{AllocError, Global};
+use std::process::Abort;
 use std::str;
 use std::test::Fail;
 
@@ -59,19 +60,19 @@ fn is_refused(answer: &str) -> bool {
     answer.starts_with("{\"at\":") && !wants_memory
 }
 
-// All beginnings of a line come before it. Each of them is refused, and the line is answered as if none had been sent.
-#[test]
-fn answers_beginnings_of_lines(rt: HostRuntime) -> Result<(), Fail> {
-    let alloc = rt.alloc();
-    let mut input = String::new(alloc);
+// Adds each line of the script, after its beginnings, and answers how many these are.
+fn add_lines(alloc: Global, input: &mut String) -> Result<Vec<usize>, AllocError> {
     let mut counts = Vec::new(alloc);
     for line in LINES {
-        counts.push(add_beginnings(&mut input, line)?)?;
+        counts.push(add_beginnings(input, line)?)?;
         input.push_str(line)?;
         input.push('\n')?;
     }
-    let sink = written(&rt, alloc, input.as_bytes())?;
-    let output = str::from_utf8(sink.as_slice()).ok().ok_or("a text")?;
+    Ok(counts)
+}
+
+// As many faults come before each answer to a line of the script.
+fn expect_faults(rt: &impl Abort, counts: &[usize], output: &str) -> Result<(), Fail> {
     let mut answers = output.lines();
     for (count, wanted) in counts.iter().zip(ANSWERS.lines()) {
         for number in 0..*count {
@@ -83,4 +84,14 @@ fn answers_beginnings_of_lines(rt: HostRuntime) -> Result<(), Fail> {
     }
     assert!(rt; answers.next().is_none() && counts.len() == ANSWERS.lines().count());
     Ok(())
+}
+
+// All beginnings of a line come before it. Each of them is refused, and the line is answered as if none had been sent.
+#[test]
+fn answers_beginnings_of_lines(rt: HostRuntime) -> Result<(), Fail> {
+    let mut input = String::new(rt.alloc());
+    let counts = add_lines(rt.alloc(), &mut input)?;
+    let sink = written(&rt, rt.alloc(), input.as_bytes())?;
+    let output = str::from_utf8(sink.as_slice()).ok().ok_or("a text")?;
+    expect_faults(&rt, &counts, output)
 }

@@ -160,6 +160,11 @@ fn steps_among(rt: &impl Abort, alloc: Global, others: usize) -> Result<u64, Fai
     let input = text_of(alloc, (AMONG, "CREATE (:A)\n", others, LAST))?;
     let sink = written(rt, alloc, input.as_bytes())?;
     let output = str::from_utf8(sink.as_slice()).ok().ok_or("a text")?;
+    steps_in(rt, output)
+}
+
+// The steps that answers to `:steps` have, all the same.
+fn steps_in(rt: &impl Abort, output: &str) -> Result<u64, Fail> {
     let mut steps = None;
     for answer in output.lines() {
         if let Some(rest) = answer.strip_prefix("{\"steps\":[[\"v\",") {

@@ -38,10 +38,13 @@ fn adds_bags(rt: HostRuntime) -> Result<(), Fail> {
 
 // Whether the only row is that of a node, once.
 fn is_alone(rows: &[(Row, u64)], number: u64) -> bool {
-    match rows {
-        [(row, 1)] => matches!(row.as_slice(), [Cell::Node(NodeId(held))] if *held == number),
-        _ => false,
+    for (row, count) in rows {
+        let is_node = matches!(row.as_slice(), [Cell::Node(NodeId(held))] if *held == number);
+        if !is_node || *count != 1 {
+            return false;
+        }
     }
+    rows.len() == 1
 }
 
 #[test]

@@ -7,9 +7,6 @@ ghost use Rattle.cy_shell.specs.PrintedHeadline.{AnswersAll, AnswersRead, Answer
 ghost use Rattle.cy_shell.specs.Runs.{StopsReading, StopsWriting, WritesAll, beginning};
 ghost use Rattle.cypher_live.specs.internal.Requests.{HasHistory};
 
-#[cfg(test)]
-mod tests;
-
 use cy_shell::{
     ArgFault, InputSource, Invocation, OutputSink, Settings, Sink, Source, run, settings,
 };

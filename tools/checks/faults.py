@@ -115,19 +115,3 @@ def test_interrupted_moves(program: Path) -> str:
                 ended = run_with(faults, program, given, ["--feed"], **settings)
                 expect(ended, Ended(3, b"", b""), f"the first {name.lower()} is interrupted {times} times")
     return f"{tried} runs in which a read or a write is interrupted: the same output; at {MOST_INTERRUPTIONS} times it has failed"
-
-
-def test_no_memory(program: Path) -> str:
-    """Where a growth at the start is refused nothing is written, and the status is 4; after a refusal later it is 0."""
-    given = session()
-    with library() as faults:
-        total = count(faults, program, given, [])["growths"]
-        at_start = 0
-        for number in range(1, total + 1):
-            ended = run_with(faults, program, given, [], FAULT_GROWTH=str(number))
-            at_start += ended == Ended(4, b"", b"")
-            if ended.status not in (0, 4) or ended.status == 4 and ended.output or ended.errors:
-                raise Failure(f"growth {number} of {total} refused: {ended.words()}")
-    if at_start == 0:
-        raise Failure("no growth is needed at the start")
-    return f"each of {total} growths refused: {at_start} at the start, with status 4 and no output, all others with status 0"

@@ -13,7 +13,7 @@ use std::rt::Files;
 use std::{fs, io};
 
 /// The transcripts, and whether entries follow the answers.
-const TRANSCRIPTS: [(&str, bool); 31] = [
+const TRANSCRIPTS: [(&str, bool); 32] = [
     ("start.session", true),
     ("commands.session", true),
     ("dashboard.session", true),
@@ -45,6 +45,7 @@ const TRANSCRIPTS: [(&str, bool); 31] = [
     ("feeds.session", true),
     ("limits.session", false),
     ("beginnings.session", false),
+    ("script.session", false),
 ];
 
 fn main(rt: HostRuntime) -> io::Result<()> {

@@ -1,9 +1,9 @@
 //! Sessions are run again, and what is written is compared with what stands in the transcript.
 
-ghost use Rattle.std.specs.Prelude.{◌≤◌};
+ghost use Rattle.std.specs.Prelude.{◌≡◌, ◌≤◌, false};
 
 use crate::transcript::{Exchange, Session};
-use cy_shell::{MemorySource, OutputSink, Settings, run};
+use cy_shell::{MemorySource, OutputSink, Settings, Sink, Source, run};
 use std::alloc::{AllocError, Global};
 use std::io::{self, ErrorKind};
 use std::str;
@@ -87,9 +87,24 @@ fn written(alloc: Global, input: &str, settings: Settings) -> io::Result<String>
     let mut output = Vec::new(alloc);
     let mut source = MemorySource::new(input.as_bytes());
     let mut sink = OutputSink::new(&mut output);
-    run(alloc, &mut source, &mut sink, settings).map_err(|_| io::Error::from(ErrorKind::Other))?;
+    answer(alloc, &mut source, &mut sink, settings)?;
     match str::from_utf8(output.as_slice()) {
         Ok(text) => Ok(String::from_str(alloc, text)?),
         Err(_) => Err(io::Error::from(ErrorKind::InvalidData)),
     }
+}
+
+// Answers the lines of a source on a sink. This says nothing of what is written, so that the proof of what owns the two needn't carry it.
+fn answer<R: Source, W: Sink>(
+    alloc: Global,
+    source: &mut R,
+    sink: &mut W,
+    settings: Settings,
+) -> io::Result<()>
+    requires readable { R.has_failed source.old ≡ false }
+    requires writable { W.has_failed sink.old ≡ false }
+    requires from { 1 ≤ settings.history }
+    requires to { settings.history ≤ 4096 }
+{
+    run(alloc, source, sink, settings).map_err(|_| io::Error::from(ErrorKind::Other))
 }

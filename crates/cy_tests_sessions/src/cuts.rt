@@ -1,13 +1,29 @@
-//! Lines that are cut short: each beginning of each line of the script, before the line.
+//! Lines that are cut short: each beginning of each line of a script, before the line.
 
-use crate::LINES;
 use crate::lines::written;
 use std::alloc::{AllocError, Global};
 use std::process::Abort;
 use std::str;
 use std::test::Fail;
 
-// What is answered to each line of the script.
+// The script. It is also a session of its own, script.session.
+const LINES: [&str; 13] = [
+    ":index A k",
+    ":view v MATCH (a:A) OPTIONAL MATCH (a)-[:T]->(b:B) RETURN a.k, b",
+    ":view d MATCH (a)-[r*1..2]->(b) RETURN DISTINCT b",
+    "CREATE (:A {k: 1})-[:T]->(:B), (:A {k: [1, 'x']})",
+    "MATCH (a:A) CREATE (a)-[:T]->(:B {t: 'some longer text'})",
+    "MATCH (a:A {k: 1}) SET a.k = 2, a:C REMOVE a:A",
+    "MATCH (n) RETURN labels(n) AS l, count(*) AS c",
+    "MATCH (b:B) DELETE b",
+    "MATCH (a:A) DETACH DELETE a",
+    ":since v 2",
+    ":rows d",
+    ":views",
+    ":drop v",
+];
+
+// What is answered to each line of it.
 const ANSWERS: &str = r#"{"index":["A","k"]}
 {"columns":["a.k","b"],"tick":1,"view":"v"}
 {"columns":["b"],"tick":2,"view":"d"}

@@ -1,7 +1,7 @@
 //! Sessions that no transcript holds: invalid UTF-8, control characters, lines and rows at their limits, and steps.
 
-use crate::streams::{GOOD, expect_run};
-use cy_shell::{MemorySink, MemorySource, Settings, run};
+use crate::streams::{GOOD, answer, expect_run};
+use cy_shell::{MemorySink, MemorySource, Settings};
 use std::alloc::{AllocError, Global};
 use std::process::Abort;
 use std::str;
@@ -21,7 +21,7 @@ pub(crate) fn written(
         history: 64,
         feed: false,
     };
-    let outcome = run(alloc, &mut source, &mut sink, settings);
+    let outcome = answer(alloc, &mut source, &mut sink, settings);
     assert!(rt; outcome.is_ok());
     Ok(sink)
 }

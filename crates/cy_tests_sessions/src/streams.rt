@@ -1,6 +1,8 @@
 //! Runs over streams that move a byte at a time. A call may fail, once, or be interrupted.
 
-use cy_shell::{InputSource, OutputSink, RunFault, Settings, run};
+ghost use Rattle.std.specs.Prelude.{◌≡◌, ◌≤◌, false};
+
+use cy_shell::{InputSource, OutputSink, RunFault, Settings, Sink, Source, run};
 use std::alloc::Global;
 use std::io::{self, Error, ErrorKind};
 use std::process::Abort;
@@ -27,10 +29,25 @@ pub(crate) fn expect_run(
         history: 64,
         feed: true,
     };
-    let ended = run(alloc, &mut source, &mut sink, settings);
+    let ended = answer(alloc, &mut source, &mut sink, settings);
     let count = writer.written.len();
     assert!(rt; ended == outcome, "{count} bytes");
     assert!(rt; writer.written.as_slice() == output, "{count} bytes");
+}
+
+/// Answers the lines of a source on a sink. This says nothing of what is written, so that the proof of what owns the two needn't carry it.
+pub(crate) fn answer<R: Source, W: Sink>(
+    alloc: Global,
+    source: &mut R,
+    sink: &mut W,
+    settings: Settings,
+) -> Result<(), RunFault>
+    requires readable { R.has_failed source.old ≡ false }
+    requires writable { W.has_failed sink.old ≡ false }
+    requires from { 1 ≤ settings.history }
+    requires to { settings.history ≤ 4096 }
+{
+    run(alloc, source, sink, settings)
 }
 
 // Gives a byte a read.

@@ -11,8 +11,8 @@ use Rattle.std.proofs.lemmas.List.Elements.{All-head, All-tail}
 use Rattle.std.proofs.lemmas.List.Sums.{sum_by-cons}
 use Rattle.cy_values.specs.declared.rows.Cell.{Cell}
 use Rattle.cy_values.specs.Bag.{IsCanonical}
+use Rattle.cy_values.specs.Same.{is_row}
 use Rattle.cy_values.specs.Order.{row_cmp}
-use Rattle.cy_network_memory.specs.Counts.{is_row}
 use Rattle.cy_network_memory.proofs.RowMaps.{row_itself}
 use Rattle.cy_network_memory.specs.Listings.{AreOnce}
 

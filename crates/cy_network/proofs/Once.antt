@@ -4,7 +4,8 @@ use Rattle.std.specs.List.{All}
 use Rattle.std.proofs.lemmas.List.Elements.{All-cons, All-head, All-nil, All-tail}
 use Rattle.cy_values.specs.declared.rows.Cell.{Cell}
 use Rattle.cy_values.specs.Bag.{weight_of}
-use Rattle.cy_network_memory.specs.Counts.{Counts, is_row, no_rows}
+use Rattle.cy_values.specs.Same.{is_row}
+use Rattle.cy_network_memory.specs.Counts.{Counts, no_rows}
 use Rattle.cy_network_memory.specs.Listings.{IsListing}
 use Rattle.cy_network.specs.Places.{once_each}
 use Rattle.cy_network.proofs.Entries.{none_counts, standing, standing_cons, weight_cons}

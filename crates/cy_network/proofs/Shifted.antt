@@ -6,7 +6,8 @@ use Rattle.cy_values.specs.declared.rows.Cell.{Cell}
 use Rattle.cy_values.specs.Bag.{count_of}
 use Rattle.cy_graph.specs.Graph.{IsGraph, State}
 use Rattle.cy_expr.specs.Lookups.{IsNumbered}
-use Rattle.cy_network_memory.specs.Counts.{Counts, is_row}
+use Rattle.cy_values.specs.Same.{is_row}
+use Rattle.cy_network_memory.specs.Counts.{Counts}
 use Rattle.cy_planner_algebra.specs.Plans.{Plan}
 use Rattle.cy_planner_algebra.proofs.Counts.{count_cons}
 use Rattle.cy_planner_algebra.proofs.Numbers.{numbered_rows}

@@ -1,7 +1,8 @@
 -- Counts of rows that are written over others.
 use Rattle.std.proofs.Common.{◌≡◌, ℕ, Bool, true, false, cond, List, [], ◌∷◌, ◌++◌, Option, unwrap_or, refl, sym, ap, subst, ◌∙◌}
 use Rattle.cy_values.specs.declared.rows.Cell.{Cell}
-use Rattle.cy_network_memory.specs.Counts.{Counts, is_row, with_count}
+use Rattle.cy_values.specs.Same.{is_row}
+use Rattle.cy_network_memory.specs.Counts.{Counts, with_count}
 use Rattle.cy_network_memory.specs.internal.Maps.{at_row}
 use Rattle.cy_network_parts.specs.Counted.{ArePositive, IsPositive, counted, written}
 

@@ -5,12 +5,12 @@ ghost use Rattle.std.specs.List.{All};
 ghost use Rattle.indexmap.specs.IndexMap.{IsUnique, spare};
 ghost use Rattle.cy_values.specs.declared.rows.Cell.{Cell};
 ghost use Rattle.cy_values.specs.Bag.{IsCanonical, weight_of};
-ghost use Rattle.cy_network_memory.specs.Counts.{is_row, with_count};
+ghost use Rattle.cy_values.specs.Same.{is_row};
+ghost use Rattle.cy_network_memory.specs.Counts.{with_count};
 ghost use Rattle.cy_network_parts.specs.Counted.{ArePositive, counted, written};
 ghost use Rattle.cy_network_memory.specs.Listings.{AreOnce, IsListing};
 
-use cy_network_memory::rows_equal;
-use cy_values::{Duplicate, Fault, Row, row_order_laws};
+use cy_values::{Duplicate, Fault, Row, row_order_laws, rows_equal};
 use indexmap::IndexMap;
 use std::alloc::Global;
 

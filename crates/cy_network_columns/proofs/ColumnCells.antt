@@ -15,7 +15,8 @@ use Rattle.cy_values.specs.declared.numbers.RelId.{RelId}
 use Rattle.cy_values.specs.declared.rows.Cell.{Cell}
 use Rattle.cy_values.specs.declared.rows.Cell.TheVariants as cell
 use Rattle.cy_values.specs.declared.scalars.Value.{Value}
-use Rattle.cy_network_columns.specs.Rows.{alike_by, are_alike, is_cell}
+use Rattle.cy_values.specs.Same.{is_cell}
+use Rattle.cy_network_columns.specs.Rows.{alike_by, are_alike}
 use Rattle.cy_network_columns.specs.internal.Columns.{cell_in, row_in}
 
 -- a row's cell, by what is kept of it

@@ -5,9 +5,9 @@ use Rattle.std.proofs.lemmas.Bool.{eqb-true, ltb-true, ltb-false}
 use Rattle.std.proofs.lemmas.Bool.Decides.{nat_tests}
 use Rattle.std.proofs.lemmas.Option.{slice_get_past, slice_get_read}
 use Rattle.cy_values.specs.declared.rows.Cell.{Cell}
-use Rattle.cy_network_columns.specs.Rows.{is_cell, is_row}
+use Rattle.cy_values.specs.Same.{is_row, is_cell}
 use Rattle.cy_network_columns.proofs.Elements.{same_elements}
-use Rattle.cy_network_columns.proofs.SameRows.{cell_is_itself, cell_same, row_itself, rows_apart}
+use Rattle.cy_values.proofs.SameRows.{cell_is_itself, cell_same, row_itself, rows_apart}
 use Rattle.cy_network_columns.proofs.Ranks.{true_false}
 
 module _ (row self cells : List Cell) (place : ℕ) (x : Cell) (same : cells ≡ row) (inside : place < length cells) (is : x ≡ get_or cells place x) where

@@ -6,11 +6,11 @@ ghost use Rattle.std.specs.List.{swap_remove};
 ghost use Rattle.std.specs.Option.{option_copied, option_map_or, option_to_list};
 ghost use Rattle.cy_values.specs.declared.rows.Cell.TheVariants as of_cell;
 ghost use Rattle.cy_values.specs.internal.Hashing.{cell_input};
-ghost use Rattle.cy_network_columns.specs.Rows.{alike_by, are_alike, is_cell};
+ghost use Rattle.cy_values.specs.Same.{is_cell};
+ghost use Rattle.cy_network_columns.specs.Rows.{alike_by, are_alike};
 ghost use Rattle.cy_network_columns.specs.internal.Columns.{cell_in, removed};
 
-use crate::equality::cells_equal;
-use cy_values::{Cell, Duplicate, Fault, NodeId, RelId, Value};
+use cy_values::{Cell, Duplicate, Fault, NodeId, RelId, Value, cells_equal};
 use std::alloc::Global;
 use std::hash::{FoldHasher, Hash};
 use std::marker::Model;

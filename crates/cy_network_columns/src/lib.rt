@@ -3,7 +3,6 @@
 
 mod chains;
 mod column;
-mod equality;
 mod index;
 mod rows;
 

@@ -5,7 +5,8 @@ ghost use Rattle.std.specs.Hash.FoldHasher.{write};
 ghost use Rattle.std.specs.Option.{option_copied, option_map_or, option_to_list};
 ghost use Rattle.cy_values.specs.internal.Hashing.{cell_input};
 ghost use Rattle.cy_network_columns.specs.Hashes.{IsFilled};
-ghost use Rattle.cy_network_columns.specs.Rows.{are_alike, is_cell, is_row};
+ghost use Rattle.cy_values.specs.Same.{is_row, is_cell};
+ghost use Rattle.cy_network_columns.specs.Rows.{are_alike};
 ghost use Rattle.cy_network_columns.specs.internal.Columns.{FilledTo, cell_at, cell_in, removed, row_in};
 
 use crate::column::Column;

@@ -10,7 +10,8 @@ use Rattle.cy_values.specs.Bag.{count_of}
 use Rattle.cy_trees.specs.Trees.{Expression}
 use Rattle.cy_graph.specs.Graph.{Content, IsGraph, State}
 use Rattle.cy_expr.specs.Lookups.{IsNumbered}
-use Rattle.cy_network_memory.specs.Counts.{greatest_count, is_row}
+use Rattle.cy_values.specs.Same.{is_row}
+use Rattle.cy_network_memory.specs.Counts.{greatest_count}
 use Rattle.cy_planner_algebra.specs.declared.operators.KeyColumns.{KeyColumns}
 use Rattle.cy_planner_algebra.specs.Expressions.{holds}
 use Rattle.cy_planner_algebra.specs.Keys.{meet}

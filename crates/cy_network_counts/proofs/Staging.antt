@@ -6,7 +6,8 @@ use Rattle.std.proofs.lemmas.List.Sums.{sum_by-take-le}
 use Rattle.cy_values.specs.declared.rows.Cell.{Cell}
 use Rattle.cy_network_memory.specs.declared.faults.MemoryFault.{MemoryFault}
 use Rattle.cy_network_memory.specs.declared.faults.MemoryFault.TheVariants.{TooManyRows}
-use Rattle.cy_network_memory.specs.Counts.{Counts, changed, is_row, with_count}
+use Rattle.cy_values.specs.Same.{is_row}
+use Rattle.cy_network_memory.specs.Counts.{Counts, changed, with_count}
 use Rattle.cy_network_memory.specs.declared.memory.RowDelta.{RowDelta}
 use Rattle.cy_network_operators.proofs.Same.{row_itself, same_row, is_row_back}
 use Rattle.cy_network_counts.specs.internal.Sums.{loss, lost, gain, gained}

@@ -4,7 +4,7 @@ use Rattle.std.specs.Prelude.{count_by, ◌||◌}
 use Rattle.std.proofs.lemmas.List.Sums.{sum_by-append, sum_by-cons, sum_by_more}
 use Rattle.cy_values.specs.declared.rows.Cell.{Cell}
 use Rattle.cy_values.specs.Bag.{count_of}
-use Rattle.cy_network_memory.specs.Counts.{is_row}
+use Rattle.cy_values.specs.Same.{is_row}
 use Rattle.cy_planner_algebra.proofs.Counts.{count_append, count_map}
 use Rattle.cy_network_memory.specs.declared.memory.RowDelta.{RowDelta}
 use Rattle.cy_network_operators.specs.Deltas.{IsDelta, counts}

@@ -2,13 +2,13 @@
 
 ghost use Rattle.std.specs.Prelude.{◌≡◌, List, IfOk, OnOk, if◌then◌else◌, max};
 ghost use Rattle.cy_values.specs.declared.rows.Cell.{Cell};
-ghost use Rattle.cy_network_memory.specs.Counts.{is_row};
+ghost use Rattle.cy_values.specs.Same.{is_row};
 ghost use Rattle.cy_network_operators.specs.Deltas.{IsDelta, row_delta_between, deltas_of};
 ghost use Rattle.cy_network_counts.specs.internal.Sums.{counts_at, most_after, most_before};
 
-use cy_network_memory::{RowDelta, rows_equal};
+use cy_network_memory::RowDelta;
 use cy_network_operators::add_row_delta;
-use cy_values::{Fault, Row};
+use cy_values::{Fault, Row, rows_equal};
 use indexmap::IndexMap;
 use std::alloc::Global;
 

@@ -1,8 +1,7 @@
 -- How many times each row counts, and the key of a row (own).
 use Rattle.std.specs.Prelude.{ℕ, ℤ, pos, ◌+ℤ◌, unsigned_abs, ◌-◌, ◌^◌, Bool, List, if◌then◌else◌, filter_map, slice_get}
-use Rattle.std.specs.Ordering.{eq_by_cmp}
 use Rattle.cy_values.specs.declared.rows.Cell.{Cell}
-use Rattle.cy_values.specs.Order.{row_cmp}
+use Rattle.cy_values.specs.Same.{is_row}
 
 -- how many times each row counts: 0 where it isn't there
 abbrev pub Counts : Type 0
@@ -15,10 +14,6 @@ no_rows row = 0
 -- the most that a row may count
 abbrev pub greatest_count : ℕ
 greatest_count = 2 ^ 62 - 1
-
--- whether two rows are the same
-abbrev pub is_row : List Cell → List Cell → Bool
-is_row = eq_by_cmp row_cmp
 
 -- the counts with another one for a row
 abbrev pub with_count : List Cell → ℕ → Counts → Counts

@@ -3,7 +3,8 @@ use Rattle.std.specs.Prelude.{◌≡◌, ℕ, ◌<◌, ◌≤◌, List, if◌the
 use Rattle.std.specs.List.{All}
 use Rattle.cy_values.specs.declared.rows.Cell.{Cell}
 use Rattle.cy_values.specs.Bag.{weight_of}
-use Rattle.cy_network_memory.specs.Counts.{Counts, is_row}
+use Rattle.cy_values.specs.Same.{is_row}
+use Rattle.cy_network_memory.specs.Counts.{Counts}
 
 -- each row stands once at most
 abbrev pub AreOnce : List (List Cell × ℕ) → Type 0

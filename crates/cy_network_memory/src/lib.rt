@@ -3,7 +3,6 @@
 
 mod bucket_map;
 mod buckets;
-mod equality;
 mod faults;
 mod keyed;
 mod keys;
@@ -16,7 +15,6 @@ mod rows;
 mod tables;
 mod tallies;
 
-pub use equality::rows_equal;
 pub use faults::MemoryFault;
 pub use keyed::KeyedMemory;
 pub use listed::ListMemory;

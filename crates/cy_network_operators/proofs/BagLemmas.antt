@@ -5,7 +5,7 @@ use Rattle.std.proofs.lemmas.List.Folds.{fold-map}
 use Rattle.std.proofs.lemmas.List.Sums.{sum_by-cons}
 use Rattle.cy_values.specs.declared.rows.Cell.{Cell}
 use Rattle.cy_values.specs.Bag.{count_of}
-use Rattle.cy_network_memory.specs.Counts.{is_row}
+use Rattle.cy_values.specs.Same.{is_row}
 use Rattle.cy_planner_algebra.specs.Meaning.{each_once}
 use Rattle.cy_planner_algebra.proofs.Counts.{count_append, count_cons, count_once, count_passing}
 use Rattle.cy_network_operators.proofs.Same.{row_itself, same_row}

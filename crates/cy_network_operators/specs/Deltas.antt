@@ -5,7 +5,8 @@ use Rattle.std.specs.Prelude as std
 use Rattle.cy_values.specs.declared.rows.Cell.{Cell}
 use Rattle.cy_values.specs.Bag.{count_of}
 use Rattle.cy_graph.specs.Graph.{Content}
-use Rattle.cy_network_memory.specs.Counts.{Counts, greatest_count, is_row, with_count}
+use Rattle.cy_values.specs.Same.{is_row}
+use Rattle.cy_network_memory.specs.Counts.{Counts, greatest_count, with_count}
 use Rattle.cy_planner_algebra.specs.declared.operators.KeyColumns.{KeyColumns}
 use Rattle.cy_planner_algebra.specs.Keys.{meet}
 use Rattle.cy_planner_algebra.specs.Meaning.{rows_of}

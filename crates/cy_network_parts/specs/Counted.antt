@@ -2,7 +2,8 @@
 use Rattle.std.specs.Prelude.{ℕ, ◌<◌, ⊤, List, [], ◌∷◌, Option, None, Some, unwrap_or}
 use Rattle.std.specs.Map.{lookup}
 use Rattle.cy_values.specs.declared.rows.Cell.{Cell}
-use Rattle.cy_network_memory.specs.Counts.{Counts, is_row, with_count}
+use Rattle.cy_values.specs.Same.{is_row}
+use Rattle.cy_network_memory.specs.Counts.{Counts, with_count}
 
 -- what a row counts in a map: 0 where it isn't there
 abbrev pub counted : List (List Cell × ℕ) → Counts

@@ -8,7 +8,7 @@ use Rattle.std.specs.FinMap.Entries as entries
 use Rattle.std.proofs.lemmas.List.Sums.{sum_by-cons}
 use Rattle.cy_values.specs.declared.rows.Cell.{Cell}
 use Rattle.cy_values.specs.Bag.{count_of}
-use Rattle.cy_network_memory.specs.Counts.{is_row}
+use Rattle.cy_values.specs.Same.{is_row}
 use Rattle.cy_planner_algebra.proofs.Counts.{count_flat_map}
 use Rattle.cy_network_touches.proofs.Keys.{found_alike, own_entries, rising_once, same_by_order, same_number, sum_kept}
 use Rattle.cy_network_touches.proofs.Owners.{owns}

@@ -6,7 +6,8 @@ ghost use Rattle.std.specs.List.{All};
 ghost use Rattle.std.specs.Option.{option_to_list};
 ghost use Rattle.cy_values.specs.declared.rows.Cell.{Cell};
 ghost use Rattle.cy_values.specs.Bag.{count_of};
-ghost use Rattle.cy_network_memory.specs.Counts.{greatest_count, is_row};
+ghost use Rattle.cy_values.specs.Same.{is_row};
+ghost use Rattle.cy_network_memory.specs.Counts.{greatest_count};
 ghost use Rattle.cy_network_operators.specs.Deltas.{IsBounded, row_delta_between, deltas_of};
 ghost use Rattle.cy_network_sources.specs.internal.Through.{recounted};
 

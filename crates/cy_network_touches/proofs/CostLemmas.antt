@@ -12,7 +12,8 @@ use Rattle.cy_values.specs.Bag.{count_of}
 use Rattle.cy_values.specs.declared.rows.Cell.{Cell}
 use Rattle.cy_values.specs.declared.rows.Cell.TheVariants as cell
 use Rattle.cy_network_memory.specs.declared.memory.RowDelta.{RowDelta}
-use Rattle.cy_network_memory.specs.Counts.{Counts, is_row, key_cells}
+use Rattle.cy_values.specs.Same.{is_row}
+use Rattle.cy_network_memory.specs.Counts.{Counts, key_cells}
 use Rattle.cy_network_memory.specs.Records.{IsAnswer, is_counted, is_found}
 use Rattle.cy_planner_algebra.specs.Expressions.{cell_at, null}
 use Rattle.cy_planner_algebra.specs.Meaning.{each_once, is_among}

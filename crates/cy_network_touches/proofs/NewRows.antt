@@ -4,7 +4,8 @@ use Rattle.std.specs.Prelude.{flat_map}
 use Rattle.cy_values.specs.declared.rows.Cell.{Cell}
 use Rattle.cy_graph.specs.Graph.{Content}
 use Rattle.cy_network_memory.specs.declared.memory.RowDelta.{RowDelta}
-use Rattle.cy_network_memory.specs.Counts.{Counts, is_row, key_cells, no_rows}
+use Rattle.cy_values.specs.Same.{is_row}
+use Rattle.cy_network_memory.specs.Counts.{Counts, key_cells, no_rows}
 use Rattle.cy_planner_algebra.specs.declared.operators.Attribute.{Attribute}
 use Rattle.cy_planner_algebra.specs.Meaning.{with_attribute}
 use Rattle.cy_network_operators.specs.Deltas.{deltas_of, row_delta_between}

@@ -7,7 +7,8 @@ use Rattle.std.proofs.lemmas.List.Elements.{All-cons, All-head, All-nil, All-tai
 use Rattle.cy_values.specs.declared.rows.Cell.{Cell}
 use Rattle.cy_values.specs.declared.rows.Cell.TheVariants as cell
 use Rattle.cy_values.specs.Bag.{count_of}
-use Rattle.cy_network_memory.specs.Counts.{greatest_count, is_row}
+use Rattle.cy_values.specs.Same.{is_row}
+use Rattle.cy_network_memory.specs.Counts.{greatest_count}
 use Rattle.cy_planner_algebra.proofs.Counts.{count_cons}
 use Rattle.cy_network_operators.specs.Deltas.{row_delta_between, IsBounded}
 use Rattle.cy_network_operators.proofs.Same.{same_row}

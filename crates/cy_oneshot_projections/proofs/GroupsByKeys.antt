@@ -3,7 +3,6 @@ use Rattle.std.proofs.Common.{◌≡◌, Bool, true, false, not, cond, List, [],
 use Rattle.std.specs.Prelude.{None, Some}
 use Rattle.std.specs.Option.{unwrap_or}
 use Rattle.std.specs.Cmp.{IsTotalOrder}
-use Rattle.std.specs.declared.cmp.Ordering.{Ordering}
 use Rattle.std.specs.Ordering.{eq_by_cmp, is_eq}
 use Rattle.std.specs.Map.{lookup, set_value}
 use Rattle.indexmap.specs.IndexMap.{insert_entry}
@@ -182,11 +181,6 @@ module _ (total : IsTotalOrder row_cmp) where
 
 some_same : {X : Type 0} {x y : X} → Some x ≡ Some y → x ≡ y
 some_same {X} {x} {y} same = ap (λ o. unwrap_or o x) same
-
--- how a map compares keys
-pub keys_same : {eq : List Cell → List Cell → Bool} {order : List Cell → List Cell → Ordering} → ((x y : List Cell) → eq x y ≡ is_eq (order x y)) → ((x y : List Cell) → order x y ≡ row_cmp x y)
-    → (x y : List Cell) → eq x y ≡ eq_by_cmp row_cmp x y
-keys_same law ordered x y = law x y ∙ ap is_eq (ordered x y)
 
 -- a row comes to the rows of its key
 pub row_comes : (eq : List Cell → List Cell → Bool) → ((x y : List Cell) → eq x y ≡ eq_by_cmp row_cmp x y) → (es : List (List Cell × Vec (List Cell) Global)) (g : Grouped)

@@ -1,3 +1,4 @@
 pub mod Identity
 pub mod Orders
+pub mod SameRows
 pub mod Truths

@@ -1,4 +1,5 @@
 pub mod Order
+pub mod Same
 pub mod Bag
 pub mod Truth
 pub mod Compare

@@ -14,7 +14,7 @@ mod views;
 
 pub use faults::Fault;
 pub use numbers::{Entity, NodeId, RelId};
-pub use order::{row_order, row_order_laws};
+pub use order::{cells_equal, row_order, row_order_laws, rows_equal};
 pub use rows::{Cell, Row};
 pub use scalars::{Scalar, Value};
 pub use sequences::{Duplicate, Sequence};

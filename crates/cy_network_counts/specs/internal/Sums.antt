@@ -4,7 +4,8 @@ use Rattle.std.specs.List.{sum_by, list_any}
 use Rattle.std.specs.Map.{lookup}
 use Rattle.cy_values.specs.declared.rows.Cell.{Cell}
 use Rattle.cy_values.specs.Bag.{count_of}
-use Rattle.cy_network_memory.specs.Counts.{Counts, is_row}
+use Rattle.cy_values.specs.Same.{is_row}
+use Rattle.cy_network_memory.specs.Counts.{Counts}
 use Rattle.cy_network_memory.specs.declared.memory.RowDelta.{RowDelta}
 use Rattle.cy_network_operators.specs.Deltas.{row_delta_between, deltas_of}
 

@@ -3,12 +3,12 @@
 ghost use Rattle.std.specs.Prelude.{◌≡◌, ◌≤◌, ◌∷◌, ◌++◌, [], List, IfOk, OnOk, if◌then◌else◌, length};
 ghost use Rattle.std.specs.List.{list_any};
 ghost use Rattle.cy_values.specs.declared.rows.Cell.{Cell};
-ghost use Rattle.cy_network_memory.specs.Counts.{is_row};
+ghost use Rattle.cy_values.specs.Same.{is_row};
 ghost use Rattle.cy_values.specs.Bag.{count_of};
 ghost use Rattle.cy_network_counts.specs.internal.Sums.{is_changed};
 
-use cy_network_memory::{RowDelta, rows_equal};
-use cy_values::{Fault, Row};
+use cy_network_memory::RowDelta;
+use cy_values::{Fault, Row, rows_equal};
 use indexmap::IndexSet;
 use std::alloc::Global;
 

@@ -1,7 +1,8 @@
 -- The rows that have a key.
 use Rattle.std.specs.Prelude.{◌≡◌, ℕ, true, List, count_by}
 use Rattle.cy_values.specs.declared.rows.Cell.{Cell}
-use Rattle.cy_network_memory.specs.Counts.{Counts, is_row, key_cells}
+use Rattle.cy_values.specs.Same.{is_row}
+use Rattle.cy_network_memory.specs.Counts.{Counts, key_cells}
 use Rattle.cy_network_memory.specs.Records.{is_counted}
 use Rattle.cy_planner_algebra.specs.Meaning.{is_among}
 

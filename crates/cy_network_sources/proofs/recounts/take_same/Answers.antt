@@ -1,7 +1,7 @@
 use Rattle.std.proofs.Common.{◌≡◌, ℕ, ◌-◌, List, not, length, rules, ap, ◌∙◌, arith}
 use Rattle.std.proofs.lemmas.Fn.{filter_same}
 use Rattle.cy_values.specs.declared.rows.Cell.{Cell}
-use Rattle.cy_network_memory.specs.Counts.{is_row}
+use Rattle.cy_values.specs.Same.{is_row}
 use Rattle.cy_values.specs.Bag.{count_of}
 use Rattle.cy_network_sources.proofs.Recounting.{others, split_count}
 use Rattle.cy_network_sources.proofs.recounts.take_same.Goals as goal

@@ -3,7 +3,7 @@ use Rattle.std.proofs.lemmas.List.Elements.{filter-append}
 use Rattle.std.proofs.lemmas.Result.{on_ok_weaker}
 use Rattle.std.specs.Prelude.{flat_map}
 use Rattle.cy_values.specs.declared.rows.Cell.{Cell}
-use Rattle.cy_network_memory.specs.Counts.{is_row}
+use Rattle.cy_values.specs.Same.{is_row}
 use Rattle.cy_network_memory.specs.Records.{IsAnswer}
 use Rattle.cy_network_operators.specs.Deltas.{deltas_of}
 use Rattle.cy_network_touches.specs.internal.Attributes.{valued_record}

@@ -1,7 +1,7 @@
 use Rattle.std.proofs.Common.{Option, false, ap, ◌∙◌}
 use Rattle.std.specs.Option.{option_map_or}
 use Rattle.cy_values.specs.declared.rows.Cell.{Cell}
-use Rattle.cy_network_columns.specs.Rows.{is_cell}
+use Rattle.cy_values.specs.Same.{is_cell}
 use Rattle.cy_network_columns.proofs.ColumnCells.{read_none, read_some}
 use Rattle.cy_network_columns.proofs.Keeping.{cell_of_none, cell_of_some}
 use Rattle.cy_network_columns.proofs.rows.RowRef.is_at.Goals as goal

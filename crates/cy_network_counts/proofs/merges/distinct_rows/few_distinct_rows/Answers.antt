@@ -1,5 +1,5 @@
 use Rattle.std.proofs.Common.{refl}
-use Rattle.cy_network_memory.specs.Counts.{is_row}
+use Rattle.cy_values.specs.Same.{is_row}
 use Rattle.cy_network_counts.proofs.Merged.{few_inserted, once_inserted}
 use Rattle.cy_network_counts.proofs.merges.distinct_rows.few_distinct_rows.Goals as goal
 

@@ -1,7 +1,6 @@
-//! The columns of a row, the first columns of a plan, and columns of it that are named one by one.
+//! The first columns of a plan, and columns of it that are named one by one.
 
 ghost use Rattle.std.specs.Prelude.{◌≡◌, ◌≤◌, IfOk, map, slice_get};
-ghost use Rattle.std.specs.List.{range_with_len};
 ghost use Rattle.std.specs.Option.{option_and_then};
 ghost use Rattle.cy_trees.specs.TreeModels.{expression_of};
 ghost use Rattle.cy_planner_algebra.specs.Plans.{width};
@@ -50,17 +49,6 @@ pub fn output_column(outputs: &[Output], column: usize) -> Option<usize>
         Some(output) => taken_column(output),
         None => None,
     }
-}
-
-/// The columns of a row of this width. Fails only when out of memory.
-pub fn row_columns(alloc: Global, width: usize) -> Result<Vec<usize>, Fault>
-    ensures { IfOk result (λ columns. columns.items ≡ range_with_len 0 width) }
-{
-    let mut columns = Vec::with_capacity(alloc, width)?;
-    for column in 0..width {
-        columns.push(column)?;
-    }
-    Ok(columns)
 }
 
 /// What a projection to these columns makes. Fails only when out of memory.

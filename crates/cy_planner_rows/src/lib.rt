@@ -17,8 +17,7 @@ mod wanted;
 
 pub use asked::add_asked;
 pub use columns::{
-    column_output, column_outputs, narrowed, output_column, row_columns, taken_column,
-    variable_column,
+    column_output, column_outputs, narrowed, output_column, taken_column, variable_column,
 };
 pub use conditions::{and_also, column_variable, either, equals, is_empty, or_true, size_of};
 pub use conjunctions::{all_of, conjuncts, halved};

@@ -8,9 +8,9 @@ ghost use Rattle.cy_planner_rewriting.specs.Rewritten.{IsRewritten};
 ghost use Rattle.cy_planner_passes.specs.internal.Narrows as spec;
 
 use crate::narrowing::ranks::{Ranks, ranked};
-use cy_planner_algebra::{Operator, Plan};
+use cy_planner_algebra::{Operator, Plan, row_columns};
 use cy_planner_rewriting::{Layer, layered};
-use cy_planner_rows::{column_outputs, row_columns};
+use cy_planner_rows::column_outputs;
 use cy_values::{Fault, row_order_laws};
 use std::alloc::Global;
 

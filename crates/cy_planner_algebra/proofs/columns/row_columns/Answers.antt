@@ -2,7 +2,7 @@ use Rattle.std.proofs.Common.{◌≡◌, ◌+◌, ◌++◌, ◌∷◌, [], ℕ, 
 use Rattle.std.specs.List.{range_with_len}
 use Rattle.std.proofs.lemmas.List.{map-id}
 use Rattle.std.proofs.lemmas.List.FromFn.{map-range_with_len_more}
-use Rattle.cy_planner_rows.proofs.columns.row_columns.Goals as goal
+use Rattle.cy_planner_algebra.proofs.columns.row_columns.Goals as goal
 
 from_zero : (n : ℕ) → 0 + n ≡ n
 from_zero n = omega arith

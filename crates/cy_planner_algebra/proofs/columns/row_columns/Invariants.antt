@@ -1,7 +1,7 @@
 -- The columns so far.
 use Rattle.std.proofs.Common.{◌≡◌}
 use Rattle.std.specs.List.{range_with_len}
-use Rattle.cy_planner_rows.proofs.columns.row_columns.Given as goal
+use Rattle.cy_planner_algebra.proofs.columns.row_columns.Given as goal
 
 abbrev pub invariant-loop-column : goal.invariant-loop-column
 invariant-loop-column l = l.columns.items ≡ range_with_len 0 l.column

@@ -23,7 +23,7 @@ use Rattle.cy_network_operators.specs.Deltas.{IsBounded, IsDelta, counts, counts
 use Rattle.cy_network_operators.proofs.PlanLemmas.{different_at, filter_at, lookup_at, once_at, project_at}
 use Rattle.cy_network_touches.specs.Changes.{Touches}
 use Rattle.cy_network_parts.specs.Memories.{is_row_by_row, is_scan, none_where}
-use Rattle.cy_network_parts.specs.Upkeep.{IsDeltaOf, IsFed, IsOwnBegun, IsOwnDone, IsStep, content_of, state_of}
+use Rattle.cy_network_parts.specs.internal.Upkeep.{IsDeltaOf, IsFed, IsOwnBegun, IsOwnDone, IsStep, content_of, state_of}
 use Rattle.cy_network_operators.specs.Passing.{left_of, row_delta_if}
 use Rattle.cy_planner_algebra.proofs.Counts.{count_passing}
 use Rattle.cy_network_parts.specs.Parts.{first_below}

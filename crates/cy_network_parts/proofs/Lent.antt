@@ -9,7 +9,7 @@ use Rattle.cy_graph.specs.Graph.{State}
 use Rattle.cy_network_memory.specs.Counts.{Counts}
 use Rattle.cy_planner_algebra.specs.Plans.{Plan}
 use Rattle.cy_network_memory.specs.declared.memory.RowDelta.{RowDelta}
-use Rattle.cy_network_parts.specs.Upkeep.{IsOwnBegun, IsOwnDone}
+use Rattle.cy_network_parts.specs.internal.Upkeep.{IsOwnBegun, IsOwnDone}
 
 -- memories that were lent are given back
 pub lent_back : {A : Type 0} (xs ys : List A) (n : ℕ) → n ≡ length xs → length ys ≡ length xs → take n (ys ++ drop (length ys) xs) ≡ ys

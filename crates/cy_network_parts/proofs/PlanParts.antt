@@ -11,7 +11,7 @@ use Rattle.cy_planner_algebra.specs.WellFormed.{IsWellFormed}
 use Rattle.cy_network_relevance.specs.Lists.{are_apart}
 use Rattle.cy_network_operators.specs.Deltas.{counts}
 use Rattle.cy_network_counts.specs.Merges.{all_columns}
-use Rattle.cy_network_parts.specs.Inputs.{below_contents}
+use Rattle.cy_network_parts.specs.internal.Inputs.{below_contents}
 use Rattle.cy_network_parts.specs.Memories.{contents, emptied_where, is_row_by_row, is_scan, keys, none_where, own_contents, own_keys}
 use Rattle.cy_network_parts.specs.Parts.{below_count, first_below, second_below}
 use Rattle.cy_network_parts.specs.Shared.{left_held, right_held}

@@ -22,7 +22,7 @@ use Rattle.cy_network_sources.proofs.Through.{kept_cell}
 use Rattle.cy_network_parts.proofs.Steps.{old_graph}
 use Rattle.cy_network_parts.specs.Memories.{is_row_by_row, is_scan, keeps_all, own_contents, own_keys, tells_rows, none_where}
 use Rattle.cy_network_parts.specs.Parts.{first_below}
-use Rattle.cy_network_parts.specs.Upkeep.{IsDeltaOf, IsStep, content_of}
+use Rattle.cy_network_parts.specs.internal.Upkeep.{IsDeltaOf, IsStep, content_of}
 
 -- each column is kept
 each_kept : (number : ℕ) (outputs : List Output) → keeps_all number outputs ≡ true → (k : ℕ) → k < number → is_some (kept_at k outputs) ≡ true

@@ -21,8 +21,7 @@ use Rattle.cy_network_sources.specs.Scans.{IsScan, column_over, if_this, kept, s
 use Rattle.cy_network_parts.proofs.ScanFacts.{scan_few}
 use Rattle.cy_network_parts.specs.Memories.{AreWithin, contents, is_scan, keys, own_contents, own_keys, tells_rows, none_where}
 use Rattle.cy_network_parts.specs.Parts.{below_count, chain, first_below}
-use Rattle.cy_network_parts.specs.internal.Upkeep.{IsBegun, IsDone}
-use Rattle.cy_network_parts.specs.Upkeep.{IsDeltaOf, IsStep, content_of, state_of}
+use Rattle.cy_network_parts.specs.internal.Upkeep.{IsBegun, IsDone, IsDeltaOf, IsStep, content_of, state_of}
 use Rattle.cy_network_touches.specs.Work.{all_reads}
 use Rattle.cy_network_parts.proofs.Steps.{done_leaf, old_content}
 

@@ -18,13 +18,12 @@ use Rattle.cy_network_memory.specs.declared.memory.RowDelta.{RowDelta}
 use Rattle.cy_network_operators.specs.Deltas.{content_at, counts, rows_at}
 use Rattle.cy_network_operators.proofs.DeltaLemmas.{after_bounded}
 use Rattle.cy_network_touches.specs.Changes.{IsChange, Touches}
-use Rattle.cy_network_parts.specs.Inputs.{below_contents}
+use Rattle.cy_network_parts.specs.internal.Inputs.{below_contents}
 use Rattle.cy_network_parts.specs.Memories.{AreWithin, contents, emptied_where, keys, own_contents, own_keys}
 use Rattle.cy_network_parts.specs.Limits.{HasTooManyRows}
 use Rattle.cy_network_parts.specs.Parts.{below_count, first_below, second_below}
 use Rattle.cy_network_parts.specs.Shared.{left_held, right_held}
-use Rattle.cy_network_parts.specs.Upkeep.{HasTooMany, IsDeltaOf, IsOwnBegun, IsOwnDone, IsStep, content_of, state_of}
-use Rattle.cy_network_parts.specs.internal.Upkeep.{IsBegun, IsDone}
+use Rattle.cy_network_parts.specs.internal.Upkeep.{HasTooMany, IsDeltaOf, IsOwnBegun, IsOwnDone, IsStep, content_of, state_of, IsBegun, IsDone}
 use Rattle.cy_network_touches.specs.Work.{in_all}
 use Rattle.cy_network_parts.proofs.HeldInputs.{sides_are}
 use Rattle.cy_network_parts.proofs.PlanParts.{over_one, over_two, own_long}

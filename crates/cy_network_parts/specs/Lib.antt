@@ -2,7 +2,6 @@ pub mod KeptRows
 pub mod Added
 pub mod Chains
 pub mod Counted
-pub mod Inputs
 pub mod Limits
 pub mod Memories
 pub mod Parts
@@ -10,5 +9,4 @@ pub mod Shared
 pub mod SameConditions
 pub mod SamePlans
 pub mod Taken
-pub mod Upkeep
 pub mod internal

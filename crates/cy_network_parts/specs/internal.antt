@@ -1,5 +1,6 @@
 -- What proofs and the crate's own functions need.
 pub mod Held
+pub mod Inputs
 pub mod Kept
 pub mod Parts
 pub mod Upkeep

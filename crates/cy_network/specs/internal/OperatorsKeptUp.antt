@@ -16,7 +16,7 @@ use Rattle.cy_network_operators.specs.internal.Reading.{IsRead}
 use Rattle.cy_network_touches.specs.Changes.{Touches}
 use Rattle.cy_network_touches.specs.Work.{own_reads, own_steps}
 use Rattle.cy_network_parts.specs.Taken.{NoneFalls}
-use Rattle.cy_network_parts.specs.Upkeep.{HasTooMany, IsFed, IsFedByTwo, IsOwnDone, content_of}
+use Rattle.cy_network_parts.specs.internal.Upkeep.{HasTooMany, IsFed, IsFedByTwo, IsOwnDone, content_of}
 use Rattle.cy_network.specs.declared.operators.pairs.HeldDeltas.{HeldDeltas}
 use Rattle.cy_network.specs.internal.Passages.{IsFedHeld, IsFedImages, IsOwnDoneThrough}
 

@@ -9,7 +9,7 @@ ghost use Rattle.cy_planner_algebra.specs.PlanModels.{plan_of};
 ghost use Rattle.cy_network_operators.specs.Deltas.{row_delta_between};
 ghost use Rattle.cy_network_parts.specs.Memories.{is_scan};
 ghost use Rattle.cy_network_parts.specs.Parts as parts;
-ghost use Rattle.cy_network_parts.specs.Upkeep.{IsDeltaOf, IsStep};
+ghost use Rattle.cy_network_parts.specs.internal.Upkeep.{IsDeltaOf, IsStep};
 ghost use Rattle.cy_network_touches.specs.Work.{all_reads};
 
 use cy_index::Sight;

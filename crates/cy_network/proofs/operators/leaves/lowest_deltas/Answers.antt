@@ -10,7 +10,7 @@ use Rattle.cy_network_operators.specs.Deltas.{IsBounded, counts, rows_at, row_de
 use Rattle.cy_network_parts.specs.Memories.{is_scan}
 use Rattle.cy_network_parts.specs.Parts.{is_unit}
 use Rattle.cy_network_touches.specs.Changes.{IsChange, Touches}
-use Rattle.cy_network_parts.specs.Upkeep.{IsDeltaOf, IsStep, state_of}
+use Rattle.cy_network_parts.specs.internal.Upkeep.{IsDeltaOf, IsStep, state_of}
 use Rattle.cy_network_parts.proofs.Outcomes.{if_ok_more, if_ok_two}
 use Rattle.cy_network_parts.proofs.Scanned.{chain_scan, is_scan_of, reads_within, scan_delta}
 use Rattle.cy_network.proofs.operators.leaves.lowest_deltas.Goals as goal

@@ -4,7 +4,7 @@ use Rattle.cy_planner_algebra.specs.Plans.{Plan}
 use Rattle.cy_planner_algebra.specs.PlanModels.{plan_of}
 use Rattle.cy_network_operators.specs.Deltas.{rows_at}
 use Rattle.cy_network_parts.specs.Memories.{own_contents}
-use Rattle.cy_network_parts.specs.Upkeep.{content_of}
+use Rattle.cy_network_parts.specs.internal.Upkeep.{content_of}
 use Rattle.cy_network_parts.proofs.Lent.{no_length, some_length}
 use Rattle.cy_network_parts.proofs.RowByRow.{with_memory, without_contents, without_memory}
 use Rattle.std.proofs.lemmas.Result.{IfOk-from_err}

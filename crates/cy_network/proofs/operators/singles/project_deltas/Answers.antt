@@ -18,7 +18,7 @@ use Rattle.cy_network_operators.specs.Deltas.{IsBounded, IsDelta, counts, rows_a
 use Rattle.cy_network_touches.specs.Changes.{Touches}
 use Rattle.cy_network_parts.specs.Memories.{is_row_by_row, none_where, own_keys}
 use Rattle.cy_network_parts.specs.Parts.{first_below}
-use Rattle.cy_network_parts.specs.Upkeep.{HasTooMany, IsOwnDone, content_of}
+use Rattle.cy_network_parts.specs.internal.Upkeep.{HasTooMany, IsOwnDone, content_of}
 use Rattle.cy_network_touches.specs.Work.{own_steps}
 use Rattle.cy_network.specs.internal.Passages.{images_by, outputs_of}
 use Rattle.cy_network_parts.proofs.Lent.{done_as, own_length, steps_of_one}

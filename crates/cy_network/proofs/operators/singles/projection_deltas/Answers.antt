@@ -5,7 +5,7 @@ use Rattle.cy_planner_algebra.specs.Plans.{Output}
 use Rattle.cy_planner_algebra.specs.PlanModels.{output_of, plan_of}
 use Rattle.cy_network_counts.specs.Merges.{image}
 use Rattle.cy_network_parts.specs.Parts.{first_below}
-use Rattle.cy_network_parts.specs.Upkeep.{IsStep}
+use Rattle.cy_network_parts.specs.internal.Upkeep.{IsStep}
 use Rattle.cy_network_parts.proofs.Outcomes.{if_err_more, if_ok_more}
 use Rattle.cy_network_parts.proofs.Refusals.{if_memory}
 use Rattle.cy_network_parts.proofs.Taken.{grown_none}

@@ -9,7 +9,7 @@ use Rattle.cy_network_operators.specs.Deltas.{IsBounded}
 use Rattle.cy_network_counts.proofs.ChangedRows.{images_bounded}
 use Rattle.cy_network_counts.proofs.OneToOne.{images_delta}
 use Rattle.cy_network_parts.specs.Parts.{first_below}
-use Rattle.cy_network_parts.specs.Upkeep.{IsDeltaOf, IsStep}
+use Rattle.cy_network_parts.specs.internal.Upkeep.{IsDeltaOf, IsStep}
 use Rattle.cy_network_parts.proofs.Outcomes.{if_ok_two}
 use Rattle.cy_network_parts.proofs.RowByRow.{gathered, other_told, rearranged}
 use Rattle.cy_network.specs.internal.Passages.{outputs_of}

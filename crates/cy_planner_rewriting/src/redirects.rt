@@ -75,16 +75,18 @@ fn add_redirect(
     left: &Operator,
     right: &Operator,
     left_width: usize,
+    right_width: usize,
     key: KeyColumns,
 ) -> Result<(), Fault>
     requires left { IsWellFormed (plan_of left.now) }
     requires right { IsWellFormed (plan_of right.now) }
     requires wide { left_width ≡ plan.width (plan_of left.now) }
+    requires wide_right { right_width ≡ plan.width (plan_of right.now) }
     requires room { left_width + key.right ≤ greatest_width }
     ensures { OnOk result ((keys : List KeyColumns) → Contains keys key → AllByRecursion (spec.IsRedirect keys left_width) made.old.items → AllByRecursion (spec.IsRedirect keys left_width) made.new.items) }
 {
     let on_left = is_own(left, left_width, key.left, MOST_PARTS);
-    let on_right = is_own(right, right.width(), key.right, MOST_PARTS);
+    let on_right = is_own(right, right_width, key.right, MOST_PARTS);
     let other = left_width + key.right;
     if on_left == on_right {
         Ok(())
@@ -116,10 +118,11 @@ pub(crate) fn redirects(
     requires room { plan.width (plan_of left.now) + plan.width (plan_of right.now) ≤ greatest_width }
     ensures { IfOk result (λ made. AllByRecursion (spec.IsRedirect keys.now (plan.width (plan_of left.now))) made.items) }
 {
-    let width = left.width();
+    let left_width = left.width();
+    let right_width = right.width();
     let mut made = Vec::new(alloc);
     for key in keys {
-        add_redirect(&mut made, left, right, width, *key)?;
+        add_redirect(&mut made, left, right, left_width, right_width, *key)?;
     }
     Ok(made)
 }

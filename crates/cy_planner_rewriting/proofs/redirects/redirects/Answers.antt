@@ -8,6 +8,6 @@ use Rattle.cy_planner_rewriting.proofs.redirects.redirects.Goals as goal
 pub loop-key-preserved : goal.loop-key-preserved
 loop-key-preserved c =
     let keys : List KeyColumns = c.args.keys.now in
-    subst (λ n. AllByRecursion (IsRedirect keys n) c.add_redirect.new.made.items) c.width-width.ensures
+    subst (λ n. AllByRecursion (IsRedirect keys n) c.add_redirect.new.made.items) c.width-left_width.ensures
     (c.in_ok-add_redirect.ensures keys (key_there keys c.loop-key.key-index _ c.loop-key-test.true)
-    (subst (λ n. AllByRecursion (IsRedirect keys n) c.loop-key.made.items) (sym c.width-width.ensures) c.loop-key.invariant))
+    (subst (λ n. AllByRecursion (IsRedirect keys n) c.loop-key.made.items) (sym c.width-left_width.ensures) c.loop-key.invariant))

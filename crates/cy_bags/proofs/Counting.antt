@@ -9,15 +9,11 @@ use Rattle.std.proofs.lemmas.List.Sums.{sum_by-cons}
 use Rattle.cy_values.specs.declared.rows.Cell.{Cell}
 use Rattle.cy_values.specs.Order.{row_cmp}
 use Rattle.cy_values.specs.Bag.{count_of, weight_of, IsBagOf, IsCanonical}
+use Rattle.cy_values.proofs.SameRows.{equal_order}
 use Rattle.cy_bags.specs.internal.Counting.{counted_from, counted_rows}
 
-equal : (o : Ordering) → is_eq o ≡ true → o ≡ Equal
-equal Less h = cc
-equal Equal h = refl
-equal Greater h = cc
-
 -- what comes no earlier and isn't the same comes later
-later : (o : Ordering) → is_lt o ≡ false → is_eq o ≡ false → ordering_reverse o ≡ Less
+pub later : (o : Ordering) → is_lt o ≡ false → is_eq o ≡ false → ordering_reverse o ≡ Less
 later Less h k = cc
 later Equal h k = cc
 later Greater h k = refl
@@ -33,7 +29,7 @@ one_more false n more = omega arith
 
 module _ (total : IsTotalOrder row_cmp) (same : (x y : List Cell) → row_cmp x y ≡ Equal → x ≡ y) where
   same_rows : (x y : List Cell) → eq_by_cmp row_cmp x y ≡ true → x ≡ y
-  same_rows x y h = same x y (equal _ h)
+  same_rows x y h = same x y (equal_order _ h)
 
   -- the weight of what is counted
   weight_from : (q row : List Cell) (n : ℕ) (rows : List (List Cell)) → weight_of q (counted_from row n rows) ≡ cond (eq_by_cmp row_cmp q row) n 0 + count_of q rows

@@ -6,11 +6,12 @@ use Rattle.std.specs.declared.cmp.Ordering.TheVariants.{Less, Equal, Greater}
 use Rattle.std.specs.Cmp.{IsTotalOrder, tied_itself}
 use Rattle.std.specs.Ordering.{eq_by_cmp, is_eq, is_lt, ordering_reverse, ordering_index}
 use Rattle.std.proofs.lemmas.List.Sorted.{searchable_from_sorted}
-use Rattle.std.proofs.lemmas.Bool.Decides.{nat_tests}
 use Rattle.std.proofs.lemmas.List.Sums.{sum_by-cons}
+use Rattle.std.proofs.lemmas.Bool.{ltb-false, ltb-true}
 use Rattle.cy_values.specs.declared.rows.Cell.{Cell}
 use Rattle.cy_values.specs.Order.{row_cmp}
 use Rattle.cy_values.specs.Bag.{weight_of, IsCanonical}
+use Rattle.cy_values.proofs.SameRows.{equal_order}
 use Rattle.cy_bags.specs.Difference.{IsCountedSurplus}
 use Rattle.cy_bags.specs.internal.Surplus.{surplus_of}
 
@@ -33,12 +34,6 @@ canonical_counts p (q ∷ qs) can = can.0
 canonical_cons : (row : List Cell) (n : ℕ) (ps : Pairs) → 0 < n → Above row ps → IsCanonical ps → IsCanonical ((row, n) ∷ ps)
 canonical_cons row n [] pos above can = pos
 canonical_cons row n (q ∷ qs) pos above can = (pos, above.0, can)
-
-below : (a b : ℕ) → nat_lt a b ≡ true → a < b
-below a b h = grind (arith, nat_tests)
-
-not_below : (a b : ℕ) → nat_lt a b ≡ false → b ≤ a
-not_below a b h = grind (arith, nat_tests)
 
 -- a row weighs nothing among those after it
 weight_above : (row : List Cell) (ps : Pairs) → Above row ps → weight_of row ps ≡ 0
@@ -74,7 +69,7 @@ module _ (total : IsTotalOrder row_cmp) (same : (x y : List Cell) → row_cmp x 
   canonical_surplus (p ∷ more) less can =
       let rest = canonical_surplus more less (canonical_tail p more can) in
       elim (nat_lt (weight_of p.0 less) p.1) as (λ b. nat_lt (weight_of p.0 less) p.1 ≡ b → IsCanonical (cond b ((p.0, p.1 - weight_of p.0 less) ∷ surplus_of more less) (surplus_of more less))) [
-        | true ↦ λ h. canonical_cons p.0 (p.1 - weight_of p.0 less) (surplus_of more less) (omega (arith, below _ _ h)) (above_surplus p.0 more less (above_rest p more can)) rest
+        | true ↦ λ h. canonical_cons p.0 (p.1 - weight_of p.0 less) (surplus_of more less) (omega (arith, ltb-true _ _ h)) (above_surplus p.0 more less (above_rest p more can)) rest
         | false ↦ λ h. rest
       ] refl
 
@@ -89,13 +84,8 @@ module _ (total : IsTotalOrder row_cmp) (same : (x y : List Cell) → row_cmp x 
         | false ↦ λ h. other row p more less h rest
       ] refl
     where
-      equal : (o : Ordering) → is_eq o ≡ true → o ≡ Equal
-      equal Less h = cc
-      equal Equal h = refl
-      equal Greater h = cc
-
       same_row : (x y : List Cell) → eq_by_cmp row_cmp x y ≡ true → x ≡ y
-      same_row x y h = same x y (equal _ h)
+      same_row x y h = same x y (equal_order _ h)
 
       itself : (x : List Cell) → eq_by_cmp row_cmp x x ≡ true
       itself x = ap is_eq (tied_itself total x)
@@ -113,7 +103,7 @@ module _ (total : IsTotalOrder row_cmp) (same : (x y : List Cell) → row_cmp x 
           at_itself =
               elim (nat_lt (weight_of p.0 less) p.1) as (λ b. nat_lt (weight_of p.0 less) p.1 ≡ b → weight_of p.0 (cond b ((p.0, p.1 - weight_of p.0 less) ∷ surplus_of more less) (surplus_of more less)) ≡ weight_of p.0 (p ∷ more) - weight_of p.0 less) [
                 | true ↦ λ h. weight_cons p.0 (p.0, p.1 - weight_of p.0 less) (surplus_of more less) ∙ ap (λ b. cond b (p.1 - weight_of p.0 less) 0 + weight_of p.0 (surplus_of more less)) (itself p.0) ∙ omega (arith, nothing, all)
-                | false ↦ λ h. omega (arith, nothing, all, not_below _ _ h)
+                | false ↦ λ h. omega (arith, nothing, all, ltb-false _ _ h)
               ] refl
 
       other : (row : List Cell) (p : List Cell × ℕ) (more less : Pairs) → eq_by_cmp row_cmp row p.0 ≡ false
@@ -172,8 +162,8 @@ module _ (total : IsTotalOrder row_cmp) (same : (x y : List Cell) → row_cmp x 
   searched row ps can at le result =
       let parted = result (comparisons_rise row ps can) in
       weight_none row ps (λ i d lt. elim (nat_lt i at) as (λ b. nat_lt i at ≡ b → is_eq (row_cmp row (get_or ps i d).0) ≡ false) [
-        | true ↦ λ h. ap is_eq (total.antisymm row (get_or ps i d).0) ∙ ap (λ o. is_eq (ordering_reverse o)) (parted.0 i d (omega arith) (below i at h))
-        | false ↦ λ h. ap is_eq (total.antisymm row (get_or ps i d).0) ∙ ap (λ o. is_eq (ordering_reverse o)) (parted.1 i d (not_below i at h) lt)
+        | true ↦ λ h. ap is_eq (total.antisymm row (get_or ps i d).0) ∙ ap (λ o. is_eq (ordering_reverse o)) (parted.0 i d (omega arith) (ltb-true i at h))
+        | false ↦ λ h. ap is_eq (total.antisymm row (get_or ps i d).0) ∙ ap (λ o. is_eq (ordering_reverse o)) (parted.1 i d (ltb-false i at h) lt)
       ] refl)
 
   -- ---- rows in canonical order are known by what each weighs

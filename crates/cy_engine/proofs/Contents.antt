@@ -1,58 +1,27 @@
 -- The test of whether two graphs hold the same, and the tick after a line.
 use Rattle.std.proofs.Common.{◌≡◌, ◌≢◌, ℕ, Bool, true, false, cond, ◌&&◌, ◌==◌, List, [], ◌∷◌, Ok, refl, sym, ap, subst, ◌∙◌, ⊎_elim}
 use Rattle.std.specs.Bool.{Decides}
-use Rattle.std.specs.Cmp.{tied_itself}
-use Rattle.std.specs.Cmp.Lexicographic.{slice_cmp, pointwise}
+use Rattle.std.specs.Cmp.Lexicographic.{pointwise}
 use Rattle.std.specs.Str.{bytes_eq}
-use Rattle.std.specs.declared.cmp.Ordering.{Ordering}
-use Rattle.std.specs.declared.cmp.Ordering.TheVariants.{Less, Equal, Greater}
-use Rattle.std.specs.Ordering.{nat_cmp, eq_by_cmp, is_eq, ordering_then}
+use Rattle.std.specs.Ordering.{eq_by_cmp, is_eq}
 use Rattle.std.proofs.lemmas.Bool.{cases_Bool}
 use Rattle.std.proofs.lemmas.Bool.Decides.{Decides-and, Decides-eqb, Decides-like}
-use Rattle.std.proofs.lemmas.Cmp.{nat_cmp_total, int_cmp_total}
 use Rattle.std.proofs.lemmas.Slice.Eq.{bytes_eq-Decides, slice_eq-Decides}
 use Rattle.cy_values.specs.declared.numbers.NodeId.{NodeId}
 use Rattle.cy_values.specs.declared.numbers.RelId.{RelId}
-use Rattle.cy_values.specs.declared.scalars.Scalar.{Scalar}
 use Rattle.cy_values.specs.declared.scalars.Scalar.TheVariants as scalar
 use Rattle.cy_values.specs.declared.scalars.Value.{Value}
 use Rattle.cy_values.specs.declared.scalars.Value.TheVariants as value
-use Rattle.cy_values.specs.Order.{scalar_order, value_order}
+use Rattle.cy_values.specs.Order.{value_order}
 use Rattle.cy_values.proofs.Identity.{same_values}
+use Rattle.cy_values.proofs.SameRows.{equal_order, value_itself}
 use Rattle.cy_graph.specs.Graph.{Content}
 use Rattle.cy_graph.specs.declared.nodes.Node.{Node}
 use Rattle.cy_graph.specs.declared.nodes.Rel.{Rel}
 use Rattle.cy_engine.specs.Verdicts.{same_label, same_entry, same_value, same_node, same_ends, same_link, same_relationship, same_content, next_tick, tick_after}
 
-equal : (o : Ordering) → is_eq o ≡ true → o ≡ Equal
-equal Less h = cc
-equal Equal h = refl
-equal Greater h = cc
-
-list_itself : {A : Type 0} (R : A → A → Ordering) → ((x : A) → R x x ≡ Equal) → (xs : List A) → slice_cmp R xs xs ≡ Equal
-list_itself R each [] = refl
-list_itself R each (x ∷ xs) = ap (λ o. ordering_then o (slice_cmp R xs xs)) (each x) ∙ list_itself R each xs
-
-text_itself : (t : List ℕ) → slice_cmp nat_cmp t t ≡ Equal
-text_itself t = list_itself nat_cmp (tied_itself nat_cmp_total) t
-
-scalar_itself : (x : Scalar) → scalar_order x x ≡ Equal
-scalar_itself (scalar.Text t) = text_itself t
-scalar_itself (scalar.Bool true) = refl
-scalar_itself (scalar.Bool false) = refl
-scalar_itself (scalar.Int n) = tied_itself int_cmp_total n
-scalar_itself scalar.Null = refl
-
-value_itself : (v : Value) → value_order v v ≡ Equal
-value_itself (value.List xs) = list_itself scalar_order scalar_itself xs
-value_itself (value.Text t) = text_itself t
-value_itself (value.Bool true) = refl
-value_itself (value.Bool false) = refl
-value_itself (value.Int n) = tied_itself int_cmp_total n
-value_itself value.Null = refl
-
 value_decides : (v w : Value) → Decides (eq_by_cmp value_order v w) (v ≡ w)
-value_decides v w = (λ h. same_values v w (equal (value_order v w) h), λ e. subst (λ (x : Value). eq_by_cmp value_order v x ≡ true) e (ap is_eq (value_itself v)))
+value_decides v w = (λ h. same_values v w (equal_order (value_order v w) h), λ e. subst (λ (x : Value). eq_by_cmp value_order v x ≡ true) e (ap is_eq (value_itself v)))
 
 label_decides : (k l : List ℕ × Unit {0}) → Decides (same_label k l) (k ≡ l)
 label_decides k l = Decides-like (bytes_eq k.0 l.0) (λ h. λ i. (h i, tt)) (λ h. ap (λ (p : List ℕ × Unit {0}). p.0) h) (bytes_eq-Decides k.0 l.0)

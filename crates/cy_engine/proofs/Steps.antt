@@ -1,5 +1,6 @@
 -- What the parts of the engine's work on a line come to.
-use Rattle.std.proofs.Common.{◌≡◌, ◌⊎◌, ℕ, ◌<◌, ◌≤◌, Bool, true, false, nat_le, nat_lt, length, map, is_some, arith, List, [], ◌∷◌, ◌++◌, Option, Some, None, Ok, Err, refl, ap, ◌∙◌, inl, inr}
+use Rattle.std.proofs.Common.{◌≡◌, ◌⊎◌, ℕ, ◌<◌, ◌≤◌, true, false, nat_le, nat_lt, length, map, is_some, arith, List, [], ◌∷◌, ◌++◌, Option, Some, None, Ok, Err, refl, ap, ◌∙◌, inl, inr}
+use Rattle.std.proofs.lemmas.Bool.{false_from_ne_true}
 use Rattle.std.proofs.lemmas.Bool.Decides.{nat_tests}
 use Rattle.std.proofs.lemmas.List.{map-append}
 use Rattle.cy_lexer.specs.declared.tokens.Token.{Token}
@@ -209,13 +210,9 @@ module _ (store new : StoreState) (views : Views) (tick history : ℕ) (before a
   pub index_made : (has_pair label key store.chosen ≡ true → ⊥) → new ≡ record store { chosen = store.chosen ++ (record { label = label; key = key }) ∷ [] }
       → AnswersKept line (IndexOf label key) (kept store before) (Ok (reply.Index label key)) [] (kept new after)
   index_made free is = record {
-    answers = inr (inr (rw (absent (has_pair label key store.chosen) free) (record { answered = refl; no_entries = refl; state = ap (λ (s : StoreState). (kept s after).engine) is })));
+    answers = inr (inr (rw (false_from_ne_true (has_pair label key store.chosen) free) (record { answered = refl; no_entries = refl; state = ap (λ (s : StoreState). (kept s after).engine) is })));
     upkeep = refl;
   }
-    where
-      absent : (b : Bool) → (b ≡ true → ⊥) → b ≡ false
-      absent true never = absurd (never refl)
-      absent false never = refl
 
   pub index_refused : (why : IndexFault) → (why ≡ index.IndexThere → has_pair label key store.chosen ≡ true) → new ≡ store
       → AnswersKept line (IndexOf label key) (kept store before) (Err (of_index why)) [] (kept new after)

@@ -8,7 +8,7 @@ use Rattle.cy_bags.specs.declared.changes.Entry.{Entry}
 use Rattle.cy_feeds.specs.declared.feeds.Answer.TheVariants.{Entries as Since, Lagged}
 use Rattle.cy_feeds.specs.Feeds.{IsRising, entries_after}
 use Rattle.cy_feeds.specs.Following.{FollowersGoOn, IsCopy, NewFeedsTell, PushedFeedsTell, QuietFeedsTell, count_after, has_tick, last_count}
-use Rattle.cy_feeds.proofs.GoingOn.{Differ, InTime, Silent, copies_change, goes_on_after, other_tick}
+use Rattle.cy_feeds.proofs.GoingOn.{Differ, InTime, Silent, copies_change, goes_on_after, other_tick, none_before}
 use Rattle.cy_updates_meaning.specs.Faults.{◌>>=◌}
 use Rattle.cy_engine_views.specs.RegisteredViews.{View}
 use Rattle.cy_engine.specs.declared.faults.Fault.{Fault}
@@ -23,13 +23,6 @@ use Rattle.cy_engine.proofs.Bounds.{IsLimited}
 use Rattle.cy_engine.proofs.Polls.{Known, asked_step, found_each, known_run}
 use Rattle.cy_engine.proofs.Ticks.{content_at, content_first}
 use Rattle.cy_engine.proofs.ToldRows.{IsTold, rows_at}
-
--- there is no entry up to the tick that a rising list begins above
-none_before : (tick from : ℕ) (es : List Entry) → IsRising from es → tick ≤ from → has_tick tick es ≡ false
-none_before tick from [] rising le = refl
-none_before tick from (e ∷ es) rising le =
-    let above : from < e.tick = rising.0 in
-    other_tick e tick es (λ is. omega (arith, is, above, le)) (none_before tick e.tick es rising.1 (omega (arith, above, le)))
 
 -- all of a rising list are above where it begins
 all_after : (tick from : ℕ) (es : List Entry) → IsRising from es → tick ≤ from → entries_after tick es ≡ es

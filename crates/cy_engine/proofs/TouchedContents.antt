@@ -1,7 +1,6 @@
 -- A change touched something exactly where it leads to another content.
 use Rattle.std.specs.FinMap.Entries as entries
-use Rattle.std.specs.Prelude.{T}
-use Rattle.std.proofs.Common.{◌≡◌, ◌≢◌, ℕ, Bool, true, false, List, [], ◌∷◌, Option, None, Some, inl, inr, refl, sym, ap, subst, ◌∙◌, arith}
+use Rattle.std.proofs.Common.{◌≡◌, ◌≢◌, ℕ, Bool, true, false, List, [], ◌∷◌, Option, None, Some, inl, inr, refl, sym, ap, ◌∙◌, arith}
 use Rattle.std.specs.Cmp.{IsTotalOrder}
 use Rattle.std.specs.Option.{option_map}
 use Rattle.std.specs.declared.cmp.Ordering.TheVariants.{Equal}
@@ -16,10 +15,7 @@ use Rattle.cy_graph.proofs.Same.{same_node, node_itself, same_rel, rel_itself}
 use Rattle.cy_graph.proofs.Touching.{same_nodes, same_rels}
 use Rattle.cy_graph.specs.Graph.{Content, State, node_order, rel_order, node_at, rel_at, IsGraph}
 use Rattle.cy_graph.specs.Touched.{Old, BeforeImage, AreTouched}
-
--- a test in its two forms
-held : (b : Bool) → b ≡ true → T b
-held b e = subst T (sym e) tt
+use Rattle.cy_graph.proofs.Places.{held}
 
 -- what can't differ is the same
 decided : {V : Type 0} (eq : V → V → Bool) → ((m n : V) → eq m n ≡ true → m ≡ n) → ((n : V) → eq n n ≡ true) → (m n : Option V) → (m ≢ n → ⊥) → m ≡ n

@@ -1,12 +1,14 @@
 -- What a condition asks of the labels in the second column.
-use Rattle.std.proofs.Common.{◌≡◌, Bool, true, false, ◌&&◌, List, refl, sym, ap, ◌∙◌}
+use Rattle.std.proofs.Common.{◌≡◌, true, ◌&&◌, List, refl, sym, ap, ◌∙◌}
 use Rattle.std.specs.Prelude.{IfSome, Option, None, Some, Result, Ok, Err}
-use Rattle.std.proofs.lemmas.Bool.{false≢true}
+use Rattle.std.proofs.lemmas.Bool.{and_parts}
+use Rattle.cy_oneshot_patterns.proofs.Equations.{truth_back}
 use Rattle.cy_values.specs.declared.rows.Cell.{Cell}
 use Rattle.cy_values.specs.declared.scalars.Value.{Value}
 use Rattle.cy_values.specs.declared.truth.Truth.{Truth}
 use Rattle.cy_values.specs.declared.truth.Truth.TheVariants.{No, Unknown, Yes}
 use Rattle.cy_values.specs.Truth.{both, is_yes}
+use Rattle.cy_values.proofs.Booleans.{none_and}
 use Rattle.cy_trees.specs.declared.expressions.BinaryOperator.TheVariants.{And, In}
 use Rattle.cy_trees.specs.Trees.{Expression, Name, binary, text}
 use Rattle.cy_expr.specs.declared.faults.EvalFault.{EvalFault}
@@ -27,11 +29,6 @@ asks_in label test labels is second row ls at held = sym (passes row labels seco
 
 -- ---- AND
 
-truth_back : (t : Truth) → truth_of (value_of t) ≡ Ok t
-truth_back Yes = refl
-truth_back No = refl
-truth_back Unknown = refl
-
 yes_both : (t u : Truth) → is_yes (both t u) ≡ (is_yes t && is_yes u)
 yes_both Yes Yes = refl
 yes_both Yes No = refl
@@ -43,16 +40,12 @@ yes_both Unknown Yes = refl
 yes_both Unknown No = refl
 yes_both Unknown Unknown = refl
 
-and_false : (b : Bool) → false ≡ (b && false)
-and_false true = refl
-and_false false = refl
-
 abbrev joined_truth : Result Truth EvalFault → Result Truth EvalFault → Result Truth EvalFault
 joined_truth o p = on_one truth_of (on_two (λ a b. Ok (value_of (both a b))) o p)
 
 joined_true : (o p : Result Truth EvalFault) → is_true (joined_truth o p) ≡ (is_true o && is_true p)
 joined_true (Ok t) (Ok u) = ap is_true (truth_back (both t u)) ∙ yes_both t u
-joined_true (Ok t) (Err fault) = and_false (is_yes t)
+joined_true (Ok t) (Err fault) = none_and (is_yes t)
 joined_true (Err fault) p = refl
 
 abbrev whole : Result Value EvalFault → Result Value EvalFault → Result Truth EvalFault
@@ -64,7 +57,7 @@ in_cell (Err fault) = refl
 
 whole_true : (v w : Result Value EvalFault) → is_true (whole v w) ≡ (is_true (on_one truth_of v) && is_true (on_one truth_of w))
 whole_true (Ok v) (Ok w) = ap (λ (o : Result Value EvalFault). is_true (on_one truth_of o)) (in_cell (conjunction v w)) ∙ joined_true (truth_of v) (truth_of w)
-whole_true (Ok v) (Err fault) = and_false (is_true (truth_of v))
+whole_true (Ok v) (Err fault) = none_and (is_true (truth_of v))
 whole_true (Err fault) w = refl
 
 abbrev value_on : List Cell → Expression → Result Value EvalFault
@@ -73,19 +66,14 @@ value_on row e = on_one value_in_cell (cell_of row e)
 and_holds : (a b : Expression) (row : List Cell) → holds (binary And a b) row ≡ (holds a row && holds b row)
 and_holds a b row = whole_true (value_on row a) (value_on row b)
 
-both_true : (a b : Bool) → (a && b) ≡ true → (a ≡ true) × (b ≡ true)
-both_true true true held = (refl, refl)
-both_true true false held = absurd (false≢true held)
-both_true false b held = absurd (false≢true held)
-
 -- what a part of an AND asks the whole asks
 pub asks_left : (label : Name) (test a b : Expression) → test ≡ binary And a b → Asks label a → Asks label test
 asks_left label test a b is asks row ls at held =
-    asks row ls at (both_true (holds a row) (holds b row) (sym (and_holds a b row) ∙ ap (λ (e : Expression). holds e row) (sym is) ∙ held)).0
+    asks row ls at (and_parts (holds a row) (holds b row) (sym (and_holds a b row) ∙ ap (λ (e : Expression). holds e row) (sym is) ∙ held)).0
 
 pub asks_right : (label : Name) (test a b : Expression) → test ≡ binary And a b → Asks label b → Asks label test
 asks_right label test a b is asks row ls at held =
-    asks row ls at (both_true (holds a row) (holds b row) (sym (and_holds a b row) ∙ ap (λ (e : Expression). holds e row) (sym is) ∙ held)).1
+    asks row ls at (and_parts (holds a row) (holds b row) (sym (and_holds a b row) ∙ ap (λ (e : Expression). holds e row) (sym is) ∙ held)).1
 
 -- what is known of a value, if there is one, gives what is weaker
 pub weaker : {A : Type 0} (P Q : A → Type 0) → ((a : A) → P a → Q a) → (o : Option A) → IfSome o P → IfSome o Q

@@ -1,7 +1,7 @@
 -- The cell of an expression has the expression's kind.
 use Rattle.std.proofs.Common.{◌≡◌, ◌∙◌, ◌+◌, suc, get_or, refl, sym, ap, subst, arith, List, [], ◌∷◌}
 use Rattle.std.proofs.lemmas.Bool.{false≢true}
-use Rattle.std.specs.Prelude.{ℕ, Bool, true, false, cond, if◌then◌else◌, ◌&&◌, Option, Some, None, option_map, unwrap_or, is_some, Result, Ok, Err, IfOk}
+use Rattle.std.specs.Prelude.{ℕ, Bool, true, false, cond, ◌&&◌, Option, Some, None, option_map, unwrap_or, is_some, Result, Ok, Err, IfOk, if◌then◌else◌}
 use Rattle.std.specs.List.{list_all, list_any, position_from}
 use Rattle.std.specs.Str.{bytes_eq}
 use Rattle.cy_values.specs.declared.numbers.NodeId.{NodeId}
@@ -13,6 +13,7 @@ use Rattle.cy_values.specs.declared.truth.Truth.TheVariants.{No, Unknown, Yes}
 use Rattle.cy_values.specs.Truth.{both, is_yes, one_alone, one_at_least, opposite}
 use Rattle.cy_values.specs.declared.rows.Cell.{Cell}
 use Rattle.cy_values.specs.declared.rows.Cell.TheVariants as cell
+use Rattle.cy_values.proofs.Booleans.{both_first, both_second}
 use Rattle.cy_trees.specs.declared.expressions.UnaryOperator.{UnaryOperator}
 use Rattle.cy_trees.specs.declared.expressions.UnaryOperator.TheVariants.{Not, Plus, Minus, IsNull, IsNotNull}
 use Rattle.cy_trees.specs.declared.expressions.BinaryOperator.{BinaryOperator}
@@ -37,14 +38,6 @@ use Rattle.cy_expr.specs.Choice.{coalesce, choice}
 use Rattle.cy_expr.specs.Operators.{binary_value, unary_value, value_in_cell}
 use Rattle.cy_expr.specs.Lookups.{Lookups, property_value, existence, labels_test, on_entity, on_node}
 use Rattle.cy_expr.specs.Evaluation.{as_cell, call_value, cell_of, cells_of, chain, column_value, outcome_of_else, outcomes_of, outcomes_of_arms, property_exists, values_of}
-
-pub and-left : (a b : Bool) → (a && b) ≡ true → a ≡ true
-and-left true b is = refl
-and-left false b is = is
-
-pub and-right : (a b : Bool) → (a && b) ≡ true → b ≡ true
-and-right true b is = is
-and-right false b is = absurd (false≢true is)
 
 -- places counted from the next number
 position-next : {A : Type 0} (test : A → Bool) (i : ℕ) (vs : List A) → position_from test (1 + i) vs ≡ option_map (λ n. 1 + n) (position_from test i vs)
@@ -73,12 +66,12 @@ column-kind (v ∷ scope) (c ∷ row) name fit =
     subst (λ (o : Option ℕ). is_cell_of (unwrap_or (cond (bytes_eq name v.0) (Some v.1) (find_kind scope name)) kind.Value) (column_value (cond (bytes_eq name v.0) (Some 0) o) (c ∷ row)) ≡ true)
     (sym (position-next (λ (w : Name × Kind). bytes_eq name w.0) 0 scope))
     (found v.1 c row (find_kind scope name) (find_column scope name) (bytes_eq name v.0)
-    (and-left (is_cell_of v.1 c) (row_fits scope row) fit) (column-kind scope row name (and-right (is_cell_of v.1 c) (row_fits scope row) fit)))
+    (both_first (is_cell_of v.1 c) (row_fits scope row) fit) (column-kind scope row name (both_second (is_cell_of v.1 c) (row_fits scope row) fit)))
 
 -- ---- values
 
 -- a value, of whatever type
-value-holds : (r : Result Value EvalFault) → IfOk (as_cell r) (λ c. is_cell_of kind.Value c ≡ true)
+pub value-holds : (r : Result Value EvalFault) → IfOk (as_cell r) (λ c. is_cell_of kind.Value c ≡ true)
 value-holds (Ok (value.Text t)) = refl
 value-holds (Ok (value.Bool b)) = refl
 value-holds (Ok (value.Int n)) = refl
@@ -221,8 +214,8 @@ module _ (graph : Lookups) (scope : Scope) (row : List Cell) (fit : row_fits sco
     kind-holds (list es) = value-holds (on_one list_of (values_of graph row (resolved_expressions scope es)))
     kind-holds (case arms e) =
         flag-chosen (gives_flags scope arms && is_flag_otherwise scope e) (choice (outcomes_of_arms graph row (resolved_arms scope arms)) (outcome_of_else graph row (resolved_otherwise scope e)))
-        (λ are. arms-flags arms (outcome_of_else graph row (resolved_otherwise scope e)) (and-left (gives_flags scope arms) (is_flag_otherwise scope e) are)
-        (else-flags e (and-right (gives_flags scope arms) (is_flag_otherwise scope e) are)))
+        (λ are. arms-flags arms (outcome_of_else graph row (resolved_otherwise scope e)) (both_first (gives_flags scope arms) (is_flag_otherwise scope e) are)
+        (else-flags e (both_second (gives_flags scope arms) (is_flag_otherwise scope e) are)))
     kind-holds (call name distinct es) =
         call-holds graph (function_named name) (are_flags scope es) (cells_of graph row (resolved_expressions scope es)) (outcomes_of graph row (resolved_expressions scope es))
         (property_exists graph row (resolved_expressions scope es)) (outcomes-flags es) (asked-flags (resolved_expressions scope es))
@@ -233,16 +226,16 @@ module _ (graph : Lookups) (scope : Scope) (row : List Cell) (fit : row_fits sco
     outcomes-flags no_more are = refl
     outcomes-flags (more e es) are =
         coalesce-flags (on_one value_in_cell (cell_of graph row (resolved scope e))) (outcomes_of graph row (resolved_expressions scope es))
-        (cell-flags (kind_of scope e) (cell_of graph row (resolved scope e)) (kind-holds e) (and-left (is_flag (kind_of scope e)) (are_flags scope es) are))
-        (outcomes-flags es (and-right (is_flag (kind_of scope e)) (are_flags scope es) are))
+        (cell-flags (kind_of scope e) (cell_of graph row (resolved scope e)) (kind-holds e) (both_first (is_flag (kind_of scope e)) (are_flags scope es) are))
+        (outcomes-flags es (both_second (is_flag (kind_of scope e)) (are_flags scope es) are))
 
     arms-flags : (arms : Arms) (others : Result Value EvalFault) → gives_flags scope arms ≡ true → Flags others → Flags (choice (outcomes_of_arms graph row (resolved_arms scope arms)) others)
     arms-flags no_arms others are else_is = else_is
     arms-flags (arm condition outcome arms) others are else_is =
         choice-flags (on_one truth_of (on_one value_in_cell (cell_of graph row (resolved scope condition)))) (on_one value_in_cell (cell_of graph row (resolved scope outcome)))
         (choice (outcomes_of_arms graph row (resolved_arms scope arms)) others)
-        (cell-flags (kind_of scope outcome) (cell_of graph row (resolved scope outcome)) (kind-holds outcome) (and-left (is_flag (kind_of scope outcome)) (gives_flags scope arms) are))
-        (arms-flags arms others (and-right (is_flag (kind_of scope outcome)) (gives_flags scope arms) are) else_is)
+        (cell-flags (kind_of scope outcome) (cell_of graph row (resolved scope outcome)) (kind-holds outcome) (both_first (is_flag (kind_of scope outcome)) (gives_flags scope arms) are))
+        (arms-flags arms others (both_second (is_flag (kind_of scope outcome)) (gives_flags scope arms) are) else_is)
 
     else-flags : (e : Otherwise) → is_flag_otherwise scope e ≡ true → Flags (outcome_of_else graph row (resolved_otherwise scope e))
     else-flags nothing are = refl

@@ -15,7 +15,7 @@ use Rattle.cy_trees.specs.Trees.{Name}
 use Rattle.cy_graph.specs.Maps as maps
 use Rattle.cy_expr.specs.Lookups.{names_rise}
 
-same_tests : (name : Name) (names : List Name) → list_any (eq_by_cmp maps.text_order name) names ≡ list_any (bytes_eq name) names
+pub same_tests : (name : Name) (names : List Name) → list_any (eq_by_cmp maps.text_order name) names ≡ list_any (bytes_eq name) names
 same_tests name [] = refl
 same_tests name (other ∷ names) = λ i. is_eq-slice_cmp name other i || same_tests name names i
 

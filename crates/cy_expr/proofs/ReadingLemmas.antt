@@ -35,7 +35,7 @@ on_one-alike : {A B : Type 0} (P : A → Type 0) (f g : A → Result B EvalFault
 on_one-alike P f g (Ok a) s same fits alike = alike a fits ∙ ap (on_one g) same
 on_one-alike P f g (Err fault) s same fits alike = ap (on_one g) same
 
-on_one-pointwise : {A B : Type 0} (f g : A → Result B EvalFault) (r s : Result A EvalFault)
+pub on_one-pointwise : {A B : Type 0} (f g : A → Result B EvalFault) (r s : Result A EvalFault)
     → r ≡ s → ((a : A) → f a ≡ g a) → on_one f r ≡ on_one g s
 on_one-pointwise f g (Ok a) s same alike = alike a ∙ ap (on_one g) same
 on_one-pointwise f g (Err fault) s same alike = ap (on_one g) same

@@ -3,7 +3,7 @@ use Rattle.std.proofs.Common.{rules, ◌∙◌, ◌≢◌, ◌⊎◌, inl, inr, 
 use Rattle.std.proofs.lemmas.Bool.{eqb-true}
 use Rattle.std.proofs.lemmas.List.{append-nil, drop_all}
 use Rattle.std.proofs.lemmas.Slice.Eq.{starts_is}
-use Rattle.std.specs.Prelude.{Bool, true, false, ◌||◌, if◌then◌else◌, Option, Some, None, SomeIff, FitsSigned, ℤ, pos, negsuc, neg_ℤ, unsigned_abs, Result, Ok, Err, IsErr, IsErrAnd, MatchResult, nat_eq}
+use Rattle.std.specs.Prelude.{Bool, true, false, ◌||◌, Option, Some, None, SomeIff, FitsSigned, ℤ, pos, negsuc, neg_ℤ, unsigned_abs, Result, Ok, Err, IsErr, IsErrAnd, MatchResult, nat_eq, if◌then◌else◌}
 use Rattle.std.specs.Bool.{MatchBool}
 use Rattle.std.specs.Int.{w64}
 use Rattle.std.specs.Str.Pattern.{HasMatch, FindsText, LacksTextAt}
@@ -40,6 +40,8 @@ use Rattle.cy_trees.specs.declared.expressions.Expr as coded
 use Rattle.cy_trees.specs.declared.expressions.Comparator.{Comparator}
 use Rattle.cy_trees.specs.declared.expressions.Expr.{Expr, the_lemmas}
 use Rattle.cy_values.specs.declared.rows.Cell.{Cell}
+use Rattle.cy_values.proofs.Booleans.{or_true}
+use Rattle.cy_values.proofs.Truths.{both-yes}
 
 -- a whole number's distance from zero fits where its opposite does
 pub distance_fits : (n : ℤ) (r : Option ℤ) → FitsSigned w64 n → SomeIff r (FitsSigned w64 (neg_ℤ n)) (pos (unsigned_abs n)) → SomeIff r (FitsSigned w64 (pos (unsigned_abs n))) (pos (unsigned_abs n))
@@ -156,17 +158,13 @@ membership-one any x v (Err fault) = refl
 starts : (s t : List ℕ) → (starts_with nat_eq s t ≡ true → s ≡ t ++ drop (length t) s) × ((rest : List ℕ) → s ≡ t ++ rest → starts_with nat_eq s t ≡ true)
 starts s t = starts_is (λ a b. (eqb-true a b, eq-eqb a b)) s t (starts_with nat_eq s t) refl
 
-or-true : (b : Bool) → (b || true) ≡ true
-or-true true = refl
-or-true false = refl
-
 found : (s t rest : List ℕ) (i : ℕ) → i ≤ length s → drop i s ≡ t ++ rest → has_within s t ≡ true
 found [] t rest zero fits at = (starts [] t).1 rest at
 found [] t rest (suc i) fits at = (starts [] t).1 rest at
 found (c ∷ cs) t rest zero fits at = rw ((starts (c ∷ cs) t).1 rest at) refl
 found (c ∷ cs) t rest (suc i) fits at =
     let later : has_within cs t ≡ true = found cs t rest i (omega arith) at in
-    rw later (or-true (starts_with nat_eq (c ∷ cs) t))
+    rw later (or_true (starts_with nat_eq (c ∷ cs) t))
 
 no_start : (s t : List ℕ) (b : Bool) → starts_with nat_eq s t ≡ b → LacksTextAt t s 0 → b ≡ false
 no_start s t true is lacks = absurd (lacks (drop (length t) s) ((starts s t).0 is))
@@ -192,11 +190,6 @@ and_then-yes (Ok No) = refl
 and_then-yes (Ok Unknown) = refl
 and_then-yes (Ok Yes) = refl
 and_then-yes (Err fault) = refl
-
-pub both-yes : (a : Truth) → both a Yes ≡ a
-both-yes No = refl
-both-yes Unknown = refl
-both-yes Yes = refl
 
 pub both-both : (a b c : Truth) → both (both a b) c ≡ both a (both b c)
 both-both No No No = refl

@@ -1,7 +1,7 @@
 -- A sure expression that is checked has a value on each row that fits its scope.
 use Rattle.std.proofs.Common.{◌≡◌, ◌⊎◌, inl, inr, refl, sym, subst, List, [], ◌∷◌}
 use Rattle.std.proofs.lemmas.Bool.{false≢true}
-use Rattle.std.specs.Prelude.{Bool, true, false, if◌then◌else◌, not, ◌&&◌, ◌||◌, Option, Some, None, is_some, map, unwrap_or, Result, Ok, Err, IfOk, IsOk}
+use Rattle.std.specs.Prelude.{Bool, true, false, not, ◌&&◌, ◌||◌, Option, Some, None, is_some, map, unwrap_or, Result, Ok, Err, IfOk, IsOk, if◌then◌else◌}
 use Rattle.std.specs.List.{list_all, list_any}
 use Rattle.std.specs.Str.{bytes_eq}
 use Rattle.cy_values.specs.declared.numbers.NodeId.{NodeId}
@@ -17,6 +17,7 @@ use Rattle.cy_values.specs.Truth.{both, is_yes, one_alone, one_at_least, opposit
 use Rattle.cy_values.specs.Compare.{less}
 use Rattle.cy_values.specs.declared.rows.Cell.{Cell}
 use Rattle.cy_values.specs.declared.rows.Cell.TheVariants as cell
+use Rattle.cy_values.proofs.Booleans.{both_first, both_second}
 use Rattle.cy_trees.specs.declared.expressions.UnaryOperator.{UnaryOperator}
 use Rattle.cy_trees.specs.declared.expressions.UnaryOperator.TheVariants.{Not, Plus, Minus, IsNull, IsNotNull}
 use Rattle.cy_trees.specs.declared.expressions.BinaryOperator.{BinaryOperator}
@@ -49,7 +50,7 @@ use Rattle.cy_expr.specs.Comparison.{greater, greater_or_equal, less_or_equal}
 use Rattle.cy_expr.specs.Operators.{binary_value, compared, unary_value, value_in_cell}
 use Rattle.cy_expr.specs.Lookups.{Lookups, property_value, existence, number_of, labels_test, labels_value, on_entity, on_node, on_relationship}
 use Rattle.cy_expr.specs.Evaluation.{as_cell, call_value, called, cell_of, cells_of, chain, column_value, function_value, outcome_of_else, outcomes_of, outcomes_of_arms, property_exists, values_of}
-use Rattle.cy_expr.proofs.KindLemmas.{and-left, and-right, column-kind, is_boolean_or_null, kind-holds}
+use Rattle.cy_expr.proofs.KindLemmas.{column-kind, is_boolean_or_null, kind-holds}
 
 -- ---- what a checked expression has
 
@@ -80,7 +81,7 @@ ok : {A : Type 0} (P : A → Type 0) (r : Result A EvalFault) → Gives P r → 
 ok P (Ok a) gives = refl
 ok P (Err fault) gives = absurd gives
 
-as_cell-ok : (r : Result Value EvalFault) → IsOk r → IsOk (as_cell r)
+pub as_cell-ok : (r : Result Value EvalFault) → IsOk r → IsOk (as_cell r)
 as_cell-ok (Ok v) is = refl
 as_cell-ok (Err fault) is = is
 
@@ -197,13 +198,13 @@ binary-ok : (operator : BinaryOperator) (j k : Kind) (known : Bool) → is_sure_
     → IsOk (on_two (binary_value operator) (on_one value_in_cell r) (on_one value_in_cell s))
 binary-ok Or j k known is left right r s p q lists =
     two-ok IsFlag IsFlag (binary_value Or) (flags-ok one_at_least) (on_one value_in_cell r) (on_one value_in_cell s)
-    (flags-give j (and-left (is_flag j) (is_flag k) is) r p) (flags-give k (and-right (is_flag j) (is_flag k) is) s q)
+    (flags-give j (both_first (is_flag j) (is_flag k) is) r p) (flags-give k (both_second (is_flag j) (is_flag k) is) s q)
 binary-ok Xor j k known is left right r s p q lists =
     two-ok IsFlag IsFlag (binary_value Xor) (flags-ok one_alone) (on_one value_in_cell r) (on_one value_in_cell s)
-    (flags-give j (and-left (is_flag j) (is_flag k) is) r p) (flags-give k (and-right (is_flag j) (is_flag k) is) s q)
+    (flags-give j (both_first (is_flag j) (is_flag k) is) r p) (flags-give k (both_second (is_flag j) (is_flag k) is) s q)
 binary-ok And j k known is left right r s p q lists =
     two-ok IsFlag IsFlag (binary_value And) (flags-ok both) (on_one value_in_cell r) (on_one value_in_cell s)
-    (flags-give j (and-left (is_flag j) (is_flag k) is) r p) (flags-give k (and-right (is_flag j) (is_flag k) is) s q)
+    (flags-give j (both_first (is_flag j) (is_flag k) is) r p) (flags-give k (both_second (is_flag j) (is_flag k) is) s q)
 binary-ok In j k known is left right r s p q lists =
     two-ok Any IsList membership (λ x y any list. membership-ok x y list) (on_one value_in_cell r) (on_one value_in_cell s)
     (values-give j left r p) (gives-all (on_one value_in_cell s) IsList (ok Any (on_one value_in_cell s) (values-give k right s q)) (lists is))
@@ -219,7 +220,7 @@ values-compared : (f : Value → Value → Truth) (j k : Kind) → (is_value j &
     → IsOk (on_two (λ x y. Ok (f x y)) (value_in_cell c) (value_in_cell d))
 values-compared f j k is c d p q =
     two-ok Any Any (λ x y. Ok (f x y)) (λ x y p q. refl) (value_in_cell c) (value_in_cell d)
-    (value-gives j (and-left (is_value j) (is_value k) is) c p) (value-gives k (and-right (is_value j) (is_value k) is) d q)
+    (value-gives j (both_first (is_value j) (is_value k) is) c p) (value-gives k (both_second (is_value j) (is_value k) is) d q)
 
 compared-ok : (by : Comparator) (j k : Kind) → compares by j k ≡ true → (c d : Cell) → OfKind j c → OfKind k d → IsOk (compared by c d)
 compared-ok Equal j k is c d p q = refl
@@ -238,7 +239,7 @@ flag-element : (v : Value) → IsFlag v → IsElement v
 flag-element (value.List es) is = is
 flag-element _ is = refl
 
-or-either : (a b : Bool) → (a || b) ≡ true → (a ≡ true) ⊎ (b ≡ true)
+pub or-either : (a b : Bool) → (a || b) ≡ true → (a ≡ true) ⊎ (b ≡ true)
 or-either true b is = inl refl
 or-either false b is = inr is
 
@@ -260,7 +261,7 @@ choice-ok (Ok No) r c is p q = q
 choice-ok (Ok Unknown) r c is p q = q
 choice-ok (Err fault) r c is p q = is
 
-coalesce-ok : (r : Result Value EvalFault) (rs : List (Result Value EvalFault)) → IsOk r → IsOk (coalesce rs) → IsOk (coalesce (r ∷ rs))
+pub coalesce-ok : (r : Result Value EvalFault) (rs : List (Result Value EvalFault)) → IsOk r → IsOk (coalesce rs) → IsOk (coalesce (r ∷ rs))
 coalesce-ok (Ok value.Null) rs p q = q
 coalesce-ok (Ok (value.Bool b)) rs p q = refl
 coalesce-ok (Ok (value.Int n)) rs p q = refl
@@ -332,7 +333,7 @@ function-parts f distinct taken fits_f checked =
     let here = unless (false || not (is_aggregate f)) AggregateHere in
     let rule = kept (fits_f && (not distinct || is_aggregate f)) WrongArguments (no-first arguments (first here (unless taken WrongKind)) checked) in
     let later = no-later arguments (first here (unless taken WrongKind)) checked in
-    (and-left fits_f (not distinct || is_aggregate f) rule, kept taken WrongKind (no-later here (unless taken WrongKind) later))
+    (both_first fits_f (not distinct || is_aggregate f) rule, kept taken WrongKind (no-later here (unless taken WrongKind) later))
 
 -- ---- expressions
 
@@ -378,7 +379,7 @@ module _ (graph : Lookups) (scope : Scope) (row : List Cell) (fit_row : row_fits
 
   taken-first : (f : Function) (es : Expressions) → is_one es ≡ true → are_taken f scope es ≡ true → takes f (kind_of_first es) ≡ true
   taken-first f no_more one taken = absurd (false≢true one)
-  taken-first f (more e es) one taken = and-left (takes f (kind_of scope e)) (are_taken f scope es) taken
+  taken-first f (more e es) one taken = both_first (takes f (kind_of scope e)) (are_taken f scope es) taken
 
   function-fits : (f : Function) (distinct : Bool) (es : Expressions) → call_fault false scope (Some f) distinct es ≡ None → fit f es ≡ true
   function-fits f distinct es checked = (function-parts f distinct (are_taken f scope es) (fit f es) checked).0
@@ -400,7 +401,7 @@ module _ (graph : Lookups) (scope : Scope) (row : List Cell) (fit_row : row_fits
 
   only-cell : (e : Expression) (r : Result Cell EvalFault) → Gives (OfKind (kind_of scope e)) r → (has_size scope e ≡ true → IfOk r IsSized)
       → Gives (IsOnly (more e no_more)) (on_two (λ c cs. Ok (c ∷ cs)) r (Ok []))
-  only-cell e (Ok c) gives sized = record { only = c; alone = refl; has = gives; sized = λ is. sized (and-left (has_size scope e) true is) }
+  only-cell e (Ok c) gives sized = record { only = c; alone = refl; has = gives; sized = λ is. sized (both_first (has_size scope e) true is) }
   only-cell e (Err fault) gives sized = absurd gives
 
   element-given : (e : Expression) → (is_literal e ≡ true) ⊎ ((is_sure scope e && is_flag (kind_of scope e)) ≡ true) → (is_sure scope e ≡ true → IsOk (of e))
@@ -408,7 +409,7 @@ module _ (graph : Lookups) (scope : Scope) (row : List Cell) (fit_row : row_fits
   element-given e (inl literal) sure = literal-element e literal
   element-given e (inr flag) sure =
       gives-weaker IsFlag IsElement flag-element (on_one value_in_cell (of e))
-      (flags-give (kind_of scope e) (and-right (is_sure scope e) (is_flag (kind_of scope e)) flag) (of e) (of-kind e (sure (and-left (is_sure scope e) (is_flag (kind_of scope e)) flag))))
+      (flags-give (kind_of scope e) (both_second (is_sure scope e) (is_flag (kind_of scope e)) flag) (of e) (of-kind e (sure (both_first (is_sure scope e) (is_flag (kind_of scope e)) flag))))
 
   -- a call, by what its arguments give
   call-ok : (f : Option Function) (distinct : Bool) (es : Expressions) → call_fault false scope f distinct es ≡ None → is_sure_call f (have_size scope es) ≡ true
@@ -448,20 +449,20 @@ module _ (graph : Lookups) (scope : Scope) (row : List Cell) (fit_row : row_fits
         let part = no-first (expression_fault scope e) (unless (takes_unary operator (kind_of scope e)) WrongKind) checked in
         as_cell-ok (on_one (unary_value operator) (of e))
         (one-ok (OfKind (kind_of scope e)) (unary_value operator)
-        (unary-ok operator (kind_of scope e) (and-right (is_sure scope e) (is_sure_unary operator (is_flag (kind_of scope e))) sure))
-        (of e) (of-kind e (sure-ok e part (and-left (is_sure scope e) (is_sure_unary operator (is_flag (kind_of scope e))) sure))))
+        (unary-ok operator (kind_of scope e) (both_second (is_sure scope e) (is_sure_unary operator (is_flag (kind_of scope e))) sure))
+        (of e) (of-kind e (sure-ok e part (both_first (is_sure scope e) (is_sure_unary operator (is_flag (kind_of scope e))) sure))))
     sure-ok (binary operator a b) checked sure =
         let values = unless (is_value (kind_of scope a) && is_value (kind_of scope b)) WrongKind in
         let later = no-later (expression_fault scope a) (first (expression_fault scope b) values) checked in
         let rule = kept (is_value (kind_of scope a) && is_value (kind_of scope b)) WrongKind (no-later (expression_fault scope b) values later) in
-        let parts = and-left (is_sure scope a && is_sure scope b) (is_sure_binary operator (is_flag (kind_of scope a) && is_flag (kind_of scope b)) (is_known_list b)) sure in
+        let parts = both_first (is_sure scope a && is_sure scope b) (is_sure_binary operator (is_flag (kind_of scope a) && is_flag (kind_of scope b)) (is_known_list b)) sure in
         as_cell-ok (on_two (binary_value operator) (on_one value_in_cell (of a)) (on_one value_in_cell (of b)))
         (binary-ok operator (kind_of scope a) (kind_of scope b) (is_known_list b)
-        (and-right (is_sure scope a && is_sure scope b) (is_sure_binary operator (is_flag (kind_of scope a) && is_flag (kind_of scope b)) (is_known_list b)) sure)
-        (and-left (is_value (kind_of scope a)) (is_value (kind_of scope b)) rule) (and-right (is_value (kind_of scope a)) (is_value (kind_of scope b)) rule)
+        (both_second (is_sure scope a && is_sure scope b) (is_sure_binary operator (is_flag (kind_of scope a) && is_flag (kind_of scope b)) (is_known_list b)) sure)
+        (both_first (is_value (kind_of scope a)) (is_value (kind_of scope b)) rule) (both_second (is_value (kind_of scope a)) (is_value (kind_of scope b)) rule)
         (of a) (of b)
-        (of-kind a (sure-ok a (no-first (expression_fault scope a) (first (expression_fault scope b) values) checked) (and-left (is_sure scope a) (is_sure scope b) parts)))
-        (of-kind b (sure-ok b (no-first (expression_fault scope b) values later) (and-right (is_sure scope a) (is_sure scope b) parts)))
+        (of-kind a (sure-ok a (no-first (expression_fault scope a) (first (expression_fault scope b) values) checked) (both_first (is_sure scope a) (is_sure scope b) parts)))
+        (of-kind b (sure-ok b (no-first (expression_fault scope b) values later) (both_second (is_sure scope a) (is_sure scope b) parts)))
         (known-list b))
     sure-ok (comparison e links) checked sure =
         let rules = unless (are_compared scope (kind_of scope e) links) WrongKind in
@@ -471,8 +472,8 @@ module _ (graph : Lookups) (scope : Scope) (row : List Cell) (fit_row : row_fits
         (one-ok Any (λ a. Ok (value_of a)) (λ a any. refl) (on_one (λ c. chain graph row c (resolved_links scope links)) (of e))
         (gives-any (on_one (λ c. chain graph row c (resolved_links scope links)) (of e))
         (one-ok (OfKind (kind_of scope e)) (λ c. chain graph row c (resolved_links scope links))
-        (λ c has. chain-ok links (no-first (links_fault scope links) rules later) (and-right (is_sure scope e) (are_sure_links scope links) sure) (kind_of scope e) c has rule)
-        (of e) (of-kind e (sure-ok e (no-first (expression_fault scope e) (first (links_fault scope links) rules) checked) (and-left (is_sure scope e) (are_sure_links scope links) sure))))))
+        (λ c has. chain-ok links (no-first (links_fault scope links) rules later) (both_second (is_sure scope e) (are_sure_links scope links) sure) (kind_of scope e) c has rule)
+        (of e) (of-kind e (sure-ok e (no-first (expression_fault scope e) (first (links_fault scope links) rules) checked) (both_first (is_sure scope e) (are_sure_links scope links) sure))))))
     sure-ok (list es) checked sure =
         as_cell-ok (on_one list_of (values_of graph row (resolved_expressions scope es)))
         (one-ok AreElements list_of list-made (values_of graph row (resolved_expressions scope es))
@@ -483,15 +484,15 @@ module _ (graph : Lookups) (scope : Scope) (row : List Cell) (fit_row : row_fits
         let rule = kept (have_values scope arms && is_value_otherwise scope e) WrongKind (no-later (otherwise_fault scope e) rules later) in
         as_cell-ok (choice (outcomes_of_arms graph row (resolved_arms scope arms)) (outcome_of_else graph row (resolved_otherwise scope e)))
         (arms-ok arms (outcome_of_else graph row (resolved_otherwise scope e)) (no-first (arms_fault scope arms) (first (otherwise_fault scope e) rules) checked)
-        (and-left (are_sure_arms scope arms) (is_sure_otherwise scope e) sure) (and-left (have_values scope arms) (is_value_otherwise scope e) rule)
-        (else-ok e (no-first (otherwise_fault scope e) rules later) (and-right (are_sure_arms scope arms) (is_sure_otherwise scope e) sure) (and-right (have_values scope arms) (is_value_otherwise scope e) rule)))
+        (both_first (are_sure_arms scope arms) (is_sure_otherwise scope e) sure) (both_first (have_values scope arms) (is_value_otherwise scope e) rule)
+        (else-ok e (no-first (otherwise_fault scope e) rules later) (both_second (are_sure_arms scope arms) (is_sure_otherwise scope e) sure) (both_second (have_values scope arms) (is_value_otherwise scope e) rule)))
     sure-ok (call name distinct es) checked sure =
         let arguments = no-first (expressions_fault scope es) (call_fault false scope (function_named name) distinct es) checked in
-        let are = and-left (are_sure scope es) (is_sure_call (function_named name) (have_size scope es)) sure in
+        let are = both_first (are_sure scope es) (is_sure_call (function_named name) (have_size scope es)) sure in
         as_cell-ok (call_value graph (function_named name) (cells_of graph row (resolved_expressions scope es)) (outcomes_of graph row (resolved_expressions scope es)) (property_exists graph row (resolved_expressions scope es)))
         (call-ok (function_named name) distinct es
         (no-later (expressions_fault scope es) (call_fault false scope (function_named name) distinct es) checked)
-        (and-right (are_sure scope es) (is_sure_call (function_named name) (have_size scope es)) sure)
+        (both_second (are_sure scope es) (is_sure_call (function_named name) (have_size scope es)) sure)
         (λ one. only-ok es one arguments are) (λ taken. outcomes-ok es arguments are taken) (λ property. asked-ok es property arguments are))
     sure-ok (call_star name) checked sure = absurd (false≢true sure)
     sure-ok _ checked sure = refl
@@ -502,11 +503,11 @@ module _ (graph : Lookups) (scope : Scope) (row : List Cell) (fit_row : row_fits
     chain-ok (link by e links) checked sure k c has are =
         one-ok (OfKind (kind_of scope e)) (λ d. on_two (λ a b. Ok (both a b)) (compared by c d) (chain graph row d (resolved_links scope links)))
         (λ d has_kind. two-ok Any Any (λ a b. Ok (both a b)) (λ a b p q. refl) (compared by c d) (chain graph row d (resolved_links scope links))
-        (gives-any (compared by c d) (compared-ok by k (kind_of scope e) (and-left (compares by k (kind_of scope e)) (are_compared scope (kind_of scope e) links) are) c d has has_kind))
+        (gives-any (compared by c d) (compared-ok by k (kind_of scope e) (both_first (compares by k (kind_of scope e)) (are_compared scope (kind_of scope e) links) are) c d has has_kind))
         (gives-any (chain graph row d (resolved_links scope links))
-        (chain-ok links (no-later (expression_fault scope e) (links_fault scope links) checked) (and-right (is_sure scope e) (are_sure_links scope links) sure)
-        (kind_of scope e) d has_kind (and-right (compares by k (kind_of scope e)) (are_compared scope (kind_of scope e) links) are))))
-        (of e) (of-kind e (sure-ok e (no-first (expression_fault scope e) (links_fault scope links) checked) (and-left (is_sure scope e) (are_sure_links scope links) sure)))
+        (chain-ok links (no-later (expression_fault scope e) (links_fault scope links) checked) (both_second (is_sure scope e) (are_sure_links scope links) sure)
+        (kind_of scope e) d has_kind (both_second (compares by k (kind_of scope e)) (are_compared scope (kind_of scope e) links) are))))
+        (of e) (of-kind e (sure-ok e (no-first (expression_fault scope e) (links_fault scope links) checked) (both_first (is_sure scope e) (are_sure_links scope links) sure)))
 
     elements-ok : (es : Expressions) → expressions_fault scope es ≡ None → are_sure_elements scope es ≡ true → Gives AreElements (values_of graph row (resolved_expressions scope es))
     elements-ok no_more checked sure = refl
@@ -514,29 +515,29 @@ module _ (graph : Lookups) (scope : Scope) (row : List Cell) (fit_row : row_fits
         let part = no-first (expression_fault scope e) (expressions_fault scope es) checked in
         let flag = is_sure scope e && is_flag (kind_of scope e) in
         elements-more (on_one value_in_cell (of e)) (values_of graph row (resolved_expressions scope es))
-        (element-given e (or-either (is_literal e) flag (and-left (is_literal e || flag) (are_sure_elements scope es) sure)) (λ is. sure-ok e part is))
-        (elements-ok es (no-later (expression_fault scope e) (expressions_fault scope es) checked) (and-right (is_literal e || flag) (are_sure_elements scope es) sure))
+        (element-given e (or-either (is_literal e) flag (both_first (is_literal e || flag) (are_sure_elements scope es) sure)) (λ is. sure-ok e part is))
+        (elements-ok es (no-later (expression_fault scope e) (expressions_fault scope es) checked) (both_second (is_literal e || flag) (are_sure_elements scope es) sure))
 
     arms-ok : (arms : Arms) (others : Result Value EvalFault) → arms_fault scope arms ≡ None → are_sure_arms scope arms ≡ true → have_values scope arms ≡ true → IsOk others
         → IsOk (choice (outcomes_of_arms graph row (resolved_arms scope arms)) others)
     arms-ok no_arms others checked sure values else_is = else_is
     arms-ok (arm condition outcome arms) others checked sure values else_is =
         let later = no-later (expression_fault scope condition) (first (expression_fault scope outcome) (arms_fault scope arms)) checked in
-        let three = and-left (is_sure scope condition && is_flag (kind_of scope condition) && is_sure scope outcome) (are_sure_arms scope arms) sure in
-        let two = and-left (is_sure scope condition && is_flag (kind_of scope condition)) (is_sure scope outcome) three in
-        let these = and-left (is_value (kind_of scope condition) && is_value (kind_of scope outcome)) (have_values scope arms) values in
+        let three = both_first (is_sure scope condition && is_flag (kind_of scope condition) && is_sure scope outcome) (are_sure_arms scope arms) sure in
+        let two = both_first (is_sure scope condition && is_flag (kind_of scope condition)) (is_sure scope outcome) three in
+        let these = both_first (is_value (kind_of scope condition) && is_value (kind_of scope outcome)) (have_values scope arms) values in
         choice-ok (on_one truth_of (on_one value_in_cell (of condition))) (on_one value_in_cell (of outcome)) (choice (outcomes_of_arms graph row (resolved_arms scope arms)) others)
         (one-ok IsFlag truth_of (λ v flag. ok Any (truth_of v) (truth-gives v flag)) (on_one value_in_cell (of condition))
-        (flags-give (kind_of scope condition) (and-right (is_sure scope condition) (is_flag (kind_of scope condition)) two) (of condition)
+        (flags-give (kind_of scope condition) (both_second (is_sure scope condition) (is_flag (kind_of scope condition)) two) (of condition)
         (of-kind condition (sure-ok condition (no-first (expression_fault scope condition) (first (expression_fault scope outcome) (arms_fault scope arms)) checked)
-        (and-left (is_sure scope condition) (is_flag (kind_of scope condition)) two)))))
+        (both_first (is_sure scope condition) (is_flag (kind_of scope condition)) two)))))
         (ok Any (on_one value_in_cell (of outcome))
-        (values-give (kind_of scope outcome) (and-right (is_value (kind_of scope condition)) (is_value (kind_of scope outcome)) these) (of outcome)
+        (values-give (kind_of scope outcome) (both_second (is_value (kind_of scope condition)) (is_value (kind_of scope outcome)) these) (of outcome)
         (of-kind outcome (sure-ok outcome (no-first (expression_fault scope outcome) (arms_fault scope arms) later)
-        (and-right (is_sure scope condition && is_flag (kind_of scope condition)) (is_sure scope outcome) three)))))
+        (both_second (is_sure scope condition && is_flag (kind_of scope condition)) (is_sure scope outcome) three)))))
         (arms-ok arms others (no-later (expression_fault scope outcome) (arms_fault scope arms) later)
-        (and-right (is_sure scope condition && is_flag (kind_of scope condition) && is_sure scope outcome) (are_sure_arms scope arms) sure)
-        (and-right (is_value (kind_of scope condition) && is_value (kind_of scope outcome)) (have_values scope arms) values) else_is)
+        (both_second (is_sure scope condition && is_flag (kind_of scope condition) && is_sure scope outcome) (are_sure_arms scope arms) sure)
+        (both_second (is_value (kind_of scope condition) && is_value (kind_of scope outcome)) (have_values scope arms) values) else_is)
 
     else-ok : (e : Otherwise) → otherwise_fault scope e ≡ None → is_sure_otherwise scope e ≡ true → is_value_otherwise scope e ≡ true → IsOk (outcome_of_else graph row (resolved_otherwise scope e))
     else-ok nothing checked sure value_is = refl
@@ -545,7 +546,7 @@ module _ (graph : Lookups) (scope : Scope) (row : List Cell) (fit_row : row_fits
 
     only-ok : (es : Expressions) → is_one es ≡ true → expressions_fault scope es ≡ None → are_sure scope es ≡ true → Gives (IsOnly es) (cells_of graph row (resolved_expressions scope es))
     only-ok (more e no_more) one checked sure =
-        only-cell e (of e) (of-kind e (sure-ok e (no-first (expression_fault scope e) None checked) (and-left (is_sure scope e) true sure))) (sized-cell e)
+        only-cell e (of e) (of-kind e (sure-ok e (no-first (expression_fault scope e) None checked) (both_first (is_sure scope e) true sure))) (sized-cell e)
     only-ok es one checked sure = absurd (false≢true one)
 
     outcomes-ok : (es : Expressions) → expressions_fault scope es ≡ None → are_sure scope es ≡ true → are_taken function.Coalesce scope es ≡ true
@@ -553,10 +554,10 @@ module _ (graph : Lookups) (scope : Scope) (row : List Cell) (fit_row : row_fits
     outcomes-ok no_more checked sure taken = refl
     outcomes-ok (more e es) checked sure taken =
         coalesce-ok (on_one value_in_cell (of e)) (outcomes_of graph row (resolved_expressions scope es))
-        (ok Any (on_one value_in_cell (of e)) (values-give (kind_of scope e) (and-left (is_value (kind_of scope e)) (are_taken function.Coalesce scope es) taken) (of e)
-        (of-kind e (sure-ok e (no-first (expression_fault scope e) (expressions_fault scope es) checked) (and-left (is_sure scope e) (are_sure scope es) sure)))))
-        (outcomes-ok es (no-later (expression_fault scope e) (expressions_fault scope es) checked) (and-right (is_sure scope e) (are_sure scope es) sure)
-        (and-right (is_value (kind_of scope e)) (are_taken function.Coalesce scope es) taken))
+        (ok Any (on_one value_in_cell (of e)) (values-give (kind_of scope e) (both_first (is_value (kind_of scope e)) (are_taken function.Coalesce scope es) taken) (of e)
+        (of-kind e (sure-ok e (no-first (expression_fault scope e) (expressions_fault scope es) checked) (both_first (is_sure scope e) (are_sure scope es) sure)))))
+        (outcomes-ok es (no-later (expression_fault scope e) (expressions_fault scope es) checked) (both_second (is_sure scope e) (are_sure scope es) sure)
+        (both_second (is_value (kind_of scope e)) (are_taken function.Coalesce scope es) taken))
 
     asked-ok : (es : Expressions) → is_property es ≡ true → expressions_fault scope es ≡ None → are_sure scope es ≡ true → IsOk (property_exists graph row (resolved_expressions scope es))
     asked-ok (more (property e key) no_more) asked checked sure =
@@ -564,6 +565,6 @@ module _ (graph : Lookups) (scope : Scope) (row : List Cell) (fit_row : row_fits
         let part = no-first (expression_fault scope e) (unless (is_entity (kind_of scope e)) WrongKind) whole in
         let rule = kept (is_entity (kind_of scope e)) WrongKind (no-later (expression_fault scope e) (unless (is_entity (kind_of scope e)) WrongKind) whole) in
         one-ok (OfKind (kind_of scope e)) (existence graph key) (on_entity-ok (λ x. value.Bool (is_some (graph.property_of x key))) (kind_of scope e) rule)
-        (of e) (of-kind e (sure-ok e part (and-left (is_sure scope e) true sure)))
+        (of e) (of-kind e (sure-ok e part (both_first (is_sure scope e) true sure)))
     asked-ok (more (property e key) (more f es)) asked checked sure = absurd (false≢true asked)
     asked-ok es asked checked sure = absurd (false≢true asked)

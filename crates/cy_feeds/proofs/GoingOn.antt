@@ -38,7 +38,7 @@ other_tick e tick es other none =
     ] refl
 
 -- there is none up to the tick that a rising list begins above
-none_before : (tick from : ℕ) (es : List Entry) → IsRising from es → tick ≤ from → has_tick tick es ≡ false
+pub none_before : (tick from : ℕ) (es : List Entry) → IsRising from es → tick ≤ from → has_tick tick es ≡ false
 none_before tick from [] rising le = refl
 none_before tick from (e ∷ es) rising le =
     let above : from < e.tick = rising.0 in

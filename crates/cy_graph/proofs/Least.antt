@@ -42,7 +42,7 @@ lesser_right k (y ∷ ys) all =
     let here : ltb y.0 k.0 ≡ false = grind (arith, nat_tests) in
     ap (λ b. Some (if b then y else k)) here
 
-is_below : (k m : RelId) → is_lt (rel_order k m) ≡ true → k.0 < m.0
+pub is_below : (k m : RelId) → is_lt (rel_order k m) ≡ true → k.0 < m.0
 is_below k m h = grind (arith, nat_tests)
 
 -- what is picked of later relationships has later numbers

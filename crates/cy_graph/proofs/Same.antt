@@ -1,9 +1,8 @@
 -- Nodes and relationships that `==` calls equal are the same.
-use Rattle.std.proofs.Common.{◌≡◌, ℕ, Bool, true, false, not, ◌&&◌, List, [], ◌∷◌, Option, None, Some, IsTrue, refl, sym, ap, ◌∙◌, nat_eq, arith}
+use Rattle.std.proofs.Common.{◌≡◌, ℕ, Bool, true, false, not, ◌&&◌, List, [], ◌∷◌, Option, None, Some, IsTrue, refl, sym, ap, ◌∙◌, nat_eq}
 use Rattle.std.specs.Option.{option_eq, option_map}
 use Rattle.std.specs.Cmp.Lexicographic.{pointwise, bytes_decides}
-use Rattle.std.proofs.lemmas.Bool.{and_from, and_parts}
-use Rattle.std.proofs.lemmas.Bool.Decides.{nat_tests}
+use Rattle.std.proofs.lemmas.Bool.{and_from, and_parts, eqb-true}
 use Rattle.std.specs.Cmp.{signed_Decides}
 use Rattle.cy_values.specs.declared.scalars.Scalar.{Scalar}
 use Rattle.cy_values.specs.declared.scalars.Scalar.TheVariants as scalar
@@ -11,6 +10,7 @@ use Rattle.cy_values.specs.declared.scalars.Value.{Value}
 use Rattle.cy_values.specs.declared.scalars.Value.TheVariants as value
 use Rattle.cy_values.specs.contracts.scalars.ScalarPartialEq.TheImpl as scalar_eq
 use Rattle.cy_values.specs.contracts.scalars.ValuePartialEq.TheImpl as value_eq
+use Rattle.cy_values.proofs.Booleans.{itself_equal}
 use Rattle.cy_graph.specs.declared.nodes.Node.{Node}
 use Rattle.cy_graph.specs.declared.nodes.Rel.{Rel}
 use Rattle.cy_graph.specs.contracts.nodes.NodePartialEq.TheImpl as node_eq
@@ -94,7 +94,7 @@ value_itself (value.Int n) = (signed_Decides n n).1 refl
 value_itself value.Null = refl
 
 -- entries of a node's maps
-same_label : (x y : List ℕ × Unit {0}) → (pointwise nat_eq x.0 y.0 && true) ≡ true → x ≡ y
+pub same_label : (x y : List ℕ × Unit {0}) → (pointwise nat_eq x.0 y.0 && true) ≡ true → x ≡ y
 same_label x y e = let same = (bytes_decides x.0 y.0).0 (and_parts _ _ e).0 in λ i. (same i, tt)
 
 same_prop : (x y : List ℕ × Value) → (pointwise nat_eq x.0 y.0 && (value_eq.eq-value).it x.1 y.1) ≡ true → x ≡ y
@@ -110,18 +110,12 @@ same_node m n e =
     let props = same_lists (λ x y. pointwise nat_eq x.0 y.0 && (value_eq.eq-value).it x.1 y.1) same_prop m.props n.props (and_parts _ _ e).1 in
     λ i. record { labels = labels i; props = props i }
 
-number_itself : (n : ℕ) → nat_eq n n ≡ true
-number_itself n = grind (arith, nat_tests)
-
-same_number : (m n : ℕ) → nat_eq m n ≡ true → m ≡ n
-same_number m n e = grind (arith, nat_tests)
-
 -- relationships with the same ends, types and properties are the same
 pub same_rel : (m n : Rel) → (rel_eq.eq-value).it m n ≡ true → m ≡ n
 same_rel m n e =
-    let sources = same_number m.source.0 n.source.0 (and_parts _ _ e).0 in
+    let sources = eqb-true m.source.0 n.source.0 (and_parts _ _ e).0 in
     let rest = (and_parts _ _ e).1 in
-    let targets = same_number m.target.0 n.target.0 (and_parts _ _ rest).0 in
+    let targets = eqb-true m.target.0 n.target.0 (and_parts _ _ rest).0 in
     let others = (and_parts _ _ rest).1 in
     let kinds = (bytes_decides m.kind n.kind).0 (and_parts _ _ others).0 in
     let props = same_lists (λ x y. pointwise nat_eq x.0 y.0 && (value_eq.eq-value).it x.1 y.1) same_prop m.props n.props (and_parts _ _ others).1 in
@@ -133,7 +127,7 @@ node_itself n = and_from _ _
     (lists_themselves (λ x y. pointwise nat_eq x.0 y.0 && (value_eq.eq-value).it x.1 y.1) (λ x. and_from _ _ ((bytes_decides x.0 x.0).1 refl) (value_itself x.1)) n.props)
 
 pub rel_itself : (r : Rel) → (rel_eq.eq-value).it r r ≡ true
-rel_itself r = and_from _ _ (number_itself r.source.0) (and_from _ _ (number_itself r.target.0) (and_from _ _ ((bytes_decides r.kind r.kind).1 refl)
+rel_itself r = and_from _ _ (itself_equal r.source.0) (and_from _ _ (itself_equal r.target.0) (and_from _ _ ((bytes_decides r.kind r.kind).1 refl)
     (lists_themselves (λ x y. pointwise nat_eq x.0 y.0 && (value_eq.eq-value).it x.1 y.1) (λ x. and_from _ _ ((bytes_decides x.0 x.0).1 refl) (value_itself x.1)) r.props)))
 
 -- options that `==` calls equal are the same, seen through a function under which equal elements are

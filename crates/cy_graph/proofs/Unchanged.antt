@@ -2,13 +2,14 @@
 use Rattle.std.proofs.Common.{◌≡◌, ℕ, Bool, true, false, cond, not, List, Option, Some, None, is_some, IsTrue, refl, sym, ap, ◌∙◌}
 use Rattle.std.specs.Cmp.{IsTotalOrder}
 use Rattle.std.specs.Option.{option_map}
-use Rattle.std.specs.Ordering.{nat_cmp, is_eq, eq_by_cmp}
+use Rattle.std.specs.Ordering.{nat_cmp, eq_by_cmp}
 use Rattle.std.specs.declared.cmp.Ordering.{Ordering}
-use Rattle.std.specs.declared.cmp.Ordering.TheVariants.{Less, Equal, Greater}
+use Rattle.std.specs.declared.cmp.Ordering.TheVariants.{Equal}
 use Rattle.std.specs.FinMap.Entries as entries
 use Rattle.std.proofs.lemmas.Cmp.{nat_cmp_total, nat_list_cmp_total}
 use Rattle.std.proofs.lemmas.Map.Lookups.{exact_bytes, exact_unsigned}
 use Rattle.cy_values.specs.declared.scalars.Value.{Value}
+use Rattle.cy_values.proofs.SameRows.{equal_order}
 use Rattle.cy_graph.specs.declared.nodes.Node.{Node}
 use Rattle.cy_graph.specs.Graph.{set_or_removed, with_label, without_label}
 use Rattle.cy_graph.specs.Maps.{text_order, rises, value_at, with_value, without}
@@ -18,18 +19,13 @@ use Rattle.cy_graph.specs.internal.Slots.{value_under}
 use Rattle.cy_graph.proofs.Places.{held}
 use Rattle.cy_graph.proofs.Slots.{sorted}
 
-tie : (o : Ordering) → is_eq o ≡ true → o ≡ Equal
-tie Less e = cc
-tie Equal e = refl
-tie Greater e = cc
-
 module _ {K X : Type 0} (R : K → K → Ordering) (o : IsTotalOrder R) (exact : (x y : K) → R x y ≡ Equal → x ≡ y) where
   -- to set the value that is there
   put_same : (k : K) (v : X) (es : List (K × X)) → IsTrue (entries.is_sorted R es) → entries.find R k es ≡ Some v → entries.put R k v es ≡ es
   put_same k v es up is =
       entries.same_entries R o exact (entries.put R k v es) es (entries.is_sorted-put R o k v es (held _ up)) (held _ up) (λ q.
       entries.find-put R o q k v es ∙ elim (eq_by_cmp R q k) as (λ b. eq_by_cmp R q k ≡ b → cond b (Some v) (entries.find R q es) ≡ entries.find R q es) [
-        | true ↦ λ t. sym is ∙ entries.find_tied R o q k (tie (R q k) t) es
+        | true ↦ λ t. sym is ∙ entries.find_tied R o q k (equal_order (R q k) t) es
         | false ↦ λ t. refl
       ] refl)
 
@@ -39,7 +35,7 @@ module _ {K X : Type 0} (R : K → K → Ordering) (o : IsTotalOrder R) (exact :
       entries.same_entries R o exact (entries.where_key R (λ q. not (eq_by_cmp R k q)) es) es (entries.is_sorted-where_key R (λ q. not (eq_by_cmp R k q)) es (held _ up)) (held _ up) (λ q.
       entries.find-where_key R (λ x. not (eq_by_cmp R k x)) q (λ x e. ap (λ y. not (eq_by_cmp R k y)) (sym (exact q x e))) es
       ∙ elim (eq_by_cmp R k q) as (λ b. eq_by_cmp R k q ≡ b → cond (not b) (entries.find R q es) None ≡ entries.find R q es) [
-        | true ↦ λ t. sym none ∙ sym (entries.find_tied R o k q (tie (R k q) t) es)
+        | true ↦ λ t. sym none ∙ sym (entries.find_tied R o k q (equal_order (R k q) t) es)
         | false ↦ λ t. refl
       ] refl)
 

@@ -5,8 +5,7 @@ use Rattle.std.specs.Option.{option_map_or}
 use Rattle.std.specs.Ordering.{is_eq, int_cmp, eq_by_cmp}
 use Rattle.std.specs.Cmp.{int_cmp_is}
 use Rattle.std.specs.Str.{bytes_eq}
-use Rattle.std.specs.declared.cmp.Ordering.{Ordering}
-use Rattle.std.specs.declared.cmp.Ordering.TheVariants.{Less, Equal, Greater}
+use Rattle.std.specs.declared.cmp.Ordering.TheVariants.{Equal}
 use Rattle.std.specs.Cmp.Lexicographic.{bytes_decides}
 use Rattle.std.proofs.lemmas.Bool.{and_from, and_parts, eqb-true}
 use Rattle.std.proofs.lemmas.Map.Lookups.{exact_signed}
@@ -19,11 +18,12 @@ use Rattle.cy_values.specs.declared.truth.Truth.TheVariants.{No, Unknown, Yes}
 use Rattle.cy_values.specs.contracts.scalars.ValuePartialEq.TheImpl as value_eq
 use Rattle.cy_values.specs.Compare.{value_in, plain_equality, all_equality, equality, is_null}
 use Rattle.cy_values.specs.Truth.{both, known, is_yes}
+use Rattle.cy_values.proofs.Booleans.{tests_agree, itself_equal}
+use Rattle.cy_values.proofs.SameRows.{equal_order}
 use Rattle.cy_graph.specs.Maps.{text_order, value_at}
 use Rattle.cy_graph.specs.Stored.{is_storable, IsStorable}
 use Rattle.cy_graph.proofs.Same.{same_values, value_itself}
 use Rattle.cy_index.specs.internal.Under.{is_value}
-use Rattle.cy_index.proofs.Numbers.{itself}
 
 known_yes : (b : Bool) → is_yes (known b) ≡ b
 known_yes true = refl
@@ -39,17 +39,6 @@ both_yes Unknown Yes = refl
 both_yes Yes No = refl
 both_yes Yes Unknown = refl
 both_yes Yes Yes = refl
-
--- two tests that pass together
-alike_tests : (a b : Bool) → (a ≡ true → b ≡ true) → (b ≡ true → a ≡ true) → a ≡ b
-alike_tests true b there back = sym (there refl)
-alike_tests false true there back = back refl
-alike_tests false false there back = refl
-
-equal_order : (o : Ordering) → is_eq o ≡ true → o ≡ Equal
-equal_order Less e = cc
-equal_order Equal e = refl
-equal_order Greater e = cc
 
 -- elements that `=` calls equal are the same
 same_elements : (x y : Scalar) → is_yes (plain_equality (value_in x) (value_in y)) ≡ true → x ≡ y
@@ -133,7 +122,7 @@ same_equal value.Null value.Null e = cc
 
 -- a value that can be stored is equal to itself
 equal_itself : (x : Value) → IsTrue (is_storable x) → is_yes (equality x x) ≡ true
-equal_itself (value.List xs) some = ap (λ b. is_yes (cond b (all_equality xs xs) No)) (itself (length xs)) ∙ all_itself xs some
+equal_itself (value.List xs) some = ap (λ b. is_yes (cond b (all_equality xs xs) No)) (itself_equal (length xs)) ∙ all_itself xs some
 equal_itself (value.Text s) some = known_yes (bytes_eq s s) ∙ (bytes_decides s s).1 refl
 equal_itself (value.Bool false) some = refl
 equal_itself (value.Bool true) some = refl
@@ -143,7 +132,7 @@ equal_itself value.Null some = cc
 -- with a stored value `==` and `=` are one test
 equal_stored : (v stored : Value) → IsTrue (is_storable stored) → (value_eq.eq-value).it v stored ≡ is_yes (equality stored v)
 equal_stored v stored some =
-    alike_tests ((value_eq.eq-value).it v stored) (is_yes (equality stored v))
+    tests_agree ((value_eq.eq-value).it v stored) (is_yes (equality stored v))
     (λ e. subst (λ (x : Value). is_yes (equality stored x) ≡ true) (sym (same_values v stored e)) (equal_itself stored some))
     (λ e. subst (λ (x : Value). (value_eq.eq-value).it x stored ≡ true) (same_equal stored v e) (value_itself stored))
 

@@ -5,6 +5,7 @@ use Rattle.std.specs.Option.{option_and_then, option_map_or}
 use Rattle.std.proofs.lemmas.Option.{none-some}
 use Rattle.cy_values.specs.declared.numbers.NodeId.{NodeId}
 use Rattle.cy_values.specs.declared.scalars.Value.{Value}
+use Rattle.cy_values.proofs.Booleans.{or_false}
 use Rattle.cy_graph.specs.declared.nodes.Node.{Node}
 use Rattle.cy_graph.specs.Graph.{State, Versions, IsGraph, node_at}
 use Rattle.cy_graph.specs.Maps.{value_at}
@@ -18,17 +19,13 @@ use Rattle.cy_index.specs.internal.Under.{same_key, is_same, by_node, is_key_of,
 use Rattle.cy_index.proofs.Listed.{Nodes, any_find}
 use Rattle.cy_index.proofs.Places.{pair_push, or_assoc}
 
-or_none : (b : Bool) → (b || false) ≡ b
-or_none true = refl
-or_none false = refl
-
 -- a node stands under the keys of one index more
 is_valued : (value : Value) (labels : Option (Unit {0})) (stored : Option Value) → (is_some labels && is_same value stored) ≡ is_same value (option_and_then (λ _. stored) labels)
 is_valued value None stored = refl
 is_valued value (Some l) stored = refl
 
 one_more : (chosen : List Pair) (pair : Pair) (node : Node) (k : Key) → is_key_of (chosen ++ pair ∷ []) node.labels node.props k ≡ (is_key_of chosen node.labels node.props k || is_in_index (length chosen) pair node k)
-one_more chosen pair node (key.Label label) = sym (or_none (is_label_among node.labels (key.Label label) || false))
+one_more chosen pair node (key.Label label) = sym (or_false (is_label_among node.labels (key.Label label) || false))
 one_more chosen pair node (key.Prop place value) =
     pair_push (by_node node.labels node.props value) chosen pair place
     ∙ ap (λ b. is_pair_at chosen place (by_node node.labels node.props value) || (nat_eq place (length chosen) && b)) (is_valued value (value_at pair.label node.labels) (value_at pair.key node.props))
@@ -54,9 +51,9 @@ node_filled place pair id node value v w is puts k n = puts k n ∙ turned (same
     turned : (a b s : Bool) → cond ((a || false) && b) true s ≡ (s || (b && a))
     turned true true true = refl
     turned true true false = refl
-    turned true false s = sym (or_none s)
-    turned false true s = sym (or_none s)
-    turned false false s = sym (or_none s)
+    turned true false s = sym (or_false s)
+    turned false true s = sym (or_false s)
+    turned false false s = sym (or_false s)
 
     same : (k : Key) → same_key k (key.Prop place value) ≡ is_in_index place pair node k
     same (key.Label label) = refl

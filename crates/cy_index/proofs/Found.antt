@@ -11,6 +11,7 @@ use Rattle.std.proofs.lemmas.List.Quantifiers.{position-Some}
 use Rattle.std.proofs.lemmas.Option.{slice_get-get_or}
 use Rattle.cy_values.specs.declared.numbers.NodeId.{NodeId}
 use Rattle.cy_values.specs.declared.scalars.Value.{Value}
+use Rattle.cy_values.proofs.Booleans.{itself_equal}
 use Rattle.cy_graph.specs.declared.nodes.Node.{Node}
 use Rattle.cy_graph.specs.Graph.{State, IsGraph, node_order, node_at, has_label}
 use Rattle.cy_graph.specs.Maps.{value_at}
@@ -21,7 +22,7 @@ use Rattle.cy_index.specs.declared.keys.Pair.{Pair}
 use Rattle.cy_index.specs.internal.Under.{is_key_of, is_value, by_node}
 use Rattle.cy_index.proofs.Equal.{stored_value}
 use Rattle.cy_index.proofs.Listed.{Nodes, above}
-use Rattle.cy_index.proofs.Numbers.{itself, other_back, same_tests}
+use Rattle.cy_index.proofs.Numbers.{other_back, same_tests}
 
 -- tests that agree on each node
 where_same : (p q : Node → Bool) (nodes : Nodes) → AllByRecursion (λ (e : NodeId × Node). p e.1 ≡ q e.1) nodes → filter (λ (e : NodeId × Node). p e.1) nodes ≡ filter (λ (e : NodeId × Node). q e.1) nodes
@@ -109,7 +110,7 @@ still_found e es (x ∷ xs) above all = (
 each_found : (nodes : Nodes) → entries.is_sorted node_order nodes ≡ true → AllByRecursion (λ (x : NodeId × Node). entries.find node_order x.0 nodes ≡ Some x.1) nodes
 each_found [] up = tt
 each_found (e ∷ es) up = (
-  ap (λ b. cond b (Some e.1) (entries.find node_order e.0 es)) (same_tests e.0.0 e.0.0 ∙ itself e.0.0),
+  ap (λ b. cond b (Some e.1) (entries.find node_order e.0 es)) (same_tests e.0.0 e.0.0 ∙ itself_equal e.0.0),
   still_found e es es (above e.0 es (and_parts _ _ up).0) (each_found es (and_parts _ _ up).1),
 )
 

@@ -7,6 +7,7 @@ use Rattle.std.specs.Ordering.{eq_by_cmp}
 use Rattle.std.specs.Str.{bytes_eq}
 use Rattle.std.specs.Cmp.Lexicographic.{texts_ties}
 use Rattle.cy_values.specs.declared.scalars.Value.{Value}
+use Rattle.cy_values.proofs.Booleans.{or_false}
 use Rattle.cy_graph.specs.Maps.{text_order, value_at}
 use Rattle.cy_index.specs.declared.keys.Key.{Key}
 use Rattle.cy_index.specs.declared.keys.Key.TheVariants as key
@@ -40,10 +41,6 @@ has_any label (e ∷ es) =
     ∙ ap (λ b. eq_by_cmp text_order label e.0 || b) (has_any label es)
     ∙ elim (eq_by_cmp text_order label e.0) as (λ b. (b || is_some (value_at label es)) ≡ is_some (cond b (Some e.1) (value_at label es))) [ true ↦ refl | false ↦ refl ]
 
-or_none : (b : Bool) → (b || false) ≡ b
-or_none true = refl
-or_none false = refl
-
 module _ (chosen : List Pair) (props : List (List ℕ × Value)) where
   prop_any : (labels : Labels) (value : Value) (o : Option Pair) → list_any (λ e. option_map_or (λ p. by_label e.0 props value p) o false) labels ≡ option_map_or (λ p. by_node labels props value p) o false
   prop_any labels value None = any_none labels
@@ -51,5 +48,5 @@ module _ (chosen : List Pair) (props : List (List ℕ × Value)) where
 
   -- the keys by each label are those of the node
   pub labels_all : (labels : Labels) (k : Key) → list_any (λ e. is_key_of_label chosen e.0 props k) labels ≡ is_key_of chosen labels props k
-  labels_all labels (key.Label other) = any_same (λ e. bytes_eq other e.0 || false) (λ e. bytes_eq other e.0) (λ e. or_none (bytes_eq other e.0)) labels ∙ has_any other labels ∙ sym (or_none (is_some (value_at other labels)))
+  labels_all labels (key.Label other) = any_same (λ e. bytes_eq other e.0 || false) (λ e. bytes_eq other e.0) (λ e. or_false (bytes_eq other e.0)) labels ∙ has_any other labels ∙ sym (or_false (is_some (value_at other labels)))
   labels_all labels (key.Prop q value) = prop_any labels value (slice_get chosen q)

@@ -9,6 +9,7 @@ use Rattle.std.specs.FinMap.Entries as entries
 use Rattle.std.proofs.lemmas.Bool.{and_parts, eqb-true}
 use Rattle.std.proofs.lemmas.Cmp.{ranked}
 use Rattle.cy_values.specs.declared.numbers.NodeId.{NodeId}
+use Rattle.cy_values.proofs.Booleans.{or_false}
 use Rattle.cy_graph.specs.declared.nodes.Node.{Node}
 use Rattle.cy_graph.specs.Graph.{State, IsGraph, node_order}
 use Rattle.cy_index.specs.Index.{nodes_where}
@@ -22,10 +23,6 @@ use Rattle.cy_index.proofs.Numbers.{other, same_numbers, same_tests}
 
 abbrev pub Nodes : Type 0
 Nodes = List (NodeId × Node)
-
-or_none : (b : Bool) → (b || false) ≡ b
-or_none true = refl
-or_none false = refl
 
 -- in order, each number is below those after it
 less : (m n : ℕ) → is_lt (nat_cmp m n) ≡ true → m < n
@@ -81,7 +78,7 @@ any_find n test (e ∷ es) up =
   where
     by : (here : Bool) → nat_eq n e.0.0 ≡ here → list_any (λ e. nat_eq n e.0.0 && test e.1) es ≡ option_map_or test (entries.find node_order (record { 0 = n }) es) false
         → ((here && test e.1) || list_any (λ e. nat_eq n e.0.0 && test e.1) es) ≡ option_map_or test (cond here (Some e.1) (entries.find node_order (record { 0 = n }) es)) false
-    by true is rest = ap (λ b. test e.1 || b) (none_under n (e.0.0 + 1) test es (omega (arith, eqb-true n e.0.0 is)) (above e.0 es (and_parts _ _ up).0)) ∙ or_none (test e.1)
+    by true is rest = ap (λ b. test e.1 || b) (none_under n (e.0.0 + 1) test es (omega (arith, eqb-true n e.0.0 is)) (above e.0 es (and_parts _ _ up).0)) ∙ or_false (test e.1)
     by false is rest = rest
 
 -- the numbers are those of the nodes

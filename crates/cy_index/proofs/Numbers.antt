@@ -6,9 +6,10 @@ use Rattle.std.specs.declared.cmp.Ordering.{Ordering}
 use Rattle.std.proofs.lemmas.Cmp.{ranked}
 use Rattle.std.specs.declared.cmp.Ordering.TheVariants.{Less, Equal, Greater}
 use Rattle.std.specs.FinMap.Entries.{by_order}
-use Rattle.std.proofs.lemmas.Bool.{eqb-true, eq-eqb}
+use Rattle.std.proofs.lemmas.Bool.{eqb-true}
 use Rattle.std.proofs.lemmas.Bool.Decides.{nat_tests}
 use Rattle.std.proofs.lemmas.Map.Lookups.{exact_unsigned}
+use Rattle.cy_values.proofs.Booleans.{itself_equal}
 use Rattle.cy_index.specs.internal.Numbers.{Rises, is_among, with_number, without_number}
 
 -- tests of truths
@@ -32,9 +33,6 @@ other n x lt = by (nat_eq n x) refl
     by : (b : Bool) → nat_eq n x ≡ b → nat_eq n x ≡ false
     by true e = absurd (omega (arith, lt, eqb-true n x e))
     by false e = e
-
-pub itself : (n : ℕ) → nat_eq n n ≡ true
-itself n = eq-eqb n n refl
 
 -- the two tests of numbers agree
 pub same_tests : (m n : ℕ) → is_eq (nat_cmp m n) ≡ nat_eq m n
@@ -96,8 +94,8 @@ among_without m n (x ∷ xs) = by (among_without m n xs) (nat_eq n x) refl
 -- rising numbers with the same ones among them are the same
 pub same_numbers : (low : ℕ) (xs ys : List ℕ) → Rises low xs → Rises low ys → ((n : ℕ) → is_among n xs ≡ is_among n ys) → xs ≡ ys
 same_numbers low [] [] up up' same = refl
-same_numbers low [] (y ∷ ys) up up' same = absurd (true≢false (sym (same y ∙ ap (λ b. b || is_among y ys) (itself y))))
-same_numbers low (x ∷ xs) [] up up' same = absurd (true≢false (sym (ap (λ b. b || is_among x xs) (itself x)) ∙ same x))
+same_numbers low [] (y ∷ ys) up up' same = absurd (true≢false (sym (same y ∙ ap (λ b. b || is_among y ys) (itself_equal y))))
+same_numbers low (x ∷ xs) [] up up' same = absurd (true≢false (sym (ap (λ b. b || is_among x xs) (itself_equal x)) ∙ same x))
 same_numbers low (x ∷ xs) (y ∷ ys) up up' same = by (λ up'' each. same_numbers (x + 1) xs ys up.1 up'' each) (nat_cmp x y) refl
   where
     tails : x ≡ y → (n : ℕ) (b : Bool) → nat_eq n x ≡ b → is_among n xs ≡ is_among n ys
@@ -105,8 +103,8 @@ same_numbers low (x ∷ xs) (y ∷ ys) up up' same = by (λ up'' each. same_numb
     tails is n false e = sym (ap (λ b. b || is_among n xs) e) ∙ same n ∙ ap (λ b. b || is_among n ys) (ap (nat_eq n) (sym is) ∙ e)
 
     by : (Rises (x + 1) ys → ((n : ℕ) → is_among n xs ≡ is_among n ys) → xs ≡ ys) → (o : Ordering) → nat_cmp x y ≡ o → x ∷ xs ≡ y ∷ ys
-    by rest Less e = absurd (true≢false (sym (ap (λ b. b || is_among x xs) (itself x)) ∙ same x ∙ below x y (y ∷ ys) (ranked x y Less (sym e)) (omega arith, up'.1)))
-    by rest Greater e = absurd (true≢false (sym (ap (λ b. b || is_among y ys) (itself y)) ∙ sym (same y) ∙ below y x (x ∷ xs) (ranked x y Greater (sym e)) (omega arith, up.1)))
+    by rest Less e = absurd (true≢false (sym (ap (λ b. b || is_among x xs) (itself_equal x)) ∙ same x ∙ below x y (y ∷ ys) (ranked x y Less (sym e)) (omega arith, up'.1)))
+    by rest Greater e = absurd (true≢false (sym (ap (λ b. b || is_among y ys) (itself_equal y)) ∙ sym (same y) ∙ below y x (x ∷ xs) (ranked x y Greater (sym e)) (omega arith, up.1)))
     by rest Equal e =
         let is = exact_unsigned x y e in
         let more = rest (subst (λ k. Rises (k + 1) ys) (sym is) up'.1) (λ n. tails is n (nat_eq n x) refl) in

@@ -3,16 +3,12 @@ use Rattle.std.proofs.Common.{◌≡◌, ℕ, zero, suc, ◌+◌, ◌<◌, Bool,
 use Rattle.std.proofs.lemmas.Bool.{eqb-true, eq-eqb}
 use Rattle.std.proofs.lemmas.List.{take_more, length-take-le}
 use Rattle.cy_values.specs.declared.scalars.Value.{Value}
+use Rattle.cy_values.proofs.Booleans.{with_false}
 use Rattle.cy_index.specs.declared.keys.Key.{Key}
 use Rattle.cy_index.specs.declared.keys.Key.TheVariants as key
 use Rattle.cy_index.specs.declared.keys.Pair.{Pair}
 use Rattle.cy_index.specs.internal.Under.{among, is_pair_at, is_prop, is_here}
 use Rattle.cy_index.proofs.Numbers.{other, other_back}
-
--- tests of truths
-or_none : (b : Bool) → b ≡ (b || false)
-or_none true = refl
-or_none false = refl
 
 pub or_assoc : (a b c : Bool) → ((a || b) || c) ≡ (a || (b || c))
 or_assoc true b c = refl
@@ -34,7 +30,7 @@ eq_next q n = by (nat_eq q n) refl
 pub pair_push : (test : Pair → Bool) (ps : List Pair) (p : Pair) (q : ℕ) → is_pair_at (ps ++ p ∷ []) q test ≡ (is_pair_at ps q test || (nat_eq q (length ps) && test p))
 pair_push test [] p zero = refl
 pair_push test [] p (suc q) = sym (ap (λ b. false || (b && test p)) (other_back (suc q) 0 (omega arith)))
-pair_push test (x ∷ ps) p zero = or_none (test x) ∙ sym (ap (λ b. test x || (b && test p)) (other 0 (suc (length ps)) (omega arith)))
+pair_push test (x ∷ ps) p zero = with_false (test x) ∙ sym (ap (λ b. test x || (b && test p)) (other 0 (suc (length ps)) (omega arith)))
 pair_push test (x ∷ ps) p (suc q) = pair_push test ps p q ∙ sym (ap (λ b. is_pair_at ps q test || (b && test p)) (eq_next q (length ps)))
 
 -- the keys of one place more

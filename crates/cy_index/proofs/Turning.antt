@@ -1,5 +1,5 @@
 -- Which keys a node leaves, and under which it comes, with each change of it.
-use Rattle.std.proofs.Common.{◌≡◌, ℕ, zero, suc, Bool, true, false, cond, not, ◌&&◌, ◌||◌, List, [], ◌∷◌, Option, None, Some, is_some, refl, sym, ap, ◌∙◌, true≢false}
+use Rattle.std.proofs.Common.{◌≡◌, ℕ, zero, suc, Bool, true, false, cond, not, ◌&&◌, ◌||◌, List, [], ◌∷◌, Option, None, Some, is_some, refl, sym, ap, ◌∙◌}
 use Rattle.std.specs.Prelude.{slice_get}
 use Rattle.std.specs.List.{list_any}
 use Rattle.std.specs.Option.{option_map, option_map_or}
@@ -8,7 +8,9 @@ use Rattle.std.specs.Str.{bytes_eq}
 use Rattle.std.specs.Cmp.Lexicographic.{texts_ties, nat_list_cmp_total, nat_list_eq_equiv, bytes_decides}
 use Rattle.std.proofs.lemmas.Map.Lookups.{exact_bytes}
 use Rattle.std.specs.FinMap.Entries as entries
+use Rattle.std.proofs.lemmas.Bool.{or_parts}
 use Rattle.cy_values.specs.declared.scalars.Value.{Value}
+use Rattle.cy_values.proofs.Booleans.{with_false}
 use Rattle.cy_graph.specs.declared.nodes.Node.{Node}
 use Rattle.cy_graph.specs.Graph.{set_at, set_or_removed, with_label, without_label}
 use Rattle.cy_graph.specs.Maps.{text_order, value_at}
@@ -19,18 +21,13 @@ use Rattle.cy_index.specs.internal.Indexed.{stands_by, Turns}
 use Rattle.cy_index.specs.internal.Under.{among, is_same, is_value, by_node, by_value, is_key_of_label, is_key_of_value, is_key_of}
 use Rattle.cy_index.proofs.Matching.{label_comes, label_goes}
 
--- tests of truths
-or_none : (b : Bool) → b ≡ (b || false)
-or_none true = refl
-or_none false = refl
-
 gone : (b : Bool) → false ≡ (not b && b)
 gone true = refl
 gone false = refl
 
 -- a new node comes under its keys
 pub node_comes : (chosen : List Pair) (node : Node) (keys : List Key) → ((k : Key) → among k keys ≡ is_key_of chosen node.labels node.props k) → Turns chosen None (Some node) [] keys
-node_comes chosen node keys are k = sym (are k) ∙ or_none (among k keys)
+node_comes chosen node keys are k = sym (are k) ∙ with_false (among k keys)
 
 -- a label comes, and goes
 pub label_turns : (chosen : List Pair) (label : List ℕ) (o : Option Node) (node : Node) (keys : List Key) → o ≡ Some node → ((k : Key) → among k keys ≡ is_key_of_label chosen label node.props k)
@@ -105,17 +102,12 @@ value_kept chosen at v o node leaving coming is same no_leaving no_coming k =
     ∙ value_stays chosen node.labels at v node.props same k
     ∙ sym (ap (λ x. among k coming || (not (among k leaving) && stands_by chosen k x)) is ∙ ap (λ ks. among k ks || (not (among k leaving) && is_key_of chosen node.labels node.props k)) no_coming ∙ ap (λ ks. not (among k ks) && is_key_of chosen node.labels node.props k) no_leaving)
 
--- none of two tests that together fail passes
-neither : (a b : Bool) → (a || b) ≡ false → (a ≡ false) × (b ≡ false)
-neither true b is = absurd (true≢false is)
-neither false b is = (refl, is)
-
 module _ (labels : List (List ℕ × Unit {0})) (at : List ℕ) (v : Option Value) where
   -- no index is of the values at the key
   no_place : (chosen : List Pair) (place : ℕ) (value : Value) → list_any (λ pair. bytes_eq pair.key at) chosen ≡ false → option_map_or (by_value labels at v value) (slice_get chosen place) false ≡ false
   no_place [] place value none = refl
-  no_place (pair ∷ pairs) zero value none = ap (λ b. (b && is_some (value_at pair.label labels)) && is_same value v) (neither _ _ none).0
-  no_place (pair ∷ pairs) (suc place) value none = no_place pairs place value (neither _ _ none).1
+  no_place (pair ∷ pairs) zero value none = ap (λ b. (b && is_some (value_at pair.label labels)) && is_same value v) (or_parts _ _ none).0
+  no_place (pair ∷ pairs) (suc place) value none = no_place pairs place value (or_parts _ _ none).1
 
   no_key : (chosen : List Pair) → list_any (λ pair. bytes_eq pair.key at) chosen ≡ false → (k : Key) → is_key_of_value chosen labels at v k ≡ false
   no_key chosen none (key.Label label) = refl

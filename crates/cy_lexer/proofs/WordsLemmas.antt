@@ -297,7 +297,7 @@ tokens_of-words ws are short =
     ∙ tokens_from-words (length line) 0 ws are (omega arith)
 
 -- they are the words' tokens: their kinds are those of the words, and their slices the words as they are written
-bytes_of_space : (spaced : Bool) → encode_utf8_all (space spaced) ≡ space spaced
+pub bytes_of_space : (spaced : Bool) → encode_utf8_all (space spaced) ≡ space spaced
 unfolding encode_utf8
 bytes_of_space true = refl
 bytes_of_space false = refl

@@ -6,26 +6,21 @@ use Rattle.std.specs.List.Sorted.{IsSorted}
 use Rattle.std.specs.declared.cmp.Ordering.{Ordering}
 use Rattle.std.specs.declared.cmp.Ordering.TheVariants.{Less, Equal, Greater}
 use Rattle.std.specs.Cmp.{IsTotalOrder}
-use Rattle.std.specs.Ordering.{is_eq, is_lt, nat_cmp, ordering_reverse, ordering_then}
+use Rattle.std.specs.Ordering.{is_lt, nat_cmp, ordering_then}
 use Rattle.std.proofs.lemmas.List.Elements.{All-head, All-tail}
 use Rattle.std.proofs.lemmas.List.Sums.{sum_by-cons}
+use Rattle.cy_bags.proofs.Counting.{later}
 use Rattle.cy_values.specs.declared.rows.Cell.{Cell}
 use Rattle.cy_values.specs.Bag.{IsCanonical}
 use Rattle.cy_values.specs.Same.{is_row}
 use Rattle.cy_values.specs.Order.{row_cmp}
-use Rattle.cy_network_memory.proofs.RowMaps.{row_itself}
+use Rattle.cy_values.proofs.SameRows.{row_itself}
 use Rattle.cy_network_memory.specs.Listings.{AreOnce}
 
 first_lt : (o then : Ordering) → is_lt (ordering_then o then) ≡ false → is_lt o ≡ false
 first_lt Less then h = h
 first_lt Equal then h = refl
 first_lt Greater then h = refl
-
--- what comes no earlier and isn't the same comes later
-later : (o : Ordering) → is_lt o ≡ false → is_eq o ≡ false → ordering_reverse o ≡ Less
-later Less h k = cc
-later Equal h k = cc
-later Greater h k = refl
 
 apart : (b c : Bool) (rest : ℕ) → cond b 1 0 + (cond c 1 0 + rest) ≤ 1 → c ≡ true → b ≡ false
 apart false c rest h e = refl

@@ -8,8 +8,8 @@ use Rattle.std.proofs.lemmas.List.Sums.{sum_by-cons}
 use Rattle.cy_values.specs.declared.rows.Cell.{Cell}
 use Rattle.cy_values.specs.Bag.{weight_of}
 use Rattle.cy_values.specs.Same.{is_row}
-use Rattle.cy_network_memory.proofs.RowMaps.{row_itself}
-use Rattle.cy_network_operators.proofs.Same.{same_row}
+use Rattle.cy_values.proofs.Naturals.{nothing_added}
+use Rattle.cy_values.proofs.SameRows.{row_itself, same_row}
 use Rattle.cy_network_parts.specs.Counted.{ArePositive, IsPositive, counted}
 use Rattle.cy_network_memory.specs.Listings.{AreOnce}
 
@@ -25,9 +25,6 @@ standing_cons row e entries = sum_by-cons (λ (p : List Cell × ℕ). cond (is_r
 
 pub weight_cons : (row : List Cell) (e : List Cell × ℕ) (entries : Entries) → weight_of row (e ∷ entries) ≡ cond (is_row row e.0) e.1 0 + weight_of row entries
 weight_cons row e entries = sum_by-cons (λ (p : List Cell × ℕ). cond (is_row row p.0) p.1 0) e entries
-
-nothing_added : (n : ℕ) → 0 + n ≡ n
-nothing_added n = omega arith
 
 -- what no row stands under counts nothing, and is not found
 pub none_counts : (row : List Cell) (entries : Entries) → standing row entries ≡ 0 → (weight_of row entries ≡ 0) × (lookup (is_row row) entries ≡ None)

@@ -5,22 +5,18 @@ use Rattle.std.specs.List.{All}
 use Rattle.std.proofs.lemmas.Bool.Decides.{nat_tests}
 use Rattle.std.proofs.lemmas.List.Elements.{All-append, All-cons, All-nil}
 use Rattle.std.proofs.lemmas.List.Sums.{sum_by-append, sum_by-cons}
+use Rattle.std.proofs.lemmas.Bool.{eqb-true}
 use Rattle.cy_values.specs.declared.rows.Cell.{Cell}
 use Rattle.cy_values.specs.Bag.{weight_of}
 use Rattle.cy_values.specs.Same.{is_row}
+use Rattle.cy_values.proofs.Naturals.{nothing_added, nothing_after, nothing_left}
+use Rattle.cy_values.proofs.SameRows.{row_itself}
 use Rattle.cy_network_memory.specs.Counts.{Counts}
 use Rattle.cy_network_memory.specs.declared.memory.RowDelta.{RowDelta}
 use Rattle.cy_network_operators.specs.Deltas.{IsDelta, counts_after, row_delta_between, deltas_of}
-use Rattle.cy_network_operators.proofs.Same.{row_itself}
 use Rattle.cy_network_parts.specs.Counted.{written}
 use Rattle.cy_network_memory.specs.Listings.{AreOnce}
 use Rattle.cy_network.specs.internal.Roots.{excess}
-
-nothing_added : (n : ℕ) → 0 + n ≡ n
-nothing_added n = omega arith
-
-nothing_after : (n : ℕ) → n + 0 ≡ n
-nothing_after n = omega arith
 
 -- what things of a row sum up to, where those of other rows are nothing
 sum_of_row : (v : List Cell × ℕ → ℕ) (row : List Cell) (h : RowDelta → List (List Cell × ℕ)) → ((s : RowDelta) → is_row row s.row ≡ false → sum_by v (h s) ≡ 0) → (deltas : List RowDelta)
@@ -64,12 +60,6 @@ module _ (row : List Cell) (number : ℕ → ℕ) where
 
 -- ---- how much
 
-same_number : (m n : ℕ) → (m == n) ≡ true → m ≡ n
-same_number m n h = grind (arith, nat_tests)
-
-no_less : (m n : ℕ) → m ≡ n → 0 ≡ m - n
-no_less m n h = omega (arith, h)
-
 less_or_none : (m n : ℕ) → cond (nat_lt n m) (m - n) 0 ≡ m - n
 less_or_none m n = by (nat_lt n m) refl
   where
@@ -84,7 +74,7 @@ losses_weight before after deltas delta row =
   where
     step : (b : Bool) → (before row == after row) ≡ b
         → sum_by (value row (λ n. n)) (flat_map (excess (λ s. s.before) (λ s. s.after)) (cond b [] ((record { row = row; before = before row; after = after row }) ∷ []))) ≡ before row - after row
-    step true is = no_less (before row) (after row) (same_number (before row) (after row) is)
+    step true is = nothing_left (before row) (after row) (eqb-true (before row) (after row) is)
     step false is =
         value_itself row (λ n. n) (λ s. s.before) (λ s. s.after) (record { row = row; before = before row; after = after row }) (row_itself row) ∙ less_or_none (before row) (after row)
 
@@ -95,7 +85,7 @@ gains_weight before after deltas delta row =
   where
     step : (b : Bool) → (before row == after row) ≡ b
         → sum_by (value row (λ n. n)) (flat_map (excess (λ s. s.after) (λ s. s.before)) (cond b [] ((record { row = row; before = before row; after = after row }) ∷ []))) ≡ after row - before row
-    step true is = no_less (after row) (before row) (sym (same_number (before row) (after row) is))
+    step true is = nothing_left (after row) (before row) (sym (eqb-true (before row) (after row) is))
     step false is =
         value_itself row (λ n. n) (λ s. s.after) (λ s. s.before) (record { row = row; before = before row; after = after row }) (row_itself row) ∙ less_or_none (after row) (before row)
 

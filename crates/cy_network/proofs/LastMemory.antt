@@ -4,6 +4,7 @@ use Rattle.std.specs.Prelude.{option_map, slice_get, unwrap_or}
 use Rattle.std.proofs.lemmas.List.{length-append, length-map}
 use Rattle.std.proofs.lemmas.Option.{slice_get-map, unwrap_or-slice_get}
 use Rattle.std.proofs.Math.Seq.{get_or-append_seam}
+use Rattle.std.proofs.lemmas.Bool.{true≢false}
 use Rattle.cy_graph.specs.Graph.{Content}
 use Rattle.cy_values.specs.declared.rows.Cell.{Cell}
 use Rattle.cy_values.specs.Bag.{count_of}
@@ -18,9 +19,6 @@ use Rattle.cy_planner_algebra.specs.Plans.{Plan}
 use Rattle.cy_planner_algebra.proofs.Counts.{count_once}
 use Rattle.cy_network.specs.Places.{Place, in_memory, in_table, last_of, once_each, once_in_memory, place_of, place_where, rows_by}
 
-true_false : true ≡ false → ⊥
-true_false e = cc
-
 last_pushed : (xs : List Counts) (x : Counts) → last_of (xs ++ x ∷ []) ≡ x
 last_pushed xs x =
     ap (λ n. unwrap_or (slice_get (xs ++ x ∷ []) n) no_rows) (let n = length-append xs (x ∷ []) in let place : length (xs ++ x ∷ []) - 1 ≡ length xs = omega (arith, n) in place)
@@ -28,14 +26,14 @@ last_pushed xs x =
 
 -- the last of those that are kept, if they are
 last_kept_where : (so : Bool) (xs : List Counts) (x : Counts) → not so ≡ true → last_of (xs ++ none_where so (x ∷ [])) ≡ x
-last_kept_where true xs x kept = absurd (true_false (sym kept))
+last_kept_where true xs x kept = absurd (true≢false (sym kept))
 last_kept_where false xs x kept = last_pushed xs x
 
 -- a part that keeps its rows has them in its last memory
 last_kept : (rows : Plan → List (List Cell)) (p : Plan) → keeps_rows p ≡ true → last_of (contents rows p) ≡ counts (rows p)
 last_kept rows (plan.project p outputs) kept = last_kept_where (is_row_by_row p outputs) (contents rows p) (counts (rows (plan.project p outputs))) kept
 last_kept rows (plan.union left right) kept = last_kept_where (are_apart left right) (contents rows left ++ contents rows right) (counts (rows (plan.union left right))) kept
-last_kept rows _ kept = absurd (true_false (sym kept))
+last_kept rows _ kept = absurd (true≢false (sym kept))
 
 -- The rows of a plan stand at its place, where the memories hold what its parts mean and the table, if they stand there, holds them.
 pub rows_kept : (graph : Content) (p : Plan) (table : Counts) → (place_of p ≡ in_table → table ≡ counts (rows_of graph p))

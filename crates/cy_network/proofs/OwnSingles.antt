@@ -11,6 +11,7 @@ use Rattle.cy_expr.specs.Graphs.{are_different}
 use Rattle.cy_expr.specs.Lookups.{IsNumbered}
 use Rattle.cy_network_memory.specs.Counts.{Counts, greatest_count}
 use Rattle.cy_network_counts.specs.Merges.{AreBounded, IsProjectChange, image}
+use Rattle.cy_network_counts.proofs.PlanLemmas.{of_counted}
 use Rattle.cy_planner_algebra.specs.declared.operators.Attribute.{Attribute}
 use Rattle.cy_planner_algebra.specs.Plans as plan
 use Rattle.cy_planner_algebra.specs.Plans.{Output, Plan}
@@ -20,7 +21,7 @@ use Rattle.cy_planner_algebra.specs.Meaning.{each_once, with_attribute}
 use Rattle.cy_planner_algebra.specs.Sure.{HasCells, HasTruth, IsSure}
 use Rattle.cy_network_memory.specs.declared.memory.RowDelta.{RowDelta}
 use Rattle.cy_network_operators.specs.Deltas.{IsBounded, IsDelta, counts, counts_after, rows_at}
-use Rattle.cy_network_operators.proofs.PlanLemmas.{different_at, filter_at, lookup_at, once_at, project_at}
+use Rattle.cy_network_operators.proofs.PlanLemmas.{different_at, filter_at, lookup_at, once_at, project_at, one_of_two as either}
 use Rattle.cy_network_touches.specs.Changes.{Touches}
 use Rattle.cy_network_parts.specs.Memories.{is_row_by_row, is_scan, none_where}
 use Rattle.cy_network_parts.specs.internal.Upkeep.{IsDeltaOf, IsFed, IsOwnBegun, IsOwnDone, IsStep, content_of, state_of}
@@ -29,7 +30,7 @@ use Rattle.cy_planner_algebra.proofs.Counts.{count_passing}
 use Rattle.cy_network_parts.specs.Parts.{first_below}
 use Rattle.cy_network.specs.internal.Passages.{AreTaken, keeps, kept}
 use Rattle.cy_network.proofs.PassageLemmas.{IsOver}
-use Rattle.cy_network.proofs.Shifted.{after_is, either, held_delta, numbered_at, of_counted, of_deltas}
+use Rattle.cy_network.proofs.Shifted.{after_is, held_delta, numbered_at, of_deltas}
 use Rattle.cy_network_parts.proofs.Slices.{same_at}
 use Rattle.cy_network_parts.proofs.Steps.{old_content, old_graph, own_within}
 

@@ -1,23 +1,22 @@
 -- What holds of the rows of a part, before a change and after it, holds of its row deltas.
-use Rattle.std.proofs.Common.{◌≡◌, ℕ, ◌+◌, ◌<◌, Bool, true, false, cond, List, [], ◌∷◌, Option, Some, None, IfSome, length, refl, sym, ap, subst, ◌∙◌, zero, suc, arith}
+use Rattle.std.proofs.Common.{◌≡◌, ℕ, ◌+◌, ◌<◌, List, [], ◌∷◌, Option, Some, None, IfSome, length, sym, ap, subst, ◌∙◌}
 use Rattle.std.specs.List.{All}
-use Rattle.std.proofs.lemmas.List.Elements.{All-head, All-nil, All-tail, All-weaker}
+use Rattle.std.proofs.lemmas.List.Elements.{All-nil, All-weaker}
+use Rattle.cy_network_counts.proofs.PlanLemmas.{of_counted}
 use Rattle.cy_values.specs.declared.rows.Cell.{Cell}
 use Rattle.cy_values.specs.Bag.{count_of}
 use Rattle.cy_graph.specs.Graph.{IsGraph, State}
 use Rattle.cy_expr.specs.Lookups.{IsNumbered}
-use Rattle.cy_values.specs.Same.{is_row}
 use Rattle.cy_network_memory.specs.Counts.{Counts}
 use Rattle.cy_planner_algebra.specs.Plans.{Plan}
-use Rattle.cy_planner_algebra.proofs.Counts.{count_cons}
 use Rattle.cy_planner_algebra.proofs.Numbers.{numbered_rows}
 use Rattle.cy_network_memory.specs.declared.memory.RowDelta.{RowDelta}
 use Rattle.cy_network_operators.specs.OperatorCosts.{changed_rows}
 use Rattle.cy_network_operators.specs.Deltas.{IsDelta, counts, counts_after, rows_at}
-use Rattle.cy_network_operators.proofs.Same.{same_row}
 use Rattle.cy_network_operators.proofs.DeltaLemmas.{row_delta_there}
 use Rattle.cy_network_operators.proofs.Staging.{after_delta}
 use Rattle.cy_network_operators.proofs.StepLemmas.{row_delta_number}
+use Rattle.cy_network_operators.proofs.PlanLemmas.{one_of_two}
 use Rattle.cy_network_touches.specs.Changes.{IsChange, Touches}
 use Rattle.cy_network_parts.specs.internal.Upkeep.{IsDeltaOf, content_of, state_of}
 use Rattle.cy_network_parts.proofs.Steps.{old_graph}
@@ -30,25 +29,11 @@ pub by_four : (P : Counts → Counts → Counts → Counts → Type 0) (a b c d 
 by_four P a b c d x y z w first second third fourth holds =
     by_two (λ m n. P m n z w) a b x y first second (by_two (λ m n. P a b m n) c d z w third fourth holds)
 
--- what holds of all rows holds of each that counts
-pub of_counted : (P : List Cell → Type 0) (rows : List (List Cell)) → All P rows → (row : List Cell) → 0 < count_of row rows → P row
-of_counted P [] all row some = absurd (omega (arith, some))
-of_counted P (x ∷ xs) all row some = step (is_row row x) refl (of_counted P xs (All-tail P x xs all) row)
-  where
-    step : (b : Bool) → is_row row x ≡ b → (0 < count_of row xs → P row) → P row
-    step true is rest = subst P (sym (same_row row x is)) (All-head P x xs all)
-    step false is rest =
-        rest (subst (λ n. 0 < n) (count_cons row x xs ∙ ap (λ b. cond b 1 0 + count_of row xs) is ∙ (let e : 0 + count_of row xs ≡ count_of row xs = omega arith in e)) some)
-
-pub either : (m n : ℕ) → 0 < m + n → (P : Type 0) → (0 < m → P) → (0 < n → P) → P
-either zero n some P first second = second (omega (arith, some))
-either (suc m) n some P first second = first (omega arith)
-
 pub of_deltas : (P : List Cell → Type 0) (before after : List (List Cell)) (deltas : List RowDelta) → IsDelta (counts before) (counts after) deltas → All P before → All P after
     → All (λ s. P s.row) deltas
 of_deltas P before after deltas delta first second =
     All-weaker (λ (s : RowDelta). 0 < count_of s.row before + count_of s.row after) (λ (s : RowDelta). P s.row)
-    (λ s some. either (count_of s.row before) (count_of s.row after) some (P s.row) (of_counted P before first s.row) (of_counted P after second s.row))
+    (λ s some. one_of_two (count_of s.row before) (count_of s.row after) some (P s.row) (of_counted P before first s.row) (of_counted P after second s.row))
     deltas (row_delta_there (counts before) (counts after) deltas delta)
 
 -- where a memory counts the rows before, the row deltas lead from what it counts to the rows after

@@ -1,20 +1,14 @@
 -- Chains after a number left one or joined one.
 use Rattle.std.proofs.Common.{◌≡◌, ℕ, suc, ◌+◌, ◌<◌, ◌≤◌, Bool, true, false, cond, List, length, Option, None, Some, IfSome, option_map, slice_get, slice_set, refl, sym, ap, subst, ◌∙◌, nat_eq, nat_lt, arith}
 use Rattle.std.specs.Option.{option_map_or}
-use Rattle.std.proofs.lemmas.Bool.{eqb-true, ltb-true, ltb-false}
+use Rattle.std.proofs.lemmas.Bool.{eqb-true, ltb-true, ltb-false, eqb-false, ne_eqb}
 use Rattle.std.proofs.lemmas.List.{length-set}
 use Rattle.std.proofs.lemmas.Option.{slice_get_within}
+use Rattle.cy_values.proofs.Booleans.{itself_equal}
 use Rattle.cy_network_columns.specs.declared.chains.Link.{Link}
 use Rattle.cy_network_columns.specs.internal.Chains.{IsLinked, is_at, rank_below, with_place, without}
 use Rattle.cy_network_columns.proofs.Ranks.{above, before, higher, put_in, rank_at, rank_down, rank_le, rank_least, rank_past, rank_same, still, taken_out, true_false}
-use Rattle.cy_network_columns.proofs.Elements.{number_itself, numbers_apart, set_at}
-
-pub apart_numbers : (a b : ℕ) → (a ≡ b → ⊥) → nat_eq a b ≡ false
-apart_numbers a b apart = by (nat_eq a b) refl
-  where
-    by : (c : Bool) → nat_eq a b ≡ c → nat_eq a b ≡ false
-    by true e = absurd (apart (eqb-true a b e))
-    by false e = e
+use Rattle.cy_network_columns.proofs.Elements.{set_at}
 
 pub same_some : {X : Type 0} (x y : X) → Some x ≡ Some y → x ≡ y
 same_some x y e = cc
@@ -28,7 +22,7 @@ some_inside {X} {Y} f xs i y is = by (slice_get xs i) refl is
 
 -- a number that has a place is there
 pub is_here : (at : ℕ → Option ℕ) (number place : ℕ) → at number ≡ Some place → is_at at place number ≡ true
-is_here at number place there = ap (λ o. option_map_or (nat_eq place) o false) there ∙ number_itself place
+is_here at number place there = ap (λ o. option_map_or (nat_eq place) o false) there ∙ itself_equal place
 
 pub there_is : (at : ℕ → Option ℕ) (place number : ℕ) → is_at at place number ≡ true → at number ≡ Some place
 there_is at place number is = by (at number) refl is
@@ -50,7 +44,7 @@ module _ (at : ℕ → Option ℕ) (heads : List ℕ) (links : List Link) (linke
   inside = some_inside (λ l. l.below) links number (rank_below (is_at at place) number) (linked.chained number place there)
 
   off : (p : ℕ) → is_at (without number at) p number ≡ false
-  off p = ap (λ b. option_map_or (nat_eq p) (cond b None (at number)) false) (number_itself number)
+  off p = ap (λ b. option_map_or (nat_eq p) (cond b None (at number)) false) (itself_equal number)
 
   others : (p i : ℕ) → nat_eq number i ≡ false → is_at (without number at) p i ≡ is_at at p i
   others p i e = ap (λ b. option_map_or (nat_eq p) (cond b None (at i)) false) e
@@ -61,7 +55,7 @@ module _ (at : ℕ → Option ℕ) (heads : List ℕ) (links : List Link) (linke
       by : (i : ℕ) (b : Bool) → nat_eq number i ≡ b → is_at (without number at) p i ≡ is_at at p i
       by i true same =
           ap (is_at (without number at) p) (sym (eqb-true number i same)) ∙ off p
-          ∙ sym (ap (λ o. option_map_or (nat_eq p) o false) there ∙ apart_numbers p place (λ e. numbers_apart place p apart (sym e)))
+          ∙ sym (ap (λ o. option_map_or (nat_eq p) o false) there ∙ ne_eqb p place (λ e. eqb-false place p apart (sym e)))
           ∙ ap (is_at at p) (eqb-true number i same)
       by i false apart = others p i apart
 
@@ -160,7 +154,7 @@ module _ (at : ℕ → Option ℕ) (heads : List ℕ) (links : List Link) (linke
               by true less =
                   true_false (sym (is_here at i place at_here) ∙ rank_past (is_at at place) up i (omega (arith, below_up, ltb-true number i more)) (ltb-true i up less))
               by false over =
-                  omega (arith, higher_up, rank_least (is_at at place) i up (is_here at up place up_there) (omega (arith, ltb-false i up over, numbers_apart up i e)))
+                  omega (arith, higher_up, rank_least (is_at at place) i up (is_here at up place up_there) (omega (arith, ltb-false i up over, eqb-false up i e)))
 
 -- a number that joins
 module _ (at : ℕ → Option ℕ) (heads : List ℕ) (links : List Link) (linked : IsLinked at heads links) (number place hash : ℕ) (out : at number ≡ None)
@@ -169,7 +163,7 @@ module _ (at : ℕ → Option ℕ) (heads : List ℕ) (links : List Link) (linke
   at' = with_place number place at
 
   on : is_at (with_place number place at) place number ≡ true
-  on = ap (λ b. option_map_or (nat_eq place) (cond b (Some place) (at number)) false) (number_itself number) ∙ number_itself place
+  on = ap (λ b. option_map_or (nat_eq place) (cond b (Some place) (at number)) false) (itself_equal number) ∙ itself_equal place
 
   kept : (p i : ℕ) → nat_eq number i ≡ false → is_at (with_place number place at) p i ≡ is_at at p i
   kept p i e = ap (λ b. option_map_or (nat_eq p) (cond b (Some place) (at i)) false) e
@@ -179,7 +173,7 @@ module _ (at : ℕ → Option ℕ) (heads : List ℕ) (links : List Link) (linke
     where
       by : (i : ℕ) (b : Bool) → nat_eq number i ≡ b → is_at (with_place number place at) p i ≡ is_at at p i
       by i true same =
-          ap (λ b. option_map_or (nat_eq p) (cond b (Some place) (at i)) false) same ∙ apart_numbers p place (λ e. numbers_apart place p apart (sym e))
+          ap (λ b. option_map_or (nat_eq p) (cond b (Some place) (at i)) false) same ∙ ne_eqb p place (λ e. eqb-false place p apart (sym e))
           ∙ sym (ap (is_at at p) (sym (eqb-true number i same)) ∙ ap (λ o. option_map_or (nat_eq p) o false) out)
       by i false other = kept p i other
 
@@ -341,4 +335,4 @@ module _ (at : ℕ → Option ℕ) (heads : List ℕ) (links : List Link) (linke
                   by true less =
                       true_false (sym at_here ∙ rank_past (is_at at place) up i (omega (arith, low_up, ltb-true number i more)) (ltb-true i up less))
                   by false over =
-                      omega (arith, higher_up, rank_least (is_at at place) i up (is_here at up place up_there) (omega (arith, ltb-false i up over, numbers_apart up i e)))
+                      omega (arith, higher_up, rank_least (is_at at place) i up (is_here at up place up_there) (omega (arith, ltb-false i up over, eqb-false up i e)))

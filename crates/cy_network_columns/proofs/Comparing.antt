@@ -1,7 +1,7 @@
 -- Whether a row that is kept is another one, cell by cell.
 use Rattle.std.proofs.Common.{◌≡◌, ℕ, ◌+◌, ◌<◌, ◌≤◌, Bool, true, false, List, Option, None, Some, length, get_or, slice_get, nat_eq, nat_lt, nat_le, refl, sym, ap, subst, ◌∙◌, arith}
 use Rattle.std.specs.Option.{option_map_or}
-use Rattle.std.proofs.lemmas.Bool.{eqb-true, ltb-true, ltb-false}
+use Rattle.std.proofs.lemmas.Bool.{eqb-true, ltb-true, ltb-false, eqb-false}
 use Rattle.std.proofs.lemmas.Bool.Decides.{nat_tests}
 use Rattle.std.proofs.lemmas.Option.{slice_get_past, slice_get_read}
 use Rattle.cy_values.specs.declared.rows.Cell.{Cell}
@@ -27,12 +27,9 @@ module _ (row self cells : List Cell) (place : ℕ) (x : Cell) (same : cells ≡
       here None e = cc
       here (Some y) e = ap Some (sym (cell_same x y e))
 
-      apart : (a b : ℕ) → nat_eq a b ≡ false → a ≡ b → ⊥
-      apart a b e f = grind (arith, nat_tests)
-
       by : (b : Bool) → nat_eq place p ≡ b → slice_get self p ≡ slice_get row p
       by true e = subst (λ (q : ℕ). slice_get self q ≡ slice_get row q) (eqb-true place p e) (here (slice_get self place) on ∙ sym there)
-      by false e = before p (omega (arith, less, apart place p e))
+      by false e = before p (omega (arith, less, eqb-false place p e))
 
 -- all cells are the same: the row is this one unless it goes on
 pub all_same : (row self cells : List Cell) (place : ℕ) (result : Bool) → cells ≡ row → length cells ≤ place → ((p : ℕ) → p < place → slice_get self p ≡ slice_get row p)

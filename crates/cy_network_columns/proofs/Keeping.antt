@@ -2,15 +2,16 @@
 use Rattle.std.proofs.Common.{◌≡◌, ◌≢◌, ℕ, zero, suc, ◌+◌, ◌-◌, ◌<◌, ◌≤◌, Bool, true, false, cond, ◌&&◌, List, [], ◌∷◌, ◌++◌, length, map, take, Option, None, Some, IfSome, IsSome, option_map, slice_get, slice_set, refl, sym, ap, subst, ◌∙◌, nat_eq, nat_lt, arith}
 use Rattle.std.specs.List.{cons_option, list_all, swap_remove}
 use Rattle.std.specs.Option.{option_and_then}
-use Rattle.std.proofs.lemmas.Bool.{eqb-true, ltb-true, ltb-false}
+use Rattle.std.proofs.lemmas.Bool.{eqb-true, ltb-true, ltb-false, eqb-false, lt-ltb, and_from, eq-eqb, le-ltb}
 use Rattle.std.proofs.lemmas.Bool.Decides.{nat_tests}
 use Rattle.std.proofs.lemmas.List.{length-append, length-set, length-take-le}
 use Rattle.std.proofs.lemmas.Option.{slice_get-map, slice_get_past, slice_get_within}
 use Rattle.cy_values.specs.declared.rows.Cell.{Cell}
+use Rattle.cy_values.proofs.Booleans.{both_first, both_second, itself_equal}
 use Rattle.cy_network_columns.specs.Hashes.{IsFilled}
 use Rattle.cy_network_columns.specs.Rows.{are_alike}
 use Rattle.cy_network_columns.specs.internal.Columns.{AreKept, EndsOnce, FilledTo, cell_at, cell_in, next_in, removed, row_in, rows_below}
-use Rattle.cy_network_columns.proofs.Elements.{filled, number_itself, numbers_apart, put_last, same_elements, set_at, shorter}
+use Rattle.cy_network_columns.proofs.Elements.{filled, put_last, same_elements, set_at, shorter}
 
 abbrev Column : Type 0
 Column = List (Option Cell)
@@ -68,10 +69,7 @@ rows_get columns (suc n) i =
     by true e c f false g = absurd (omega (arith, eqb-true n i e, ltb-false i (suc n) g))
     by false e true f true g = refl
     by false e true f false g = absurd (omega (arith, ltb-true i n f, ltb-false i (suc n) g))
-    by false e false f true g = absurd (apart n i e (omega (arith, ltb-false i n f, ltb-true i (suc n) g)))
-      where
-        apart : (a b : ℕ) → nat_eq a b ≡ false → a ≢ b
-        apart a b e same = grind (arith, nat_tests)
+    by false e false f true g = absurd (eqb-false n i e (omega (arith, ltb-false i n f, ltb-true i (suc n) g)))
     by false e false f false g = refl
 
 pub rows_same : (columns columns' : List Column) (n : ℕ) → ((i : ℕ) → i < n → row_in columns' i ≡ row_in columns i) → rows_below columns' n ≡ rows_below columns n
@@ -181,7 +179,7 @@ module _ (columns filled_columns : List Column) (cells : List Cell) (count k : �
               → option_and_then (cell_in count) (option_map (λ column. column ++ slice_get cells place ∷ []) o) ≡ option_and_then (λ column. slice_get cells place) o
           each None l = refl
           each (Some column) l =
-              added column (slice_get cells place) count l ∙ ap (λ b. cond b (slice_get cells place) (cell_in count column)) (number_itself count)
+              added column (slice_get cells place) count l ∙ ap (λ b. cond b (slice_get cells place) (cell_in count column)) (itself_equal count)
 
   none_past : {X : Type 0} (xs : List X) (i : ℕ) → slice_get xs i ≡ None → slice_get xs (suc i) ≡ None
   none_past [] i none = refl
@@ -191,11 +189,8 @@ module _ (columns filled_columns : List Column) (cells : List Cell) (count k : �
   next_ends : EndsOnce filled_columns count
   next_ends place none = next_cell (suc place) ∙ by (nat_lt (suc place) k) refl (slice_get columns place) refl (slice_get cells place) refl
     where
-      inside : (a b : ℕ) → a < b → nat_lt a b ≡ true
-      inside a b lt = grind (arith, nat_tests)
-
       here : nat_lt (suc place) k ≡ true → option_and_then (λ (column : Column). slice_get cells place) (slice_get columns place) ≡ None
-      here e = sym (ap (λ b. cond b (option_and_then (λ (column : Column). slice_get cells place) (slice_get columns place)) None) (inside place k (omega (arith, ltb-true (suc place) k e))))
+      here e = sym (ap (λ b. cond b (option_and_then (λ (column : Column). slice_get cells place) (slice_get columns place)) None) (lt-ltb place k (omega (arith, ltb-true (suc place) k e))))
           ∙ sym (next_cell place) ∙ none
 
       off : (o : Option Column) (x : Option Cell) → x ≡ None → option_and_then (λ (column : Column). x) o ≡ None
@@ -264,15 +259,9 @@ module _ (columns filled_columns : List Column) (cells : List Cell) (count k : �
     full : list_all (λ column. nat_eq (length column) (count + 1)) filled_columns ≡ true
     full = every filled_columns (λ place. reached place (nat_lt place k) refl)
       where
-        same_true : (a b : ℕ) → a ≡ b → nat_eq a b ≡ true
-        same_true a b e = ap (λ (m : ℕ). nat_eq m b) e ∙ number_itself b
-
         every : (cs : List Column) → ((place : ℕ) → IfSome (slice_get cs place) (λ column. nat_eq (length column) (count + 1) ≡ true)) → list_all (λ column. nat_eq (length column) (count + 1)) cs ≡ true
         every [] each = refl
-        every (c ∷ cs) each = both _ _ (each 0) (every cs (λ place. each (suc place)))
-          where
-            both : (a b : Bool) → a ≡ true → b ≡ true → (a && b) ≡ true
-            both a b ha hb = ap (λ x. x && b) ha ∙ hb
+        every (c ∷ cs) each = and_from _ _ (each 0) (every cs (λ place. each (suc place)))
 
         reached : (place : ℕ) (b : Bool) → nat_lt place k ≡ b → IfSome (slice_get filled_columns place) (λ column. nat_eq (length column) (count + 1) ≡ true)
         reached place false e =
@@ -284,23 +273,17 @@ module _ (columns filled_columns : List Column) (cells : List Cell) (count k : �
             each : (o : Option Column) → IfSome o (λ column. length column ≡ count)
                 → IfSome (option_map (λ column. column ++ slice_get cells place ∷ []) o) (λ column. nat_eq (length column) (count + 1) ≡ true)
             each None l = tt
-            each (Some column) l = same_true _ _ (omega (arith, l, length-append column (slice_get cells place ∷ [])))
+            each (Some column) l = eq-eqb _ _ (omega (arith, l, length-append column (slice_get cells place ∷ [])))
 
     pub next_is : next_in filled_columns count ≡ Some cells
     next_is = ap (λ b. cond b (Some (row_in filled_columns count)) None) full ∙ ap Some next_row
 
 -- ---- a row that went
 
-pub inside_is : (a b : ℕ) → a < b → nat_lt a b ≡ true
-inside_is a b lt = grind (arith, nat_tests)
-
-pub past_is : (a b : ℕ) → b ≤ a → nat_lt a b ≡ false
-past_is a b le = grind (arith, nat_tests)
-
 -- a number that is there goes
 really : (number count : ℕ) (column : Column) → number < count → count ≤ length column → removed number count column ≡ swap_remove (take count column) number None
 really number count column inside long =
-    ap (λ b. cond b (swap_remove (take count column) number None) (take count column)) (inside_is number (length (take count column)) (omega (arith, inside, length-take-le count column long)))
+    ap (λ b. cond b (swap_remove (take count column) number None) (take count column)) (lt-ltb number (length (take count column)) (omega (arith, inside, length-take-le count column long)))
 
 -- the number that a row had before
 abbrev pub moved : ℕ → ℕ → ℕ → ℕ
@@ -328,7 +311,7 @@ removed_cell number count i column inside long =
         → option_and_then (λ c. c) (cond b (slice_get (take count column) (moved number count i)) None) ≡ cond b (cell_in (moved number count i) column) None
     by true e =
         trimmed count column (moved number count i)
-        ∙ ap (λ b. cond b (cell_in (moved number count i) column) None) (inside_is (moved number count i) count (moved_inside number count i inside (ltb-true (i + 1) count e)))
+        ∙ ap (λ b. cond b (cell_in (moved number count i) column) None) (lt-ltb (moved number count i) count (moved_inside number count i inside (ltb-true (i + 1) count e)))
     by false e = refl
 
 module _ (columns : List Column) (number count : ℕ) (kept : AreKept columns count) (inside : number < count) where
@@ -364,7 +347,7 @@ module _ (columns : List Column) (number count : ℕ) (kept : AreKept columns co
   pub row_moved : (i : ℕ) → i + 1 < count → row_in (map (removed number count) columns) i ≡ row_in columns (moved number count i)
   row_moved i less =
       row_same_cells (map (removed number count) columns) columns i (moved number count i) (removed_ends i) (kept.once (moved number count i))
-      (λ place. removed_at place i ∙ ap (λ b. cond b (cell_at columns place (moved number count i)) None) (inside_is (i + 1) count less))
+      (λ place. removed_at place i ∙ ap (λ b. cond b (cell_at columns place (moved number count i)) None) (lt-ltb (i + 1) count less))
 
   pub row_gone : IsFilled number (rows_below columns count) (rows_below (map (removed number count) columns) (count - 1))
   row_gone i =
@@ -376,7 +359,7 @@ module _ (columns : List Column) (number count : ℕ) (kept : AreKept columns co
       by true e true f =
           ap Some (row_moved i (ltb-true (i + 1) count f))
           ∙ sym (rows_get columns count (moved number count i)
-          ∙ ap (λ b. cond b (Some (row_in columns (moved number count i))) None) (inside_is (moved number count i) count (moved_inside number count i inside (ltb-true (i + 1) count f))))
+          ∙ ap (λ b. cond b (Some (row_in columns (moved number count i))) None) (lt-ltb (moved number count i) count (moved_inside number count i inside (ltb-true (i + 1) count f))))
       by true e false f = absurd (omega (arith, ltb-true i (count - 1) e, ltb-false (i + 1) count f))
       by false e true f = absurd (omega (arith, ltb-false i (count - 1) e, ltb-true (i + 1) count f))
       by false e false f = refl
@@ -385,19 +368,8 @@ module _ (columns : List Column) (number count : ℕ) (kept : AreKept columns co
 
 kept_all : (columns : List Column) (n : ℕ) → list_all (λ column. nat_eq (length column) n) columns ≡ true → (place : ℕ) → IfSome (slice_get columns place) (λ column. length column ≡ n)
 kept_all [] n all place = tt
-kept_all (c ∷ cs) n all zero = eqb-true (length c) n (left (nat_eq (length c) n) (list_all (λ column. nat_eq (length column) n) cs) all)
-  where
-    left : (a b : Bool) → (a && b) ≡ true → a ≡ true
-    left true b e = refl
-    left false b e = e
-kept_all (c ∷ cs) n all (suc place) = kept_all cs n (right (nat_eq (length c) n) (list_all (λ column. nat_eq (length column) n) cs) all) place
-  where
-    right : (a b : Bool) → (a && b) ≡ true → b ≡ true
-    right true b e = e
-    right false b e = absurd (false_true e)
-      where
-        false_true : false ≡ true → ⊥
-        false_true e = cc
+kept_all (c ∷ cs) n all zero = eqb-true (length c) n (both_first (nat_eq (length c) n) (list_all (λ column. nat_eq (length column) n) cs) all)
+kept_all (c ∷ cs) n all (suc place) = kept_all cs n (both_second (nat_eq (length c) n) (list_all (λ column. nat_eq (length column) n) cs) all) place
 
 -- all columns hold the next row where there is one
 pub is_written : (columns : List Column) (count : ℕ) (row : List Cell) → next_in columns count ≡ Some row → (list_all (λ column. nat_eq (length column) (count + 1)) columns ≡ true) × (row_in columns count ≡ row)
@@ -442,7 +414,7 @@ module _ (columns wider : List Column) (count : ℕ) (kept : AreKept columns cou
   pub wider_rows : rows_below wider count ≡ rows_below columns count
   wider_rows = rows_same columns wider count (λ i less.
       row_same_cells wider columns i i (wider_once i) (kept.once i)
-      (λ place. cells place i ∙ trimmed_cell count columns place i ∙ ap (λ b. cond b (cell_at columns place i) None) (inside_is i count less)))
+      (λ place. cells place i ∙ trimmed_cell count columns place i ∙ ap (λ b. cond b (cell_at columns place i) None) (lt-ltb i count less)))
 
   pub wider_kept : AreKept wider count
   wider_kept = record {
@@ -459,15 +431,6 @@ module _ (columns wider : List Column) (count : ℕ) (kept : AreKept columns cou
 
   pub put_rows : (new : List Column) (row : List Cell) (k : ℕ) → FilledTo k row wider new → rows_below new count ≡ rows_below columns count
   put_rows new row k fill = rows_stay wider new row count k long fill wider_once ∙ wider_rows
-
--- one column more, without cells
-pub grown_long : (columns : List Column) (column : Column) (count : ℕ) → ((place : ℕ) → IfSome (slice_get columns place) (λ c. length c ≡ count)) → length column ≡ count
-    → (place : ℕ) → IfSome (slice_get (columns ++ column ∷ []) place) (λ c. length c ≡ count)
-grown_long columns column count long is place = subst (λ o. IfSome o (λ c. length c ≡ count)) (sym (put_last columns column place)) (by (nat_eq (length columns) place))
-  where
-    by : (b : Bool) → IfSome (cond b (Some column) (slice_get columns place)) (λ c. length c ≡ count)
-    by true = is
-    by false = long place
 
 pub grown_cell : (columns : List Column) (column : Column) → ((i : ℕ) → cell_in i column ≡ None) → (place i : ℕ) → cell_at (columns ++ column ∷ []) place i ≡ cell_at columns place i
 grown_cell columns column none place i = ap (option_and_then (cell_in i)) (put_last columns column place) ∙ by (nat_eq (length columns) place) refl
@@ -498,7 +461,7 @@ fill_step k row old new column fill there = record {
         let it : k ≡ place = eqb-true k place e in
         sym (ap (option_map (λ (c : Column). c ++ slice_get row place ∷ [])) (ap (slice_get old) (sym it) ∙ sym (fill.left k (omega arith)) ∙ there)
         ∙ ap (λ (j : ℕ). Some (column ++ slice_get row j ∷ [])) (sym it))
-    done place less false e = fill.filled place (omega (arith, less, numbers_apart k place e))
+    done place less false e = fill.filled place (omega (arith, less, eqb-false k place e))
 
     rest : (place : ℕ) → k + 1 ≤ place → (b : Bool) → nat_eq k place ≡ b → cond b (Some (column ++ slice_get row k ∷ [])) (slice_get new place) ≡ slice_get old place
     rest place le true e = absurd (omega (arith, le, eqb-true k place e))
@@ -519,10 +482,10 @@ fill_same k row old new column fill there = subst (FilledTo k row old) (sym (set
 
 module _ (columns : List Column) (count : ℕ) (kept : AreKept columns count) where
   pub row_there : (number : ℕ) → number < count → slice_get (rows_below columns count) number ≡ Some (row_in columns number)
-  row_there number less = rows_get columns count number ∙ ap (λ b. cond b (Some (row_in columns number)) None) (inside_is number count less)
+  row_there number less = rows_get columns count number ∙ ap (λ b. cond b (Some (row_in columns number)) None) (lt-ltb number count less)
 
   pub row_past : (number : ℕ) → count ≤ number → slice_get (rows_below columns count) number ≡ None
-  row_past number past = rows_get columns count number ∙ ap (λ b. cond b (Some (row_in columns number)) None) (past_is number count past)
+  row_past number past = rows_get columns count number ∙ ap (λ b. cond b (Some (row_in columns number)) None) (le-ltb number count past)
 
   -- the columns once a row went from each
   pub gone_kept : (number : ℕ) (lent new : List Column) → number < length (rows_below columns count) → lent ≡ columns → new ≡ map (removed number count) lent → AreKept new (count - 1)

@@ -2,16 +2,17 @@
 use Rattle.std.proofs.Common.{◌≡◌, ℕ, zero, suc, ◌+◌, ◌-◌, ◌%◌, ◌^◌, ◌<◌, ◌≤◌, Bool, true, false, cond, List, [], ◌∷◌, ◌++◌, length, replicate, Option, None, Some, IfSome, IsSome, option_map, slice_get, slice_set, slice_index_or, refl, sym, ap, subst, ◌∙◌, nat_eq, nat_lt, arith}
 use Rattle.std.specs.Option.{option_map_or, option_to_list}
 use Rattle.std.proofs.Math.Nat.{mod-lt}
-use Rattle.std.proofs.lemmas.Bool.{eqb-true, ltb-true, ltb-false}
+use Rattle.std.proofs.lemmas.Bool.{eqb-true, ltb-true, ltb-false, eqb-false, ne_eqb}
 use Rattle.std.proofs.lemmas.Bool.Decides.{nat_tests}
 use Rattle.std.proofs.lemmas.List.{get_or-set_other, length-append, length-map}
 use Rattle.std.proofs.lemmas.Option.{slice_get-get_or, slice_get-map, slice_get_past, slice_get_within}
+use Rattle.cy_values.proofs.Booleans.{itself_equal}
 use Rattle.cy_network_columns.specs.Hashes.{IsFilled, has_hash, last_below}
 use Rattle.cy_network_columns.specs.declared.chains.Link.{Link}
 use Rattle.cy_network_columns.specs.internal.Chains.{AreChained, Descend, IsIndex, IsLinked, hashes_of, is_at, placed_at, rank_below, those_below, with_place, without}
-use Rattle.cy_network_columns.proofs.Chaining.{apart_numbers, is_here, same_some, some_inside, there_is}
+use Rattle.cy_network_columns.proofs.Chaining.{is_here, same_some, some_inside, there_is}
 use Rattle.cy_network_columns.proofs.Ranks.{last_skip, rank_at, rank_le, rank_never, rank_past, true_false}
-use Rattle.cy_network_columns.proofs.Elements.{before_end, number_itself, numbers_apart, set_at}
+use Rattle.cy_network_columns.proofs.Elements.{before_end, set_at}
 
 -- what stands where no link does
 abbrev pub no_link : Link
@@ -157,7 +158,7 @@ one_more at number place there i = by (nat_eq number i) refl (nat_lt i number) r
       where
         within : (n i : ℕ) → i < n → nat_lt i n ≡ true
         within n i lt = grind (arith, nat_tests)
-    by false e false d = sym (ap (λ b. cond b (at i) None) (past (number + 1) i (omega (arith, ltb-false i number d, numbers_apart number i e))))
+    by false e false d = sym (ap (λ b. cond b (at i) None) (past (number + 1) i (omega (arith, ltb-false i number d, eqb-false number i e))))
       where
         past : (n i : ℕ) → n ≤ i → nat_lt i n ≡ false
         past n i le = grind (arith, nat_tests)
@@ -194,7 +195,7 @@ went at number last lower past place there at' here others i = by (nat_eq number
     by false e true f true g = absurd (omega (arith, eqb-true last i f, ltb-true i last g))
     by false e true f false g = refl
     by false e false f true g = sym (others i e)
-    by false e false f false g = past i (omega (arith, ltb-false i last g, numbers_apart last i f))
+    by false e false f false g = past i (omega (arith, ltb-false i last g, eqb-false last i f))
 
 -- the places once the last number went
 pub last_went : (at : ℕ → Option ℕ) (last : ℕ) → ((i : ℕ) → last < i → at i ≡ None) → (i : ℕ) → without last at i ≡ those_below last at i
@@ -204,7 +205,7 @@ last_went at last past i = by (nat_eq last i) refl (nat_lt i last) refl
     by true f true g = absurd (omega (arith, eqb-true last i f, ltb-true i last g))
     by true f false g = refl
     by false f true g = refl
-    by false f false g = past i (omega (arith, ltb-false i last g, numbers_apart last i f))
+    by false f false g = past i (omega (arith, ltb-false i last g, eqb-false last i f))
 
 pub past_last : (count : ℕ) (links : List Link) (i : ℕ) → length links - 1 < i → placed_at count (hashes_of links) i ≡ None
 past_last count links i more = placed_past count links i (omega (arith, more))
@@ -264,7 +265,7 @@ link_less at heads links l linked out = record {
         which : (b : Bool) → nat_eq (length links) i ≡ b → i < length links
         which true e = none_some p (sym out ∙ ap at (eqb-true (length links) i e) ∙ is)
         which false e =
-            omega (arith, numbers_apart (length links) i e, some_inside (λ k. k.below) (links ++ l ∷ []) i _ (linked.chained i p is), length-append links (l ∷ []))
+            omega (arith, eqb-false (length links) i e, some_inside (λ k. k.below) (links ++ l ∷ []) i _ (linked.chained i p is), length-append links (l ∷ []))
 
     by : (i : ℕ) (b : Bool) → nat_lt i (length links) ≡ b → IfSome (slice_get links i) (λ k. k.below ≤ i)
     by i true less = subst (λ o. IfSome o (λ k. k.below ≤ i)) (before_end links l i (ltb-true i (length links) less)) (linked.descend i)
@@ -290,14 +291,14 @@ hashes_long links = length-map links (λ (l : Link). l.hash)
 pub last_there : (count count' : ℕ) (links links' : List Link) (number last : ℕ) (d : Link) → number < last → last < length links' → hashes_of links' ≡ hashes_of links → count' ≡ count
     → without number (placed_at count (hashes_of links)) last ≡ Some ((slice_index_or links' last d).hash % count')
 last_there count count' links links' number last d lower inside hashes places =
-    ap (λ b. cond b None (placed_at count (hashes_of links) last)) (apart_numbers number last (λ e. omega (arith, e, lower)))
+    ap (λ b. cond b None (placed_at count (hashes_of links) last)) (ne_eqb number last (λ e. omega (arith, e, lower)))
     ∙ ap (λ (hs : List ℕ). placed_at count hs last) (sym hashes) ∙ placed_is count links' last d inside
     ∙ ap (λ (c : ℕ). Some ((slice_index_or links' last d).hash % c)) (sym places)
 
 pub both_out : (at : ℕ → Option ℕ) (number last : ℕ) → number < last → without last (without number at) number ≡ None
 both_out at number last lower =
-    ap (λ b. cond b None (without number at number)) (apart_numbers last number (λ e. omega (arith, e, lower)))
-    ∙ ap (λ b. cond b None (at number)) (number_itself number)
+    ap (λ b. cond b None (without number at number)) (ne_eqb last number (λ e. omega (arith, e, lower)))
+    ∙ ap (λ b. cond b None (at number)) (itself_equal number)
 
 pub removed_then : (links links' : List Link) (count number last hash : ℕ) → number < last → suc last ≡ length links → hashes_of links' ≡ slice_set (hashes_of links) number hash
     → slice_get (hashes_of links) last ≡ Some hash
@@ -305,7 +306,7 @@ pub removed_then : (links links' : List Link) (count number last hash : ℕ) →
 removed_then links links' count number last hash lower ends set of_last =
     went (placed_at count (hashes_of links)) number last lower (λ i more. placed_past count links i (omega (arith, ends, more))) (hash % count)
     (ap (option_map (λ h. h % count)) of_last) (placed_at count (hashes_of links'))
-    (ap (option_map (λ h. h % count)) (got number ∙ ap (λ b. cond b (Some hash) (slice_get (hashes_of links) number)) (number_itself number)))
+    (ap (option_map (λ h. h % count)) (got number ∙ ap (λ b. cond b (Some hash) (slice_get (hashes_of links) number)) (itself_equal number)))
     (λ i apart. ap (option_map (λ h. h % count)) (got i ∙ ap (λ b. cond b (Some hash) (slice_get (hashes_of links) i)) apart))
   where
     got : (i : ℕ) → slice_get (hashes_of links') i ≡ cond (nat_eq number i) (Some hash) (slice_get (hashes_of links) i)
@@ -396,9 +397,6 @@ filled_less old links l number longer moved i = by (nat_lt (i + 1) (length old))
 
 module _ (heads hs : List ℕ) (links ls : List Link) (l : Link) (index : IsIndex heads links) (hs_is : hs ≡ heads) (ls_is : ls ≡ links ++ l ∷ []) (none_below : l.below ≡ 0)
     (number : ℕ) (number_is : number ≡ length links) where
-  at_first : ℕ → Option ℕ
-  at_first = placed_at (length heads) (hashes_of links)
-
   more_linked : IsLinked (placed_at (length heads) (hashes_of links)) hs ls
   more_linked =
       subst (λ (x : List ℕ). IsLinked (placed_at (length heads) (hashes_of links)) x ls) (sym hs_is)

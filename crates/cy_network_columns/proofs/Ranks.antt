@@ -1,7 +1,6 @@
 -- The greatest number below a bound that meets a test.
 use Rattle.std.proofs.Common.{◌≡◌, ◌≢◌, ℕ, zero, suc, ◌<◌, ◌≤◌, Bool, true, false, cond, None, Some, refl, sym, ap, subst, ◌∙◌, nat_eq, nat_lt, arith}
-use Rattle.std.proofs.lemmas.Bool.{eqb-true, ltb-true, ltb-false}
-use Rattle.std.proofs.lemmas.Bool.Decides.{nat_tests}
+use Rattle.std.proofs.lemmas.Bool.{eqb-true, ltb-true, ltb-false, eqb-false}
 use Rattle.cy_network_columns.specs.Hashes.{last_below}
 use Rattle.cy_network_columns.specs.internal.Chains.{rank_below}
 
@@ -99,10 +98,7 @@ module _ (f g : ℕ → Bool) (number : ℕ) (off : g number ≡ false) (others 
       which j from less true under c is_c = apart_from j (λ same. omega (arith, same, ltb-true j number under)) ∙ rank_past f number j from (ltb-true j number under)
       which j from less false over true same = ap g (sym (eqb-true number j same)) ∙ off
       which j from less false over false apart =
-          others j apart ∙ rank_past f n j (omega (arith, is, ltb-false j number over, nat_neq number j apart)) less
-        where
-          nat_neq : (a b : ℕ) → nat_eq a b ≡ false → a ≢ b
-          nat_neq a b e same = grind (arith, nat_tests)
+          others j apart ∙ rank_past f n j (omega (arith, is, ltb-false j number over, eqb-false number j apart)) less
 
   pub higher : (n : ℕ) → suc number < rank_below f n → rank_below g n ≡ rank_below f n
   higher n more =

@@ -3,18 +3,16 @@ use Rattle.std.proofs.Common.{◌≡◌, ℕ, ◌+◌, ◌*◌, ◌≤◌, ◌==
 use Rattle.std.specs.Prelude.{count_by, sum_by, flat_map, replicate}
 use Rattle.std.proofs.lemmas.List.Folds.{sum_by-replicate}
 use Rattle.std.proofs.lemmas.List.Sums.{sum_by-append, sum_by-cons}
+use Rattle.std.proofs.lemmas.Bool.{eqb-true}
 use Rattle.cy_values.specs.declared.rows.Cell.{Cell}
 use Rattle.cy_values.specs.Bag.{count_of}
 use Rattle.cy_values.specs.Same.{is_row}
+use Rattle.cy_values.proofs.Naturals.{nothing_added}
+use Rattle.cy_values.proofs.SameRows.{row_itself, same_row}
 use Rattle.cy_network_memory.specs.Counts.{Counts}
 use Rattle.cy_planner_algebra.proofs.Counts.{count_append, count_cons}
 use Rattle.cy_network_memory.specs.declared.memory.RowDelta.{RowDelta}
 use Rattle.cy_network_operators.specs.Deltas.{IsDelta, counts}
-use Rattle.cy_network_operators.proofs.Same.{row_itself, same_row}
-use Rattle.cy_network_counts.proofs.Naturals.{equal}
-
-none_more : (n : ℕ) → 0 + n ≡ n
-none_more n = omega arith
 
 -- the rows without one of these
 abbrev without : List Cell → List (List Cell) → List (List Cell)
@@ -29,7 +27,7 @@ without_one p row (x ∷ xs) some = sum_by-cons (λ y. cond (p y) 1 0) x xs ∙ 
         → cond (p x) 1 0 + count_by p xs ≡ cond (p row) 1 0 + count_by p (cond b xs (x ∷ without row xs))
     by rest true same = ap (λ y. cond (p y) 1 0 + count_by p xs) (sym (same_row row x same))
     by rest false other =
-        let there : 1 ≤ count_of row xs = subst (λ n. 1 ≤ n) (count_cons row x xs ∙ ap (λ b. cond b 1 0 + count_of row xs) other ∙ none_more (count_of row xs)) some in
+        let there : 1 ≤ count_of row xs = subst (λ n. 1 ≤ n) (count_cons row x xs ∙ ap (λ b. cond b 1 0 + count_of row xs) other ∙ nothing_added (count_of row xs)) some in
         let fewer : count_by p xs ≡ cond (p row) 1 0 + count_by p (without row xs) = rest there in
         let first : count_by p (x ∷ without row xs) ≡ cond (p x) 1 0 + count_by p (without row xs) = sum_by-cons (λ y. cond (p y) 1 0) x (without row xs) in
         omega (arith, fewer, first)
@@ -76,7 +74,7 @@ sum_passing p weight (s ∷ deltas) =
   where
     step : (b : Bool) → cond b (weight s) 0 + sum_by weight (filter p deltas) ≡ sum_by weight (cond b (s ∷ filter p deltas) (filter p deltas))
     step true = sym (sum_by-cons weight s (filter p deltas))
-    step false = none_more (sum_by weight (filter p deltas))
+    step false = nothing_added (sum_by weight (filter p deltas))
 
 -- the weight of the one row delta of a row in a delta
 pub of_row : (weight : RowDelta → ℕ) (row : List Cell) (before after : Counts) (deltas : List RowDelta) → IsDelta before after deltas
@@ -89,7 +87,7 @@ of_row weight row before after deltas delta =
 
     step : (b : Bool) → sum_by weight (cond b [] (own ∷ [])) ≡ cond b 0 (weight own)
     step true = refl
-    step false = none_more (weight own)
+    step false = nothing_added (weight own)
 
 module _ (before after : List (List Cell)) (deltas : List RowDelta) (delta : IsDelta (counts before) (counts after) deltas) where
   befores : (row : List Cell) → count_of row (repeated (λ s. s.before) deltas) ≡ cond (count_of row before == count_of row after) 0 (count_of row before)
@@ -129,7 +127,7 @@ module _ (before after : List (List Cell)) (deltas : List RowDelta) (delta : IsD
       between m n low high = omega arith
 
       crossed : (m n : ℕ) (b : Bool) → (m == n) ≡ b → n + cond b 0 m ≡ m + cond b 0 n
-      crossed m n true is = let e : m ≡ n = equal m n is in omega (arith, e)
+      crossed m n true is = let e : m ≡ n = eqb-true m n is in omega (arith, e)
       crossed m n false is = omega arith
 
       alike : (row : List Cell) → count_of row later ≡ count_of row earlier

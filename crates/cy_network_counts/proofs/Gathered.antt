@@ -2,26 +2,28 @@
 use Rattle.std.proofs.Common.{◌≡◌, ℕ, ◌+◌, ◌<◌, ◌≤◌, ◌==◌, Bool, true, false, cond, List, [], ◌∷◌, filter, get_or, map, refl, sym, ap, subst, ◌∙◌, arith, inl, inr}
 use Rattle.std.specs.Prelude.{count_by, ◌⊎◌, nat_lt}
 use Rattle.std.specs.List.{All, list_all}
-use Rattle.std.proofs.lemmas.Bool.{and_parts, cases_lt, false≢true}
+use Rattle.std.proofs.lemmas.Bool.{and_parts, cases_lt, false≢true, eqb-true, eqb-false}
 use Rattle.std.proofs.lemmas.Bool.Decides.{nat_tests}
 use Rattle.std.proofs.lemmas.List.Elements.{All-cons, All-filter, All-head, All-nil, filter_passes}
 use Rattle.std.proofs.lemmas.List.Sums.{sum_by-cons}
 use Rattle.cy_values.specs.declared.rows.Cell.{Cell}
 use Rattle.cy_values.specs.Bag.{count_of}
 use Rattle.cy_values.specs.Same.{is_row}
+use Rattle.cy_values.proofs.Booleans.{tests_agree}
+use Rattle.cy_values.proofs.SameRows.{row_itself, same_row}
 use Rattle.cy_planner_algebra.proofs.Counts.{count_cons, count_map}
 use Rattle.cy_planner_algebra.specs.Plans.{Output}
 use Rattle.cy_planner_algebra.specs.Expressions.{projected}
 use Rattle.cy_network_memory.specs.declared.memory.RowDelta.{RowDelta}
 use Rattle.cy_network_operators.specs.Deltas.{IsDelta, counts, row_delta_between, deltas_of}
-use Rattle.cy_network_operators.proofs.Same.{is_row_if, row_itself, same_row}
+use Rattle.cy_network_operators.proofs.Same.{is_row_if}
 use Rattle.cy_network_operators.proofs.DeltaLemmas.{each_row_delta}
+use Rattle.cy_network_operators.proofs.PairLemmas.{kept_alike as filter_alike}
 use Rattle.cy_network_counts.specs.Merges.{IsOneToOneOn, image}
 use Rattle.cy_network_counts.specs.internal.Sums.{gained, greatest, lost, most_after, most_before}
-use Rattle.cy_network_counts.proofs.OneToOne.{all_counted, both_same, count_alike, filter_alike, image_between, no_weight, none_between, deltas_of_images}
+use Rattle.cy_network_counts.proofs.OneToOne.{all_counted, count_alike, image_between, no_weight, none_between, deltas_of_images}
 use Rattle.cy_network_counts.proofs.GreatestCounts.{greatest_below, greatest_more}
 use Rattle.cy_network_counts.proofs.Totals.{adds, sum_of_images, takes}
-use Rattle.cy_network_counts.proofs.Naturals.{equal}
 
 -- ---- counts and images
 
@@ -105,7 +107,7 @@ module _ (outputs : List Output) (near far : List (List Cell)) (deltas : List Ro
   of_row x some is =
       counted
       ∙ count_alike (λ y. 0 < count_of y near) becomes (is_row x)
-      (λ y there. both_same (becomes y) (is_row x y)
+      (λ y there. tests_agree (becomes y) (is_row x y)
       (λ also. is_row_if x y (one_near x y some there (sym (same_row row (projected outputs x) is) ∙ same_row row (projected outputs y) also)))
       (λ same. ap becomes (sym (same_row x y same)) ∙ is)) near (all_there near)
 
@@ -152,20 +154,17 @@ module _ (outputs : List Output) (near far : List (List Cell)) (deltas : List Ro
 
 -- ---- both sides
 
-differ : (m n : ℕ) → (m == n) ≡ false → m ≡ n → ⊥
-differ m n is same = grind (arith, nat_tests)
-
 module _ (outputs : List Output) (before after : List (List Cell)) (deltas : List RowDelta) (one_before : IsOneToOneOn before outputs) (one_after : IsOneToOneOn after outputs)
     (delta : IsDelta (counts before) (counts after) deltas) where
   side_before : All (λ (s : RowDelta). (s.before ≡ count_of s.row before) × (count_of s.row before ≡ count_of s.row after → ⊥)) deltas
   side_before =
       each_row_delta (λ (s : RowDelta). (s.before ≡ count_of s.row before) × (count_of s.row before ≡ count_of s.row after → ⊥)) (counts before) (counts after) deltas delta
-      (λ row is. (refl, differ (count_of row before) (count_of row after) is))
+      (λ row is. (refl, eqb-false (count_of row before) (count_of row after) is))
 
   side_after : All (λ (s : RowDelta). (s.after ≡ count_of s.row after) × (count_of s.row after ≡ count_of s.row before → ⊥)) deltas
   side_after =
       each_row_delta (λ (s : RowDelta). (s.after ≡ count_of s.row after) × (count_of s.row after ≡ count_of s.row before → ⊥)) (counts before) (counts after) deltas delta
-      (λ row is. (refl, λ same. differ (count_of row before) (count_of row after) is (sym same)))
+      (λ row is. (refl, λ same. eqb-false (count_of row before) (count_of row after) is (sym same)))
 
   -- the row delta of a row that counts differently
   weight_of_one : (weight : RowDelta → ℕ) (row : List Cell) → (count_of row before ≡ count_of row after → ⊥)
@@ -176,7 +175,7 @@ module _ (outputs : List Output) (before after : List (List Cell)) (deltas : Lis
       own = record { row = row; before = count_of row before; after = count_of row after }
 
       by : (b : Bool) → (count_of row before == count_of row after) ≡ b → greatest weight (cond b [] (own ∷ [])) ≡ weight own
-      by true is = absurd (moves (equal (count_of row before) (count_of row after) is))
+      by true is = absurd (moves (eqb-true (count_of row before) (count_of row after) is))
       by false is = omega arith
 
   shifted_before : (row : List Cell) → (count_of row before ≡ count_of row after → ⊥) → count_of row before ≤ greatest (λ (s : RowDelta). s.before) (deltas_of row deltas)
@@ -209,7 +208,7 @@ module _ (outputs : List Output) (before after : List (List Cell)) (deltas : Lis
     alone : (x : List Cell) → 0 < count_of x near → filter (λ s. is_row (projected outputs x) (projected outputs s.row)) deltas ≡ deltas_of x deltas
     alone x some =
         filter_alike (λ s. 0 < count_of s.row near) (λ s. is_row (projected outputs x) (projected outputs s.row)) (λ s. is_row x s.row)
-        (λ s also. both_same (is_row (projected outputs x) (projected outputs s.row)) (is_row x s.row)
+        (λ s also. tests_agree (is_row (projected outputs x) (projected outputs s.row)) (is_row x s.row)
         (λ same. is_row_if x s.row (one_near x s.row some also (same_row (projected outputs x) (projected outputs s.row) same)))
         (λ same. is_row_if (projected outputs x) (projected outputs s.row) (ap (projected outputs) (same_row x s.row same)))) deltas there
 

@@ -10,10 +10,11 @@ use Rattle.std.proofs.lemmas.List.Elements.{All-filter, All-head, All-tail, filt
 use Rattle.std.proofs.lemmas.Map.Keys.{IsDistinct-head, IsDistinct-tail}
 use Rattle.cy_values.specs.declared.rows.Cell.{Cell}
 use Rattle.cy_values.specs.Same.{is_row}
+use Rattle.cy_values.proofs.SameRows.{same_row}
 use Rattle.cy_network_memory.specs.Counts.{greatest_count}
 use Rattle.cy_network_memory.specs.declared.memory.RowDelta.{RowDelta}
 use Rattle.cy_network_operators.specs.Deltas.{IsBounded, IsDelta, row_delta_between, deltas_of}
-use Rattle.cy_network_operators.proofs.Same.{is_row_if, same_row}
+use Rattle.cy_network_operators.proofs.Same.{is_row_if}
 use Rattle.cy_network_operators.proofs.DeltaLemmas.{deltas_between, deltas_bounded}
 use Rattle.cy_network_counts.specs.internal.Sums.{counts_at, greatest, most_after, most_before}
 use Rattle.cy_network_counts.proofs.OneToOne.{none_between}

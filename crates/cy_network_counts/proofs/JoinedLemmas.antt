@@ -7,32 +7,29 @@ use Rattle.std.proofs.lemmas.List.{take-append-drop}
 use Rattle.std.proofs.lemmas.List.Elements.{All-cons, All-nil}
 use Rattle.std.proofs.lemmas.List.Sums.{length-filter}
 use Rattle.std.proofs.Math.Nat.{mul-zero, zero-mul}
+use Rattle.std.proofs.lemmas.Bool.{and_parts}
 use Rattle.cy_values.specs.declared.rows.Cell.{Cell}
 use Rattle.cy_values.specs.Bag.{count_of}
 use Rattle.cy_trees.specs.Trees.{Expression}
 use Rattle.cy_values.specs.Same.{is_row}
+use Rattle.cy_values.proofs.SameRows.{row_itself, same_row}
 use Rattle.cy_network_memory.specs.Counts.{Counts}
 use Rattle.cy_planner_algebra.specs.declared.operators.KeyColumns.{KeyColumns}
 use Rattle.cy_planner_algebra.specs.Expressions.{holds}
 use Rattle.cy_planner_algebra.specs.Keys.{meet}
 use Rattle.cy_planner_algebra.specs.Meaning.{is_partner, nulls, or_nulls, outer_joined, paired}
 use Rattle.cy_planner_algebra.proofs.Counts.{count_cons, count_flat_map, count_passing, none_if, sum_alike, sum_passing}
-use Rattle.cy_planner_algebra.proofs.Pairs.{count_or_nulls}
+use Rattle.cy_planner_algebra.proofs.Pairs.{count_or_nulls, pair_step, not_zero}
+use Rattle.cy_planner_algebra.proofs.PartCounts.{product_if}
 use Rattle.cy_network_operators.specs.Deltas.{counts}
-use Rattle.cy_network_operators.proofs.Same.{row_itself, same_row}
 use Rattle.cy_network_operators.proofs.PairLemmas.{split_row}
 use Rattle.cy_network_counts.specs.Outer.{AreNumbersOfPartners, are_matched}
 use Rattle.cy_network_counts.specs.internal.OuterMatches.{matched_counts}
 use Rattle.cy_network_counts.specs.internal.OuterNulls.{null_count, outer_counts}
-use Rattle.cy_network_counts.proofs.Rows.{both}
 use Rattle.cy_network_counts.proofs.NumberLemmas.{a_row_passes, some_number}
-use Rattle.cy_network_counts.proofs.Naturals.{factors, not_zero, positive}
+use Rattle.cy_network_counts.proofs.Naturals.{factors, positive}
 
 -- ---- a row that is made of two
-
-pair_step : (x y : Bool) (n : ℕ) → cond (x && y) 1 0 + cond x n 0 ≡ cond x (cond y 1 0 + n) 0
-pair_step true y n = refl
-pair_step false y n = refl
 
 count_paired : (width : ℕ) (row l : List Cell) (rs : List (List Cell)) → length l ≡ width → count_of row (paired l rs) ≡ cond (is_row (take width row) l) (count_of (drop width row) rs) 0
 count_paired width row l [] long = sym (none_if (is_row (take width row) l))
@@ -90,10 +87,6 @@ one_that_passes p xs some = by (filter p xs) refl
 
 -- ---- the count of a row
 
-product_if : (b : Bool) (m n : ℕ) → m * cond b n 0 ≡ cond b (m * n) 0
-product_if true m n = refl
-product_if false m n = mul-zero m
-
 two_tests : (h m : Bool) (n : ℕ) → cond h (cond m n 0) 0 ≡ cond (m && h) n 0
 two_tests true true n = refl
 two_tests true false n = refl
@@ -146,7 +139,7 @@ module _ (keys : List KeyColumns) (test : Expression) (width k : ℕ) (lefts rig
   unnumbered : 0 < numbers a → 0 < found
   unnumbered some =
       let one = a_row_passes (are_matched keys test (counts lefts) (counts rights) a) (numbers a) some (held a) in
-      let parts = both (is_partner keys test a one.0) (nat_lt 0 (left * count_of one.0 rights)) one.1 in
+      let parts = and_parts (is_partner keys test a one.0) (nat_lt 0 (left * count_of one.0 rights)) one.1 in
       let counted = factors left (count_of one.0 rights) (above (left * count_of one.0 rights) parts.1) in
       some_pass (is_partner keys test a) one.0 rights parts.0 counted.1
 

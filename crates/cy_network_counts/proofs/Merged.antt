@@ -11,20 +11,21 @@ use Rattle.indexmap.specs.IndexSet.{insert_key}
 use Rattle.cy_values.specs.declared.rows.Cell.{Cell}
 use Rattle.cy_values.specs.Bag.{count_of}
 use Rattle.cy_values.specs.Same.{is_row}
+use Rattle.cy_values.proofs.Booleans.{or_false, or_true, itself_equal}
+use Rattle.cy_values.proofs.Naturals.{nothing_added, nothing_after}
+use Rattle.cy_values.proofs.SameRows.{row_itself, same_row}
 use Rattle.cy_network_memory.specs.Counts.{Counts}
 use Rattle.cy_planner_algebra.proofs.Counts.{count_cons}
 use Rattle.cy_network_memory.specs.declared.memory.RowDelta.{RowDelta}
 use Rattle.cy_network_operators.specs.Deltas.{IsBounded, IsDelta, deltas_of, row_delta_between}
-use Rattle.cy_network_operators.proofs.Same.{row_itself, same_row}
 use Rattle.cy_network_operators.proofs.DeltaLemmas.{deltas_made, deltas_between}
 use Rattle.cy_network_counts.specs.Merges.{AreBounded}
 use Rattle.cy_network_counts.specs.internal.Sums.{AreRowDeltasOf, lost, gained, is_changed, deltas_at}
 use Rattle.cy_network_counts.proofs.Totals.{takes, adds, weights_none}
-use Rattle.cy_network_counts.proofs.Naturals.{itself}
 
 -- what is the same before and after has no row delta
 pub no_row_delta : (row : List Cell) (m n : ℕ) → m ≡ n → row_delta_between row m n ≡ []
-no_row_delta row m n same = ap (λ k. row_delta_between row k n) same ∙ ap (λ b. cond b [] ((record { row = row; before = n; after = n }) ∷ [])) (itself n)
+no_row_delta row m n same = ap (λ k. row_delta_between row k n) same ∙ ap (λ b. cond b [] ((record { row = row; before = n; after = n }) ∷ [])) (itself_equal n)
 
 -- the rows that are the same as one
 only_itself : (row : List Cell) (xs : List (List Cell)) → filter (is_row row) xs ≡ replicate (count_of row xs) row
@@ -43,11 +44,8 @@ only_itself row (x ∷ xs) = by (only_itself row xs) (is_row row x) refl ∙ ap 
         next : (n : ℕ) → 1 + n ≡ suc n
         next n = omega arith
     by rest false other =
-        let no_more : cond (is_row row x) 1 0 + count_of row xs ≡ count_of row xs = ap (λ b. cond b 1 0 + count_of row xs) other ∙ none (count_of row xs) in
+        let no_more : cond (is_row row x) 1 0 + count_of row xs ≡ count_of row xs = ap (λ b. cond b 1 0 + count_of row xs) other ∙ nothing_added (count_of row xs) in
         ap (λ b. cond b (x ∷ filter (is_row row) xs) (filter (is_row row) xs)) other ∙ rest ∙ ap (λ n. replicate n row) (sym no_more)
-      where
-        none : (n : ℕ) → 0 + n ≡ n
-        none n = omega arith
 
 -- The row deltas of some rows, each of which stands once, are a delta where each other row counts as before.
 pub delta_at : (was staged : Counts) (rows : List (List Cell)) (among : List Cell → Bool) → ((row : List Cell) → count_of row rows ≡ cond (among row) 1 0)
@@ -75,12 +73,8 @@ pub once_more : (ks : List (List Cell)) (xs : List RowDelta) (s : RowDelta) → 
     → (row : List Cell) → count_of row (insert_key is_row ks s.row) ≡ cond (is_changed row (xs ++ s ∷ [])) 1 0
 once_more ks xs s once row =
     by (list_any (is_row s.row) ks) refl (is_row row s.row) refl
-    ∙ ap (λ b. cond b 1 0) (sym (list_any-append (λ (t : RowDelta). is_row row t.row) xs (s ∷ []) ∙ ap (λ b. is_changed row xs || b) (or_none (is_row row s.row))))
+    ∙ ap (λ b. cond b 1 0) (sym (list_any-append (λ (t : RowDelta). is_row row t.row) xs (s ∷ []) ∙ ap (λ b. is_changed row xs || b) (or_false (is_row row s.row))))
   where
-    or_none : (b : Bool) → (b || false) ≡ b
-    or_none true = refl
-    or_none false = refl
-
     -- a row that is among the keys is that of a row delta, and no other one is
     counted : (x : List Cell) (zs : List (List Cell)) → list_any (is_row x) zs ≡ true → 1 ≤ count_of x zs
     counted x [] e = absurd (false≢true e)
@@ -106,10 +100,6 @@ once_more ks xs s once row =
     no true n e none = absurd (omega (arith, e, none))
     no false n e none = refl
 
-    or_true : (b : Bool) → (b || true) ≡ true
-    or_true true = refl
-    or_true false = refl
-
     by : (there : Bool) → list_any (is_row s.row) ks ≡ there → (here : Bool) → is_row row s.row ≡ here
         → count_of row (cond (list_any (is_row s.row) ks) ks (ks ++ s.row ∷ [])) ≡ cond (is_changed row xs || is_row row s.row) 1 0
     by true there true same =
@@ -117,7 +107,7 @@ once_more ks xs s once row =
         let old : is_changed row xs ≡ true = ap (λ (r : List Cell). is_changed r xs) is ∙ yes (is_changed s.row xs) (count_of s.row ks) (once s.row) (counted s.row ks there) in
         ap (λ b. count_of row (cond b ks (ks ++ s.row ∷ []))) there ∙ once row ∙ ap (λ b. cond b 1 0) old ∙ ap (λ b. cond (b || is_row row s.row) 1 0) (sym old)
     by true there false other =
-        ap (λ b. count_of row (cond b ks (ks ++ s.row ∷ []))) there ∙ once row ∙ ap (λ b. cond b 1 0) (sym (or_none (is_changed row xs))) ∙ ap (λ b. cond (is_changed row xs || b) 1 0) (sym other)
+        ap (λ b. count_of row (cond b ks (ks ++ s.row ∷ []))) there ∙ once row ∙ ap (λ b. cond b 1 0) (sym (or_false (is_changed row xs))) ∙ ap (λ b. cond (is_changed row xs || b) 1 0) (sym other)
     by false there true same =
         let is : row ≡ s.row = same_row row s.row same in
         let none : count_of row ks ≡ 0 = ap (λ (r : List Cell). count_of r ks) is ∙ absent s.row ks there in
@@ -131,13 +121,10 @@ once_more ks xs s once row =
         ap (λ b. count_of row (cond b ks (ks ++ s.row ∷ []))) there
         ∙ sum_by_push (λ z. cond (is_row row z) 1 0) ks s.row
         ∙ ap (λ b. count_of row ks + cond b 1 0) other
-        ∙ no_more (count_of row ks)
+        ∙ nothing_after (count_of row ks)
         ∙ once row
-        ∙ ap (λ b. cond b 1 0) (sym (or_none (is_changed row xs)))
+        ∙ ap (λ b. cond b 1 0) (sym (or_false (is_changed row xs)))
         ∙ ap (λ b. cond (is_changed row xs || b) 1 0) (sym other)
-      where
-        no_more : (n : ℕ) → n + 0 ≡ n
-        no_more n = omega arith
 
 -- the same by a test that tells which rows are the same
 pub once_inserted : (test : List Cell → List Cell → Bool) → ((x y : List Cell) → test x y ≡ is_row x y) → (ks new : List (List Cell)) (xs : List RowDelta) (s : RowDelta)

@@ -8,13 +8,16 @@ use Rattle.std.proofs.lemmas.List.Sums.{sum_by-cons}
 use Rattle.cy_values.specs.declared.rows.Cell.{Cell}
 use Rattle.cy_values.specs.Bag.{count_of}
 use Rattle.cy_values.specs.Same.{is_row}
+use Rattle.cy_values.proofs.Booleans.{tests_agree}
+use Rattle.cy_values.proofs.SameRows.{row_itself, same_row}
 use Rattle.cy_planner_algebra.proofs.Counts.{count_cons, count_map}
 use Rattle.cy_planner_algebra.specs.Plans.{Output}
 use Rattle.cy_planner_algebra.specs.Expressions.{projected}
 use Rattle.cy_network_memory.specs.declared.memory.RowDelta.{RowDelta}
 use Rattle.cy_network_operators.specs.Deltas.{AreWide, IsDelta, counts, row_delta_between, deltas_of}
-use Rattle.cy_network_operators.proofs.Same.{is_row_if, row_itself, same_row}
+use Rattle.cy_network_operators.proofs.Same.{is_row_if}
 use Rattle.cy_network_operators.proofs.DeltaLemmas.{row_delta_there}
+use Rattle.cy_network_operators.proofs.PairLemmas.{kept_alike}
 use Rattle.cy_network_counts.specs.Merges.{IsOneToOne, image}
 use Rattle.cy_network_counts.specs.internal.Sums.{gained, lost}
 use Rattle.cy_network_counts.proofs.Bags.{weights}
@@ -35,12 +38,6 @@ deltas_of_images f row (s ∷ deltas) = step (is_row row (f s.row)) (deltas_of_i
     step true rest = ap (λ xs. image f s ∷ xs) rest
     step false rest = rest
 
--- two tests that agree
-pub filter_alike : {X : Type 0} (P : X → Type 0) (p q : X → Bool) → ((x : X) → P x → p x ≡ q x) → (xs : List X) → All P xs → filter p xs ≡ filter q xs
-filter_alike P p q alike [] each = refl
-filter_alike P p q alike (x ∷ xs) each =
-    ap (λ b. cond b (x ∷ filter p xs) (filter p xs)) (alike x (All-head P x xs each)) ∙ ap (λ ys. cond (q x) (x ∷ ys) ys) (filter_alike P p q alike xs (All-tail P x xs each))
-
 pub count_alike : {X : Type 0} (P : X → Type 0) (p q : X → Bool) → ((x : X) → P x → p x ≡ q x) → (xs : List X) → All P xs → count_by p xs ≡ count_by q xs
 count_alike P p q alike [] each = refl
 count_alike P p q alike (x ∷ xs) each =
@@ -55,11 +52,6 @@ all_counted P [] each = All-nil P
 all_counted P (x ∷ xs) each =
     let own : count_of x (x ∷ xs) ≡ 1 + count_of x xs = count_cons x x xs ∙ ap (λ b. cond b 1 0 + count_of x xs) (row_itself x) in
     All-cons P x xs (each x (omega (arith, own))) (all_counted P xs (λ row some. each row (let more = count_cons row x xs in omega (arith, more, some))))
-
-pub both_same : (b c : Bool) → (b ≡ true → c ≡ true) → (c ≡ true → b ≡ true) → b ≡ c
-both_same true c there back = sym (there refl)
-both_same false true there back = back refl
-both_same false false there back = refl
 
 -- the image of the row delta of a row
 pub image_between : (f : List Cell → List Cell) (row : List Cell) (before after : ℕ) → map (image f) (row_delta_between row before after) ≡ row_delta_between (f row) before after
@@ -105,7 +97,7 @@ module _ (outputs : List Output) (width : ℕ) (before after : List (List Cell))
   -- a row becomes the same as another one where it is this one
   becomes : (row other : List Cell) → length row ≡ width → length other ≡ width → is_row (projected outputs row) (projected outputs other) ≡ is_row row other
   becomes row other row_wide other_wide =
-      both_same (is_row (projected outputs row) (projected outputs other)) (is_row row other)
+      tests_agree (is_row (projected outputs row) (projected outputs other)) (is_row row other)
       (λ same. is_row_if row other (one row other row_wide other_wide (same_row (projected outputs row) (projected outputs other) same)))
       (λ same. is_row_if (projected outputs row) (projected outputs other) (ap (projected outputs) (same_row row other same)))
 
@@ -122,7 +114,7 @@ module _ (outputs : List Output) (width : ℕ) (before after : List (List Cell))
       let second : count_of (f row) (map f after) ≡ count_of row after =
       count_map (is_row (f row)) f after ∙ count_alike W (λ x. is_row (f row) (f x)) (is_row row) (λ x x_wide. becomes row x row_wide x_wide) after wide_after in
       deltas_of_images f (f row) deltas
-      ∙ ap (map (image f)) (filter_alike V (λ s. is_row (f row) (f s.row)) (λ s. is_row row s.row) (λ s s_wide. becomes row s.row row_wide s_wide) deltas all_wide)
+      ∙ ap (map (image f)) (kept_alike V (λ s. is_row (f row) (f s.row)) (λ s. is_row row s.row) (λ s s_wide. becomes row s.row row_wide s_wide) deltas all_wide)
       ∙ ap (map (image f)) (delta.each row)
       ∙ image_between f row (count_of row before) (count_of row after)
       ∙ ap (λ n. row_delta_between (f row) n (count_of row after)) (sym first)

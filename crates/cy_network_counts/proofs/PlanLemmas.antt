@@ -11,6 +11,7 @@ use Rattle.cy_trees.specs.Trees.{Expression}
 use Rattle.cy_graph.specs.Graph.{Content, IsGraph, State}
 use Rattle.cy_expr.specs.Lookups.{IsNumbered}
 use Rattle.cy_values.specs.Same.{is_row}
+use Rattle.cy_values.proofs.SameRows.{same_row}
 use Rattle.cy_network_memory.specs.Counts.{greatest_count}
 use Rattle.cy_planner_algebra.specs.declared.operators.KeyColumns.{KeyColumns}
 use Rattle.cy_planner_algebra.specs.Expressions.{holds}
@@ -25,13 +26,12 @@ use Rattle.cy_planner_algebra.proofs.Numbers.{numbered_rows}
 use Rattle.cy_planner_algebra.proofs.PartCounts.{join_counts, outer_counts}
 use Rattle.cy_network_operators.specs.Deltas.{counts, rows_at}
 use Rattle.cy_network_operators.proofs.PlanLemmas.{parts_wide}
-use Rattle.cy_network_operators.proofs.Same.{same_row}
 use Rattle.cy_network_counts.specs.Outer.{AreSurePairs, HasTooMany}
 use Rattle.cy_network_counts.proofs.JoinedLemmas.{some_pass}
 use Rattle.cy_network_counts.proofs.Naturals.{factors}
 
 -- what holds of all rows holds of each that counts
-of_counted : (P : List Cell → Type 0) (rows : List (List Cell)) → All P rows → (row : List Cell) → 0 < count_of row rows → P row
+pub of_counted : (P : List Cell → Type 0) (rows : List (List Cell)) → All P rows → (row : List Cell) → 0 < count_of row rows → P row
 of_counted P [] all row some = absurd (omega (arith, some))
 of_counted P (x ∷ xs) all row some = step (is_row row x) refl (of_counted P xs (All-tail P x xs all) row)
   where

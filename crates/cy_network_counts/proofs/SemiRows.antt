@@ -8,6 +8,8 @@ use Rattle.cy_values.specs.declared.rows.Cell.{Cell}
 use Rattle.cy_values.specs.Bag.{count_of}
 use Rattle.cy_graph.specs.Graph.{Content}
 use Rattle.cy_values.specs.Same.{is_row}
+use Rattle.cy_values.proofs.Booleans.{or_true}
+use Rattle.cy_values.proofs.SameRows.{same_row}
 use Rattle.cy_network_memory.specs.Counts.{Counts}
 use Rattle.cy_planner_algebra.specs.declared.operators.Keeping.{Keeping}
 use Rattle.cy_planner_algebra.specs.declared.operators.KeyColumns.{KeyColumns}
@@ -20,7 +22,6 @@ use Rattle.cy_planner_algebra.proofs.Counts.{count_passing}
 use Rattle.cy_network_operators.specs.Deltas.{HaveColumns, IsDelta, counts, rows_at}
 use Rattle.cy_network_memory.specs.declared.memory.RowDelta.{RowDelta}
 use Rattle.cy_network_operators.proofs.PlanLemmas.{parts_wide}
-use Rattle.cy_network_operators.proofs.Same.{same_row}
 use Rattle.cy_network_operators.proofs.DeltaLemmas.{delta_alike}
 use Rattle.cy_network_counts.specs.Semi.{numbers_of_keys}
 use Rattle.cy_network_counts.specs.internal.SemiKeys.{kept_counts}
@@ -31,10 +32,6 @@ passing_among : (p : List Cell → Bool) (x : List Cell) (xs : List (List Cell))
 passing_among p x [] passes among = among
 passing_among p x (y ∷ xs) passes among = by (passing_among p x xs passes) (is_row x y) refl among
   where
-    or_true : (b : Bool) → (b || true) ≡ true
-    or_true true = refl
-    or_true false = refl
-
     by : (is_among x xs ≡ true → list_any p xs ≡ true) → (b : Bool) → is_row x y ≡ b → (b || is_among x xs) ≡ true → (p y || list_any p xs) ≡ true
     by rest true same h = ap (λ b. b || list_any p xs) (ap p (sym (same_row x y same)) ∙ passes)
     by rest false other h = ap (λ b. p y || b) (rest h) ∙ or_true (p y)

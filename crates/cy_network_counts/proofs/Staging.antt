@@ -7,9 +7,10 @@ use Rattle.cy_values.specs.declared.rows.Cell.{Cell}
 use Rattle.cy_network_memory.specs.declared.faults.MemoryFault.{MemoryFault}
 use Rattle.cy_network_memory.specs.declared.faults.MemoryFault.TheVariants.{TooManyRows}
 use Rattle.cy_values.specs.Same.{is_row}
+use Rattle.cy_values.proofs.SameRows.{row_itself, same_row}
 use Rattle.cy_network_memory.specs.Counts.{Counts, changed, with_count}
 use Rattle.cy_network_memory.specs.declared.memory.RowDelta.{RowDelta}
-use Rattle.cy_network_operators.proofs.Same.{row_itself, same_row, is_row_back}
+use Rattle.cy_network_operators.proofs.Same.{is_row_back}
 use Rattle.cy_network_counts.specs.internal.Sums.{loss, lost, gain, gained}
 use Rattle.cy_network_counts.proofs.Bags.{weights}
 use Rattle.cy_network_counts.proofs.Totals.{takes, adds, weights_more}

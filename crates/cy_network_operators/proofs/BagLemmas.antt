@@ -6,9 +6,10 @@ use Rattle.std.proofs.lemmas.List.Sums.{sum_by-cons}
 use Rattle.cy_values.specs.declared.rows.Cell.{Cell}
 use Rattle.cy_values.specs.Bag.{count_of}
 use Rattle.cy_values.specs.Same.{is_row}
+use Rattle.cy_values.proofs.Lists.{sum_of_none, sum_of_two, sums_alike}
+use Rattle.cy_values.proofs.SameRows.{row_itself, same_row}
 use Rattle.cy_planner_algebra.specs.Meaning.{each_once}
 use Rattle.cy_planner_algebra.proofs.Counts.{count_append, count_cons, count_once, count_passing}
-use Rattle.cy_network_operators.proofs.Same.{row_itself, same_row}
 
 -- rows without one of them
 without : List Cell → List (List Cell) → List (List Cell)
@@ -94,32 +95,14 @@ sum_most f g most (x ∷ xs) =
     let right = sum_by-cons g x xs in
     omega (arith, one, rest, left, right)
 
-pub sum_both : {X : Type 0} (f g : X → ℕ) (xs : List X) → sum_by (λ x. f x + g x) xs ≡ sum_by f xs + sum_by g xs
-sum_both f g [] = refl
-sum_both f g (x ∷ xs) =
-    let all = sum_by-cons (λ y. f y + g y) x xs in
-    let left = sum_by-cons f x xs in
-    let right = sum_by-cons g x xs in
-    let rest = sum_both f g xs in
-    omega (arith, all, left, right, rest)
-
-sum_none : {X : Type 0} (xs : List X) → sum_by (λ x. 0) xs ≡ 0
-sum_none [] = refl
-sum_none (x ∷ xs) = let first = sum_by-cons (λ y. 0) x xs in let rest = sum_none xs in omega (arith, first, rest)
-
 -- sums over pairs, in either order
 pub sum_exchange : {X Y : Type 0} (g : X → Y → ℕ) (xs : List X) (ys : List Y) → sum_by (λ y. sum_by (λ x. g x y) xs) ys ≡ sum_by (λ x. sum_by (g x) ys) xs
-sum_exchange g xs [] = sym (sum_none xs)
+sum_exchange g xs [] = sym (sum_of_none xs)
 sum_exchange g xs (y ∷ ys) =
     sum_by-cons (λ z. sum_by (λ x. g x z) xs) y ys
     ∙ ap (λ n. sum_by (λ x. g x y) xs + n) (sum_exchange g xs ys)
-    ∙ sym (sum_both (λ x. g x y) (λ x. sum_by (g x) ys) xs)
-    ∙ sum_same (λ x. g x y + sum_by (g x) ys) (λ x. sum_by (g x) (y ∷ ys)) (λ x. sym (sum_by-cons (g x) y ys)) xs
-  where
-    sum_same : {Z : Type 0} (h k : Z → ℕ) → ((z : Z) → h z ≡ k z) → (zs : List Z) → sum_by h zs ≡ sum_by k zs
-    sum_same h k same [] = refl
-    sum_same h k same (z ∷ zs) =
-        sum_by-cons h z zs ∙ ap (λ n. n + sum_by h zs) (same z) ∙ ap (λ n. k z + n) (sum_same h k same zs) ∙ sym (sum_by-cons k z zs)
+    ∙ sym (sum_of_two (λ x. g x y) (λ x. sum_by (g x) ys) xs)
+    ∙ sums_alike (λ x. g x y + sum_by (g x) ys) (λ x. sum_by (g x) (y ∷ ys)) (λ x. sym (sum_by-cons (g x) y ys)) xs
 
 -- how often a row stands among those of two lists that pass, each once
 pub passing_once : (p : List Cell → Bool) (row : List Cell) (before after : List (List Cell))

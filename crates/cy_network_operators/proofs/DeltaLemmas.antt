@@ -6,12 +6,14 @@ use Rattle.std.proofs.lemmas.List.{append-nil}
 use Rattle.std.proofs.lemmas.List.Elements.{All-append, All-cons, All-filter, All-head, All-nil, All-tail, filter-append}
 use Rattle.std.proofs.lemmas.List.Concat.{flat_map-append}
 use Rattle.std.proofs.lemmas.Bool.Decides.{nat_tests}
+use Rattle.std.proofs.lemmas.Bool.{eqb-true}
 use Rattle.cy_values.specs.declared.rows.Cell.{Cell}
 use Rattle.cy_values.specs.Same.{is_row}
+use Rattle.cy_values.proofs.Booleans.{itself_equal}
+use Rattle.cy_values.proofs.SameRows.{row_itself}
 use Rattle.cy_network_memory.specs.Counts.{Counts, greatest_count}
 use Rattle.cy_network_memory.specs.declared.memory.RowDelta.{RowDelta}
 use Rattle.cy_network_operators.specs.Deltas.{IsBounded, IsDelta, deltas_of, row_delta_between}
-use Rattle.cy_network_operators.proofs.Same.{row_itself}
 
 -- Of what is made of several things, a row has only the row deltas that are made of those that pass a test, where the others make none of it.
 pub deltas_made : {X : Type 0} (row : List Cell) (p : X → Bool) (h : X → List RowDelta) → ((x : X) → p x ≡ false → deltas_of row (h x) ≡ []) → (xs : List X)
@@ -54,17 +56,11 @@ recounts count before after deltas delta = record {
       ∙ own row (before row) (after row) (before row == after row) refl;
 }
   where
-    equal : (m n : ℕ) → (m == n) ≡ true → m ≡ n
-    equal m n h = grind (arith, nat_tests)
-
-    itself : (n : ℕ) → (n == n) ≡ true
-    itself n = grind (arith, nat_tests)
-
     own : (row : List Cell) (m n : ℕ) (b : Bool) → (m == n) ≡ b
         → flat_map (λ s. deltas_of row (recounted count s)) (row_delta_between row m n) ≡ row_delta_between row (count row m) (count row n)
     own row m n true is =
         ap (λ b. flat_map (λ s. deltas_of row (recounted count s)) (cond b [] ((record { row = row; before = m; after = n }) ∷ []))) is
-        ∙ sym (ap (λ k. row_delta_between row (count row m) (count row k)) (sym (equal m n is)) ∙ ap (λ b. cond b [] ((record { row = row; before = count row m; after = count row m }) ∷ [])) (itself (count row m)))
+        ∙ sym (ap (λ k. row_delta_between row (count row m) (count row k)) (sym (eqb-true m n is)) ∙ ap (λ b. cond b [] ((record { row = row; before = count row m; after = count row m }) ∷ [])) (itself_equal (count row m)))
     own row m n false is =
         ap (λ b. flat_map (λ s. deltas_of row (recounted count s)) (cond b [] ((record { row = row; before = m; after = n }) ∷ []))) is
         ∙ append-nil (deltas_of row (row_delta_between row (count row m) (count row n)))
@@ -137,15 +133,12 @@ pub after_bounded : (before after : Counts) (deltas : List RowDelta) → IsDelta
 after_bounded before after deltas delta bounded first row =
     step (before row == after row) refl (subst (All IsBounded) (delta.each row) (All-filter (λ s. is_row row s.row) IsBounded deltas bounded))
   where
-    same_number : (m n : ℕ) → (m == n) ≡ true → m ≡ n
-    same_number m n h = grind (arith, nat_tests)
-
     step : (b : Bool) → (before row == after row) ≡ b → All IsBounded (cond b [] ((record { row = row; before = before row; after = after row }) ∷ [])) → after row ≤ greatest_count
-    step true is all = subst (λ n. n ≤ greatest_count) (same_number (before row) (after row) is) (first row)
+    step true is all = subst (λ n. n ≤ greatest_count) (eqb-true (before row) (after row) is) (first row)
     step false is all = (All-head IsBounded (record { row = row; before = before row; after = after row }) [] all).1
 
 -- what is made of row deltas is bounded where the new counts are
-between_bounded : (row : List Cell) (m n : ℕ) → m ≤ greatest_count → n ≤ greatest_count → All IsBounded (row_delta_between row m n)
+pub between_bounded : (row : List Cell) (m n : ℕ) → m ≤ greatest_count → n ≤ greatest_count → All IsBounded (row_delta_between row m n)
 between_bounded row m n first second = by (m == n)
   where
     by : (b : Bool) → All IsBounded (cond b [] ((record { row = row; before = m; after = n }) ∷ []))

@@ -1,17 +1,17 @@
 -- The counts after some row deltas.
 use Rattle.std.proofs.Common.{◌≡◌, ℕ, ◌+◌, ◌<◌, ◌==◌, Bool, true, false, cond, List, [], ◌∷◌, ◌++◌, refl, sym, ap, subst, ◌∙◌, length, take, drop, get_or, arith, ℤ, pos, ◌+ℤ◌, ◌≤ℤ◌}
 use Rattle.std.specs.Prelude.{unsigned_abs, Result, Ok, Err, OnOk, is_err}
-use Rattle.std.proofs.lemmas.Bool.{false≢true}
+use Rattle.std.proofs.lemmas.Bool.{false≢true, eqb-true}
 use Rattle.std.proofs.lemmas.Int.{ints}
 use Rattle.std.proofs.lemmas.List.{drop_more, take_more, take-append-drop}
 use Rattle.std.proofs.lemmas.List.Elements.{filter-append}
-use Rattle.std.proofs.lemmas.Bool.Decides.{nat_tests}
 use Rattle.cy_values.specs.declared.rows.Cell.{Cell}
 use Rattle.cy_values.specs.Same.{is_row}
+use Rattle.cy_values.proofs.SameRows.{row_itself}
 use Rattle.cy_network_memory.specs.Counts.{Counts, changed, with_count}
 use Rattle.cy_network_memory.specs.declared.memory.RowDelta.{RowDelta}
 use Rattle.cy_network_operators.specs.Deltas.{IsDelta, counts_after, deltas_of, row_delta_between}
-use Rattle.cy_network_operators.proofs.Same.{row_itself, is_row_back}
+use Rattle.cy_network_operators.proofs.Same.{is_row_back}
 
 pub after_more : (xs : List RowDelta) (s : RowDelta) (before : Counts) → counts_after (xs ++ s ∷ []) before ≡ with_count s.row s.after (counts_after xs before)
 after_more [] s before = refl
@@ -33,16 +33,13 @@ after_own row (x ∷ xs) before =
     step true = refl
     step false = refl
 
-equal : (m n : ℕ) → (m == n) ≡ true → m ≡ n
-equal m n h = grind (arith, nat_tests)
-
 -- a delta leads from the one counts to the others
 pub after_delta : (before after : Counts) (deltas : List RowDelta) → IsDelta before after deltas → (row : List Cell) → counts_after deltas before row ≡ after row
 after_delta before after deltas delta row =
     after_own row deltas before ∙ ap (λ own. after_these own (before row)) (delta.each row) ∙ step (before row == after row) refl
   where
     step : (b : Bool) → (before row == after row) ≡ b → after_these (cond b [] ((record { row = row; before = before row; after = after row }) ∷ [])) (before row) ≡ after row
-    step true is = equal (before row) (after row) is
+    step true is = eqb-true (before row) (after row) is
     step false is = refl
 
 alone : (xs ys : List RowDelta) (s : RowDelta) (row : List Cell) (m n : ℕ) (b : Bool) → xs ++ (s ∷ ys) ≡ cond b [] ((record { row = row; before = m; after = n }) ∷ []) → (xs ≡ []) × (m ≡ s.before)

@@ -2,7 +2,7 @@
 use Rattle.std.proofs.Common.{◌≡◌, ℕ, zero, suc, ◌<◌, Bool, true, false, not, ◌&&◌, ◌||◌, List, ◌++◌, refl, sym, ap, subst, ◌∙◌, arith}
 use Rattle.std.specs.List.{All}
 use Rattle.std.proofs.Math.Bool.{and-false}
-use Rattle.std.proofs.lemmas.Bool.{false≢true, le-leb, leb-false, leb-true, lt-leb}
+use Rattle.std.proofs.lemmas.Bool.{false≢true, le-leb, leb-false, leb-true, lt-leb, and_parts}
 use Rattle.std.proofs.lemmas.List.Elements.{All-tail}
 use Rattle.cy_planner_algebra.specs.declared.operators.KeyColumns.{KeyColumns}
 use Rattle.cy_planner_algebra.specs.Plans as plan
@@ -12,7 +12,6 @@ use Rattle.cy_network_parts.specs.declared.held.Side.TheVariants.{Left, Right}
 use Rattle.cy_network_parts.specs.Shared.{columns_at, is_as_large, is_held_left, is_held_right, is_narrow, join_count, left_held, most_between, right_held}
 use Rattle.cy_network_parts.specs.SamePlans.{most_deep, same_columns, same_plan}
 use Rattle.cy_network_parts.proofs.Same.{plan_is}
-use Rattle.cy_network_parts.proofs.SameConditions.{both}
 use Rattle.cy_network_parts.proofs.Slices.{all_left, all_right}
 
 -- a join has the table under the key at its left, or at its right
@@ -37,8 +36,8 @@ not_so false each = refl
 pub left_fewer : (table : Plan) (key : List ℕ) (p : Plan) (more : ℕ) → is_held_left table key p more ≡ true → join_count table < join_count p
 left_fewer table key (plan.join left right ks) more held =
     either (not (is_as_large left right) && is_held_left table key right most_between) (has_left table key left ks)
-    (λ deeper. let n = left_fewer table key right most_between (both (not (is_as_large left right)) (is_held_left table key right most_between) deeper).1 in omega (arith, n))
-    (λ own. let n = ap join_count (plan_is most_deep table left (both (same_plan most_deep table left) (same_columns key (columns_at Left ks)) own).0) in omega (arith, n)) held
+    (λ deeper. let n = left_fewer table key right most_between (and_parts (not (is_as_large left right)) (is_held_left table key right most_between) deeper).1 in omega (arith, n))
+    (λ own. let n = ap join_count (plan_is most_deep table left (and_parts (same_plan most_deep table left) (same_columns key (columns_at Left ks)) own).0) in omega (arith, n)) held
 left_fewer table key (plan.all_different p columns) zero held = absurd (false≢true held)
 left_fewer table key (plan.all_different p columns) (suc more) held = left_fewer table key p more held
 left_fewer table key (plan.project p outputs) zero held = absurd (false≢true held)
@@ -49,8 +48,8 @@ left_fewer table key _ more held = absurd (false≢true held)
 pub right_fewer : (table : Plan) (key : List ℕ) (p : Plan) (more : ℕ) → is_held_right table key p more ≡ true → join_count table < join_count p
 right_fewer table key (plan.join left right ks) more held =
     either (is_as_large left right && is_held_right table key left most_between) (has_right table key right ks)
-    (λ deeper. let n = right_fewer table key left most_between (both (is_as_large left right) (is_held_right table key left most_between) deeper).1 in omega (arith, n))
-    (λ own. let n = ap join_count (plan_is most_deep table right (both (same_plan most_deep table right) (same_columns key (columns_at Right ks)) own).0) in omega (arith, n)) held
+    (λ deeper. let n = right_fewer table key left most_between (and_parts (is_as_large left right) (is_held_right table key left most_between) deeper).1 in omega (arith, n))
+    (λ own. let n = ap join_count (plan_is most_deep table right (and_parts (same_plan most_deep table right) (same_columns key (columns_at Right ks)) own).0) in omega (arith, n)) held
 right_fewer table key (plan.lookup p column attribute) zero held = absurd (false≢true held)
 right_fewer table key (plan.lookup p column attribute) (suc more) held = right_fewer table key p more held
 right_fewer table key (plan.filter p test) zero held = absurd (false≢true held)
@@ -115,8 +114,8 @@ module _ (P : Plan → Type 0) where
   left_inside table key (plan.join left right ks) more held all =
       let below = All-tail P (plan.join left right ks) (parts left ++ parts right) all in
       either (not (is_as_large left right) && is_held_left table key right most_between) (has_left table key left ks)
-      (λ deeper. left_inside table key right most_between (both (not (is_as_large left right)) (is_held_left table key right most_between) deeper).1 (all_right P (parts left) (parts right) below))
-      (λ own. subst (λ q. All P (parts q)) (sym (plan_is most_deep table left (both (same_plan most_deep table left) (same_columns key (columns_at Left ks)) own).0)) (all_left P (parts left) (parts right) below)) held
+      (λ deeper. left_inside table key right most_between (and_parts (not (is_as_large left right)) (is_held_left table key right most_between) deeper).1 (all_right P (parts left) (parts right) below))
+      (λ own. subst (λ q. All P (parts q)) (sym (plan_is most_deep table left (and_parts (same_plan most_deep table left) (same_columns key (columns_at Left ks)) own).0)) (all_left P (parts left) (parts right) below)) held
   left_inside table key (plan.all_different p columns) zero held all = absurd (false≢true held)
   left_inside table key (plan.all_different p columns) (suc more) held all = left_inside table key p more held (All-tail P (plan.all_different p columns) (parts p) all)
   left_inside table key (plan.project p outputs) zero held all = absurd (false≢true held)
@@ -129,8 +128,8 @@ module _ (P : Plan → Type 0) where
   right_inside table key (plan.join left right ks) more held all =
       let below = All-tail P (plan.join left right ks) (parts left ++ parts right) all in
       either (is_as_large left right && is_held_right table key left most_between) (has_right table key right ks)
-      (λ deeper. right_inside table key left most_between (both (is_as_large left right) (is_held_right table key left most_between) deeper).1 (all_left P (parts left) (parts right) below))
-      (λ own. subst (λ q. All P (parts q)) (sym (plan_is most_deep table right (both (same_plan most_deep table right) (same_columns key (columns_at Right ks)) own).0)) (all_right P (parts left) (parts right) below)) held
+      (λ deeper. right_inside table key left most_between (and_parts (is_as_large left right) (is_held_right table key left most_between) deeper).1 (all_left P (parts left) (parts right) below))
+      (λ own. subst (λ q. All P (parts q)) (sym (plan_is most_deep table right (and_parts (same_plan most_deep table right) (same_columns key (columns_at Right ks)) own).0)) (all_right P (parts left) (parts right) below)) held
   right_inside table key (plan.lookup p column attribute) zero held all = absurd (false≢true held)
   right_inside table key (plan.lookup p column attribute) (suc more) held all = right_inside table key p more held (All-tail P (plan.lookup p column attribute) (parts p) all)
   right_inside table key (plan.filter p test) zero held all = absurd (false≢true held)

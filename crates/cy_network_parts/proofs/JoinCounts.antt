@@ -12,24 +12,6 @@ use Rattle.cy_network_parts.proofs.PlanParts.{few_below, fewer_first, first_few,
 
 -- ---- the operator that ends a chain
 
--- it is that of the operator right below, where there is one alone
-pub end_more : (p : Plan) → below_count p ≡ 1 → chain_end (first_below p) ≡ chain_end p
-end_more (plan.lookup p column attribute) one = refl
-end_more (plan.filter p test) one = refl
-end_more (plan.all_different p columns) one = refl
-end_more (plan.project p outputs) one = refl
-end_more (plan.distinct p) one = refl
-end_more _ one = absurd (omega (arith, one))
-
--- or the operator itself
-pub end_here : (p : Plan) → below_count p ≢ 1 → p ≡ chain_end p
-end_here (plan.lookup p column attribute) other = absurd (other refl)
-end_here (plan.filter p test) other = absurd (other refl)
-end_here (plan.all_different p columns) other = absurd (other refl)
-end_here (plan.project p outputs) other = absurd (other refl)
-end_here (plan.distinct p) other = absurd (other refl)
-end_here _ other = refl
-
 -- it has no operator below it, or two, and what is below it is below the whole chain
 pub record IsEnd (p q : Plan) : Type 0 where
   pub joins : join_count q ≡ join_count p

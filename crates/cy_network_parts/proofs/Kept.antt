@@ -9,6 +9,8 @@ use Rattle.std.proofs.lemmas.List.Elements.{All-head, All-tail}
 use Rattle.std.proofs.lemmas.List.Folds.{list_all-map}
 use Rattle.std.proofs.lemmas.List.FromFn.{get_or-map-range_with_len, length-map-range_with_len, length-range_with_len}
 use Rattle.std.proofs.lemmas.List.Sums.{AllPass-from_list_all, sum_by-cons}
+use Rattle.std.proofs.lemmas.Bool.{eqb-true}
+use Rattle.cy_values.proofs.Naturals.{nothing_added}
 use Rattle.cy_network_counts.specs.Merges.{all_columns}
 use Rattle.cy_planner_algebra.specs.Plans.{Output}
 use Rattle.cy_network_relevance.specs.Lists.{column_alone}
@@ -39,14 +41,11 @@ kept_more k (x ∷ os) o = some_next (is_column k x) (is_column k o) (kept_at k 
 
 -- ---- all outputs
 
-nothing_before : (n : ℕ) → 0 + n ≡ n
-nothing_before n = omega arith
-
 pub flags_are : (number : ℕ) (outputs : List Output) (flags : List Bool) → length flags ≡ number → ((k : ℕ) → k < number → slice_index_or flags k false ≡ is_some (kept_at k outputs)) → flags ≡ kept_flags number outputs
 flags_are number outputs flags long at =
     let kept = λ (column : ℕ). is_some (kept_at column outputs) in
     ext_get_or false flags (kept_flags number outputs) (long ∙ sym (length-map-range_with_len kept 0 number))
-    (λ k less. at k (subst (λ n. k < n) long less) ∙ sym (get_or-map-range_with_len kept 0 number k k false (subst (λ n. k < n) long less) (nothing_before k)))
+    (λ k less. at k (subst (λ n. k < n) long less) ∙ sym (get_or-map-range_with_len kept 0 number k k false (subst (λ n. k < n) long less) (nothing_added k)))
 
 pub all_flags : (number : ℕ) (outputs : List Output) → list_all (λ flag. flag) (kept_flags number outputs) ≡ keeps_all number outputs
 all_flags number outputs = list_all-map (λ flag. flag) (λ column. is_some (kept_at column outputs)) (all_columns number)
@@ -73,9 +72,6 @@ count_none (x ∷ xs) = let first = sum_by-cons (λ (k : ℕ). one_if false) x x
 differs : (other a : ℕ) → other < a → (other == a) ≡ false
 differs other a less = grind (arith, nat_tests)
 
-same_number : (other a : ℕ) → (other == a) ≡ true → other ≡ a
-same_number other a is = grind (arith, nat_tests)
-
 -- numbers one after another that begin past a number don't hold it
 count_after : (other a n : ℕ) → other < a → count_by (λ k. other == k) (range_with_len a n) ≡ 0
 count_after other a zero less = refl
@@ -94,7 +90,7 @@ count_this other a (suc n) = by (count_this other (a + 1) n) (other == a) refl
     by once true is =
         let first = sum_by-cons (λ k. one_if (other == k)) a (range_with_len (a + 1) n) in
         let yes = ap one_if is in
-        let same = same_number other a is in
+        let same = eqb-true other a is in
         let rest = count_after other (a + 1) n (omega (arith, same)) in
         omega (arith, first, yes, rest)
     by once false is =

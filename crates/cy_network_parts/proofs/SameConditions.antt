@@ -1,9 +1,9 @@
 -- Conditions that are the same, are one.
-use Rattle.std.proofs.Common.{◌≡◌, Box, Global, ℕ, zero, suc, Bool, true, false, ◌&&◌, Option, None, Some, refl, sym, ap, ◌∙◌}
 use Rattle.std.specs.Prelude.{if◌then◌else◌}
+use Rattle.std.proofs.Common.{◌≡◌, Box, Global, ℕ, zero, suc, Bool, true, false, ◌&&◌, Option, None, Some, refl, sym, ap, ◌∙◌}
 use Rattle.std.specs.Str.{bytes_eq}
 use Rattle.std.specs.Cmp.Lexicographic.{same_text}
-use Rattle.std.proofs.lemmas.Bool.{eqb-true, false≢true}
+use Rattle.std.proofs.lemmas.Bool.{eqb-true, false≢true, and_parts}
 use Rattle.std.proofs.lemmas.Bool.Decides.{Decides-int_eq}
 use Rattle.cy_trees.specs.TreeModels.{expression_of, expression_step}
 use Rattle.cy_trees.specs.declared.expressions.Expr.{Expr}
@@ -17,10 +17,6 @@ use Rattle.cy_trees.specs.declared.expressions.Comparator.TheVariants.{Equal}
 use Rattle.cy_trees.specs.declared.expressions.Variable.{Variable}
 use Rattle.cy_network_parts.specs.SameConditions.{are_and, are_equal, are_in, same_column, same_condition, same_link, same_links, same_operand, same_truth, same_variable}
 
-pub both : (a b : Bool) → (a && b) ≡ true → (a ≡ true) × (b ≡ true)
-both true b h = (refl, h)
-both false b h = absurd (false≢true h)
-
 column_is : (a b : Option ℕ) → same_column a b ≡ true → a ≡ b
 column_is None None same = refl
 column_is None (Some d) same = absurd (false≢true same)
@@ -29,7 +25,7 @@ column_is (Some c) (Some d) same = ap Some (eqb-true c d same)
 
 pub variable_is : (v w : Variable) → same_variable v w ≡ true → v ≡ w
 variable_is v w same =
-    let parts = both (bytes_eq v.name w.name) (same_column v.column w.column) same in
+    let parts = and_parts (bytes_eq v.name w.name) (same_column v.column w.column) same in
     let name = same_text v.name w.name (sym parts.0) in
     let column = column_is v.column w.column parts.1 in
     λ i. record { name = name i; column = column i }
@@ -62,8 +58,8 @@ equals_are _ _ same = absurd (false≢true same)
 links_are : (ls ms : Links) → same_links ls ms ≡ true → ls ≡ ms
 links_are no_links no_links same = refl
 links_are (link c a ls) (link d b ms) same =
-    let parts = both (same_link (c, a) (d, b)) (same_links ls ms) same in
-    let first = both (are_equal c d) (same_operand a b) parts.0 in
+    let parts = and_parts (same_link (c, a) (d, b)) (same_links ls ms) same in
+    let first = and_parts (are_equal c d) (same_operand a b) parts.0 in
     ap (λ x. link x a ls) (equals_are c d first.0) ∙ ap (λ e. link d e ls) (operand_is a b first.1) ∙ ap (link d b) (links_are ls ms parts.1)
 links_are _ _ same = absurd (false≢true same)
 
@@ -77,14 +73,14 @@ condition_is (suc deep) (binary o a b) (binary p c d) same = by (are_and o p) re
 
     by : (x : Bool) → are_and o p ≡ x → (same_condition deep a c ≡ true → a ≡ c) → (same_condition deep b d ≡ true → b ≡ d) → (if x then same_condition deep a c && same_condition deep b d else (are_in o p && (same_operand a c && same_operand b d))) ≡ true → binary o a b ≡ binary p c d
     by true ands left right same =
-        let parts = both (same_condition deep a c) (same_condition deep b d) same in
+        let parts = and_parts (same_condition deep a c) (same_condition deep b d) same in
         made (ands_are o p ands) (left parts.0) (right parts.1)
     by false ands left right same =
-        let parts = both (are_in o p) (same_operand a c && same_operand b d) same in
-        let operands = both (same_operand a c) (same_operand b d) parts.1 in
+        let parts = and_parts (are_in o p) (same_operand a c && same_operand b d) same in
+        let operands = and_parts (same_operand a c) (same_operand b d) parts.1 in
         made (ins_are o p parts.0) (operand_is a c operands.0) (operand_is b d operands.1)
 condition_is (suc deep) (comparison a ls) (comparison b ms) same =
-    let parts = both (same_operand a b) (same_links ls ms) same in
+    let parts = and_parts (same_operand a b) (same_links ls ms) same in
     ap (λ e. comparison e ls) (operand_is a b parts.0) ∙ ap (comparison b) (links_are ls ms parts.1)
 condition_is (suc deep) _ _ same = absurd (false≢true same)
 

@@ -9,11 +9,12 @@ use Rattle.cy_expr.specs.Graphs.{are_different}
 use Rattle.cy_network_memory.specs.Counts.{Counts}
 use Rattle.cy_network_counts.specs.Merges.{AreBounded, all_columns}
 use Rattle.cy_planner_algebra.specs.Plans as plan
-use Rattle.cy_planner_algebra.specs.Plans.{Output, Plan, width}
+use Rattle.cy_planner_algebra.specs.Plans.{Output, Plan}
 use Rattle.cy_planner_algebra.specs.Parts.{parts}
 use Rattle.cy_planner_algebra.specs.Expressions.{holds, projected, relationships_at}
 use Rattle.cy_planner_algebra.specs.Meaning.{rows_of, with_attribute}
 use Rattle.cy_network_memory.specs.declared.memory.RowDelta.{RowDelta}
+use Rattle.cy_network_memory.proofs.BucketMaps.{false_true}
 use Rattle.cy_network_operators.specs.Deltas.{IsBounded, IsDelta, content_at, counts, rows_at}
 use Rattle.cy_network_operators.proofs.PlanLemmas.{different_at, filter_at, lookup_at, nodes_at, project_at, rels_at}
 use Rattle.cy_network_touches.specs.Changes.{Touches}
@@ -35,16 +36,13 @@ kept_some : (below : Option ℕ) (outputs : List Output) → is_some (kept below
 kept_some None outputs is = is
 kept_some (Some column) outputs is = refl
 
-none_scan : {X : Type 0} → false ≡ true → X
-none_scan is = absurd (true≢false (sym is))
-
 -- the one part below a scan is a scan
 pub scan_below : (p : Plan) → below_count p ≡ 1 → is_scan p ≡ true → is_scan (first_below p) ≡ true
 scan_below (plan.lookup p column attribute) one is = this_some column (scan_column p) is
 scan_below (plan.filter p test) one is = is
 scan_below (plan.all_different p columns) one is = is
 scan_below (plan.project p outputs) one is = kept_some (scan_column p) outputs is
-scan_below (plan.distinct p) one is = none_scan is
+scan_below (plan.distinct p) one is = false_true is
 scan_below _ one is = absurd (omega (arith, one))
 
 -- so nothing above what is no scan is one
@@ -81,7 +79,7 @@ chain_scan (plan.lookup p column attribute) is = ap (λ ps. plan.lookup p column
 chain_scan (plan.filter p test) is = ap (λ ps. plan.filter p test ∷ ps) (chain_scan p is)
 chain_scan (plan.all_different p columns) is = ap (λ ps. plan.all_different p columns ∷ ps) (chain_scan p is)
 chain_scan (plan.project p outputs) is = ap (λ ps. plan.project p outputs ∷ ps) (chain_scan p (scan_below (plan.project p outputs) refl is))
-chain_scan _ is = none_scan is
+chain_scan _ is = false_true is
 
 pub some_scan : (found : Option ℕ) → is_some found ≡ true → IsSome found
 some_scan found is = is
@@ -99,7 +97,7 @@ lowest_is (plan.all_different p columns) (inl is) few = inl is
 lowest_is (plan.all_different p columns) (inr other) few = absurd (other refl)
 lowest_is (plan.project p outputs) (inl is) few = inl is
 lowest_is (plan.project p outputs) (inr other) few = absurd (other refl)
-lowest_is (plan.distinct p) (inl is) few = none_scan is
+lowest_is (plan.distinct p) (inl is) few = false_true is
 lowest_is (plan.distinct p) (inr other) few = absurd (other refl)
 lowest_is _ whole few = absurd (omega (arith, few))
 
@@ -115,21 +113,21 @@ pair_unscanned _ pair = absurd (omega (arith, pair))
 
 -- a scan has no memories of its own
 pub scan_own_keys : (p : Plan) → is_scan p ≡ true → own_keys p ≡ []
-scan_own_keys (plan.join left right ks) is = none_scan is
-scan_own_keys (plan.outer left right ks test) is = none_scan is
-scan_own_keys (plan.semi left right ks keeping) is = none_scan is
+scan_own_keys (plan.join left right ks) is = false_true is
+scan_own_keys (plan.outer left right ks test) is = false_true is
+scan_own_keys (plan.semi left right ks keeping) is = false_true is
 scan_own_keys (plan.lookup p column attribute) is = ap (λ so. none_where so ((column ∷ []) ∷ [])) is
 scan_own_keys (plan.project p outputs) is = ap (λ so. none_where (so || tells_rows p outputs) (all_columns (length outputs) ∷ [])) is
-scan_own_keys (plan.union left right) is = none_scan is
+scan_own_keys (plan.union left right) is = false_true is
 scan_own_keys _ is = refl
 
 pub scan_own_contents : (rows : Plan → List (List Cell)) (p : Plan) → is_scan p ≡ true → own_contents rows p ≡ []
-scan_own_contents rows (plan.join left right ks) is = none_scan is
-scan_own_contents rows (plan.outer left right ks test) is = none_scan is
-scan_own_contents rows (plan.semi left right ks keeping) is = none_scan is
+scan_own_contents rows (plan.join left right ks) is = false_true is
+scan_own_contents rows (plan.outer left right ks test) is = false_true is
+scan_own_contents rows (plan.semi left right ks keeping) is = false_true is
 scan_own_contents rows (plan.lookup p column attribute) is = ap (λ so. none_where so (counts (rows p) ∷ [])) is
 scan_own_contents rows (plan.project p outputs) is = ap (λ so. none_where (so || tells_rows p outputs) (counts (rows (plan.project p outputs)) ∷ [])) is
-scan_own_contents rows (plan.union left right) is = none_scan is
+scan_own_contents rows (plan.union left right) is = false_true is
 scan_own_contents rows _ is = refl
 
 -- nor have the parts below it
@@ -143,7 +141,7 @@ scan_keys (plan.filter p test) is = scan_keys p is
 scan_keys (plan.all_different p columns) is = scan_keys p is
 scan_keys (plan.project p outputs) is =
     ap (λ ks. ks ++ own_keys (plan.project p outputs)) (scan_keys p (scan_below (plan.project p outputs) refl is)) ∙ scan_own_keys (plan.project p outputs) is
-scan_keys _ is = none_scan is
+scan_keys _ is = false_true is
 
 pub scan_contents : (rows : Plan → List (List Cell)) (p : Plan) → is_scan p ≡ true → contents rows p ≡ []
 scan_contents rows plan.unit is = refl
@@ -157,7 +155,7 @@ scan_contents rows (plan.all_different p columns) is = scan_contents rows p is
 scan_contents rows (plan.project p outputs) is =
     ap (λ cs. cs ++ own_contents rows (plan.project p outputs)) (scan_contents rows p (scan_below (plan.project p outputs) refl is))
     ∙ scan_own_contents rows (plan.project p outputs) is
-scan_contents rows _ is = none_scan is
+scan_contents rows _ is = false_true is
 
 -- ---- its rows
 
@@ -170,7 +168,7 @@ scan_at graph (plan.lookup p column attribute) is =
 scan_at graph (plan.filter p test) is = filter_at graph p test ∙ ap (filter (holds test)) (scan_at graph p is)
 scan_at graph (plan.all_different p columns) is = different_at graph p columns ∙ ap (filter (λ row. are_different (relationships_at columns row))) (scan_at graph p is)
 scan_at graph (plan.project p outputs) is = project_at graph p outputs ∙ ap (map (projected outputs)) (scan_at graph p (scan_below (plan.project p outputs) refl is))
-scan_at graph _ is = none_scan is
+scan_at graph _ is = false_true is
 
 -- a part and those below it
 within_more : (graph : Option Content) (p below : Plan) → parts p ≡ p ∷ parts below → AreBounded (counts (rows_at graph p)) → AreWithin graph below → AreWithin graph p
@@ -194,7 +192,7 @@ module _ (now : State) (graph : IsGraph now) where
   scan_within (plan.filter p test) is = within_more (Some now.content) (plan.filter p test) p refl (few (plan.filter p test) is) (scan_within p is)
   scan_within (plan.all_different p columns) is = within_more (Some now.content) (plan.all_different p columns) p refl (few (plan.all_different p columns) is) (scan_within p is)
   scan_within (plan.project p outputs) is = within_more (Some now.content) (plan.project p outputs) p refl (few (plan.project p outputs) is) (scan_within p (scan_below (plan.project p outputs) refl is))
-  scan_within _ is = none_scan is
+  scan_within _ is = false_true is
 
 -- it reads each touched entity of its kind once
 pub reads_within : (rows rows_now : Plan → List (List Cell)) (touches : Touches) (p : Plan) → is_scan p ≡ true → scan_reads touches p ≤ all_reads rows rows_now touches p
@@ -206,7 +204,7 @@ reads_within rows rows_now touches (plan.filter p test) is = let rest = reads_wi
 reads_within rows rows_now touches (plan.all_different p columns) is = let rest = reads_within rows rows_now touches p is in omega (arith, rest)
 reads_within rows rows_now touches (plan.project p outputs) is =
     let rest = reads_within rows rows_now touches p (scan_below (plan.project p outputs) refl is) in omega (arith, rest)
-reads_within rows rows_now touches _ is = none_scan is
+reads_within rows rows_now touches _ is = false_true is
 
 -- ---- a change of the graph
 

@@ -1,10 +1,8 @@
 -- What is asked of a part of a plan, and what it gives, put together from what is so of the parts below it.
 use Rattle.std.proofs.Common.{◌≡◌, ℕ, ◌+◌, ◌<◌, ◌≤◌, Bool, false, List, [], ◌++◌, Option, Some, None, IfSome, is_none, length, map, refl, sym, ap, subst, ◌∙◌, arith}
-use Rattle.std.specs.Prelude.{sum_by}
 use Rattle.std.specs.List.{All, Any}
 use Rattle.std.proofs.lemmas.List.{map-append}
 use Rattle.std.proofs.lemmas.List.Elements.{All-append, All-cons, All-head, All-nil, All-tail}
-use Rattle.std.proofs.lemmas.List.Sums.{sum_by-append}
 use Rattle.cy_values.specs.declared.rows.Cell.{Cell}
 use Rattle.cy_values.specs.Bag.{count_of}
 use Rattle.cy_graph.specs.Graph.{Content, IsGraph, State}
@@ -24,7 +22,6 @@ use Rattle.cy_network_parts.specs.Limits.{HasTooManyRows}
 use Rattle.cy_network_parts.specs.Parts.{below_count, first_below, second_below}
 use Rattle.cy_network_parts.specs.Shared.{left_held, right_held}
 use Rattle.cy_network_parts.specs.internal.Upkeep.{HasTooMany, IsDeltaOf, IsOwnBegun, IsOwnDone, IsStep, content_of, state_of, IsBegun, IsDone}
-use Rattle.cy_network_touches.specs.Work.{in_all}
 use Rattle.cy_network_parts.proofs.HeldInputs.{sides_are}
 use Rattle.cy_network_parts.proofs.PlanParts.{over_one, over_two, own_long}
 use Rattle.cy_network_parts.proofs.Slices.{all_left, all_right, any_first, any_later, any_left, any_right, same_mapped}
@@ -195,23 +192,3 @@ module _ {M : Type 0} (key_columns : M → List ℕ) (was staged : M → Counts)
             (All-cons (Within (Some now.content)) p (parts (first_below p) ++ parts (second_below p)) (now_within old now p made within own_done.change)
             (All-append (Within (Some now.content)) (parts (first_below p)) (parts (second_below p)) left_within right_within));
       }
-
--- ---- what is counted
-
-module _ {M : Type 0} (step_count : M → ℕ) (number : Plan → ℕ) (p : Plan) where
-  pub steps_two : (memories lefts rights own memories_new lefts_new rights_new below_last own_new : List M) → memories ≡ (lefts ++ rights) ++ own
-      → memories_new ≡ below_last ++ own_new → below_count p ≡ 2 → sum_by step_count lefts_new ≤ sum_by step_count lefts + in_all number (first_below p)
-      → sum_by step_count rights_new ≤ sum_by step_count rights + in_all number (second_below p)
-      → sum_by step_count below_last + sum_by step_count own_new ≤ sum_by step_count (lefts_new ++ rights_new) + sum_by step_count own + number p
-      → sum_by step_count memories_new ≤ sum_by step_count memories + in_all number p
-  steps_two memories lefts rights own memories_new lefts_new rights_new below_last own_new is is_new pair first second third =
-      let a = ap (sum_by step_count) is ∙ sum_by-append step_count (lefts ++ rights) own in
-      let c = sum_by-append step_count lefts rights in
-      let b = ap (sum_by step_count) is_new ∙ sum_by-append step_count below_last own_new in
-      let d = sum_by-append step_count lefts_new rights_new in
-      let sums = (over_two p pair).sums number in
-      omega (arith, a, b, c, d, sums, first, second, third)
-
-pub reads_two : (number : Plan → ℕ) (p : Plan) (old middle new : ℕ) → below_count p ≡ 2 → number p ≡ 0 → middle ≤ old + in_all number (first_below p) → new ≤ middle + in_all number (second_below p)
-    → new ≤ old + in_all number p
-reads_two number p old middle new pair none first second = let sums = (over_two p pair).sums number in omega (arith, sums, none, first, second)

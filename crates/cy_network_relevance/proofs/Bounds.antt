@@ -9,6 +9,7 @@ use Rattle.std.proofs.lemmas.List.Concat.{length-flat_map}
 use Rattle.std.proofs.lemmas.List.Elements.{All-append, All-cons, All-filter, All-map, All-nil, All-weaker}
 use Rattle.std.proofs.lemmas.List.Folds.{fold_along}
 use Rattle.std.proofs.lemmas.Option.{get_or_from_slice_get, slice_get-map}
+use Rattle.std.proofs.lemmas.Bool.{ltb-false, ltb-true}
 use Rattle.cy_values.specs.declared.numbers.RelId.{RelId}
 use Rattle.cy_values.specs.declared.rows.Cell.{Cell}
 use Rattle.cy_graph.specs.Graph.{Content}
@@ -48,12 +49,6 @@ one_of : (b : Bool) (least other_least : ℕ) (most other_most : Option ℕ) (co
     → (b ≡ false → AreBetween other_least other_most column rows) → AreBetween (cond b least other_least) (cond b most other_most) column rows
 one_of true least other_least most other_most column rows first second = first refl
 one_of false least other_least most other_most column rows first second = second refl
-
-below_it : (m n : ℕ) → nat_lt m n ≡ true → m < n
-below_it m n is = grind (arith, nat_tests)
-
-above_it : (m n : ℕ) → nat_lt m n ≡ false → n ≤ m
-above_it m n is = grind (arith, nat_tests)
 
 -- ---- relationships
 
@@ -96,7 +91,7 @@ left_cell row more column less = ap (λ c. length (relationships_in c)) (get_or_
 right_cell : (row more : List Cell) (n column : ℕ) → length row ≡ n → n ≤ column → named column (row ++ more) ≡ named (column - n) more
 right_cell row more n column long least = ap (λ c. length (relationships_in c)) (get_or-append_right row more n column expressions.null long least)
 
-both : {A : Type 0} (P Q : A → Type 0) (xs : List A) → All P xs → All Q xs → All (λ x. P x × Q x) xs
+pub both : {A : Type 0} (P Q : A → Type 0) (xs : List A) → All P xs → All Q xs → All (λ x. P x × Q x) xs
 both P Q xs first second = λ k d less. (first k d less, second k d less)
 
 module _ (least : ℕ) (most : Option ℕ) (column n : ℕ) where
@@ -214,19 +209,19 @@ bounds graph (plan.rels types orientation) good column = rels_between graph type
 bounds graph (plan.join left right keys) good column =
     let others : List Cell → List (List Cell) = λ row. filter (meet keys row) (rows_of graph right) in
     one_of (nat_lt column (width left)) (least_named left column) (least_named right (column - width left)) (most_named left column) (most_named right (column - width left)) column (rows_of graph (plan.join left right keys))
-    (λ is. made_left (least_named left column) (most_named left column) column (width left) others (rows_of graph left) (wide_rows graph left good.0) (bounds graph left good.0 column) (below_it column (width left) is))
+    (λ is. made_left (least_named left column) (most_named left column) column (width left) others (rows_of graph left) (wide_rows graph left good.0) (bounds graph left good.0 column) (ltb-true column (width left) is))
     (λ is. made_right (least_named right (column - width left)) (most_named right (column - width left)) column (width left) others (rows_of graph left) (wide_rows graph left good.0)
     (λ row. All-filter (meet keys row) (λ right_row. IsBetween (least_named right (column - width left)) (most_named right (column - width left)) (named (column - width left) right_row)) (rows_of graph right) (bounds graph right good.1 (column - width left)))
-    (above_it column (width left) is))
+    (ltb-false column (width left) is))
 bounds graph (plan.outer left right keys test) good column =
     let others : List Cell → List (List Cell) = λ row. or_nulls (width right) (filter (is_partner keys test row) (rows_of graph right)) in
     one_of (nat_lt column (width left)) (least_named left column) 0 (most_named left column) None column (rows_of graph (plan.outer left right keys test))
-    (λ is. made_left (least_named left column) (most_named left column) column (width left) others (rows_of graph left) (wide_rows graph left good.0) (bounds graph left good.0 column) (below_it column (width left) is))
+    (λ is. made_left (least_named left column) (most_named left column) column (width left) others (rows_of graph left) (wide_rows graph left good.0) (bounds graph left good.0 column) (ltb-true column (width left) is))
     (λ is. any_rows column (rows_of graph (plan.outer left right keys test)))
 bounds graph (plan.semi left right keys keeping) good column = All-filter _ (λ row. IsBetween (least_named left column) (most_named left column) (named column row)) (rows_of graph left) (bounds graph left good.0 column)
 bounds graph (plan.lookup p c attribute) good column =
     one_of (nat_lt column (width p)) (least_named p column) 0 (most_named p column) None column (rows_of graph (plan.lookup p c attribute))
-    (λ is. looked_up (least_named p column) (most_named p column) column (width p) _ (rows_of graph p) (wide_rows graph p good.0) (bounds graph p good.0 column) (below_it column (width p) is))
+    (λ is. looked_up (least_named p column) (most_named p column) column (width p) _ (rows_of graph p) (wide_rows graph p good.0) (bounds graph p good.0 column) (ltb-true column (width p) is))
     (λ is. any_rows column (rows_of graph (plan.lookup p c attribute)))
 bounds graph (plan.filter p test) good column = All-filter _ (λ row. IsBetween (least_named p column) (most_named p column) (named column row)) (rows_of graph p) (bounds graph p good.0 column)
 bounds graph (plan.all_different p columns) good column = All-filter _ (λ row. IsBetween (least_named p column) (most_named p column) (named column row)) (rows_of graph p) (bounds graph p good.0 column)

@@ -6,7 +6,7 @@ use Rattle.std.specs.List.{All}
 use Rattle.std.specs.Option.{option_map_or}
 use Rattle.std.specs.Cmp.{tied_itself}
 use Rattle.std.specs.Ordering.{eq_by_cmp, is_eq, is_lt}
-use Rattle.std.proofs.lemmas.Bool.{and_parts, cases_lt, false≢true, or_cases}
+use Rattle.std.proofs.lemmas.Bool.{and_parts, cases_lt, false≢true, or_cases, eqb-true}
 use Rattle.std.proofs.lemmas.Bool.Decides.{nat_tests}
 use Rattle.std.proofs.lemmas.Cmp.{nat_cmp_total}
 use Rattle.std.proofs.lemmas.List.{get_or_append_left, get_or_past}
@@ -19,6 +19,7 @@ use Rattle.cy_values.specs.declared.rows.Cell.TheVariants as cell
 use Rattle.cy_values.specs.declared.scalars.Value.TheVariants as value
 use Rattle.cy_graph.specs.Graph.{Content, IsGraph, State, rel_order, relationship_in}
 use Rattle.cy_graph.specs.declared.nodes.Rel.{Rel}
+use Rattle.cy_graph.proofs.Least.{is_below}
 use Rattle.cy_trees.specs.Trees.{Name, null, boolean, integer, text, variable, property, has_labels, unary, binary, comparison, list, case, call, call_star}
 use Rattle.cy_expr.specs.Evaluation.{column_value}
 use Rattle.cy_expr.specs.Graphs.{has_type}
@@ -39,10 +40,7 @@ above : (id : RelId) (es : List (RelId × Rel)) → entries.below_all rel_order 
 above id [] below = All-nil (λ (e : RelId × Rel). id.0 < e.0.0)
 above id (e ∷ es) below =
     let split = and_parts (is_lt (rel_order id e.0)) (entries.below_all rel_order id es) below in
-    All-cons (λ (f : RelId × Rel). id.0 < f.0.0) e es (less id e.0 split.0) (above id es split.1)
-  where
-    less : (k m : RelId) → is_lt (rel_order k m) ≡ true → k.0 < m.0
-    less k m h = grind (arith, nat_tests)
+    All-cons (λ (f : RelId × Rel). id.0 < f.0.0) e es (is_below id e.0 split.0) (above id es split.1)
 
 not_tied : (k m : RelId) → m.0 < k.0 → eq_by_cmp rel_order k m ≡ false
 not_tied k m less = grind (arith, nat_tests)
@@ -148,12 +146,9 @@ longer_link graph row more link = record {
     by (inl p) = inl (more_cells row more 1 (cell.Node link.rel.source) p.0 (no_node link.rel.source), more_cells row more 2 (cell.Node link.rel.target) p.1 (no_node link.rel.target))
     by (inr p) = inr (more_cells row more 1 (cell.Node link.rel.target) p.0 (no_node link.rel.target), more_cells row more 2 (cell.Node link.rel.source) p.1 (no_node link.rel.source))
 
-pub is_it : (m n : ℕ) → (m == n) ≡ true → m ≡ n
-is_it m n is = grind (arith, nat_tests)
-
 alone_value : (row : List Cell) (column : ℕ) (found : Option ℕ) → option_map_or (λ other. other == column) found false ≡ true → column_value found row ≡ cell_at row column
 alone_value row column None is = absurd (false≢true is)
-alone_value row column (Some other) is = ap (cell_at row) (is_it other column is)
+alone_value row column (Some other) is = ap (cell_at row) (eqb-true other column is)
 
 -- what a column makes that stands alone
 pub alone_cell : (row : List Cell) (column : ℕ) (o : Output) → is_alone column o ≡ true → output_cell row o ≡ cell_at row column

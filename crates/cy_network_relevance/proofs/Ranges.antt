@@ -5,16 +5,13 @@ use Rattle.std.specs.List.{AllByRecursion}
 use Rattle.std.specs.declared.cmp.Ordering.{Ordering}
 use Rattle.std.specs.Ordering.{eq_by_cmp, is_lt, nat_cmp}
 use Rattle.std.specs.FinMap.Entries as entries
-use Rattle.std.proofs.lemmas.Bool.{and_parts}
+use Rattle.std.proofs.lemmas.Bool.{and_parts, eqb-true}
 use Rattle.std.proofs.lemmas.Bool.Decides.{nat_tests}
 use Rattle.cy_network_touches.proofs.Keys.{same_by_order}
 use Rattle.cy_network_sources.proofs.Through.{each_both, each_weaker}
 
 less_by_order : (m n : ℕ) → is_lt (nat_cmp m n) ≡ true → m < n
 less_by_order m n is = grind (arith, nat_tests)
-
-equal_by_test : (m n : ℕ) → nat_eq m n ≡ true → m ≡ n
-equal_by_test m n is = grind (arith, nat_tests)
 
 other_by_test : (m n : ℕ) → m < n → nat_eq m n ≡ false
 other_by_test m n less = grind (arith, nat_tests)
@@ -89,7 +86,7 @@ module _ {K V R : Type 0} (number : K → ℕ) (key : ℕ → K) (forth : (n : �
           → (a + 1 ≤ number e.0 → number e.0 < a + 1 + m → flat_map (λ f. made (number f.0) (Some f.1)) (e ∷ es) ≡ spans (a + 1) m (found (e ∷ es)))
           → (b : Bool) → nat_eq a (number e.0) ≡ b → made (number e.0) (Some e.1) ++ flat_map (λ f. made (number f.0) (Some f.1)) es ≡ made a (found (e ∷ es) a) ++ spans (a + 1) m (found (e ∷ es))
       by after whole true is =
-          let same : a ≡ number e.0 = equal_by_test a (number e.0) is in
+          let same : a ≡ number e.0 = eqb-true a (number e.0) is in
           let here : found (e ∷ es) a ≡ Some e.1 = ap (λ b. cond b (Some e.1) (found es a)) (test_is a e.0 ∙ is) in
           let head : made (number e.0) (Some e.1) ≡ made a (found (e ∷ es) a) = ap (λ n. made n (Some e.1)) (sym same) ∙ ap (made a) (sym here) in
           let tail : flat_map (λ f. made (number f.0) (Some f.1)) es ≡ spans (a + 1) m (found (e ∷ es)) =

@@ -3,7 +3,7 @@ use Rattle.std.proofs.Common.{◌≡◌, ℕ, suc, ◌+◌, ◌-◌, ◌==◌, �
 use Rattle.std.specs.Prelude.{◌⊎◌, ◌&&◌, ◌||◌, not, nat_le, nat_lt, slice_get}
 use Rattle.std.specs.List.{All}
 use Rattle.std.specs.Option.{option_and_then, option_map_or}
-use Rattle.std.proofs.lemmas.Bool.{and_parts, false≢true, or_cases}
+use Rattle.std.proofs.lemmas.Bool.{and_parts, false≢true, or_cases, eqb-true, lt-ltb, and_right}
 use Rattle.std.proofs.lemmas.Bool.Decides.{nat_tests}
 use Rattle.std.proofs.lemmas.List.{get_or-append_right, get_or_append_left}
 use Rattle.std.proofs.lemmas.List.Elements.{All-cons, All-filter, All-map, All-nil, All-weaker, filter_passes}
@@ -28,8 +28,9 @@ use Rattle.cy_planner_algebra.specs.WellFormed.{IsWellFormed}
 use Rattle.cy_planner_algebra.proofs.Widths.{all_made, all_mapped, wide_rows}
 use Rattle.cy_network_relevance.specs.Lists.{column_alone}
 use Rattle.cy_network_relevance.specs.Trails.{TellsRowsApartOn, column_at, follows_key, greatest_followed, has_key, is_alone, is_at, is_kept, is_kept_key, is_key, is_key_column, keeps_key, tells_apart, tells_joins, tells_rel}
-use Rattle.cy_network_relevance.proofs.Links.{IsThere, cell_there, each_there, is_it}
-use Rattle.cy_network_relevance.proofs.Told.{both, each_told, met_keys, of_counted, same_in_key, same_kept, told}
+use Rattle.cy_network_relevance.proofs.Links.{IsThere, cell_there, each_there}
+use Rattle.cy_network_relevance.proofs.Bounds.{both}
+use Rattle.cy_network_relevance.proofs.Told.{each_told, met_keys, of_counted, same_in_key, same_kept, told}
 
 -- ---- rows with the same key
 
@@ -184,14 +185,11 @@ module _ (left right : Plan) (keys : List KeyColumns) where
     in_right : (row rest : List Cell) → length row ≡ width left → (k : ℕ) → cell_at (row ++ rest) (width left + k) ≡ cell_at rest k
     in_right row rest long k = get_or-append_right row rest (width left) (width left + k) null long (omega arith) ∙ ap (cell_at rest) (let e : (width left + k) - width left ≡ k = omega arith in e)
 
-    below : (k n : ℕ) → k < n → nat_lt k n ≡ true
-    below k n less = grind (arith, nat_tests)
-
     above : (k n : ℕ) → nat_lt (n + k) n ≡ false
     above k n = grind (arith, nat_tests)
 
     key_left : (k : ℕ) → k < width left → is_key_column left k ≡ true → is_key_column (plan.join left right keys) k ≡ true
-    key_left k less key = ap (λ b. cond b (is_key_column left k) (not (is_key keys (k - width left)) && is_key_column right (k - width left))) (below k (width left) less) ∙ key
+    key_left k less key = ap (λ b. cond b (is_key_column left k) (not (is_key keys (k - width left)) && is_key_column right (k - width left))) (lt-ltb k (width left) less) ∙ key
 
     key_right : (k : ℕ) → is_key keys k ≡ false → is_key_column right k ≡ true → is_key_column (plan.join left right keys) (width left + k) ≡ true
     key_right k free key =
@@ -274,7 +272,7 @@ found_at outputs place column is = by (slice_get outputs place) is
   where
     alone : (found : Option ℕ) → option_map_or (λ other. other == column) found false ≡ true → found ≡ Some column
     alone None not = absurd (false≢true not)
-    alone (Some other) same = ap Some (is_it other column same)
+    alone (Some other) same = ap Some (eqb-true other column same)
 
     by : (found : Option Output) → option_map_or (is_alone column) found false ≡ true → option_and_then column_alone found ≡ Some column
     by None not = absurd (false≢true not)
@@ -342,11 +340,7 @@ all_told graph is _ good has = absurd (false≢true has)
 
 -- a join whose right part has no key has none
 pub no_right_key : (p left right lent : Plan) (keys : List KeyColumns) → p ≡ plan.join left right keys → lent ≡ right → has_key lent ≡ false → has_key p ≡ false
-no_right_key p left right lent keys is same none = ap has_key is ∙ by (has_key left) (has_key right) (ap has_key (sym same) ∙ none)
-  where
-    by : (a b : Bool) → b ≡ false → (a && b) ≡ false
-    by true b lacks = lacks
-    by false b lacks = refl
+no_right_key p left right lent keys is same none = ap has_key is ∙ and_right (has_key left) (has_key right) (ap has_key (sym same) ∙ none)
 
 -- a projection that keeps the key makes different rows of different ones
 key_tells : (graph : State) → IsGraph graph → (p : Plan) (outputs : List Output) → IsWellFormed p → has_key p ≡ true → keeps_key p outputs ≡ true → TellsRowsApartOn graph p outputs

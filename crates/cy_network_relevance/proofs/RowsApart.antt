@@ -1,9 +1,8 @@
 -- Parts of a plan that are apart have no row in common.
 use Rattle.std.proofs.Common.{◌≡◌, ℕ, ◌+◌, ◌<◌, ◌≤◌, Bool, true, false, cond, List, [], ◌∷◌, Option, None, Some, refl, sym, subst, ◌∙◌, inl, inr, arith}
-use Rattle.std.specs.Prelude.{◌⊎◌, ◌||◌, nat_lt}
+use Rattle.std.specs.Prelude.{◌⊎◌, ◌||◌}
 use Rattle.std.specs.List.{All}
-use Rattle.std.proofs.lemmas.Bool.{cases_lt, false≢true}
-use Rattle.std.proofs.lemmas.Bool.Decides.{nat_tests}
+use Rattle.std.proofs.lemmas.Bool.{cases_lt, false≢true, ltb-true}
 use Rattle.std.proofs.lemmas.List.Elements.{All-head, All-tail}
 use Rattle.cy_values.specs.declared.rows.Cell.{Cell}
 use Rattle.cy_values.specs.Bag.{count_of}
@@ -23,9 +22,6 @@ none_counted P (x ∷ xs) all row never = count_cons row x xs ∙ step (same row
     step true is rest = absurd (never (subst P (sym (identity row x is)) (All-head P x xs all)))
     step false is rest = omega (arith, rest)
 
-above_it : (m n : ℕ) → nat_lt m n ≡ true → m < n
-above_it m n is = grind (arith, nat_tests)
-
 module _ (shorter longer : Plan) (shorter_good : IsWellFormed shorter) (longer_good : IsWellFormed longer) (row : List Cell) where
   in_one : is_above (least_named longer 0) (most_named shorter 0) ≡ true → IsInOne shorter longer row
   in_one above = by (most_named shorter 0) refl above
@@ -35,7 +31,7 @@ module _ (shorter longer : Plan) (shorter_good : IsWellFormed shorter) (longer_g
       by (Some most) is over = choose (cases_lt most (named 0 row))
         where
           less : most < least_named longer 0
-          less = above_it most (least_named longer 0) over
+          less = ltb-true most (least_named longer 0) over
 
           choose : (most < named 0 row) ⊎ (named 0 row ≤ most) → IsInOne shorter longer row
           choose (inl many) =

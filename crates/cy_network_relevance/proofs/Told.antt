@@ -2,7 +2,7 @@
 use Rattle.std.proofs.Common.{◌≡◌, ℕ, ◌+◌, ◌-◌, ◌==◌, ◌<◌, ◌≤◌, Bool, true, false, cond, List, [], ◌∷◌, ◌++◌, filter, length, refl, sym, ap, subst, ◌∙◌, inl, inr, arith, true≢false}
 use Rattle.std.specs.Prelude.{◌⊎◌, ◌&&◌, ◌||◌, nat_le}
 use Rattle.std.specs.List.{All, list_all, list_any, range_with_len}
-use Rattle.std.proofs.lemmas.Bool.{and_parts, false≢true, or_cases}
+use Rattle.std.proofs.lemmas.Bool.{and_parts, false≢true, or_cases, eqb-true, eqb-false}
 use Rattle.std.proofs.lemmas.Bool.Decides.{nat_tests}
 use Rattle.std.proofs.lemmas.List.{ext_get_or, get_or-append_right, get_or_append_left}
 use Rattle.std.proofs.lemmas.List.Elements.{All-filter, All-head, All-map, All-tail, All-weaker, filter_passes}
@@ -25,6 +25,7 @@ use Rattle.cy_planner_algebra.proofs.Widths.{all_made, wide_rows}
 use Rattle.cy_network_relevance.specs.Trails.{TellsRowsApartOn, are_two, gathers_both, has_links, has_lists, is_alone, is_kept, is_key, is_paired, is_told, tells_joins, tells_joined, tells_trails}
 use Rattle.cy_network_relevance.proofs.AnyOutput.{one_fails}
 use Rattle.cy_network_relevance.proofs.Links.{HasEnds, IsLink, IsListed, alone_cell, links, lists, no_node, second_end, within}
+use Rattle.cy_network_relevance.proofs.Bounds.{both}
 
 -- ---- rows that stand in a list
 
@@ -76,12 +77,9 @@ two_are first second [] are = absurd (false≢true are)
 two_are first second (a ∷ []) are = absurd (false≢true are)
 two_are first second (a ∷ b ∷ []) are =
     let both = and_parts (a == first) (b == second) are in
-    let one : a ≡ first = is_it a first both.0 in
-    let two : b ≡ second = is_it b second both.1 in
+    let one : a ≡ first = eqb-true a first both.0 in
+    let two : b ≡ second = eqb-true b second both.1 in
     cc
-  where
-    is_it : (m n : ℕ) → (m == n) ≡ true → m ≡ n
-    is_it m n is = grind (arith, nat_tests)
 two_are first second (a ∷ b ∷ c ∷ more) are = absurd (false≢true are)
 
 same_rels : (columns : List ℕ) (row other : List Cell) → cell.Rels (relationships_at columns row) ≡ cell.Rels (relationships_at columns other)
@@ -135,11 +133,8 @@ same_in_key [] column row other is same_keys = absurd (false≢true is)
 same_in_key (k ∷ ks) column row other is same_keys =
     by (λ some. same_in_key ks column row other some (tails (cell_at row k.right) (cell_at other k.right) (right_key ks row) (right_key ks other) same_keys)) (k.right == column) refl is
   where
-    is_it : (m n : ℕ) → (m == n) ≡ true → m ≡ n
-    is_it m n equal = grind (arith, nat_tests)
-
     by : (is_key ks column ≡ true → cell_at row column ≡ cell_at other column) → (b : Bool) → (k.right == column) ≡ b → (b || is_key ks column) ≡ true → cell_at row column ≡ cell_at other column
-    by rest true here some = subst (λ c. cell_at row c ≡ cell_at other c) (is_it k.right column here)
+    by rest true here some = subst (λ c. cell_at row c ≡ cell_at other c) (eqb-true k.right column here)
         (heads (cell_at row k.right) (cell_at other k.right) (right_key ks row) (right_key ks other) same_keys)
     by rest false here some = rest some
 
@@ -216,9 +211,6 @@ module _ (graph : Content) (wide others : ℕ) (keys : List KeyColumns) (outputs
   left_cell : (k : ℕ) → k < wide → (k ≡ 2 → ⊥) → cell_at left k ≡ cell_at left_two k
   left_cell k less other = first (or_cases (k == 0) _ (test k (omega (arith, less))))
     where
-      is_it : (m n : ℕ) → (m == n) ≡ true → m ≡ n
-      is_it m n equal = grind (arith, nat_tests)
-
       is_least : (m n : ℕ) → nat_le m n ≡ true → m ≤ n
       is_least m n equal = grind (arith, nat_tests)
 
@@ -227,31 +219,25 @@ module _ (graph : Content) (wide others : ℕ) (keys : List KeyColumns) (outputs
       key (inr is) = let least = is_least wide k ((and_parts (nat_le wide k) (is_key keys (k - wide)) is).0) in absurd (omega (arith, least, less))
 
       at_list : ((k == wide) ≡ true) ⊎ ((is_kept outputs k || (nat_le wide k && is_key keys (k - wide))) ≡ true) → cell_at left k ≡ cell_at left_two k
-      at_list (inl is) = let e = is_it k wide is in absurd (omega (arith, e, less))
+      at_list (inl is) = let e = eqb-true k wide is in absurd (omega (arith, e, less))
       at_list (inr is) = key (or_cases (is_kept outputs k) _ is)
 
       second : ((k == 2) ≡ true) ⊎ ((k == wide || (is_kept outputs k || (nat_le wide k && is_key keys (k - wide)))) ≡ true) → cell_at left k ≡ cell_at left_two k
-      second (inl is) = absurd (other (is_it k 2 is))
+      second (inl is) = absurd (other (eqb-true k 2 is))
       second (inr is) = at_list (or_cases (k == wide) _ is)
 
       first : ((k == 0) ≡ true) ⊎ ((k == 2 || (k == wide || (is_kept outputs k || (nat_le wide k && is_key keys (k - wide))))) ≡ true) → cell_at left k ≡ cell_at left_two k
-      first (inl is) = subst (λ c. cell_at left c ≡ cell_at left_two c) (sym (is_it k 0 is)) same_first
+      first (inl is) = subst (λ c. cell_at left c ≡ cell_at left_two c) (sym (eqb-true k 0 is)) same_first
       first (inr is) = second (or_cases (k == 2) _ is)
 
   each_left : (k : ℕ) → k < length left → cell_at left k ≡ cell_at left_two k
   each_left k less = by (k == 2) refl
     where
-      is_it : (m n : ℕ) → (m == n) ≡ true → m ≡ n
-      is_it m n equal = grind (arith, nat_tests)
-
-      differs : (m n : ℕ) → (m == n) ≡ false → m ≡ n → ⊥
-      differs m n differ equal = grind (arith, nat_tests)
-
       by : (b : Bool) → (k == 2) ≡ b → cell_at left k ≡ cell_at left_two k
       by true is =
-          subst (λ c. cell_at left c ≡ cell_at left_two c) (sym (is_it k 2 is))
+          subst (λ c. cell_at left c ≡ cell_at left_two c) (sym (eqb-true k 2 is))
           (second_end graph left left_two a.link b.link same_first (left_cell 1 (omega (arith, three)) (λ e. absurd (omega (arith, e)))))
-      by false is = left_cell k (subst (λ n. k < n) a.long_left less) (differs k 2 is)
+      by false is = left_cell k (subst (λ n. k < n) a.long_left less) (eqb-false k 2 is)
 
   same_left : left ≡ left_two
   same_left = ext_get_or null left left_two (a.long_left ∙ sym b.long_left) each_left
@@ -262,9 +248,6 @@ module _ (graph : Content) (wide others : ℕ) (keys : List KeyColumns) (outputs
   each_right : (k : ℕ) → k < length right → cell_at right k ≡ cell_at right_two k
   each_right k less = first (or_cases ((wide + k) == 0) _ (test (wide + k) (let long = a.long_right in omega (arith, less, long))))
     where
-      is_it : (m n : ℕ) → (m == n) ≡ true → m ≡ n
-      is_it m n equal = grind (arith, nat_tests)
-
       key : (is_kept outputs (wide + k) ≡ true) ⊎ ((nat_le wide (wide + k) && is_key keys ((wide + k) - wide)) ≡ true) → cell_at right k ≡ cell_at right_two k
       key (inl kept) = kept_right k kept
       key (inr is) =
@@ -272,15 +255,15 @@ module _ (graph : Content) (wide others : ℕ) (keys : List KeyColumns) (outputs
           (ap (is_key keys) (let e : k ≡ (wide + k) - wide = omega arith in e) ∙ (and_parts (nat_le wide (wide + k)) (is_key keys ((wide + k) - wide)) is).1) same_keys
 
       at_list : (((wide + k) == wide) ≡ true) ⊎ ((is_kept outputs (wide + k) || (nat_le wide (wide + k) && is_key keys ((wide + k) - wide))) ≡ true) → cell_at right k ≡ cell_at right_two k
-      at_list (inl is) = let e = is_it (wide + k) wide is in subst (λ c. cell_at right c ≡ cell_at right_two c) (let none : 0 ≡ k = omega (arith, e) in none) same_list
+      at_list (inl is) = let e = eqb-true (wide + k) wide is in subst (λ c. cell_at right c ≡ cell_at right_two c) (let none : 0 ≡ k = omega (arith, e) in none) same_list
       at_list (inr is) = key (or_cases (is_kept outputs (wide + k)) _ is)
 
       second : (((wide + k) == 2) ≡ true) ⊎ (((wide + k) == wide || (is_kept outputs (wide + k) || (nat_le wide (wide + k) && is_key keys ((wide + k) - wide)))) ≡ true) → cell_at right k ≡ cell_at right_two k
-      second (inl is) = let e = is_it (wide + k) 2 is in absurd (omega (arith, e, three))
+      second (inl is) = let e = eqb-true (wide + k) 2 is in absurd (omega (arith, e, three))
       second (inr is) = at_list (or_cases ((wide + k) == wide) _ is)
 
       first : (((wide + k) == 0) ≡ true) ⊎ (((wide + k) == 2 || ((wide + k) == wide || (is_kept outputs (wide + k) || (nat_le wide (wide + k) && is_key keys ((wide + k) - wide))))) ≡ true) → cell_at right k ≡ cell_at right_two k
-      first (inl is) = let e = is_it (wide + k) 0 is in absurd (omega (arith, e, three))
+      first (inl is) = let e = eqb-true (wide + k) 0 is in absurd (omega (arith, e, three))
       first (inr is) = second (or_cases ((wide + k) == 2) _ is)
 
   same_right : right ≡ right_two
@@ -296,9 +279,6 @@ record IsJoined (graph : Content) (wide others : ℕ) (keys : List KeyColumns) (
   right : List Cell
   is : row ≡ left ++ right
   trail : IsTrail graph wide others keys left right
-
-pub both : {A : Type 0} (P Q : A → Type 0) (xs : List A) → All P xs → All Q xs → All (λ x. P x × Q x) xs
-both P Q xs first second = λ k d less. (first k d less, second k d less)
 
 pub met_keys : (keys : List KeyColumns) (left right : List Cell) → meet keys left right ≡ true → left_key keys left ≡ right_key keys right
 met_keys keys left right meets = identity (left_key keys left) (right_key keys right) ((and_parts (eq_by_cmp row_cmp (left_key keys left) (right_key keys right)) _ meets).0)

@@ -2,7 +2,7 @@
 use Rattle.std.proofs.Common.{◌≡◌, ℕ, Bool, true, false, List, ◌∷◌, [], ◌++◌, Option, None, Some, refl, sym, ap, subst, ◌∙◌, map, filter, is_some, nat_eq, ◌⊎◌, inl, inr}
 use Rattle.std.specs.List.{All}
 use Rattle.std.specs.Map.{lookup}
-use Rattle.std.proofs.lemmas.Bool.{false≢true}
+use Rattle.std.proofs.lemmas.Bool.{false≢true, eqb-true}
 use Rattle.std.proofs.lemmas.List.Elements.{recursion_from_All}
 use Rattle.cy_values.specs.declared.rows.Cell.{Cell}
 use Rattle.cy_values.specs.declared.rows.Cell.TheVariants as cell
@@ -15,11 +15,10 @@ use Rattle.cy_planner_algebra.specs.declared.operators.Attribute.{Attribute}
 use Rattle.cy_planner_algebra.specs.Expressions.{cell_at, holds, projected, relationships_at}
 use Rattle.cy_planner_algebra.specs.Meaning.{attribute_of, each_once, joined, outer_joined, rows_of, semi_joined}
 use Rattle.cy_planner_algebra.specs.Plans as plan
-use Rattle.cy_planner_algebra.specs.Plans.{Output, Plan, width}
+use Rattle.cy_planner_algebra.specs.Plans.{Plan, width}
 use Rattle.cy_network_touches.specs.Changes.{IsChange, IsImage, Touches}
 use Rattle.cy_network_sources.specs.Scans.{scan_column}
 use Rattle.cy_network_touches.specs.Attributes.{node_attribute, rel_attribute}
-use Rattle.cy_network_touches.proofs.Keys.{same_number}
 use Rattle.cy_network_touches.proofs.LookupLemmas.{at_node, at_rel, at_rels, at_value}
 use Rattle.cy_network_sources.proofs.ScanDeltas.{node_under, rel_under}
 use Rattle.cy_network_sources.proofs.Through.{holds_found}
@@ -70,7 +69,7 @@ module _ {V : Type 0} (P : Option V → Option V → Type 0) (same : (o : Option
       by None found image = subst (λ (o : Option V). P (before n) o) image (same (before n))
       by (Some was) found image =
           subst (λ (o : Option V). P o (now n)) image.0
-          (holds_found nat_eq same_number (λ (e : ℕ × Option V). P e.1 (now e.0)) n was touched (recursion_from_All (λ (e : ℕ × Option V). P e.1 (now e.0)) touched each) found)
+          (holds_found nat_eq eqb-true (λ (e : ℕ × Option V). P e.1 (now e.0)) n was touched (recursion_from_All (λ (e : ℕ × Option V). P e.1 (now e.0)) touched each) found)
 
 -- a part is a scan or none
 scan_or_none : (b : Bool) → (b ≡ true) ⊎ (b ≡ false)

@@ -14,6 +14,7 @@ use Rattle.cy_values.specs.declared.numbers.NodeId.{NodeId}
 use Rattle.cy_values.specs.declared.numbers.RelId.{RelId}
 use Rattle.cy_values.specs.declared.rows.Cell.{Cell}
 use Rattle.cy_values.specs.Bag.{count_of}
+use Rattle.cy_values.proofs.Booleans.{itself_equal}
 use Rattle.cy_trees.specs.Trees.{Name}
 use Rattle.cy_graph.specs.declared.nodes.Node.{Node}
 use Rattle.cy_graph.specs.Maps.{text_order}
@@ -28,7 +29,7 @@ use Rattle.cy_network_touches.specs.Changes.{IsChange, IsImage, Touches, image_a
 use Rattle.cy_network_touches.specs.internal.Sources.{none_was}
 use Rattle.cy_network_touches.proofs.Determined.{node_number}
 use Rattle.cy_network_touches.proofs.Gathering.{all_come}
-use Rattle.cy_network_touches.proofs.Keys.{number_itself, same_by_order}
+use Rattle.cy_network_touches.proofs.Keys.{same_by_order}
 use Rattle.cy_network_touches.proofs.Owners.{none_between}
 use Rattle.cy_network_sources.specs.internal.Through.{IsNeeded, IsNodeFit, IsScanOver, node_made, recounted}
 use Rattle.cy_network_sources.proofs.ScanDeltas.{node_under}
@@ -99,12 +100,12 @@ nothing_there R itself (e ∷ es) none =
 module _ (before now : State) (touches : Touches) (nothing : IsChange (empty_state 1 1) now touches) (change : IsChange before now touches) where
   nodes_none : before.content.nodes ≡ []
   nodes_none =
-      nothing_there node_order (λ k. same_by_order k.0 k.0 ∙ number_itself k.0) before.content.nodes
+      nothing_there node_order (λ k. same_by_order k.0 k.0 ∙ itself_equal k.0) before.content.nodes
       (λ id. one_was (node_at id before) None (node_at id now) (image_at id.0 touches.nodes) (change.nodes id) (nothing.nodes id))
 
   rels_none : before.content.rels ≡ []
   rels_none =
-      nothing_there rel_order (λ k. same_by_order k.0 k.0 ∙ number_itself k.0) before.content.rels
+      nothing_there rel_order (λ k. same_by_order k.0 k.0 ∙ itself_equal k.0) before.content.rels
       (λ id. one_was (rel_at id before) None (rel_at id now) (image_at id.0 touches.rels) (change.rels id) (nothing.rels id))
 
   content_none : (empty_state 1 1).content ≡ before.content

@@ -8,14 +8,15 @@ use Rattle.std.proofs.lemmas.List.Sums.{count_by-le-length, length-filter, sum_b
 use Rattle.cy_values.specs.declared.rows.Cell.{Cell}
 use Rattle.cy_values.specs.Bag.{count_of}
 use Rattle.cy_values.specs.Same.{is_row}
+use Rattle.cy_values.proofs.Naturals.{nothing_added}
+use Rattle.cy_values.proofs.SameRows.{row_itself, same_row}
 use Rattle.cy_network_memory.specs.Counts.{greatest_count}
 use Rattle.cy_planner_algebra.proofs.Counts.{count_append, count_passing}
 use Rattle.cy_network_memory.specs.declared.memory.RowDelta.{RowDelta}
 use Rattle.cy_network_operators.specs.Deltas.{IsBounded, row_delta_between, deltas_of}
-use Rattle.cy_network_operators.proofs.Same.{is_row_back, row_itself, same_row}
-use Rattle.cy_network_operators.proofs.DeltaLemmas.{deltas_between}
+use Rattle.cy_network_operators.proofs.Same.{is_row_back}
+use Rattle.cy_network_operators.proofs.DeltaLemmas.{deltas_between, between_bounded as bounded_between}
 use Rattle.cy_network_sources.specs.internal.Through.{recounted}
-use Rattle.cy_network_touches.proofs.Owners.{bounded_between}
 
 -- the rows that are others than this one
 abbrev pub others : List Cell → List (List Cell) → List (List Cell)
@@ -55,13 +56,10 @@ module _ (row x : List Cell) (old new : List (List Cell)) where
       by : (b : Bool) → is_row row x ≡ b → row_delta_between row (count_of row (old ++ x ∷ [])) (count_of row new)
           ≡ deltas_of row (row_delta_between x (1 + count_of x old) (count_of x new)) ++ row_delta_between row (count_of row (others x old)) (count_of row (others x new))
       by false is =
-          ap (λ n. row_delta_between row n (count_of row new)) (one_more row x old false is ∙ nothing (count_of row old))
+          ap (λ n. row_delta_between row n (count_of row new)) (one_more row x old false is ∙ nothing_added (count_of row old))
           ∙ sym (ap (λ n. row_delta_between row n (count_of row (others x new))) (still_left row x old is) ∙ ap (row_delta_between row (count_of row old)) (still_left row x new is))
           ∙ sym (ap (λ made. made ++ row_delta_between row (count_of row (others x old)) (count_of row (others x new)))
           (deltas_between row x (1 + count_of x old) (count_of x new) ∙ ap (λ b. cond b (row_delta_between x (1 + count_of x old) (count_of x new)) []) is))
-        where
-          nothing : (n : ℕ) → 0 + n ≡ n
-          nothing n = omega arith
       by true is =
           let same : row ≡ x = same_row row x is in
           ap (λ n. row_delta_between row n (count_of row new)) (one_more row x old true is)
@@ -83,12 +81,9 @@ module _ (row x : List Cell) (old new : List (List Cell)) where
       by : (b : Bool) → is_row row x ≡ b → row_delta_between row 0 (count_of row (new ++ x ∷ []))
           ≡ deltas_of row (row_delta_between x 0 (1 + count_of x new)) ++ row_delta_between row 0 (count_of row (others x new))
       by false is =
-          ap (row_delta_between row 0) (one_more row x new false is ∙ nothing (count_of row new) ∙ sym (still_left row x new is))
+          ap (row_delta_between row 0) (one_more row x new false is ∙ nothing_added (count_of row new) ∙ sym (still_left row x new is))
           ∙ sym (ap (λ made. made ++ row_delta_between row 0 (count_of row (others x new)))
           (deltas_between row x 0 (1 + count_of x new) ∙ ap (λ b. cond b (row_delta_between x 0 (1 + count_of x new)) []) is))
-        where
-          nothing : (n : ℕ) → 0 + n ≡ n
-          nothing n = omega arith
       by true is =
           let same : row ≡ x = same_row row x is in
           ap (row_delta_between row 0) (one_more row x new true is)

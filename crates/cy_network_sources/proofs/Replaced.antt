@@ -1,5 +1,5 @@
 -- One row in place of another.
-use Rattle.std.proofs.Common.{◌≡◌, ℕ, ◌+◌, Bool, true, false, cond, List, [], ◌∷◌, ◌++◌, refl, sym, ap, ◌∙◌, arith}
+use Rattle.std.proofs.Common.{◌≡◌, ℕ, ◌+◌, Bool, true, false, cond, List, [], ◌∷◌, ◌++◌, refl, sym, ap, ◌∙◌}
 use Rattle.std.proofs.lemmas.Bool.{true≢false}
 use Rattle.std.proofs.lemmas.List.{append-nil}
 use Rattle.std.proofs.lemmas.List.Elements.{filter-append}
@@ -7,17 +7,16 @@ use Rattle.std.proofs.lemmas.List.Sums.{sum_by-cons}
 use Rattle.cy_values.specs.declared.rows.Cell.{Cell}
 use Rattle.cy_values.specs.Bag.{count_of}
 use Rattle.cy_values.specs.Same.{is_row}
+use Rattle.cy_values.proofs.Naturals.{nothing_after}
+use Rattle.cy_values.proofs.SameRows.{same_row}
 use Rattle.cy_network_memory.specs.declared.memory.RowDelta.{RowDelta}
 use Rattle.cy_network_operators.specs.Deltas.{row_delta_between, deltas_of}
-use Rattle.cy_network_operators.proofs.Same.{is_row_if, same_row}
+use Rattle.cy_network_operators.proofs.Same.{is_row_if}
 use Rattle.cy_network_operators.proofs.DeltaLemmas.{deltas_between}
 use Rattle.cy_network_sources.specs.internal.Through.{recounted}
 
 one_counted : (row x : List Cell) (b : Bool) → is_row row x ≡ b → count_of row (x ∷ []) ≡ cond b 1 0
-one_counted row x b is = sum_by-cons (λ y. cond (is_row row y) 1 0) x [] ∙ ap (λ t. cond t 1 0 + 0) is ∙ nothing (cond b 1 0)
-  where
-    nothing : (n : ℕ) → n + 0 ≡ n
-    nothing n = omega arith
+one_counted row x b is = sum_by-cons (λ y. cond (is_row row y) 1 0) x [] ∙ ap (λ t. cond t 1 0 + 0) is ∙ nothing_after (cond b 1 0)
 
 module _ (row : List Cell) where
   -- a row that goes, and one that comes

@@ -1,16 +1,18 @@
 -- The rows that are made of single entities, and how they change where the entities do.
-use Rattle.std.proofs.Common.{◌≡◌, ℕ, ◌+◌, true, false, List, [], ◌∷◌, Option, None, Some, refl, sym, ap, ◌∙◌, filter, nat_eq, arith}
+use Rattle.std.proofs.Common.{◌≡◌, ℕ, ◌+◌, true, false, List, [], ◌∷◌, Option, None, Some, refl, sym, ap, ◌∙◌, filter, nat_eq}
 use Rattle.std.specs.Prelude.{sum_by, flat_map}
 use Rattle.std.specs.Option.{option_map_or}
 use Rattle.std.specs.declared.cmp.Ordering.{Ordering}
 use Rattle.std.specs.Ordering.{eq_by_cmp, nat_cmp}
 use Rattle.std.specs.FinMap.Entries as entries
 use Rattle.std.proofs.lemmas.List.Sums.{sum_by-cons}
+use Rattle.std.proofs.lemmas.Bool.{eqb-true}
 use Rattle.cy_values.specs.declared.rows.Cell.{Cell}
 use Rattle.cy_values.specs.Bag.{count_of}
 use Rattle.cy_values.specs.Same.{is_row}
+use Rattle.cy_values.proofs.Naturals.{nothing_after}
 use Rattle.cy_planner_algebra.proofs.Counts.{count_flat_map}
-use Rattle.cy_network_touches.proofs.Keys.{found_alike, own_entries, rising_once, same_by_order, same_number, sum_kept}
+use Rattle.cy_network_touches.proofs.Keys.{found_alike, own_entries, rising_once, same_by_order, sum_kept}
 use Rattle.cy_network_touches.proofs.Owners.{owns}
 
 -- Rows that are made of entities by number: which ones each makes, none where it isn't there, and of which one a row may be.
@@ -37,7 +39,7 @@ module _ {V : Type 0} (scan : Scan V) where
     made e = scan.rows (number e.0) (Some e.1)
 
     same_keys : (x y : K) → eq_by_cmp order x y ≡ true → x ≡ y
-    same_keys x y is = sym (back x) ∙ ap key (same_number (number x) (number y) (sym (same_by_order (number x) (number y)) ∙ is)) ∙ back y
+    same_keys x y is = sym (back x) ∙ ap key (eqb-true (number x) (number y) (sym (same_by_order (number x) (number y)) ∙ is)) ∙ back y
 
     tests_alike : (q : ℕ) (k : K) → eq_by_cmp order (key q) k ≡ nat_eq q (number k)
     tests_alike q k = same_by_order (number (key q)) (number k) ∙ ap (λ n. nat_eq n (number k)) (forth q)
@@ -63,7 +65,4 @@ module _ {V : Type 0} (scan : Scan V) where
           where
             one : (o : Option V) → sum_by (λ e. count_of row (made e)) (option_map_or (λ v. (key q, v) ∷ []) o []) ≡ count_of row (scan.rows q o)
             one None = sym (no_rows row q None refl)
-            one (Some v) = sum_by-cons (λ e. count_of row (made e)) (key q, v) [] ∙ added (count_of row (made (key q, v))) ∙ ap (λ n. count_of row (scan.rows n (Some v))) (forth q)
-              where
-                added : (n : ℕ) → n + 0 ≡ n
-                added n = omega arith
+            one (Some v) = sum_by-cons (λ e. count_of row (made e)) (key q, v) [] ∙ nothing_after (count_of row (made (key q, v))) ∙ ap (λ n. count_of row (scan.rows n (Some v))) (forth q)

@@ -1,11 +1,10 @@
 -- What a scan makes of each of its entities.
-use Rattle.std.proofs.Common.{◌≡◌, ℕ, zero, suc, ◌==◌, Bool, true, false, cond, List, [], ◌∷◌, ◌++◌, Option, None, Some, refl, sym, ap, subst, ◌∙◌, map, filter, arith}
+use Rattle.std.proofs.Common.{◌≡◌, ℕ, zero, suc, ◌==◌, Bool, true, false, cond, List, [], ◌∷◌, ◌++◌, Option, None, Some, refl, sym, ap, subst, ◌∙◌, map, filter}
 use Rattle.std.specs.Prelude.{flat_map, Ok}
 use Rattle.std.specs.List.{All, AllByRecursion, IsDistinct}
 use Rattle.std.specs.Map.{lookup, keys_of}
 use Rattle.std.specs.Option.{option_map}
-use Rattle.std.proofs.lemmas.Bool.{false≢true, true≢false}
-use Rattle.std.proofs.lemmas.Bool.Decides.{nat_tests}
+use Rattle.std.proofs.lemmas.Bool.{false≢true, true≢false, eqb-true}
 use Rattle.std.proofs.lemmas.List.{map-append}
 use Rattle.std.proofs.lemmas.List.Elements.{All-from_recursion, filter-append, recursion_from_All}
 use Rattle.std.proofs.lemmas.Map.Keys.{IsDistinct-head, IsDistinct-tail}
@@ -139,12 +138,9 @@ stays own entity [] more column is = absurd (true≢false (sym entity ∙ ap nam
 stays own entity (c ∷ row) more zero is = is
 stays own entity (c ∷ row) more (suc column) is = stays own entity row more column is
 
-same_numbers : (m n : ℕ) → (m == n) ≡ true → m ≡ n
-same_numbers m n is = grind (arith, nat_tests)
-
 this_column : (column : ℕ) (found : Option ℕ) (row : List Cell) → is_this column found ≡ true → column_value found row ≡ cell_at row column
 this_column column None row is = absurd (false≢true is)
-this_column column (Some other) row is = ap (cell_at row) (same_numbers other column is)
+this_column column (Some other) row is = ap (cell_at row) (eqb-true other column is)
 
 -- the cell of an expression that is a column alone
 pub column_is : (e : Expression) (column : ℕ) (row : List Cell) → is_column column (computed e) ≡ true → cell_of row e ≡ Ok (cell_at row column)
@@ -174,7 +170,7 @@ if_this_is column None c is = none_some c is
 if_this_is column (Some other) c is = by (other == column) refl is
   where
     by : (b : Bool) → (other == column) ≡ b → cond b (Some other) None ≡ Some c → (Some other ≡ Some c) × (column ≡ c)
-    by true same at = (at, sym (same_numbers other column same) ∙ some_same other c at)
+    by true same at = (at, sym (eqb-true other column same) ∙ some_same other c at)
     by false same at = none_some c at
 
 pub kept_is : (below : Option ℕ) (outputs : List Output) (c : ℕ) → kept below outputs ≡ Some c → (k : ℕ) × ((below ≡ Some k) × (kept_at k outputs ≡ Some c))

@@ -10,12 +10,14 @@ use Rattle.std.specs.FinMap.Entries as entries
 use Rattle.std.proofs.lemmas.Bool.Decides.{nat_tests}
 use Rattle.std.proofs.lemmas.List.{append-nil}
 use Rattle.std.proofs.lemmas.List.Elements.{All-from_recursion}
+use Rattle.std.proofs.lemmas.Bool.{eqb-true}
 use Rattle.cy_values.specs.declared.numbers.NodeId.{NodeId}
 use Rattle.cy_values.specs.declared.numbers.RelId.{RelId}
 use Rattle.cy_values.specs.declared.scalars.Value.{Value}
 use Rattle.cy_values.specs.declared.rows.Cell.{Cell}
 use Rattle.cy_values.specs.declared.rows.Cell.TheVariants as cell
 use Rattle.cy_values.specs.Bag.{count_of}
+use Rattle.cy_values.proofs.Booleans.{itself_equal}
 use Rattle.cy_trees.specs.Trees.{Name}
 use Rattle.cy_graph.specs.declared.nodes.Node.{Node}
 use Rattle.cy_graph.specs.declared.nodes.Rel.{Rel}
@@ -37,7 +39,7 @@ use Rattle.cy_network_sources.specs.Scans.{scan_column, scan_parts}
 use Rattle.cy_network_touches.specs.Attributes.{node_attribute, rel_attribute}
 use Rattle.cy_network_sources.specs.internal.Rows.{node_rows, rel_rows}
 use Rattle.cy_network_sources.specs.internal.Through.{AreFit, IsNodeFit, IsRelFit, leaf_of, node_made, recounted, rel_made}
-use Rattle.cy_network_touches.proofs.Keys.{found_alike, number_itself, own_entries, rising_once, same_by_order, same_number}
+use Rattle.cy_network_touches.proofs.Keys.{found_alike, own_entries, rising_once, same_by_order}
 use Rattle.cy_network_touches.proofs.LookupLemmas.{at_node, at_rel}
 use Rattle.cy_network_sources.proofs.ScanDeltas.{node_rows_of, node_under, rel_under}
 use Rattle.cy_network_sources.proofs.ScanLemmas.{Scan, count_at, count_scan}
@@ -75,7 +77,7 @@ module _ {V : Type 0} (scan : Scan V) where
           none_kept : (xs : List (ℕ × Option V)) → filter (λ e. false) xs ≡ []
           none_kept [] = refl
           none_kept (x ∷ xs) = none_kept xs
-      by (Some q) is = ap (flat_map changed) (own_entries nat_eq same_number q touched once) ∙ one (lookup (nat_eq q) touched) (images q)
+      by (Some q) is = ap (flat_map changed) (own_entries nat_eq eqb-true q touched once) ∙ one (lookup (nat_eq q) touched) (images q)
         where
           one : (o : Option (Option V)) → IsImage (before q) (now q) o → flat_map changed (option_map_or (λ v. (q, v) ∷ []) o [])
               ≡ row_delta_between row (count_of row (scan.rows q (before q))) (count_of row (scan.rows q (now q)))
@@ -86,7 +88,7 @@ module _ {V : Type 0} (scan : Scan V) where
 pub images_are : {V : Type 0} (before now : ℕ → Option V) (touched : List (ℕ × Option V)) → IsDistinct nat_eq (keys_of touched)
     → ((n : ℕ) → IsImage (before n) (now n) (lookup (nat_eq n) touched)) → AllByRecursion (λ e. e.1 ≡ before e.0) touched
 images_are {V} before now touched once images =
-    each_weaker (λ e. lookup (nat_eq e.0) touched ≡ Some e.1) (λ e. e.1 ≡ before e.0) was touched (each_found nat_eq number_itself turned touched once)
+    each_weaker (λ e. lookup (nat_eq e.0) touched ≡ Some e.1) (λ e. e.1 ≡ before e.0) was touched (each_found nat_eq itself_equal turned touched once)
   where
     turned : (m n : ℕ) → nat_eq m n ≡ nat_eq n m
     turned m n = grind (arith, nat_tests)
@@ -116,7 +118,7 @@ module _ {K V : Type 0} (number : K → ℕ) (key : ℕ → K) (back : (k : K) �
   order x y = nat_cmp (number x) (number y)
 
   itself : (k : K) → eq_by_cmp order k k ≡ true
-  itself k = same_by_order (number k) (number k) ∙ number_itself (number k)
+  itself k = same_by_order (number k) (number k) ∙ itself_equal (number k)
 
   turned : (j k : K) → eq_by_cmp order j k ≡ eq_by_cmp order k j
   turned j k = same_by_order (number j) (number k) ∙ other_way (number j) (number k) ∙ sym (same_by_order (number k) (number j))
@@ -125,7 +127,7 @@ module _ {K V : Type 0} (number : K → ℕ) (key : ℕ → K) (back : (k : K) �
       other_way m n = grind (arith, nat_tests)
 
   same : (j k : K) → eq_by_cmp order j k ≡ true → j ≡ k
-  same j k is = sym (back j) ∙ ap key (same_number (number j) (number k) (sym (same_by_order (number j) (number k)) ∙ is)) ∙ back k
+  same j k is = sym (back j) ∙ ap key (eqb-true (number j) (number k) (sym (same_by_order (number j) (number k)) ∙ is)) ∙ back k
 
   -- each is found
   pub each_there : AllByRecursion (λ e. entries.find order e.0 es ≡ Some e.1) es

@@ -2,6 +2,7 @@
 use Rattle.std.proofs.Common.{◌≡◌, ℕ, ◌+◌, ◌*◌, ◌≤◌, Bool, true, false, cond, ◌||◌, List, [], ◌∷◌, ◌++◌, length, arith}
 use Rattle.std.specs.Prelude.{sum_by}
 use Rattle.std.proofs.lemmas.List.Sums.{sum_by-cons, sum_by-append}
+use Rattle.cy_network_memory.proofs.RowLists.{within_itself}
 use Rattle.cy_graph.specs.Graph.{Content}
 use Rattle.cy_planner_algebra.specs.declared.operators.KeyColumns.{KeyColumns}
 use Rattle.cy_planner_algebra.specs.Plans as plan
@@ -97,9 +98,6 @@ module _ (few : ℕ) (f : Plan → ℕ) where
   asked_here : (p : Plan) (ps : List Plan) → few ≤ f p → Asked true (p ∷ ps)
   asked_here p ps within = let whole = sum_by-cons f p ps in omega (arith, whole, within)
 
-all_here : (n : ℕ) → n ≤ n
-all_here n = omega arith
-
 lookup_reads : (n c k : ℕ) → n ≤ n + c + k
 lookup_reads n c k = omega arith
 
@@ -129,8 +127,8 @@ module _ (touches : Touches) (before after : Content) where
 
   asked_within : (p : Plan) → asked_reads touches p ≤ sum_by costs (parts p)
   asked_within plan.unit = omega arith
-  asked_within plan.nodes = asked_here (touched_entities touches) costs plan.nodes [] (all_here (touched_entities touches))
-  asked_within (plan.rels types orientation) = asked_here (touched_entities touches) costs (plan.rels types orientation) [] (all_here (touched_entities touches))
+  asked_within plan.nodes = asked_here (touched_entities touches) costs plan.nodes [] (within_itself (touched_entities touches))
+  asked_within (plan.rels types orientation) = asked_here (touched_entities touches) costs (plan.rels types orientation) [] (within_itself (touched_entities touches))
   asked_within (plan.join left right keys) =
       asked_both (touched_entities touches) costs (looks_at_graph left) (looks_at_graph right) (plan.join left right keys) (parts left) (parts right) (asked_within left) (asked_within right)
   asked_within (plan.outer left right keys test) =

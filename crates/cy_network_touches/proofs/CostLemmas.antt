@@ -4,7 +4,7 @@ use Rattle.std.specs.Prelude.{count_by, sum_by, unwrap_or}
 use Rattle.std.specs.List.{All, IsDistinct}
 use Rattle.std.specs.Map.{lookup, keys_of}
 use Rattle.std.specs.Option.{option_map_or}
-use Rattle.std.proofs.lemmas.Bool.{false≢true, true≢false}
+use Rattle.std.proofs.lemmas.Bool.{false≢true, true≢false, eqb-true}
 use Rattle.std.proofs.lemmas.List.Elements.{All-cons, All-head, All-nil, All-tail}
 use Rattle.std.proofs.lemmas.Bool.Decides.{nat_tests}
 use Rattle.std.proofs.lemmas.List.Sums.{sum_by-cons}
@@ -13,18 +13,20 @@ use Rattle.cy_values.specs.declared.rows.Cell.{Cell}
 use Rattle.cy_values.specs.declared.rows.Cell.TheVariants as cell
 use Rattle.cy_network_memory.specs.declared.memory.RowDelta.{RowDelta}
 use Rattle.cy_values.specs.Same.{is_row}
+use Rattle.cy_values.proofs.Lists.{sum_of_none, sum_of_two, sums_alike}
+use Rattle.cy_values.proofs.SameRows.{row_itself, same_row}
 use Rattle.cy_network_memory.specs.Counts.{Counts, key_cells}
 use Rattle.cy_network_memory.specs.Records.{IsAnswer, is_counted, is_found}
 use Rattle.cy_planner_algebra.specs.Expressions.{cell_at, null}
 use Rattle.cy_planner_algebra.specs.Meaning.{each_once, is_among}
-use Rattle.cy_planner_algebra.proofs.Counts.{count_append, count_cons, count_once}
+use Rattle.cy_planner_algebra.proofs.Counts.{count_append, count_once, apart_counts}
 use Rattle.cy_network_operators.specs.Deltas.{IsDelta, counts, counts_after, row_delta_between}
 use Rattle.cy_network_operators.proofs.Staging.{after_delta}
-use Rattle.cy_network_operators.proofs.Same.{is_row_back, row_itself, same_row}
+use Rattle.cy_network_operators.proofs.Same.{is_row_back}
 use Rattle.cy_network_touches.specs.Changes.{Touches}
 use Rattle.cy_network_touches.specs.LookupCosts.{names_touched}
 use Rattle.cy_network_touches.specs.internal.Named.{AreAmong}
-use Rattle.cy_network_touches.proofs.Keys.{own_entries, same_number, sum_kept}
+use Rattle.cy_network_touches.proofs.Keys.{own_entries, sum_kept}
 use Rattle.cy_network_touches.proofs.LookupDeltas.{cell_is, cells_of, key_is, node_key, rel_key}
 use Rattle.cy_network_touches.proofs.Owners.{owns, node_owner, rel_owner}
 
@@ -133,23 +135,6 @@ with_node column rows n = count_by (λ row. is_row (cell.Node (record { 0 = n })
 abbrev pub with_rel : ℕ → List (List Cell) → ℕ → ℕ
 with_rel column rows n = count_by (λ row. is_row (cell.Rel (record { 0 = n }) ∷ []) (key_cells (column ∷ []) row)) rows
 
-sum_of_none : {A : Type 0} (xs : List A) → sum_by (λ x. 0) xs ≡ 0
-sum_of_none [] = refl
-sum_of_none (x ∷ xs) = sum_by-cons (λ x. 0) x xs ∙ ap (λ n. 0 + n) (sum_of_none xs)
-
-sum_of_two : {A : Type 0} (f g : A → ℕ) (xs : List A) → sum_by (λ x. f x + g x) xs ≡ sum_by f xs + sum_by g xs
-sum_of_two f g [] = refl
-sum_of_two f g (x ∷ xs) =
-    let rest = sum_of_two f g xs in
-    let whole = sum_by-cons (λ y. f y + g y) x xs in
-    let one = sum_by-cons f x xs in
-    let other = sum_by-cons g x xs in
-    omega (arith, rest, whole, one, other)
-
-sum_equal : {A : Type 0} (f g : A → ℕ) → ((x : A) → f x ≡ g x) → (xs : List A) → sum_by f xs ≡ sum_by g xs
-sum_equal f g same [] = refl
-sum_equal f g same (x ∷ xs) = sum_by-cons f x xs ∙ ap (λ n. n + sum_by f xs) (same x) ∙ ap (λ n. g x + n) (sum_equal f g same xs) ∙ sym (sum_by-cons g x xs)
-
 -- one entity at most is the one that is named
 abbrev named_once : {V : Type 0} → List (ℕ × V) → Option ℕ → ℕ
 named_once es None = 0
@@ -160,7 +145,7 @@ own_sum None es once = sum_of_none es
 own_sum {V} (Some q) es once =
     sum_kept (λ e. nat_eq q e.0) (λ e. cond (nat_eq q e.0) 1 0) (λ e is. ap (λ b. cond {A = ℕ} b 1 0) is) es
     ∙ sum_passing_all es
-    ∙ ap (λ (xs : List (ℕ × V)). length xs) (own_entries nat_eq same_number q es once)
+    ∙ ap (λ (xs : List (ℕ × V)). length xs) (own_entries nat_eq eqb-true q es once)
     ∙ one (lookup (nat_eq q) es)
   where
     sum_passing_all : (xs : List (ℕ × V)) → sum_by (λ e. cond (nat_eq q e.0) 1 0) (filter (λ e. nat_eq q e.0) xs) ≡ length (filter (λ e. nat_eq q e.0) xs)
@@ -199,13 +184,13 @@ module _ (touches : Touches) (column : ℕ) (nodes_once : IsDistinct nat_eq (key
   named_sum (row ∷ rows) =
       let rest = named_sum rows in
       let nodes : sum_by (λ e. with_node column (row ∷ rows) e.0) touches.nodes ≡ named_once touches.nodes (node_owner (cells_of o)) + sum_by (λ e. with_node column rows e.0) touches.nodes =
-      sum_equal (λ e. with_node column (row ∷ rows) e.0) (λ e. cond (owns (node_owner (cells_of o)) e.0) 1 0 + with_node column rows e.0)
+      sums_alike (λ e. with_node column (row ∷ rows) e.0) (λ e. cond (owns (node_owner (cells_of o)) e.0) 1 0 + with_node column rows e.0)
       (λ e. sum_by-cons (λ row. cond (is_row (cell.Node (record { 0 = e.0 }) ∷ []) (key_cells (column ∷ []) row)) 1 0) row rows
       ∙ ap (λ b. cond b 1 0 + with_node column rows e.0) (ap (is_row (cell.Node (record { 0 = e.0 }) ∷ [])) (key_is column row o refl) ∙ node_key e.0 o)) touches.nodes
       ∙ sum_of_two (λ e. cond (owns (node_owner (cells_of o)) e.0) 1 0) (λ e. with_node column rows e.0) touches.nodes
       ∙ ap (λ n. n + sum_by (λ e. with_node column rows e.0) touches.nodes) (own_sum (node_owner (cells_of o)) touches.nodes nodes_once) in
       let rels : sum_by (λ e. with_rel column (row ∷ rows) e.0) touches.rels ≡ named_once touches.rels (rel_owner (cells_of o)) + sum_by (λ e. with_rel column rows e.0) touches.rels =
-      sum_equal (λ e. with_rel column (row ∷ rows) e.0) (λ e. cond (owns (rel_owner (cells_of o)) e.0) 1 0 + with_rel column rows e.0)
+      sums_alike (λ e. with_rel column (row ∷ rows) e.0) (λ e. cond (owns (rel_owner (cells_of o)) e.0) 1 0 + with_rel column rows e.0)
       (λ e. sum_by-cons (λ row. cond (is_row (cell.Rel (record { 0 = e.0 }) ∷ []) (key_cells (column ∷ []) row)) 1 0) row rows
       ∙ ap (λ b. cond b 1 0 + with_rel column rows e.0) (ap (is_row (cell.Rel (record { 0 = e.0 }) ∷ [])) (key_is column row o refl) ∙ rel_key e.0 o)) touches.rels
       ∙ sum_of_two (λ e. cond (owns (rel_owner (cells_of o)) e.0) 1 0) (λ e. with_rel column rows e.0) touches.rels
@@ -220,20 +205,12 @@ module _ (touches : Touches) (column : ℕ) (nodes_once : IsDistinct nat_eq (key
 
 -- ---- the rows that count before or after
 
-none_among : (row : List Cell) (xs : List (List Cell)) → is_among row xs ≡ false → count_of row xs ≡ 0
-none_among row [] is = refl
-none_among row (x ∷ xs) is = count_cons row x xs ∙ step (λ rest. none_among row xs rest) (is_row row x) is
-  where
-    step : (is_among row xs ≡ false → count_of row xs ≡ 0) → (b : Bool) → (b || is_among row xs) ≡ false → cond b 1 0 + count_of row xs ≡ 0
-    step rest true h = absurd (true≢false h)
-    step rest false h = let none = rest h in omega (arith, none)
-
 among_counted : (row : List Cell) (xs : List (List Cell)) → 1 ≤ count_of row xs → is_among row xs ≡ true
 among_counted row xs some = by (is_among row xs) refl
   where
     by : (b : Bool) → is_among row xs ≡ b → b ≡ true
     by true is = refl
-    by false is = let none = none_among row xs is in absurd (omega (arith, some, none))
+    by false is = let none = apart_counts row xs is in absurd (omega (arith, some, none))
 
 pub counted_there : (was : Counts) (deltas : List RowDelta) (old new : List (List Cell)) → ((row : List Cell) → was row ≡ count_of row old) → IsDelta (counts old) (counts new) deltas
     → (row : List Cell) → is_counted was (counts_after deltas was) row ≡ true → is_among row (each_once (old ++ new)) ≡ true

@@ -9,11 +9,12 @@ use Rattle.std.specs.Option.{option_map}
 use Rattle.std.specs.declared.cmp.Ordering.{Ordering}
 use Rattle.std.specs.Ordering.{eq_by_cmp}
 use Rattle.std.specs.FinMap.Entries as entries
-use Rattle.std.proofs.lemmas.Bool.{false≢true, true≢false}
+use Rattle.std.proofs.lemmas.Bool.{false≢true, true≢false, eqb-true}
 use Rattle.std.proofs.lemmas.List.Elements.{Contains-append_right}
 use Rattle.cy_values.specs.declared.numbers.NodeId.{NodeId}
 use Rattle.cy_values.specs.declared.numbers.RelId.{RelId}
 use Rattle.cy_values.specs.declared.numbers.Entity.TheVariants as entity
+use Rattle.cy_values.proofs.Booleans.{itself_equal}
 use Rattle.cy_graph.specs.declared.nodes.Node.{Node}
 use Rattle.cy_graph.specs.declared.nodes.Rel.{Rel}
 use Rattle.cy_graph.specs.contracts.nodes.NodePartialEq.TheImpl as node_eq
@@ -25,7 +26,7 @@ use Rattle.cy_graph.proofs.Touching.{same_nodes, same_rels}
 use Rattle.cy_network_touches.specs.Changes.{IsChange, IsImage, Touches, before_change, image_at}
 use Rattle.cy_network_touches.specs.internal.Images.{node_of_old, rel_of_old, node_noted, rel_noted, nodes_noted, rels_noted}
 use Rattle.cy_network_touches.specs.internal.Sources.{none_was}
-use Rattle.cy_network_touches.proofs.Keys.{none_once, number_itself, rising_once, same_by_order, same_number}
+use Rattle.cy_network_touches.proofs.Keys.{none_once, rising_once, same_by_order}
 
 -- one more at the end
 pub nodes_more : (n : ℕ) (es : List BeforeImage) (e : BeforeImage) (found : Option (Option Node)) → nodes_noted n (es ++ e ∷ []) found ≡ node_noted n e (nodes_noted n es found)
@@ -77,7 +78,7 @@ module _ (n : ℕ) where
     where
       step : (b : Bool) → nat_eq id.0 n ≡ b → IfSome (cond b (Some (node_of_old was)) found) P
       step true is =
-          let same : id ≡ node = ap (λ (k : ℕ). let i : NodeId = record { 0 = k } in i) (same_number id.0 n is) in
+          let same : id ≡ node = ap (λ (k : ℕ). let i : NodeId = record { 0 = k } in i) (eqb-true id.0 n is) in
           each was (subst (λ (i : NodeId). Contains ((entity.Node id, was) ∷ es) (entity.Node i, was)) same (head_there (entity.Node id, was) es))
       step false is = held
   node_holds P ((entity.Rel id, was) ∷ es) found held each =
@@ -91,7 +92,7 @@ module _ (n : ℕ) where
     where
       step : (b : Bool) → nat_eq id.0 n ≡ b → IfSome (cond b (Some (rel_of_old was)) found) P
       step true is =
-          let same : id ≡ rel = ap (λ (k : ℕ). let i : RelId = record { 0 = k } in i) (same_number id.0 n is) in
+          let same : id ≡ rel = ap (λ (k : ℕ). let i : RelId = record { 0 = k } in i) (eqb-true id.0 n is) in
           each was (subst (λ (i : RelId). Contains ((entity.Rel id, was) ∷ es) (entity.Rel i, was)) same (head_there (entity.Rel id, was) es))
       step false is = held
   rel_holds P ((entity.Node id, was) ∷ es) found held each =
@@ -127,7 +128,7 @@ module _ (n : ℕ) where
           rest (Contains-tail (entity.Node id, w) es (entity.Node node, was) (λ same.
           let keys : entity.Node id ≡ entity.Node node = ap (λ (e : BeforeImage). e.0) same in
           let ids : id ≡ node = cc in
-          true≢false (sym (number_itself n) ∙ ap (λ (k : NodeId). nat_eq k.0 n) (sym ids) ∙ is)) there)
+          true≢false (sym (itself_equal n) ∙ ap (λ (k : NodeId). nat_eq k.0 n) (sym ids) ∙ is)) there)
   node_there ((entity.Rel id, w) ∷ es) found was there =
       node_there es found was (Contains-tail (entity.Rel id, w) es (entity.Node node, was) (λ same.
       let keys : entity.Rel id ≡ entity.Node node = ap (λ (e : BeforeImage). e.0) same in
@@ -143,7 +144,7 @@ module _ (n : ℕ) where
           rest (Contains-tail (entity.Rel id, w) es (entity.Rel rel, was) (λ same.
           let keys : entity.Rel id ≡ entity.Rel rel = ap (λ (e : BeforeImage). e.0) same in
           let ids : id ≡ rel = cc in
-          true≢false (sym (number_itself n) ∙ ap (λ (k : RelId). nat_eq k.0 n) (sym ids) ∙ is)) there)
+          true≢false (sym (itself_equal n) ∙ ap (λ (k : RelId). nat_eq k.0 n) (sym ids) ∙ is)) there)
   rel_there ((entity.Node id, w) ∷ es) found was there =
       rel_there es found was (Contains-tail (entity.Node id, w) es (entity.Rel rel, was) (λ same.
       let keys : entity.Node id ≡ entity.Rel rel = ap (λ (e : BeforeImage). e.0) same in

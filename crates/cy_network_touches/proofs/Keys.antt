@@ -13,13 +13,6 @@ use Rattle.std.proofs.lemmas.Bool.Decides.{nat_tests}
 use Rattle.std.proofs.lemmas.Map.Keys.{IsDistinct-cons, IsDistinct-head, IsDistinct-tail}
 use Rattle.std.proofs.lemmas.List.Sums.{sum_by-cons}
 
--- numbers that are the same
-pub same_number : (m n : ℕ) → nat_eq m n ≡ true → m ≡ n
-same_number m n e = grind (arith, nat_tests)
-
-pub number_itself : (n : ℕ) → nat_eq n n ≡ true
-number_itself n = grind (arith, nat_tests)
-
 pub same_by_order : (m n : ℕ) → is_eq (nat_cmp m n) ≡ nat_eq m n
 same_by_order m n = grind (arith, nat_tests)
 

@@ -1,5 +1,5 @@
 -- The deltas of rows with an attribute: those of rows that change, and of rows that name a touched entity.
-use Rattle.std.proofs.Common.{◌≡◌, ℕ, ◌≤◌, ◌==◌, Bool, true, false, cond, ◌&&◌, List, [], ◌∷◌, ◌++◌, Option, None, Some, refl, sym, ap, subst, ◌∙◌, filter, map, slice_get, nat_eq, arith}
+use Rattle.std.proofs.Common.{◌≡◌, ℕ, ◌≤◌, ◌==◌, Bool, true, false, cond, ◌&&◌, List, [], ◌∷◌, ◌++◌, Option, None, Some, refl, sym, ap, subst, ◌∙◌, map, slice_get, nat_eq, arith}
 use Rattle.std.specs.Prelude.{flat_map, unwrap_or}
 use Rattle.std.specs.List.{All, IsDistinct, cons_option}
 use Rattle.std.specs.Map.{lookup, keys_of}
@@ -11,6 +11,7 @@ use Rattle.std.proofs.lemmas.Bool.Decides.{nat_tests}
 use Rattle.std.proofs.lemmas.List.{append-nil}
 use Rattle.std.proofs.lemmas.List.Elements.{All-cons, All-filter, All-head, All-nil, All-tail}
 use Rattle.std.proofs.lemmas.Option.{unwrap_or-slice_get}
+use Rattle.std.proofs.lemmas.Bool.{eqb-true}
 use Rattle.cy_values.specs.declared.rows.Cell.{Cell}
 use Rattle.cy_values.specs.declared.rows.Cell.TheVariants as cell
 use Rattle.cy_values.specs.Bag.{count_of}
@@ -18,25 +19,24 @@ use Rattle.cy_graph.specs.declared.nodes.Node.{Node}
 use Rattle.cy_graph.specs.declared.nodes.Rel.{Rel}
 use Rattle.cy_graph.specs.Graph.{Content, State, node_at, rel_at}
 use Rattle.cy_values.specs.Same.{is_row}
+use Rattle.cy_values.proofs.Booleans.{itself_equal}
+use Rattle.cy_values.proofs.SameRows.{row_itself, same_row}
 use Rattle.cy_network_memory.specs.Counts.{Counts, greatest_count, key_cells}
 use Rattle.cy_planner_algebra.specs.declared.operators.Attribute.{Attribute}
 use Rattle.cy_planner_algebra.specs.Expressions.{cell_at, null}
 use Rattle.cy_planner_algebra.specs.Meaning.{attribute_of, with_attribute}
 use Rattle.cy_network_memory.specs.declared.memory.RowDelta.{RowDelta}
 use Rattle.cy_network_operators.specs.Deltas.{IsBounded, IsDelta, counts, counts_after, deltas_of, row_delta_between}
-use Rattle.cy_network_operators.proofs.Same.{row_itself, same_row}
-use Rattle.cy_network_operators.proofs.DeltaLemmas.{deltas_made}
+use Rattle.cy_network_operators.proofs.DeltaLemmas.{deltas_made, between_bounded as bounded_between}
 use Rattle.cy_network_operators.proofs.Staging.{after_delta}
+use Rattle.cy_network_operators.proofs.JoinLemmas.{made_by}
 use Rattle.cy_network_touches.specs.declared.attributes.Attributes.{Attributes}
 use Rattle.cy_network_touches.specs.Changes.{IsChange, IsImage, Touches}
 use Rattle.cy_network_touches.specs.internal.Attributes.{AreAttributes, front, reattributed, row_delta_at, still, still_deltas, valued}
 use Rattle.cy_network_touches.specs.Attributes.{node_attribute, rel_attribute}
-use Rattle.cy_network_touches.proofs.Keys.{number_itself, own_entries, same_by_order, same_number}
+use Rattle.cy_network_touches.proofs.Keys.{own_entries, same_by_order}
 use Rattle.cy_network_touches.proofs.LookupLemmas.{at_node, at_rel, at_rels, at_value, count_with, reattributed_other, reattributed_row_delta, rows_same, valued_is}
-use Rattle.cy_network_touches.proofs.Owners.{none_between, owns, bounded_between, node_owner, rel_owner}
-
-equal : (m n : ℕ) → (m == n) ≡ true → m ≡ n
-equal m n h = grind (arith, nat_tests)
+use Rattle.cy_network_touches.proofs.Owners.{none_between, owns, node_owner, rel_owner}
 
 -- ---- which entity the key of a row names
 
@@ -116,14 +116,6 @@ still_by_graphs old new column attribute was staged entity values are row =
 
 -- ---- the entity of a row among those that are touched
 
-made_by : {X : Type 0} (p : X → Bool) (h : X → List RowDelta) → ((x : X) → p x ≡ false → h x ≡ []) → (xs : List X) → flat_map h xs ≡ flat_map h (filter p xs)
-made_by p h none [] = refl
-made_by p h none (x ∷ xs) = ap (λ rest. h x ++ rest) (made_by p h none xs) ∙ step (p x) refl
-  where
-    step : (b : Bool) → p x ≡ b → h x ++ flat_map h (filter p xs) ≡ flat_map h (cond b (x ∷ filter p xs) (filter p xs))
-    step true is = refl
-    step false is = ap (λ found. found ++ flat_map h (filter p xs)) (none x is)
-
 -- what is made where the number is touched
 abbrev where_touched : {V : Type 0} → List RowDelta → Option V → List RowDelta
 where_touched made None = []
@@ -143,12 +135,12 @@ module _ {V : Type 0} (same : Bool) (made : List RowDelta) where
   one_owner : (q : ℕ) (es : List (ℕ × V)) → IsDistinct nat_eq (keys_of es) → flat_map (term (Some q)) es ≡ where_touched (cond same made []) (lookup (nat_eq q) es)
   one_owner q es once =
       made_by (λ e. nat_eq q e.0) (term (Some q)) (none_term (Some q)) es
-      ∙ ap (flat_map (term (Some q))) (own_entries nat_eq same_number q es once)
+      ∙ ap (flat_map (term (Some q))) (own_entries nat_eq eqb-true q es once)
       ∙ one (lookup (nat_eq q) es)
     where
       one : (o : Option V) → flat_map (term (Some q)) (option_map_or (λ v. (q, v) ∷ []) o []) ≡ where_touched (cond same made []) o
       one None = refl
-      one (Some v) = append-nil (term (Some q) (q, v)) ∙ ap (λ b. cond (b && same) made []) (number_itself q)
+      one (Some v) = append-nil (term (Some q) (q, v)) ∙ ap (λ b. cond (b && same) made []) (itself_equal q)
 
 -- ---- all together
 
@@ -174,7 +166,7 @@ module _ (before now : State) (touches : Touches) (change : IsChange before now 
       ap (λ b. deltas_of row (cond b (row_delta_between (with_attribute new column attribute first) (was first) (staged first))
       (row_delta_between (with_attribute old column attribute first) (was first) 0 ++ row_delta_between (with_attribute new column attribute first) 0 (staged first))))
       (rows_same first (attribute_of old attribute (cell_at first column)) (attribute_of new attribute (cell_at first column)) same)
-      ∙ ap (deltas_of row) (none_between (with_attribute new column attribute first) (was first) (staged first) (equal _ _ is))
+      ∙ ap (deltas_of row) (none_between (with_attribute new column attribute first) (was first) (staged first) (eqb-true _ _ is))
 
   abbrev changed_part : List RowDelta
   changed_part = cond unchanged [] (whole ++ [])
@@ -320,7 +312,7 @@ staged_bounded was staged deltas delta within bounded row =
     by (was row == staged row) refl (subst (All IsBounded) (delta.each row) (All-filter (λ s. is_row row s.row) IsBounded deltas bounded))
   where
     by : (b : Bool) → (was row == staged row) ≡ b → All IsBounded (cond b [] (row_delta_at was staged row ∷ [])) → staged row ≤ greatest_count
-    by true is all = subst (λ n. n ≤ greatest_count) (equal _ _ is) (within row)
+    by true is all = subst (λ n. n ≤ greatest_count) (eqb-true _ _ is) (within row)
     by false is all = (All-head IsBounded (row_delta_at was staged row) [] all).1
 
 pub lookup_bounded : (before now : State) (touches : Touches) → IsChange before now touches → (column : ℕ) (attribute : Attribute) (was : Counts) (deltas made : List RowDelta)

@@ -15,6 +15,7 @@ use Rattle.cy_values.specs.Bag.{count_of}
 use Rattle.cy_graph.specs.Graph.{Content, State, node_at, rel_at}
 use Rattle.cy_network_memory.specs.declared.memory.RowDelta.{RowDelta}
 use Rattle.cy_values.specs.Same.{is_row}
+use Rattle.cy_values.proofs.SameRows.{same_row}
 use Rattle.cy_network_memory.specs.Counts.{Counts, key_cells}
 use Rattle.cy_network_memory.specs.Records.{IsAnswer, is_counted}
 use Rattle.cy_planner_algebra.specs.declared.operators.Attribute.{Attribute}
@@ -23,8 +24,8 @@ use Rattle.cy_planner_algebra.specs.Expressions.{cell_at, null}
 use Rattle.cy_planner_algebra.specs.Meaning.{attribute_of, with_attribute}
 use Rattle.cy_planner_algebra.proofs.Counts.{count_cons}
 use Rattle.cy_network_operators.specs.Deltas.{deltas_of, row_delta_between}
-use Rattle.cy_network_operators.proofs.PairLemmas.{answered}
-use Rattle.cy_network_operators.proofs.Same.{is_row_if, same_row}
+use Rattle.cy_network_operators.proofs.PairLemmas.{answered, passed}
+use Rattle.cy_network_operators.proofs.Same.{is_row_if}
 use Rattle.cy_network_operators.proofs.DeltaLemmas.{deltas_between, deltas_made}
 use Rattle.cy_network_touches.specs.declared.attributes.Attributes.{Attributes}
 use Rattle.cy_network_touches.specs.internal.Attributes.{AreAttributes, front, reattributed, row_delta_at, still_deltas, valued, valued_record}
@@ -68,10 +69,6 @@ two_others row other c d m n k l apart =
     ∙ between_other row other d k l apart
 
 -- ---- the row deltas of rows that didn't change
-
-passed : (b : Bool) (row : List Cell) (deltas : List RowDelta) → deltas_of row (cond b deltas []) ≡ cond b (deltas_of row deltas) []
-passed true row deltas = refl
-passed false row deltas = refl
 
 nothing_if : (b : Bool) → cond {A = List RowDelta} b [] [] ≡ []
 nothing_if true = refl

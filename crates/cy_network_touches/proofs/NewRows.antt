@@ -1,6 +1,7 @@
 -- Rows that are all new, of which none stays.
 use Rattle.std.proofs.Common.{◌≡◌, ℕ, ◌==◌, Bool, true, false, cond, ◌&&◌, List, [], ◌∷◌, ◌++◌, refl, sym, ap, ◌∙◌}
 use Rattle.std.specs.Prelude.{flat_map}
+use Rattle.std.proofs.lemmas.Bool.{eqb-true}
 use Rattle.cy_values.specs.declared.rows.Cell.{Cell}
 use Rattle.cy_graph.specs.Graph.{Content}
 use Rattle.cy_network_memory.specs.declared.memory.RowDelta.{RowDelta}
@@ -9,7 +10,6 @@ use Rattle.cy_network_memory.specs.Counts.{Counts, key_cells, no_rows}
 use Rattle.cy_planner_algebra.specs.declared.operators.Attribute.{Attribute}
 use Rattle.cy_planner_algebra.specs.Meaning.{with_attribute}
 use Rattle.cy_network_operators.specs.Deltas.{deltas_of, row_delta_between}
-use Rattle.cy_network_operators.proofs.JoinLemmas.{equal}
 use Rattle.cy_network_touches.specs.internal.Attributes.{front, reattributed, row_delta_at, still}
 
 -- a row that counts 0 before and after makes nothing
@@ -31,7 +31,7 @@ none_still old new column attribute was staged entity row none =
     by : (a same : Bool) → (was (front row) == staged (front row)) ≡ same → cond (a && same) (deltas_of row (reattributed old new column attribute (row_delta_at was staged (front row)))) [] ≡ []
     by true true is =
         ap (λ n. made n (staged (front row))) before
-        ∙ ap (made 0) (sym (equal _ _ is) ∙ before)
+        ∙ ap (made 0) (sym (eqb-true _ _ is) ∙ before)
         ∙ uncounted (is_row (with_attribute old column attribute (front row)) (with_attribute new column attribute (front row))) row (with_attribute old column attribute (front row)) (with_attribute new column attribute (front row))
     by true false is = refl
     by false same is = refl

@@ -2,23 +2,18 @@
 use Rattle.std.proofs.Common.{◌≡◌, ℕ, ◌+◌, ◌≤◌, ◌==◌, Bool, true, false, cond, List, [], ◌∷◌, Option, None, Some, refl, sym, ap, ◌∙◌, nat_eq, arith}
 use Rattle.std.specs.List.{All}
 use Rattle.std.proofs.lemmas.Bool.{true≢false}
-use Rattle.std.proofs.lemmas.Bool.Decides.{nat_tests}
-use Rattle.std.proofs.lemmas.List.Elements.{All-cons, All-head, All-nil, All-tail}
+use Rattle.std.proofs.lemmas.List.Elements.{All-head, All-tail}
 use Rattle.cy_values.specs.declared.rows.Cell.{Cell}
 use Rattle.cy_values.specs.declared.rows.Cell.TheVariants as cell
 use Rattle.cy_values.specs.Bag.{count_of}
 use Rattle.cy_values.specs.Same.{is_row}
-use Rattle.cy_network_memory.specs.Counts.{greatest_count}
+use Rattle.cy_values.proofs.Booleans.{itself_equal}
+use Rattle.cy_values.proofs.SameRows.{same_row}
 use Rattle.cy_planner_algebra.proofs.Counts.{count_cons}
-use Rattle.cy_network_operators.specs.Deltas.{row_delta_between, IsBounded}
-use Rattle.cy_network_operators.proofs.Same.{same_row}
-use Rattle.cy_network_touches.proofs.Keys.{number_itself}
+use Rattle.cy_network_operators.specs.Deltas.{row_delta_between}
 
 equal_between : (row : List Cell) (n : ℕ) → row_delta_between row n n ≡ []
-equal_between row n = ap (λ b. cond b [] ((record { row = row; before = n; after = n }) ∷ [])) (itself n)
-  where
-    itself : (m : ℕ) → (m == m) ≡ true
-    itself m = grind (arith, nat_tests)
+equal_between row n = ap (λ b. cond b [] ((record { row = row; before = n; after = n }) ∷ [])) (itself_equal n)
 
 pub none_between : (row : List Cell) (m n : ℕ) → m ≡ n → row_delta_between row m n ≡ []
 none_between row m n same = ap (λ k. row_delta_between row k n) same ∙ equal_between row n
@@ -49,7 +44,7 @@ rel_owner (cell.Value v ∷ cells) = None
 other_row : (owner : List Cell → Option ℕ) (row other : List Cell) (n : ℕ) (b : Bool) → is_row row other ≡ b → owner other ≡ Some n → owns (owner row) n ≡ false → b ≡ false
 other_row owner row other n false is of apart = refl
 other_row owner row other n true is of apart =
-    absurd (true≢false (sym (number_itself n) ∙ ap (λ (o : Option ℕ). owns o n) (sym of ∙ sym (ap owner (same_row row other is))) ∙ apart))
+    absurd (true≢false (sym (itself_equal n) ∙ ap (λ (o : Option ℕ). owns o n) (sym of ∙ sym (ap owner (same_row row other is))) ∙ apart))
 
 pub none_counted : (owner : List Cell → Option ℕ) (row : List Cell) (n : ℕ) (rows : List (List Cell)) → All (λ r. owner r ≡ Some n) rows → owns (owner row) n ≡ false → count_of row rows ≡ 0
 none_counted owner row n [] each apart = refl
@@ -58,10 +53,3 @@ none_counted owner row n (r ∷ rows) each apart =
     count_cons row r rows
     ∙ ap (λ b. cond b 1 0 + count_of row rows) (other_row owner row r n (is_row row r) refl (All-head (λ r. owner r ≡ Some n) r rows each) apart)
     ∙ omega (arith, rest)
-
-pub bounded_between : (row : List Cell) (a b : ℕ) → a ≤ greatest_count → b ≤ greatest_count → All IsBounded (row_delta_between row a b)
-bounded_between row a b one other =
-    elim (a == b) as (λ e. All IsBounded (cond e [] ((record { row = row; before = a; after = b }) ∷ []))) [
-      | true ↦ All-nil IsBounded
-      | false ↦ All-cons IsBounded (record { row = row; before = a; after = b }) [] (one, other) (All-nil IsBounded)
-    ]

@@ -1,12 +1,13 @@
 -- From one graph to another a plan has one cost, and none where nothing differs.
-use Rattle.std.proofs.Common.{◌≡◌, ℕ, ◌+◌, ◌==◌, Bool, true, false, not, cond, ◌&&◌, ◌||◌, List, [], ◌∷◌, ◌++◌, Option, None, Some, refl, sym, ap, ◌∙◌, length, nat_eq, arith}
+use Rattle.std.proofs.Common.{◌≡◌, ℕ, ◌+◌, ◌==◌, Bool, true, false, not, cond, ◌&&◌, ◌||◌, List, [], ◌∷◌, ◌++◌, Option, None, Some, refl, sym, ap, ◌∙◌, length, arith}
 use Rattle.std.specs.Prelude.{count_by, is_some, sum_by}
 use Rattle.std.proofs.lemmas.List.Sums.{sum_by-cons}
-use Rattle.std.proofs.lemmas.Bool.Decides.{nat_tests}
 use Rattle.std.proofs.lemmas.Option.{none-some}
 use Rattle.cy_values.specs.declared.rows.Cell.{Cell}
 use Rattle.cy_values.specs.declared.rows.Cell.TheVariants as cell
 use Rattle.cy_values.specs.Bag.{count_of}
+use Rattle.cy_values.proofs.Lists.{sums_alike}
+use Rattle.cy_values.proofs.Booleans.{itself_equal}
 use Rattle.cy_graph.specs.declared.nodes.Node.{Node}
 use Rattle.cy_graph.specs.declared.nodes.Rel.{Rel}
 use Rattle.cy_graph.specs.Graph.{State, node_at, rel_at}
@@ -24,10 +25,6 @@ use Rattle.cy_network_touches.proofs.Determined.{node_number, rel_number, same_n
 use Rattle.cy_network_touches.specs.Costs.{changed, cost, joining, part_cost, touched_entities}
 
 -- ---- one cost
-
-sums_alike : {A : Type 0} (f g : A → ℕ) → ((x : A) → f x ≡ g x) → (xs : List A) → sum_by f xs ≡ sum_by g xs
-sums_alike f g same [] = refl
-sums_alike f g same (x ∷ xs) = sum_by-cons f x xs ∙ ap (λ n. n + sum_by f xs) (same x) ∙ ap (λ n. g x + n) (sums_alike f g same xs) ∙ sym (sum_by-cons g x xs)
 
 module _ (before after : State) (touches others : Touches) (first : IsChange before after touches) (second : IsChange before after others) where
   as_many : touched_entities touches ≡ touched_entities others
@@ -58,9 +55,6 @@ one_cost before after touches others p first second = cost_alike before after to
 
 -- ---- no cost
 
-number_itself : (n : ℕ) → (n == n) ≡ true
-number_itself n = grind (arith, nat_tests)
-
 sum_none : {A : Type 0} (f : A → ℕ) → ((x : A) → f x ≡ 0) → (xs : List A) → sum_by f xs ≡ 0
 sum_none f none [] = refl
 sum_none f none (x ∷ xs) = let one = none x in let rest = sum_none f none xs in let whole = sum_by-cons f x xs in omega (arith, one, rest, whole)
@@ -69,7 +63,7 @@ count_none : {A : Type 0} (p : A → Bool) → ((x : A) → p x ≡ false) → (
 count_none p none xs = sum_none (λ x. cond (p x) 1 0) (λ x. ap (λ b. cond {A = ℕ} b 1 0) (none x)) xs
 
 stays : (rows : List (List Cell)) (row : List Cell) → is_changed rows rows row ≡ false
-stays rows row = ap not (number_itself (count_of row rows))
+stays rows row = ap not (itself_equal (count_of row rows))
 
 rows_stay : (rows : List (List Cell)) → changed_rows rows rows ≡ 0
 rows_stay rows = count_none (is_changed rows rows) (stays rows) (rows_either rows rows)
@@ -92,10 +86,7 @@ differs_not value (Some was) image = absurd (image.1 refl)
 
 none_touched : {V : Type 0} (es : List (ℕ × Option V)) → ((n : ℕ) → image_at n es ≡ None) → es ≡ []
 none_touched [] none = refl
-none_touched (e ∷ es) none = absurd (none-some e.1 (sym (none e.0) ∙ ap (λ b. cond b (Some e.1) (image_at e.0 es)) (same_number e.0)))
-  where
-    same_number : (n : ℕ) → nat_eq n n ≡ true
-    same_number n = grind (arith, nat_tests)
+none_touched (e ∷ es) none = absurd (none-some e.1 (sym (none e.0) ∙ ap (λ b. cond b (Some e.1) (image_at e.0 es)) (itself_equal e.0)))
 
 module _ (graph : State) (touches : Touches) (change : IsChange graph graph touches) where
   no_nodes : touches.nodes ≡ []

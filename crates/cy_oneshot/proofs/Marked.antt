@@ -5,6 +5,7 @@ use Rattle.std.specs.List.{AllByRecursion}
 use Rattle.std.proofs.lemmas.Bool.{false≢true, or_parts}
 use Rattle.std.proofs.lemmas.List.{length-drop, map-append, take_all, take_more}
 use Rattle.cy_values.specs.declared.rows.Cell.{Cell}
+use Rattle.cy_values.proofs.Lists.{each_append, each_then}
 use Rattle.cy_trees.specs.declared.expressions.Variable.{Variable}
 use Rattle.cy_trees.specs.declared.clauses.Length.{Length}
 use Rattle.cy_trees.specs.Trees.{Clause, Expression, Item, Key, MapEntry, Path, Projection, Step, Where, SetItem, set_property, set_labels, RemoveItem, remove_property, remove_labels, «match», unwind, «with», «return», create, remove, delete}
@@ -12,7 +13,7 @@ use Rattle.cy_trees.specs.Trees as trees
 use Rattle.cy_scope.specs.Views.{is_update}
 use Rattle.cy_oneshot_patterns.specs.Places.{Place, column_at, entries_at, link_place, node, path_places, places, relationship, step_places}
 use Rattle.cy_oneshot_outcomes.specs.Columns.{column_list, columns_read}
-use Rattle.cy_oneshot_meaning.proofs.Each.{each_append, each_flat_map, each_then}
+use Rattle.cy_oneshot_meaning.proofs.Each.{each_flat_map}
 use Rattle.cy_oneshot.specs.Carried.{AreAlike, AreEntriesRead, AreKeysRead, AreNeeded, ArePlacesRead, AreRead, AreSeen, IsAlike, IsClauseRead, IsEnough, IsKeyRead, IsPlaceRead, IsProjectionRead, IsRemoveRead, IsSeen, IsSetRead, IsTestRead, IsVariableRead, IsWhereRead, first_row, is_last, is_needed, is_projection, keys_of, updates_ahead}
 use Rattle.cy_oneshot.specs.internal.Carried.{StillNeeded}
 

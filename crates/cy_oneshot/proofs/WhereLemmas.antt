@@ -7,6 +7,7 @@ use Rattle.std.proofs.lemmas.List.{append-nil, map-append}
 use Rattle.cy_values.specs.declared.rows.Cell.{Cell}
 use Rattle.cy_values.specs.declared.truth.Truth.{Truth}
 use Rattle.cy_values.specs.Truth.{is_yes}
+use Rattle.cy_values.proofs.Booleans.{and_false, and_true, grouped_right}
 use Rattle.cy_trees.specs.Trees.{MapEntry, Path, PathTest, Where}
 use Rattle.cy_graph.specs.Graph.{Content}
 use Rattle.cy_expr.specs.declared.faults.EvalFault.{EvalFault}
@@ -27,23 +28,15 @@ pub both_first : (b : Result Bool EvalFault) → both (Ok true) b ≡ b
 both_first (Ok b) = refl
 both_first (Err fault) = refl
 
-and_last : (a : Bool) → (a && true) ≡ a
-and_last true = refl
-and_last false = refl
-
 pub both_last : (a : Result Bool EvalFault) → both a (Ok true) ≡ a
-both_last (Ok a) = ap Ok (and_last a)
+both_last (Ok a) = ap Ok (and_true a)
 both_last (Err fault) = refl
-
-and_three : (a b c : Bool) → ((a && b) && c) ≡ (a && (b && c))
-and_three true b c = refl
-and_three false b c = refl
 
 faults_three : (f g h : EvalFault) → both (both (Err f) (Err g)) (Err h) ≡ both (Err f) (both (Err g) (Err h))
 faults_three f g h = ap (on_one (λ (xs : List Bool). Ok true)) (together_three (Err f) (Err g) (Err h))
 
 pub both_three : (a b c : Result Bool EvalFault) → both (both a b) c ≡ both a (both b c)
-both_three (Ok a) (Ok b) (Ok c) = ap Ok (and_three a b c)
+both_three (Ok a) (Ok b) (Ok c) = ap Ok (grouped_right a b c)
 both_three (Ok a) (Ok b) (Err h) = refl
 both_three (Ok a) (Err g) (Ok c) = refl
 both_three (Ok a) (Err g) (Err h) = refl
@@ -114,7 +107,7 @@ module _ (graph : Content) (row : List Cell) (asked : Bool) (t : PathTest) where
       → ((met ≡ Err NoMemory) ⊎ (next ≡ Err NoMemory) → result ≡ Err NoMemory)
       → IsAnswer result (λ x. x) (both so_far (path_truth graph row asked t))
   one_more (Ok true) next result so_far is also answers memory =
-      subst (λ on. IsAnswer result (λ x. x) (both so_far (path_truth graph row on t))) (and_last asked) (answers so_far (path_truth graph row (asked && true) t) is also)
+      subst (λ on. IsAnswer result (λ x. x) (both so_far (path_truth graph row on t))) (and_true asked) (answers so_far (path_truth graph row (asked && true) t) is also)
   one_more (Ok false) next result so_far is also answers memory =
       subst (λ o. IsAnswer result (λ x. x) o)
       (ap (λ o. both o (path_truth graph row (asked && false) t)) is
@@ -133,12 +126,8 @@ module _ (graph : Content) (row : List Cell) (asked : Bool) (t : PathTest) where
 -- ---- the whole
 
 true_both : (maps : Result (List Cell) EvalFault) (on : Bool) → both (on_one (λ (vs : List Cell). Ok on) maps) (Ok true) ≡ and_also maps (Ok on)
-true_both (Ok vs) on = ap Ok (and_last on)
+true_both (Ok vs) on = ap Ok (and_true on)
 true_both (Err f) on = refl
-
-and_false : (a : Bool) → (a && false) ≡ false
-and_false true = refl
-and_false false = refl
 
 false_both : (maps : Result (List Cell) EvalFault) (off : Bool) → both (on_one (λ (vs : List Cell). Ok off) maps) (Ok false) ≡ and_also maps (Ok false)
 false_both (Ok vs) off = ap Ok (and_false off)

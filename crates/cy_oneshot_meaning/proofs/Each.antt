@@ -4,22 +4,15 @@ use Rattle.std.specs.Prelude.{flat_map, Result, Ok, Err, IfOk}
 use Rattle.std.specs.List.{AllByRecursion}
 use Rattle.std.specs.declared.cmp.Ordering.{Ordering}
 use Rattle.std.specs.Ordering.{eq_by_cmp, is_gt}
+use Rattle.cy_values.proofs.Lists.{each_append, each_filter, each_then}
 use Rattle.cy_expr.specs.declared.faults.EvalFault.{EvalFault}
 use Rattle.cy_expr.specs.Faults.{on_one}
 use Rattle.cy_oneshot_meaning.specs.Order.{placed, in_order, each_once}
 use Rattle.cy_oneshot_patterns.specs.Outcomes.{together, joined, gathered}
 
-pub each_append : {A : Type 0} (P : A → Type 0) (xs ys : List A) → AllByRecursion P xs → AllByRecursion P ys → AllByRecursion P (xs ++ ys)
-each_append P [] ys left right = right
-each_append P (x ∷ xs) ys left right = (left.0, each_append P xs ys left.1 right)
-
 pub each_map : {A B : Type 0} (P : A → Type 0) (Q : B → Type 0) (f : A → B) → ((x : A) → P x → Q (f x)) → (xs : List A) → AllByRecursion P xs → AllByRecursion Q (map f xs)
 each_map P Q f step [] each = tt
 each_map P Q f step (x ∷ xs) each = (step x each.0, each_map P Q f step xs each.1)
-
-pub each_then : {A : Type 0} (P Q : A → Type 0) → ((x : A) → P x → Q x) → (xs : List A) → AllByRecursion P xs → AllByRecursion Q xs
-each_then P Q step [] each = tt
-each_then P Q step (x ∷ xs) each = (step x each.0, each_then P Q step xs each.1)
 
 -- of each, where it holds of what a function gives for it
 pub each_before : {A B : Type 0} (P : B → Type 0) (f : A → B) (xs : List A) → AllByRecursion P (map f xs) → AllByRecursion (λ x. P (f x)) xs
@@ -39,14 +32,6 @@ each_flat_map P Q f step (x ∷ xs) each = each_append Q (f x) (flat_map f xs) (
 pub each_flat_made : {A B : Type 0} (Q : B → Type 0) (f : A → List B) → ((x : A) → AllByRecursion Q (f x)) → (xs : List A) → AllByRecursion Q (flat_map f xs)
 each_flat_made Q f step [] = tt
 each_flat_made Q f step (x ∷ xs) = each_append Q (f x) (flat_map f xs) (step x) (each_flat_made Q f step xs)
-
-each_kept : {A : Type 0} (P : A → Type 0) (b : Bool) (x : A) (xs : List A) → P x → AllByRecursion P xs → AllByRecursion P (cond b (x ∷ xs) xs)
-each_kept P true x xs here rest = (here, rest)
-each_kept P false x xs here rest = rest
-
-pub each_filter : {A : Type 0} (P : A → Type 0) (p : A → Bool) (xs : List A) → AllByRecursion P xs → AllByRecursion P (filter p xs)
-each_filter P p [] each = tt
-each_filter P p (x ∷ xs) each = each_kept P (p x) x (filter p xs) each.0 (each_filter P p xs each.1)
 
 pub each_take : {A : Type 0} (P : A → Type 0) (n : ℕ) (xs : List A) → AllByRecursion P xs → AllByRecursion P (take n xs)
 each_take P zero xs each = tt

@@ -16,6 +16,7 @@ use Rattle.cy_values.specs.declared.scalars.Value.{Value}
 use Rattle.cy_values.specs.declared.scalars.Value.TheVariants as value
 use Rattle.cy_values.specs.declared.rows.Cell.{Cell}
 use Rattle.cy_values.specs.declared.rows.Cell.TheVariants as cell
+use Rattle.cy_values.proofs.Lists.{each_append, each_filter}
 use Rattle.cy_trees.specs.Trees.{Expression, variable, property, has_labels, unary, binary, comparison, list, case, call, Path}
 use Rattle.cy_graph.specs.Graph.{Content, IsGraph, State, node_order, number_end, rel_order, node_in, relationship_in}
 use Rattle.cy_graph.specs.declared.nodes.Rel.{Rel}
@@ -34,7 +35,7 @@ use Rattle.cy_oneshot_patterns.specs.Places.{Place, node, relationship, relation
 use Rattle.cy_expr.specs.Graphs.{lookups}
 use Rattle.cy_oneshot_meaning.specs.Reading.{IsInGraph}
 use Rattle.cy_oneshot_meaning.proofs.KeyOrders.{nodes_total, rels_total}
-use Rattle.cy_oneshot_meaning.proofs.Each.{each_append, each_filter, each_flat_map, each_made, each_map, if_ok_any}
+use Rattle.cy_oneshot_meaning.proofs.Each.{each_flat_map, each_made, each_map, if_ok_any}
 
 -- ---- candidates
 

@@ -4,6 +4,7 @@ use Rattle.std.specs.declared.cmp.Ordering.{Ordering}
 use Rattle.std.specs.Ordering.{eq_by_cmp}
 use Rattle.std.specs.Cmp.{IsTotalOrder, IsEquivalence}
 use Rattle.std.proofs.lemmas.Cmp.{eq_by_cmp_equiv}
+use Rattle.cy_values.proofs.Lists.{filters_swap}
 use Rattle.cy_oneshot_meaning.specs.Order.{each_once}
 use Rattle.cy_oneshot_meaning.proofs.Permuted.{Permuted, nothing, more, exchanged, and_then, permuted_itself}
 
@@ -34,17 +35,6 @@ permuted_filter p (more x q) = kept_front (p x) x (permuted_filter p q)
 permuted_filter p (exchanged x y xs) = kept_two (p x) (p y) x y (filter p xs)
 permuted_filter p (and_then q r) = and_then (permuted_filter p q) (permuted_filter p r)
 
-filters_front : {A : Type 0} (p q : A → Bool) (x : A) (ys zs : List A) → filter p ys ≡ filter q zs → (b c : Bool) → p x ≡ b → q x ≡ c
-    → filter p (cond c (x ∷ ys) ys) ≡ filter q (cond b (x ∷ zs) zs)
-filters_front p q x ys zs rest true true px qx = ap (λ t. cond t (x ∷ filter p ys) (filter p ys)) px ∙ ap (λ l. x ∷ l) rest ∙ sym (ap (λ t. cond t (x ∷ filter q zs) (filter q zs)) qx)
-filters_front p q x ys zs rest true false px qx = rest ∙ sym (ap (λ t. cond t (x ∷ filter q zs) (filter q zs)) qx)
-filters_front p q x ys zs rest false true px qx = ap (λ t. cond t (x ∷ filter p ys) (filter p ys)) px ∙ rest
-filters_front p q x ys zs rest false false px qx = rest
-
-pub filters_exchanged : {A : Type 0} (p q : A → Bool) (xs : List A) → filter p (filter q xs) ≡ filter q (filter p xs)
-filters_exchanged p q [] = refl
-filters_exchanged p q (x ∷ xs) = filters_front p q x (filter q xs) (filter p xs) (filters_exchanged p q xs) (p x) (q x) refl refl
-
 module _ {A : Type 0} (order : A → A → Ordering) (identity : (x y : A) → eq_by_cmp order x y ≡ true → x ≡ y)
     (symmetric : (x y : A) → eq_by_cmp order x y ≡ eq_by_cmp order y x) where
   once_exchanged : (x y : A) (xs : List A) → Permuted (each_once order (x ∷ y ∷ xs)) (each_once order (y ∷ x ∷ xs))
@@ -58,7 +48,7 @@ module _ {A : Type 0} (order : A → A → Ordering) (identity : (x y : A) → e
             let right : each_once order (y ∷ x ∷ xs) ≡ y ∷ x ∷ others =
             ap (λ b. y ∷ cond (not b) (x ∷ filter (λ z. not (eq_by_cmp order y z)) (filter (λ z. not (eq_by_cmp order x z)) (each_once order xs)))
             (filter (λ z. not (eq_by_cmp order y z)) (filter (λ z. not (eq_by_cmp order x z)) (each_once order xs)))) (symmetric y x ∙ h)
-            ∙ ap (λ l. y ∷ x ∷ l) (filters_exchanged (λ z. not (eq_by_cmp order y z)) (λ z. not (eq_by_cmp order x z)) (each_once order xs)) in
+            ∙ ap (λ l. y ∷ x ∷ l) (filters_swap (λ z. not (eq_by_cmp order y z)) (λ z. not (eq_by_cmp order x z)) (each_once order xs)) in
             subst (λ l. Permuted l (each_once order (y ∷ x ∷ xs))) (sym left) (subst (λ l. Permuted (x ∷ y ∷ others) l) (sym right) (exchanged x y others))
       ] refl
 

@@ -9,8 +9,9 @@ use Rattle.std.specs.Ordering.{eq_by_cmp, is_eq, is_gt, is_lt, ordering_reverse}
 use Rattle.std.proofs.lemmas.Bool.{false≢true}
 use Rattle.std.proofs.lemmas.Cmp.{alike_right}
 use Rattle.std.proofs.lemmas.List.Sorted.{ranks_by, sorted_far, sum_by-IsPermutation}
+use Rattle.cy_values.proofs.Lists.{each_filter}
 use Rattle.cy_oneshot_meaning.specs.Order.{placed, in_order, each_once}
-use Rattle.cy_oneshot_meaning.proofs.Each.{each_filter, each_of_once}
+use Rattle.cy_oneshot_meaning.proofs.Each.{each_of_once}
 use Rattle.cy_oneshot_meaning.proofs.Permuted.{Permuted, permuted_from_counts}
 
 -- none comes before one that is before it

@@ -1,6 +1,5 @@
 -- An expression gives the same on two rows that agree on the columns that it reads.
-use Rattle.std.proofs.Common.{◌≡◌, ℕ, List, [], ◌∷◌, ◌++◌, Option, None, Some, Result, Ok, Err, refl, ap, ◌∙◌}
-use Rattle.std.specs.List.{AllByRecursion}
+use Rattle.std.proofs.Common.{◌≡◌, ℕ, List, [], ◌∷◌, ◌++◌, Option, None, Some, Result, Ok, refl, ap, ◌∙◌}
 use Rattle.cy_values.specs.declared.scalars.Value.{Value}
 use Rattle.cy_values.specs.declared.truth.Truth.{Truth}
 use Rattle.cy_values.specs.declared.rows.Cell.{Cell}
@@ -15,12 +14,8 @@ use Rattle.cy_expr.specs.Choice.{choice}
 use Rattle.cy_expr.specs.Operators.{binary_value, compared, unary_value, value_in_cell}
 use Rattle.cy_expr.specs.Lookups.{Lookups, property_value, existence, labels_test}
 use Rattle.cy_expr.specs.Evaluation.{as_cell, call_value, cell_of, cells_of, chain, column_value, outcome_of_else, outcomes_of, outcomes_of_arms, property_exists, values_of}
+use Rattle.cy_expr.proofs.ReadingLemmas.{on_one-pointwise}
 use Rattle.cy_oneshot_outcomes.specs.Columns.{AgreeOn, column_list, columns_of_arms, columns_of_elements, columns_of_links, columns_of_otherwise, columns_read}
-
--- what is answered for the same operand by what answers alike
-on_one-same : {A B : Type 0} (f g : A → Result B EvalFault) (r s : Result A EvalFault) → r ≡ s → ((a : A) → f a ≡ g a) → on_one f r ≡ on_one g s
-on_one-same f g (Ok a) s same alike = alike a ∙ ap (on_one g) same
-on_one-same f g (Err fault) s same alike = ap (on_one g) same
 
 pub agree-left : (columns others : List ℕ) (row other : List Cell) → AgreeOn (columns ++ others) row other → AgreeOn columns row other
 agree-left [] others row other agree = tt
@@ -52,7 +47,7 @@ module _ (graph : Lookups) (row other : List Cell) where
         ∙ ap (λ (r : Result Cell EvalFault). as_cell (on_two (binary_value operator) (on_one value_in_cell (cell_of graph other a)) (on_one value_in_cell r))) (cell-same b (right (columns_read a) (columns_read b) h))
     cell-same (comparison e links) h =
         ap (λ (r : Result Truth EvalFault). as_cell (on_one (λ a. Ok (value_of a)) r))
-        (on_one-same (λ c. chain graph row c links) (λ c. chain graph other c links) (cell_of graph row e) (cell_of graph other e)
+        (on_one-pointwise (λ c. chain graph row c links) (λ c. chain graph other c links) (cell_of graph row e) (cell_of graph other e)
         (cell-same e (left (columns_read e) (columns_of_links links) h)) (chain-same links (right (columns_read e) (columns_of_links links) h)))
     cell-same (list es) h = ap (λ (r : Result (List Value) EvalFault). as_cell (on_one list_of r)) (values-same es h)
     cell-same (case arms e) h =
@@ -79,7 +74,7 @@ module _ (graph : Lookups) (row other : List Cell) where
     chain-same : (links : Links) → AgreeOn (columns_of_links links) row other → (c : Cell) → chain graph row c links ≡ chain graph other c links
     chain-same no_links h c = refl
     chain-same (link comparator e links) h c =
-        on_one-same (λ d. on_two (λ a b. Ok (both a b)) (compared comparator c d) (chain graph row d links)) (λ d. on_two (λ a b. Ok (both a b)) (compared comparator c d) (chain graph other d links))
+        on_one-pointwise (λ d. on_two (λ a b. Ok (both a b)) (compared comparator c d) (chain graph row d links)) (λ d. on_two (λ a b. Ok (both a b)) (compared comparator c d) (chain graph other d links))
         (cell_of graph row e) (cell_of graph other e) (cell-same e (left (columns_read e) (columns_of_links links) h))
         (λ d. ap (λ (r : Result Truth EvalFault). on_two (λ a b. Ok (both a b)) (compared comparator c d) r) (chain-same links (right (columns_read e) (columns_of_links links) h) d))
 

@@ -3,7 +3,7 @@ use Rattle.std.proofs.Common.{◌≡◌, ℕ, zero, suc, Bool, true, false, not,
 use Rattle.std.specs.Prelude.{◌==◌, flat_map, zip}
 use Rattle.std.specs.List.{list_all, list_any, AllByRecursion}
 use Rattle.std.proofs.Math.Bool.{and-true}
-use Rattle.std.proofs.lemmas.Bool.{and_right}
+use Rattle.std.proofs.lemmas.Bool.{and_right, true≢false}
 use Rattle.std.proofs.lemmas.List.Concat.{flat_map-append}
 use Rattle.std.proofs.lemmas.List.Folds.{list_all-append, list_any-append}
 use Rattle.cy_values.specs.declared.numbers.NodeId.{NodeId}
@@ -11,6 +11,8 @@ use Rattle.cy_values.specs.declared.numbers.RelId.{RelId}
 use Rattle.cy_values.specs.declared.numbers.Entity.TheVariants as entity
 use Rattle.cy_values.specs.declared.rows.Cell.{Cell}
 use Rattle.cy_values.specs.declared.rows.Cell.TheVariants as cell
+use Rattle.cy_values.proofs.Booleans.{grouped_left}
+use Rattle.cy_values.proofs.Lists.{each_then}
 use Rattle.cy_trees.specs.declared.clauses.Length.{Length}
 use Rattle.cy_trees.specs.Trees.{NodePattern, RelationshipPattern}
 use Rattle.cy_graph.specs.Graph.{Content}
@@ -20,7 +22,7 @@ use Rattle.cy_expr.specs.Graphs.{are_different}
 use Rattle.cy_oneshot_patterns.specs.Fits.{agrees, are_linked, extended, fits, has_entries, has_entry, is_labelled, is_link, relationships_of}
 use Rattle.cy_oneshot_patterns.specs.Places.{Place, node, relationship, relationships, assignments, entries_if}
 use Rattle.cy_oneshot_outcomes.specs.Lengths.{any_node, nameless, single, places_between}
-use Rattle.cy_oneshot_outcomes.proofs.Sums.{all_flat_map, all_follow, all_map, all_true}
+use Rattle.cy_oneshot_outcomes.proofs.Sums.{all_flat_map, all_map, all_true}
 use Rattle.cy_oneshot_outcomes.proofs.Walks.{between, past_node}
 
 -- ---- places without names
@@ -57,10 +59,6 @@ fits_and_agrees graph row assigned =
 
 -- ---- joined ends
 
-three_tests : (a b c : Bool) → (a && (b && c)) ≡ ((a && b) && c)
-three_tests true b c = refl
-three_tests false b c = refl
-
 -- a pattern can be cut at a node
 cut : (graph : Content) (before : List (Place × Cell)) (n : NodePattern) (c : Cell) (after : List (Place × Cell))
     → are_linked graph (before ++ (node n, c) ∷ after) ≡ (are_linked graph (before ++ (node n, c) ∷ []) && are_linked graph ((node n, c) ∷ after))
@@ -68,18 +66,15 @@ cut graph [] n c after = refl
 cut graph (p ∷ []) n c after = past_node graph p n c after
 cut graph (p ∷ q ∷ []) n c after =
     ap (λ b. is_link graph q.0 p.1 q.1 c && b) (cut graph (q ∷ []) n c after)
-    ∙ three_tests (is_link graph q.0 p.1 q.1 c) (are_linked graph (q ∷ (node n, c) ∷ [])) (are_linked graph ((node n, c) ∷ after))
+    ∙ grouped_left (is_link graph q.0 p.1 q.1 c) (are_linked graph (q ∷ (node n, c) ∷ [])) (are_linked graph ((node n, c) ∷ after))
 cut graph (p ∷ q ∷ r ∷ before) n c after =
     ap (λ b. is_link graph q.0 p.1 q.1 r.1 && b) (cut graph (q ∷ r ∷ before) n c after)
-    ∙ three_tests (is_link graph q.0 p.1 q.1 r.1) (are_linked graph (q ∷ r ∷ before ++ (node n, c) ∷ [])) (are_linked graph ((node n, c) ∷ after))
+    ∙ grouped_left (is_link graph q.0 p.1 q.1 r.1) (are_linked graph (q ∷ r ∷ before ++ (node n, c) ∷ [])) (are_linked graph ((node n, c) ∷ after))
 
 -- ---- different relationships
 
 twice_before : (ids others : List RelId) → are_different ids ≡ false → are_different (ids ++ others) ≡ false
-twice_before [] others h = absurd (true_not_false h)
-  where
-    true_not_false : true ≡ false → ⊥
-    true_not_false e = cc e
+twice_before [] others h = absurd (true≢false h)
 twice_before (id ∷ ids) others h =
     let any : list_any (λ (o : RelId). o.0 == id.0) (ids ++ others) ≡ (list_any (λ (o : RelId). o.0 == id.0) ids || list_any (λ (o : RelId). o.0 == id.0) others) =
     list_any-append (λ (o : RelId). o.0 == id.0) ids others in
@@ -212,7 +207,7 @@ module _ (graph : Content) (row : List Cell) (r : RelationshipPattern) where
   all_between (suc (suc count)) =
       all_longer_by (IsBetween (suc (suc count))) (λ (e : RelId × Rel). cell.Rel e.0) (assignments graph (node any_node ∷ between r (suc count))) graph.rels
       (λ e. all_longer_by (λ w. IsBetween (suc (suc count)) (cell.Rel e.0 ∷ w)) (λ (m : NodeId × Node). cell.Node m.0) (assignments graph (between r (suc count))) graph.nodes
-      (λ m. all_follow (IsBetween (suc count)) (λ w. IsBetween (suc (suc count)) (cell.Rel e.0 ∷ cell.Node m.0 ∷ w)) (λ w is. more_between count e.0 m.0 w is)
+      (λ m. each_then (IsBetween (suc count)) (λ w. IsBetween (suc (suc count)) (cell.Rel e.0 ∷ cell.Node m.0 ∷ w)) (λ w is. more_between count e.0 m.0 w is)
       (assignments graph (between r (suc count))) (all_between (suc count))))
 
 pub between_nameless : (r : RelationshipPattern) (count : ℕ) → map nameless (between r count) ≡ between r count

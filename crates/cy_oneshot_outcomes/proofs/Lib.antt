@@ -14,4 +14,3 @@ mod Unnamed
 mod WorkedLengths
 mod CertainSteps
 pub mod Certainties
-pub mod Conjuncts

@@ -10,6 +10,8 @@ use Rattle.std.proofs.lemmas.Bool.Decides.{nat_tests}
 use Rattle.std.proofs.lemmas.List.Sums.{sum_by-cons}
 use Rattle.cy_values.specs.declared.numbers.NodeId.{NodeId}
 use Rattle.cy_values.specs.declared.numbers.RelId.{RelId}
+use Rattle.cy_values.proofs.Booleans.{and_true, none_and}
+use Rattle.cy_values.proofs.Lists.{sum_of_none}
 use Rattle.cy_trees.specs.declared.clauses.Direction.{Direction}
 use Rattle.cy_trees.specs.declared.clauses.Direction.TheVariants.{Right, Left, Either}
 use Rattle.cy_trees.specs.Trees.{Name, RelationshipPattern}
@@ -18,7 +20,7 @@ use Rattle.cy_graph.specs.declared.nodes.Node.{Node}
 use Rattle.cy_graph.specs.declared.nodes.Rel.{Rel}
 use Rattle.cy_expr.specs.Graphs.{has_type}
 use Rattle.cy_oneshot_patterns.specs.Fits.{goes_from_to, joins, leads}
-use Rattle.cy_oneshot_outcomes.proofs.Sums.{sum_each_alike, sum_none}
+use Rattle.cy_oneshot_outcomes.proofs.Sums.{sum_each_alike}
 
 goes_to_one : (r : Rel) (a m n : NodeId) → goes_from_to a r m ≡ true → goes_from_to a r n ≡ true → m.0 ≡ n.0
 goes_to_one r a m n h k =
@@ -77,7 +79,7 @@ module _ (test : NodeId × Node → Bool) (one : (m n : NodeId × Node) → test
           → cond b value 0 + sum_by (λ m. cond (test m) value 0) nodes ≡ cond (b || list_any test nodes) value 0
       by true passes below rest =
           let none : sum_by (λ m. cond (test m) value 0) nodes ≡ 0 =
-          sum_each_alike (λ m. test m ≡ false) (λ m. cond (test m) value 0) (λ m. 0) (λ m h. ap (λ b. cond b value 0) h) nodes (none_above n passes nodes below) ∙ sum_none nodes in
+          sum_each_alike (λ m. test m ≡ false) (λ m. cond (test m) value 0) (λ m. 0) (λ m h. ap (λ b. cond b value 0) h) nodes (none_above n passes nodes below) ∙ sum_of_none nodes in
           omega (arith, none)
       by false passes below rest = omega (arith, rest)
 
@@ -86,12 +88,8 @@ module _ (test : NodeId × Node → Bool) (one : (m n : NodeId × Node) → test
 -- what passes and is the node that is there, is the node
 pub any_that_is : (f : NodeId → Bool) (y : NodeId) (nodes : List (NodeId × Node)) → list_any (λ n. n.0.0 == y.0) nodes ≡ true
     → list_any (λ n. f n.0 && (n.0.0 == y.0)) nodes ≡ f y
-any_that_is f y nodes there = by nodes ∙ ap (λ b. f y && b) there ∙ last (f y)
+any_that_is f y nodes there = by nodes ∙ ap (λ b. f y && b) there ∙ and_true (f y)
   where
-    last : (b : Bool) → (b && true) ≡ b
-    last true = refl
-    last false = refl
-
     this : (n : NodeId) (b : Bool) → (n.0 == y.0) ≡ b → (f n && b) ≡ (f y && b)
     this n true e = ap (λ m. f m && true) (ap (λ k. let id : NodeId = record { 0 = k } in id) (eqb-true n.0 y.0 e))
     this n false e = none (f n) (f y)
@@ -107,10 +105,6 @@ any_that_is f y nodes there = by nodes ∙ ap (λ b. f y && b) there ∙ last (f
     both false b c = refl
 
     by : (nodes : List (NodeId × Node)) → list_any (λ n. f n.0 && (n.0.0 == y.0)) nodes ≡ (f y && list_any (λ n. n.0.0 == y.0) nodes)
-    by [] = none (f y)
-      where
-        none : (b : Bool) → false ≡ (b && false)
-        none true = refl
-        none false = refl
+    by [] = none_and (f y)
     by (n ∷ nodes) =
         (λ i. this n.0 (n.0.0 == y.0) refl i || by nodes i) ∙ both (f y) (n.0.0 == y.0) (list_any (λ n. n.0.0 == y.0) nodes)

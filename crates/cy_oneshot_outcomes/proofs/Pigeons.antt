@@ -5,9 +5,11 @@ use Rattle.std.specs.List.{list_any, AllByRecursion}
 use Rattle.std.proofs.lemmas.Bool.{false≢true, and_parts, and_from, or_parts, or_left, or_right, not-true, eqb-true, eq-eqb, false_from_ne_true}
 use Rattle.std.proofs.lemmas.List.Sums.{sum_by-cons}
 use Rattle.cy_values.specs.declared.numbers.RelId.{RelId}
+use Rattle.cy_values.proofs.Booleans.{itself_equal}
+use Rattle.cy_values.proofs.Lists.{each_then, sums_alike}
 use Rattle.cy_expr.specs.Graphs.{are_different}
 use Rattle.cy_oneshot_patterns.specs.Places.{lists_up_to}
-use Rattle.cy_oneshot_outcomes.proofs.Sums.{all_true, all_follow, all_map, all_flat_map, sum_alike, sum_map, sum_flat_map}
+use Rattle.cy_oneshot_outcomes.proofs.Sums.{all_true, all_map, all_flat_map, sum_map, sum_flat_map}
 use Rattle.cy_oneshot_outcomes.proofs.Totals.{total, total_alike, total_sum}
 
 -- all lists of these things with this many of them
@@ -19,7 +21,7 @@ pub sum_longer : {A : Type 0} (f : List A → ℕ) (xs : List A) (lists : List (
     → sum_by f (flat_map (λ x. map (λ others. x ∷ others) lists) xs) ≡ sum_by (λ x. sum_by (λ others. f (x ∷ others)) lists) xs
 sum_longer f xs lists =
     sum_flat_map f (λ x. map (λ others. x ∷ others) lists) xs
-    ∙ sum_alike (λ x. sum_by f (map (λ others. x ∷ others) lists)) (λ x. sum_by (λ others. f (x ∷ others)) lists) (λ x. sum_map f (λ others. x ∷ others) lists) xs
+    ∙ sums_alike (λ x. sum_by f (map (λ others. x ∷ others) lists)) (λ x. sum_by (λ others. f (x ∷ others)) lists) (λ x. sum_map f (λ others. x ∷ others) lists) xs
 
 -- the lists up to a number of things are those of each number
 pub sum_up_to : {A : Type 0} (most : ℕ) (f : List A → ℕ) (things : List A) → sum_by f (lists_up_to most things) ≡ total (suc most) (λ k. sum_by f (lists_of k things))
@@ -28,7 +30,7 @@ sum_up_to (suc most) f things =
     sum_by-cons f [] (flat_map (λ thing. map (λ others. thing ∷ others) (lists_up_to most things)) things)
     ∙ ap (λ n. f [] + n)
     (sum_longer f things (lists_up_to most things)
-    ∙ sum_alike (λ x. sum_by (λ others. f (x ∷ others)) (lists_up_to most things)) (λ x. total (suc most) (λ k. sum_by (λ others. f (x ∷ others)) (lists_of k things)))
+    ∙ sums_alike (λ x. sum_by (λ others. f (x ∷ others)) (lists_up_to most things)) (λ x. total (suc most) (λ k. sum_by (λ others. f (x ∷ others)) (lists_of k things)))
     (λ x. sum_up_to most (λ others. f (x ∷ others)) things) things
     ∙ total_sum (suc most) (λ x k. sum_by (λ others. f (x ∷ others)) (lists_of k things)) things
     ∙ total_alike (suc most) (λ k. sum_by (λ x. sum_by (λ others. f (x ∷ others)) (lists_of k things)) things) (λ k. sum_by f (lists_of (suc k) things))
@@ -41,7 +43,7 @@ lengths_of (suc count) things =
     all_flat_map (λ xs. length xs ≡ suc count) (λ x. map (λ others. x ∷ others) (lists_of count things)) things
     (all_true (λ x. AllByRecursion (λ xs. length xs ≡ suc count) (map (λ others. x ∷ others) (lists_of count things)))
     (λ x. all_map (λ xs. length xs ≡ suc count) (λ others. x ∷ others) (lists_of count things)
-    (all_follow (λ xs. length xs ≡ count) (λ xs. suc (length xs) ≡ suc count) (λ xs e. ap suc e) (lists_of count things) (lengths_of count things))) things)
+    (each_then (λ xs. length xs ≡ count) (λ xs. suc (length xs) ≡ suc count) (λ xs e. ap suc e) (lists_of count things) (lengths_of count things))) things)
 
 -- ---- relationships by their numbers
 
@@ -100,23 +102,20 @@ not_longer (id ∷ ids) things different there =
 
 -- ---- what is made of things is made of them
 
-itself : (n : ℕ) → (n == n) ≡ true
-itself n = eq-eqb n n refl
-
 each_in : (xs : List RelId) → AllByRecursion (λ x. is_in xs x ≡ true) xs
 each_in [] = tt
 each_in (x ∷ xs) = (
-  or_left (x.0 == x.0) (is_in xs x) (itself x.0),
-  all_follow (λ y. is_in xs y ≡ true) (λ y. is_in (x ∷ xs) y ≡ true) (λ y e. or_right (x.0 == y.0) (is_in xs y) e) xs (each_in xs),
+  or_left (x.0 == x.0) (is_in xs x) (itself_equal x.0),
+  each_then (λ y. is_in xs y ≡ true) (λ y. is_in (x ∷ xs) y ≡ true) (λ y e. or_right (x.0 == y.0) (is_in xs y) e) xs (each_in xs),
 )
 
 made_of : (count : ℕ) (all things : List RelId) → AllByRecursion (λ x. is_in all x ≡ true) things → AllByRecursion (λ ids. all_in all ids ≡ true) (lists_of count things)
 made_of zero all things are = (refl, tt)
 made_of (suc count) all things are =
     all_flat_map (λ ids. all_in all ids ≡ true) (λ x. map (λ others. x ∷ others) (lists_of count things)) things
-    (all_follow (λ x. is_in all x ≡ true) (λ x. AllByRecursion (λ ids. all_in all ids ≡ true) (map (λ others. x ∷ others) (lists_of count things)))
+    (each_then (λ x. is_in all x ≡ true) (λ x. AllByRecursion (λ ids. all_in all ids ≡ true) (map (λ others. x ∷ others) (lists_of count things)))
     (λ x here. all_map (λ ids. all_in all ids ≡ true) (λ others. x ∷ others) (lists_of count things)
-    (all_follow (λ ids. all_in all ids ≡ true) (λ ids. all_in all (x ∷ ids) ≡ true) (λ ids e. and_from (is_in all x) (all_in all ids) here e) (lists_of count things) (made_of count all things are)))
+    (each_then (λ ids. all_in all ids ≡ true) (λ ids. all_in all (x ∷ ids) ≡ true) (λ ids e. and_from (is_in all x) (all_in all ids) here e) (lists_of count things) (made_of count all things are)))
     things are)
 
 -- in a longer list one stands twice

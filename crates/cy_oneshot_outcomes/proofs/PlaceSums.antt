@@ -6,11 +6,12 @@ use Rattle.std.proofs.lemmas.Bool.{eq-eqb, or_left, or_right}
 use Rattle.cy_values.specs.declared.numbers.NodeId.{NodeId}
 use Rattle.cy_values.specs.declared.rows.Cell.{Cell}
 use Rattle.cy_values.specs.declared.rows.Cell.TheVariants as cell
+use Rattle.cy_values.proofs.Lists.{each_then, sums_alike}
 use Rattle.cy_trees.specs.Trees.{NodePattern}
 use Rattle.cy_graph.specs.Graph.{Content}
 use Rattle.cy_graph.specs.declared.nodes.Node.{Node}
 use Rattle.cy_oneshot_patterns.specs.Places.{Place, node, assignments, candidates}
-use Rattle.cy_oneshot_outcomes.proofs.Sums.{all_flat_map, all_follow, all_map, all_true, sum_alike}
+use Rattle.cy_oneshot_outcomes.proofs.Sums.{all_flat_map, all_map, all_true}
 use Rattle.cy_oneshot_outcomes.proofs.Pigeons.{sum_longer}
 
 -- the assignments of places that stand one after another
@@ -19,7 +20,7 @@ pub sum_places : (graph : Content) (ps qs : List Place) (f : List Cell → ℕ)
 sum_places graph [] qs f = (let e : sum_by f (assignments graph qs) ≡ 0 + sum_by f (assignments graph qs) = omega arith in e)
 sum_places graph (p ∷ ps) qs f =
     sum_longer f (candidates graph p) (assignments graph (ps ++ qs))
-    ∙ sum_alike (λ c. sum_by (λ cs. f (c ∷ cs)) (assignments graph (ps ++ qs))) (λ c. sum_by (λ b. sum_by (λ d. f (c ∷ (b ++ d))) (assignments graph qs)) (assignments graph ps))
+    ∙ sums_alike (λ c. sum_by (λ cs. f (c ∷ cs)) (assignments graph (ps ++ qs))) (λ c. sum_by (λ b. sum_by (λ d. f (c ∷ (b ++ d))) (assignments graph qs)) (assignments graph ps))
     (λ c. sum_places graph ps qs (λ cs. f (c ∷ cs))) (candidates graph p)
     ∙ sym (sum_longer (λ b. sum_by (λ c. f (b ++ c)) (assignments graph qs)) (candidates graph p) (assignments graph ps))
 
@@ -28,7 +29,7 @@ pub all_assigned : (graph : Content) (p : Place) (ps : List Place) (P : List Cel
     → AllByRecursion (λ c. AllByRecursion (λ cs. P (c ∷ cs)) (assignments graph ps)) (candidates graph p) → AllByRecursion P (assignments graph (p ∷ ps))
 all_assigned graph p ps P each =
     all_flat_map P (λ c. map (λ cs. c ∷ cs) (assignments graph ps)) (candidates graph p)
-    (all_follow (λ c. AllByRecursion (λ cs. P (c ∷ cs)) (assignments graph ps)) (λ c. AllByRecursion P (map (λ cs. c ∷ cs) (assignments graph ps)))
+    (each_then (λ c. AllByRecursion (λ cs. P (c ∷ cs)) (assignments graph ps)) (λ c. AllByRecursion P (map (λ cs. c ∷ cs) (assignments graph ps)))
     (λ c e. all_map P (λ cs. c ∷ cs) (assignments graph ps) e) (candidates graph p) each)
 
 -- ---- before a step: the last place is a node's
@@ -48,7 +49,7 @@ all_left graph [] n =
 all_left graph (p ∷ places) n =
     all_assigned graph p (places ++ node n ∷ []) (IsLeft (p ∷ places))
     (all_true (λ c. AllByRecursion (λ cs. IsLeft (p ∷ places) (c ∷ cs)) (assignments graph (places ++ node n ∷ [])))
-    (λ c. all_follow (IsLeft places) (λ cs. IsLeft (p ∷ places) (c ∷ cs))
+    (λ c. each_then (IsLeft places) (λ cs. IsLeft (p ∷ places) (c ∷ cs))
     (λ cs is. record { others = c ∷ is.others; last = is.last; parts = ap (λ l. c ∷ l) is.parts; long = ap suc is.long })
     (assignments graph (places ++ node n ∷ [])) (all_left graph places n)) (candidates graph p))
 
@@ -67,7 +68,7 @@ each_there : (nodes : List (NodeId × Node)) → AllByRecursion (λ (e : NodeId 
 each_there [] = tt
 each_there (n ∷ nodes) = (
   or_left (n.0.0 == n.0.0) (list_any (λ (m : NodeId × Node). m.0.0 == n.0.0) nodes) (eq-eqb n.0.0 n.0.0 refl),
-  all_follow (λ (e : NodeId × Node). list_any (λ (m : NodeId × Node). m.0.0 == e.0.0) nodes ≡ true) (λ (e : NodeId × Node). list_any (λ (m : NodeId × Node). m.0.0 == e.0.0) (n ∷ nodes) ≡ true)
+  each_then (λ (e : NodeId × Node). list_any (λ (m : NodeId × Node). m.0.0 == e.0.0) nodes ≡ true) (λ (e : NodeId × Node). list_any (λ (m : NodeId × Node). m.0.0 == e.0.0) (n ∷ nodes) ≡ true)
       (λ e h. or_right (n.0.0 == e.0.0) (list_any (λ (m : NodeId × Node). m.0.0 == e.0.0) nodes) h) nodes (each_there nodes),
 )
 
@@ -75,7 +76,7 @@ pub all_right : (graph : Content) (n : NodePattern) (places : List Place) → Al
 all_right graph n places =
     all_assigned graph (node n) places (IsRight graph)
     (all_map (λ c. AllByRecursion (λ cs. IsRight graph (c ∷ cs)) (assignments graph places)) (λ (e : NodeId × Node). cell.Node e.0) graph.nodes
-    (all_follow (λ (e : NodeId × Node). is_there graph e.0 ≡ true) (λ (e : NodeId × Node). AllByRecursion (λ cs. IsRight graph (cell.Node e.0 ∷ cs)) (assignments graph places))
+    (each_then (λ (e : NodeId × Node). is_there graph e.0 ≡ true) (λ (e : NodeId × Node). AllByRecursion (λ cs. IsRight graph (cell.Node e.0 ∷ cs)) (assignments graph places))
     (λ e h. all_true (λ cs. IsRight graph (cell.Node e.0 ∷ cs)) (λ cs. record { first = e.0; others = cs; parts = refl; there = h }) (assignments graph places))
     graph.nodes (each_there graph.nodes)))
 

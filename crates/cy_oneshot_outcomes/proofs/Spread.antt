@@ -11,6 +11,7 @@ use Rattle.cy_values.specs.declared.numbers.NodeId.{NodeId}
 use Rattle.cy_values.specs.declared.numbers.RelId.{RelId}
 use Rattle.cy_values.specs.declared.rows.Cell.{Cell}
 use Rattle.cy_values.specs.declared.rows.Cell.TheVariants as cell
+use Rattle.cy_values.proofs.Lists.{sum_of_none, sums_alike}
 use Rattle.cy_trees.specs.declared.clauses.Length.{Length}
 use Rattle.cy_trees.specs.Trees.{NodePattern, RelationshipPattern}
 use Rattle.cy_graph.specs.Graph.{Content, node_order}
@@ -19,7 +20,7 @@ use Rattle.cy_expr.specs.Graphs.{are_different}
 use Rattle.cy_oneshot_patterns.specs.Fits.{are_linked, fits, is_in_range, leads_on, relationships_of}
 use Rattle.cy_oneshot_patterns.specs.Places.{Place, node, relationships, assignments, candidates, lists_up_to}
 use Rattle.cy_oneshot_outcomes.specs.Lengths.{counts_in, nameless, places_between, ranged, starts_twice}
-use Rattle.cy_oneshot_outcomes.proofs.Sums.{sum_alike, sum_each_alike, sum_exchanged, sum_map, sum_none}
+use Rattle.cy_oneshot_outcomes.proofs.Sums.{sum_each_alike, sum_exchanged, sum_map}
 use Rattle.cy_oneshot_outcomes.proofs.Totals.{total_alike, total_range, total_within, within}
 use Rattle.cy_oneshot_outcomes.proofs.Pigeons.{lengths_of, lists_of, sum_longer, sum_up_to, twice_if_longer}
 use Rattle.cy_oneshot_outcomes.proofs.Walks.{between, numbers, pulled_out, walks}
@@ -176,12 +177,12 @@ module _ (graph : Content) (rising : entries.is_sorted node_order graph.nodes �
         sum_each_alike (λ ids. are_different ids ≡ false) (λ ids. cond (walked ids) (worth ids) 0) (λ ids. 0)
         (λ ids twice. ap (λ t. cond (walked ids) (cond t (value (b ++ cell.Rels ids ∷ c)) 0) 0) (none_around graph row r pairs_left first_end x last_end y pairs_right ids twice) ∙ never (walked ids))
         (lists_of count (numbers graph)) (twice_if_longer count (numbers graph) (omega (arith, long, more)))
-        ∙ sum_none (lists_of count (numbers graph))
+        ∙ sum_of_none (lists_of count (numbers graph))
 
     of_lists : sum_by (λ m. of_range (b ++ m ∷ c)) (candidates graph (relationships (ranged r range) range)) ≡ sum_by (λ count. sum_of count) (counts_in graph range)
     of_lists =
         sum_map (λ m. of_range (b ++ m ∷ c)) (λ ids. cell.Rels ids) (lists_up_to (length graph.rels) (numbers graph))
-        ∙ sum_alike (λ ids. of_range (b ++ cell.Rels ids ∷ c)) (λ ids. cond (is_in_range range (length ids) && walked ids) (worth ids) 0) of_list (lists_up_to (length graph.rels) (numbers graph))
+        ∙ sums_alike (λ ids. of_range (b ++ cell.Rels ids ∷ c)) (λ ids. cond (is_in_range range (length ids) && walked ids) (worth ids) 0) of_list (lists_up_to (length graph.rels) (numbers graph))
         ∙ sum_up_to (length graph.rels) (λ ids. cond (is_in_range range (length ids) && walked ids) (worth ids) 0) (numbers graph)
         ∙ total_alike (suc (length graph.rels)) (λ count. sum_by (λ ids. cond (is_in_range range (length ids) && walked ids) (worth ids) 0) (lists_of count (numbers graph)))
         (λ count. cond (within range.least high count) (sum_of count) 0) of_count
@@ -238,7 +239,7 @@ module _ (graph : Content) (rising : entries.is_sorted node_order graph.nodes �
     alike_between : sum_by (λ m. of_range (b ++ m ∷ c)) (candidates graph (relationships (ranged r range) range))
         ≡ sum_by (λ count. sum_by (λ w. of_singles count (b ++ (w ++ c))) (assignments graph (between r count))) (counts_in graph range)
     alike_between =
-        of_lists ∙ sym (sum_alike (λ count. sum_by (λ w. of_singles count (b ++ (w ++ c))) (assignments graph (between r count))) (λ count. sum_of count) of_walks (counts_in graph range))
+        of_lists ∙ sym (sums_alike (λ count. sum_by (λ w. of_singles count (b ++ (w ++ c))) (assignments graph (between r count))) (λ count. sum_of count) of_walks (counts_in graph range))
 
   -- ---- all that stands around the step
 
@@ -251,24 +252,24 @@ module _ (graph : Content) (rising : entries.is_sorted node_order graph.nodes �
   by_ends : sum_by of_range (assignments graph with_range) ≡ sum_by (λ b. sum_by (λ c. range_rest b c) (assignments graph rights)) (assignments graph lefts)
   by_ends =
       sum_places graph lefts (relationships (ranged r range) range ∷ rights) of_range
-      ∙ sum_alike (λ b. sum_by (λ u. of_range (b ++ u)) (assignments graph (relationships (ranged r range) range ∷ rights))) (λ b. sum_by (λ c. range_rest b c) (assignments graph rights))
+      ∙ sums_alike (λ b. sum_by (λ u. of_range (b ++ u)) (assignments graph (relationships (ranged r range) range ∷ rights))) (λ b. sum_by (λ c. range_rest b c) (assignments graph rights))
       (λ b. sum_longer (λ u. of_range (b ++ u)) (candidates graph (relationships (ranged r range) range)) (assignments graph rights)
       ∙ sum_exchanged (λ m c. of_range (b ++ m ∷ c)) (candidates graph (relationships (ranged r range) range)) (assignments graph rights)) (assignments graph lefts)
 
   singles_by_ends : (count : ℕ) → sum_by (of_singles count) (assignments graph (with_singles count)) ≡ sum_by (λ b. sum_by (λ c. singles_rest b c count) (assignments graph rights)) (assignments graph lefts)
   singles_by_ends count =
       sum_places graph lefts (between r count ++ rights) (of_singles count)
-      ∙ sum_alike (λ b. sum_by (λ u. of_singles count (b ++ u)) (assignments graph (between r count ++ rights))) (λ b. sum_by (λ c. singles_rest b c count) (assignments graph rights))
+      ∙ sums_alike (λ b. sum_by (λ u. of_singles count (b ++ u)) (assignments graph (between r count ++ rights))) (λ b. sum_by (λ c. singles_rest b c count) (assignments graph rights))
       (λ b. sum_places graph (between r count) rights (λ u. of_singles count (b ++ u))
       ∙ sum_exchanged (λ w c. of_singles count (b ++ (w ++ c))) (assignments graph (between r count)) (assignments graph rights)) (assignments graph lefts)
 
   all_singles : sum_by (λ count. sum_by (of_singles count) (assignments graph (with_singles count))) (counts_in graph range)
       ≡ sum_by (λ b. sum_by (λ c. sum_by (singles_rest b c) (counts_in graph range)) (assignments graph rights)) (assignments graph lefts)
   all_singles =
-      sum_alike (λ count. sum_by (of_singles count) (assignments graph (with_singles count))) (λ count. sum_by (λ b. sum_by (λ c. singles_rest b c count) (assignments graph rights)) (assignments graph lefts))
+      sums_alike (λ count. sum_by (of_singles count) (assignments graph (with_singles count))) (λ count. sum_by (λ b. sum_by (λ c. singles_rest b c count) (assignments graph rights)) (assignments graph lefts))
       singles_by_ends (counts_in graph range)
       ∙ sum_exchanged (λ count b. sum_by (λ c. singles_rest b c count) (assignments graph rights)) (counts_in graph range) (assignments graph lefts)
-      ∙ sum_alike (λ b. sum_by (λ count. sum_by (λ c. singles_rest b c count) (assignments graph rights)) (counts_in graph range))
+      ∙ sums_alike (λ b. sum_by (λ count. sum_by (λ c. singles_rest b c count) (assignments graph rights)) (counts_in graph range))
       (λ b. sum_by (λ c. sum_by (singles_rest b c) (counts_in graph range)) (assignments graph rights))
       (λ b. sum_exchanged (λ count c. singles_rest b c count) (counts_in graph range) (assignments graph rights)) (assignments graph lefts)
 

@@ -3,18 +3,12 @@ use Rattle.std.proofs.Common.{◌≡◌, ℕ, ◌+◌, Bool, true, false, cond, 
 use Rattle.std.specs.Prelude.{sum_by, flat_map}
 use Rattle.std.specs.List.{AllByRecursion}
 use Rattle.std.proofs.lemmas.List.Sums.{sum_by-append, sum_by-cons}
-
-pub sum_alike : {A : Type 0} (f g : A → ℕ) → ((x : A) → f x ≡ g x) → (xs : List A) → sum_by f xs ≡ sum_by g xs
-sum_alike {A} f g alike xs = ap (λ (h : A → ℕ). sum_by h xs) (λ i x. alike x i)
+use Rattle.cy_values.proofs.Lists.{each_append, sum_of_none, sum_of_two, sums_alike}
 
 pub sum_each_alike : {A : Type 0} (P : A → Type 0) (f g : A → ℕ) → ((x : A) → P x → f x ≡ g x) → (xs : List A) → AllByRecursion P xs → sum_by f xs ≡ sum_by g xs
 sum_each_alike P f g alike [] each = refl
 sum_each_alike P f g alike (x ∷ xs) each =
     sum_by-cons f x xs ∙ ap (λ n. n + sum_by f xs) (alike x each.0) ∙ ap (λ n. g x + n) (sum_each_alike P f g alike xs each.1) ∙ sym (sum_by-cons g x xs)
-
-pub sum_none : {A : Type 0} (xs : List A) → sum_by (λ x. 0) xs ≡ 0
-sum_none [] = refl
-sum_none (x ∷ xs) = sum_by-cons (λ y. 0) x xs ∙ ap (λ n. 0 + n) (sum_none xs)
 
 pub sum_map : {A B : Type 0} (f : B → ℕ) (g : A → B) (xs : List A) → sum_by f (map g xs) ≡ sum_by (λ x. f (g x)) xs
 sum_map f g [] = refl
@@ -33,29 +27,18 @@ sum_filter f p (x ∷ xs) =
       | false ↦ sum_filter f p xs ∙ (let e : sum_by (λ y. cond (p y) (f y) 0) xs ≡ 0 + sum_by (λ y. cond (p y) (f y) 0) xs = omega arith in e)
     ] ∙ sym (sum_by-cons (λ y. cond (p y) (f y) 0) x xs)
 
-pub sum_plus : {A : Type 0} (f g : A → ℕ) (xs : List A) → sum_by (λ x. f x + g x) xs ≡ sum_by f xs + sum_by g xs
-sum_plus f g [] = refl
-sum_plus f g (x ∷ xs) =
-    let rest : sum_by (λ y. f y + g y) xs ≡ sum_by f xs + sum_by g xs = sum_plus f g xs in
-    let both : sum_by (λ y. f y + g y) (x ∷ xs) ≡ (f x + g x) + sum_by (λ y. f y + g y) xs = sum_by-cons (λ y. f y + g y) x xs in
-    omega (arith, rest, both, sum_by-cons f x xs, sum_by-cons g x xs)
-
 -- the order in which two lists are gone over makes no difference
 pub sum_exchanged : {A B : Type 0} (f : A → B → ℕ) (xs : List A) (ys : List B) → sum_by (λ x. sum_by (λ y. f x y) ys) xs ≡ sum_by (λ y. sum_by (λ x. f x y) xs) ys
-sum_exchanged f [] ys = sym (sum_none ys)
+sum_exchanged f [] ys = sym (sum_of_none ys)
 sum_exchanged f (x ∷ xs) ys =
     sum_by-cons (λ z. sum_by (λ y. f z y) ys) x xs
     ∙ ap (λ n. sum_by (λ y. f x y) ys + n) (sum_exchanged f xs ys)
-    ∙ sym (sum_plus (λ y. f x y) (λ y. sum_by (λ z. f z y) xs) ys)
-    ∙ sum_alike (λ y. f x y + sum_by (λ z. f z y) xs) (λ y. sum_by (λ z. f z y) (x ∷ xs)) (λ y. sym (sum_by-cons (λ z. f z y) x xs)) ys
+    ∙ sym (sum_of_two (λ y. f x y) (λ y. sum_by (λ z. f z y) xs) ys)
+    ∙ sums_alike (λ y. f x y + sum_by (λ z. f z y) xs) (λ y. sum_by (λ z. f z y) (x ∷ xs)) (λ y. sym (sum_by-cons (λ z. f z y) x xs)) ys
 
 pub all_true : {A : Type 0} (P : A → Type 0) → ((x : A) → P x) → (xs : List A) → AllByRecursion P xs
 all_true P is [] = tt
 all_true P is (x ∷ xs) = (is x, all_true P is xs)
-
-pub all_append : {A : Type 0} (P : A → Type 0) (xs ys : List A) → AllByRecursion P xs → AllByRecursion P ys → AllByRecursion P (xs ++ ys)
-all_append P [] ys all others = others
-all_append P (x ∷ xs) ys all others = (all.0, all_append P xs ys all.1 others)
 
 pub all_map : {A B : Type 0} (P : B → Type 0) (f : A → B) (xs : List A) → AllByRecursion (λ x. P (f x)) xs → AllByRecursion P (map f xs)
 all_map P f [] all = tt
@@ -63,9 +46,4 @@ all_map P f (x ∷ xs) all = (all.0, all_map P f xs all.1)
 
 pub all_flat_map : {A B : Type 0} (P : B → Type 0) (f : A → List B) (xs : List A) → AllByRecursion (λ x. AllByRecursion P (f x)) xs → AllByRecursion P (flat_map f xs)
 all_flat_map P f [] all = tt
-all_flat_map P f (x ∷ xs) all = all_append P (f x) (flat_map f xs) all.0 (all_flat_map P f xs all.1)
-
--- what follows from what holds of each
-pub all_follow : {A : Type 0} (P Q : A → Type 0) → ((x : A) → P x → Q x) → (xs : List A) → AllByRecursion P xs → AllByRecursion Q xs
-all_follow P Q follows [] all = tt
-all_follow P Q follows (x ∷ xs) all = (follows x all.0, all_follow P Q follows xs all.1)
+all_flat_map P f (x ∷ xs) all = each_append P (f x) (flat_map f xs) all.0 (all_flat_map P f xs all.1)

@@ -7,6 +7,7 @@ use Rattle.std.specs.Ordering.{eq_by_cmp}
 use Rattle.cy_values.specs.Bag.{IsSameBag}
 use Rattle.cy_values.specs.Order.{row_cmp}
 use Rattle.cy_values.specs.declared.rows.Cell.{Cell}
+use Rattle.cy_values.proofs.Lists.{sums_alike}
 use Rattle.cy_trees.specs.Trees.{Path}
 use Rattle.cy_graph.specs.Graph.{Content, node_order}
 use Rattle.cy_expr.specs.Graphs.{are_different}
@@ -14,7 +15,7 @@ use Rattle.cy_oneshot_patterns.specs.Fits.{agrees, are_linked, extended, fits, h
 use Rattle.cy_oneshot_patterns.specs.Matching.{fitting}
 use Rattle.cy_oneshot_patterns.specs.Places.{Place, node, relationship, relationships, assignments, places}
 use Rattle.cy_oneshot_outcomes.specs.Lengths.{LongStep, counts_in, ends_meet, nameless, names_agree, own_table, packed, packed_table, packed_tables, pattern, places_before, rows_of, written_out}
-use Rattle.cy_oneshot_outcomes.proofs.Sums.{sum_alike, sum_filter, sum_flat_map, sum_map}
+use Rattle.cy_oneshot_outcomes.proofs.Sums.{sum_filter, sum_flat_map, sum_map}
 use Rattle.cy_oneshot_outcomes.proofs.Fitting.{fits_and_agrees, fits_nameless, holds}
 use Rattle.cy_oneshot_outcomes.proofs.PathPlaces.{left_end, one_before, places_of_pattern, places_of_singles, places_right}
 use Rattle.cy_oneshot_outcomes.proofs.Spread.{meet_at, spread}
@@ -115,7 +116,7 @@ module _ (graph : Content) (rising : entries.is_sorted node_order graph.nodes �
         sum_map value (packed s count) (filter (ends_meet s count) (own_table graph (written_out s count) row))
         ∙ sum_filter (λ cells. value (packed s count cells)) (ends_meet s count) (own_table graph (written_out s count) row)
         ∙ sum_filter (λ cells. cond (ends_meet s count cells) (value (packed s count cells)) 0) (own (places (written_out s count))) (assignments graph (places (written_out s count)))
-        ∙ sum_alike (λ cells. cond (own (places (written_out s count)) cells) (cond (ends_meet s count cells) (value (packed s count cells)) 0) 0) (of_packed count (places (written_out s count)))
+        ∙ sums_alike (λ cells. cond (own (places (written_out s count)) cells) (cond (ends_meet s count cells) (value (packed s count cells)) 0) 0) (of_packed count (places (written_out s count)))
         (λ cells. ap (λ b. cond (own (places (written_out s count)) cells) (cond b (value (packed s count cells)) 0) 0) (sym (meets_alike count cells))) (assignments graph (places (written_out s count)))
 
     pub same_sums : sum_by value (own_table graph (pattern s) row) ≡ sum_by value (packed_tables graph s row)
@@ -128,7 +129,7 @@ module _ (graph : Content) (rising : entries.is_sorted node_order graph.nodes �
         sum_of_pattern
         ∙ ap (λ ps. sum_by (λ cells. cond (own ps cells) (value cells) 0) (assignments graph ps)) whole
         ∙ spread graph rising row s.relationship s.range left.others left.last s.end (places_right s) value (places_before s) (one_before s)
-        ∙ sum_alike
+        ∙ sums_alike
         (λ count. sum_by (of_packed count ((left.others ++ node left.last ∷ []) ++ (between s.relationship count ++ node s.end ∷ places_right s)))
         (assignments graph ((left.others ++ node left.last ∷ []) ++ (between s.relationship count ++ node s.end ∷ places_right s))))
         (λ count. sum_by value (packed_table graph s row count))

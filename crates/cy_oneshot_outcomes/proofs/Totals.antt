@@ -5,7 +5,7 @@ use Rattle.std.specs.List.{range_with_len}
 use Rattle.std.proofs.lemmas.Bool.{cases_lt, and_left, and_right}
 use Rattle.std.proofs.lemmas.Bool.Decides.{nat_tests}
 use Rattle.std.proofs.lemmas.List.Sums.{sum_by-cons}
-use Rattle.cy_oneshot_outcomes.proofs.Sums.{sum_plus, sum_none}
+use Rattle.cy_values.proofs.Lists.{sum_of_none, sum_of_two}
 
 abbrev pub total : ℕ → (ℕ → ℕ) → ℕ
 total zero f = 0
@@ -34,9 +34,9 @@ total_split (suc m) n f =
 
 -- the order of summing makes no difference
 pub total_sum : {A : Type 0} (n : ℕ) (f : A → ℕ → ℕ) (xs : List A) → sum_by (λ x. total n (f x)) xs ≡ total n (λ k. sum_by (λ x. f x k) xs)
-total_sum zero f xs = sum_none xs
+total_sum zero f xs = sum_of_none xs
 total_sum (suc n) f xs =
-    sum_plus (λ x. f x 0) (λ x. total n (λ k. f x (suc k))) xs
+    sum_of_two (λ x. f x 0) (λ x. total n (λ k. f x (suc k))) xs
     ∙ ap (λ t. sum_by (λ x. f x 0) xs + t) (total_sum n (λ x k. f x (suc k)) xs)
 
 pub total_range : (f : ℕ → ℕ) (a n : ℕ) → sum_by f (range_with_len a n) ≡ total n (λ k. f (a + k))

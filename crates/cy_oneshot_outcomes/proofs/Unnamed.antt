@@ -1,6 +1,6 @@
 -- Where a step has no name, the rows of the pattern are those of the pattern written out.
 use Rattle.std.specs.FinMap.Entries as entries
-use Rattle.std.proofs.Common.{◌≡◌, ℕ, zero, suc, ◌+◌, ◌≤◌, ◌==◌, Bool, true, false, cond, ◌&&◌, List, [], ◌∷◌, ◌++◌, map, filter, length, take, drop, None, refl, sym, ap, ◌∙◌, take-append-drop, length-append, length-drop, length-take, arith}
+use Rattle.std.proofs.Common.{◌≡◌, ℕ, zero, suc, ◌+◌, ◌≤◌, ◌==◌, true, false, cond, ◌&&◌, List, [], ◌∷◌, ◌++◌, map, filter, length, take, drop, None, refl, sym, ap, ◌∙◌, take-append-drop, length-append, length-drop, length-take, arith}
 use Rattle.std.specs.Prelude.{sum_by, flat_map, zip, slice_get}
 use Rattle.std.specs.List.{list_all, AllByRecursion}
 use Rattle.std.specs.Option.{option_and_then, option_map_or}
@@ -10,6 +10,7 @@ use Rattle.cy_values.specs.Bag.{IsSameBag}
 use Rattle.cy_values.specs.Order.{cell_order, row_cmp}
 use Rattle.cy_values.specs.declared.rows.Cell.{Cell}
 use Rattle.cy_values.specs.declared.rows.Cell.TheVariants as cell
+use Rattle.cy_values.proofs.Lists.{each_filter, each_then, sums_alike}
 use Rattle.cy_trees.specs.declared.clauses.Length.{Length}
 use Rattle.cy_trees.specs.declared.expressions.Variable.{Variable}
 use Rattle.cy_trees.specs.Trees.{RelationshipPattern}
@@ -18,7 +19,7 @@ use Rattle.cy_oneshot_patterns.specs.Fits.{agrees, extended, fits, is_new, relat
 use Rattle.cy_oneshot_patterns.specs.Matching.{fitting}
 use Rattle.cy_oneshot_patterns.specs.Places.{Place, node, relationships, assignments, candidates, column_at, places}
 use Rattle.cy_oneshot_outcomes.specs.Lengths.{LongStep, counts_in, ends_meet, nameless, names_agree, own_table, packed, packed_table, packed_tables, pattern, places_before, places_between, ranged, rows_of, rows_written_out, written_out}
-use Rattle.cy_oneshot_outcomes.proofs.Sums.{all_follow, all_true, sum_alike, sum_each_alike, sum_flat_map, sum_map}
+use Rattle.cy_oneshot_outcomes.proofs.Sums.{all_true, sum_each_alike, sum_flat_map, sum_map}
 use Rattle.cy_oneshot_outcomes.proofs.PathPlaces.{places_left, places_of_pattern, places_of_singles, places_right}
 use Rattle.cy_oneshot_outcomes.proofs.PlaceSums.{all_assigned, zip_parts}
 use Rattle.cy_oneshot_outcomes.proofs.Spread.{between_long}
@@ -103,15 +104,7 @@ all_long graph [] = (refl, tt)
 all_long graph (p ∷ ps) =
     all_assigned graph p ps (λ cells. length cells ≡ suc (length ps))
     (all_true (λ c. AllByRecursion (λ cs. suc (length cs) ≡ suc (length ps)) (assignments graph ps))
-    (λ c. all_follow (λ cs. length cs ≡ length ps) (λ cs. suc (length cs) ≡ suc (length ps)) (λ cs e. ap suc e) (assignments graph ps) (all_long graph ps)) (candidates graph p))
-
-all_kept : {A : Type 0} (P : A → Type 0) (p : A → Bool) (xs : List A) → AllByRecursion P xs → AllByRecursion P (filter p xs)
-all_kept P p [] all = tt
-all_kept P p (x ∷ xs) all = by (p x) (all_kept P p xs all.1)
-  where
-    by : (b : Bool) → AllByRecursion P (filter p xs) → AllByRecursion P (cond b (x ∷ filter p xs) (filter p xs))
-    by true rest = (all.0, rest)
-    by false rest = rest
+    (λ c. each_then (λ cs. length cs ≡ length ps) (λ cs. suc (length cs) ≡ suc (length ps)) (λ cs e. ap suc e) (assignments graph ps) (all_long graph ps)) (candidates graph p))
 
 module _ (graph : Content) (rising : entries.is_sorted node_order graph.nodes ≡ true) (row : List Cell) (s : LongStep) (unnamed : s.relationship.variable ≡ None) where
   abbrev part_left : List Cell → List Cell
@@ -183,8 +176,8 @@ module _ (graph : Content) (rising : entries.is_sorted node_order graph.nodes �
         ∙ sum_each_alike (λ cells. length cells ≡ length (places (written_out s count))) (λ cells. of_pattern (packed s count cells)) (of_written count)
         (λ cells long i. cond (alike_names count cells long i) (is_made (alike_extended count cells long i)) 0)
         (filter (ends_meet s count) (own_table graph (written_out s count) row))
-        (all_kept (λ cells. length cells ≡ length (places (written_out s count))) (ends_meet s count) (own_table graph (written_out s count) row)
-        (all_kept (λ cells. length cells ≡ length (places (written_out s count))) (λ cells. fits graph row (zip (map nameless (places (written_out s count))) cells))
+        (each_filter (λ cells. length cells ≡ length (places (written_out s count))) (ends_meet s count) (own_table graph (written_out s count) row)
+        (each_filter (λ cells. length cells ≡ length (places (written_out s count))) (λ cells. fits graph row (zip (map nameless (places (written_out s count))) cells))
         (assignments graph (places (written_out s count))) (all_long graph (places (written_out s count)))))
         ∙ sym (count_rows graph rising row s made (written_out s count) (filter (ends_meet s count) (own_table graph (written_out s count) row)))
 
@@ -193,7 +186,7 @@ module _ (graph : Content) (rising : entries.is_sorted node_order graph.nodes �
       same_rows graph rising row s made
       ∙ count_rows graph rising row s made (pattern s) (packed_tables graph s row)
       ∙ sum_flat_map (of_pattern made) (packed_table graph s row) (counts_in graph s.range)
-      ∙ sum_alike (λ count. sum_by (of_pattern made) (packed_table graph s row count)) (λ count. sum_by (is_made made) (rows_written_out graph s row count)) (each_count made) (counts_in graph s.range)
+      ∙ sums_alike (λ count. sum_by (of_pattern made) (packed_table graph s row count)) (λ count. sum_by (is_made made) (rows_written_out graph s row count)) (each_count made) (counts_in graph s.range)
       ∙ sym (sum_flat_map (is_made made) (rows_written_out graph s row) (counts_in graph s.range))
 
 all_pass : {A : Type 0} (xs : List A) → filter (λ (x : A). true) xs ≡ xs

@@ -10,6 +10,7 @@ use Rattle.cy_values.specs.declared.numbers.NodeId.{NodeId}
 use Rattle.cy_values.specs.declared.numbers.RelId.{RelId}
 use Rattle.cy_values.specs.declared.rows.Cell.{Cell}
 use Rattle.cy_values.specs.declared.rows.Cell.TheVariants as cell
+use Rattle.cy_values.proofs.Lists.{sum_of_none, sums_alike}
 use Rattle.cy_trees.specs.Trees.{NodePattern, RelationshipPattern}
 use Rattle.cy_graph.specs.Graph.{Content, node_order}
 use Rattle.cy_graph.specs.declared.nodes.Node.{Node}
@@ -17,7 +18,7 @@ use Rattle.cy_graph.specs.declared.nodes.Rel.{Rel}
 use Rattle.cy_oneshot_patterns.specs.Fits.{are_linked, leads, leads_on, relationships_of}
 use Rattle.cy_oneshot_patterns.specs.Places.{Place, node, relationship, assignments}
 use Rattle.cy_oneshot_outcomes.specs.Lengths.{any_node, single}
-use Rattle.cy_oneshot_outcomes.proofs.Sums.{sum_alike, sum_exchanged, sum_map, sum_none}
+use Rattle.cy_oneshot_outcomes.proofs.Sums.{sum_exchanged, sum_map}
 use Rattle.cy_oneshot_outcomes.proofs.OneEnd.{any_that_is, leads_to_one, sum_of_one}
 use Rattle.cy_oneshot_outcomes.proofs.Pigeons.{lists_of, sum_longer}
 
@@ -32,7 +33,7 @@ numbers graph = map (λ (e : RelId × Rel). e.0) graph.rels
 
 pub pulled_out : {A : Type 0} (b : Bool) (p : A → Bool) (f : A → ℕ) (xs : List A) → sum_by (λ x. cond (b && p x) (f x) 0) xs ≡ cond b (sum_by (λ x. cond (p x) (f x) 0) xs) 0
 pulled_out true p f xs = refl
-pulled_out false p f xs = sum_none xs
+pulled_out false p f xs = sum_of_none xs
 
 -- a node's place asks nothing of what stands before it
 pub past_node : (graph : Content) (p : Place × Cell) (m : NodePattern) (c : Cell) (rest : List (Place × Cell)) → are_linked graph (p ∷ (node m, c) ∷ rest) ≡ are_linked graph ((node m, c) ∷ rest)
@@ -46,7 +47,7 @@ sum_two : (graph : Content) (r : RelationshipPattern) (n : NodePattern) (others 
 sum_two graph r n others f =
     sum_longer f (map (λ (e : RelId × Rel). cell.Rel e.0) graph.rels) (assignments graph (node n ∷ others))
     ∙ sum_map (λ c. sum_by (λ w. f (c ∷ w)) (assignments graph (node n ∷ others))) (λ (e : RelId × Rel). cell.Rel e.0) graph.rels
-    ∙ sum_alike (λ (e : RelId × Rel). sum_by (λ w. f (cell.Rel e.0 ∷ w)) (assignments graph (node n ∷ others)))
+    ∙ sums_alike (λ (e : RelId × Rel). sum_by (λ w. f (cell.Rel e.0 ∷ w)) (assignments graph (node n ∷ others)))
     (λ (e : RelId × Rel). sum_by (λ (m : NodeId × Node). sum_by (λ w. f (cell.Rel e.0 ∷ cell.Node m.0 ∷ w)) (assignments graph others)) graph.nodes)
     (λ e. sum_longer (λ w. f (cell.Rel e.0 ∷ w)) (map (λ (m : NodeId × Node). cell.Node m.0) graph.nodes) (assignments graph others)
     ∙ sum_map (λ c. sum_by (λ w. f (cell.Rel e.0 ∷ c ∷ w)) (assignments graph others)) (λ (m : NodeId × Node). cell.Node m.0) graph.nodes) graph.rels
@@ -70,13 +71,13 @@ module _ (graph : Content) (rising : entries.is_sorted node_order graph.nodes �
   walks zero f start x =
       sum_longer (λ w. cond (is_walk 1 start x w) (f (flat_map relationships_of w)) 0) (map (λ (e : RelId × Rel). cell.Rel e.0) graph.rels) ([] ∷ [])
       ∙ sum_map (λ c. sum_by (λ w. cond (is_walk 1 start x (c ∷ w)) (f (flat_map relationships_of (c ∷ w))) 0) ([] ∷ [])) (λ (e : RelId × Rel). cell.Rel e.0) graph.rels
-      ∙ sum_alike (λ (e : RelId × Rel). 0 + cond (leads graph (single r) x e.0 y && true) (f (e.0 ∷ [])) 0) (λ (e : RelId × Rel). 0 + cond (leads_on graph r x (e.0 ∷ []) y) (f (e.0 ∷ [])) 0)
+      ∙ sums_alike (λ (e : RelId × Rel). 0 + cond (leads graph (single r) x e.0 y && true) (f (e.0 ∷ [])) 0) (λ (e : RelId × Rel). 0 + cond (leads_on graph r x (e.0 ∷ []) y) (f (e.0 ∷ [])) 0)
       (λ e. ap (λ b. 0 + cond b (f (e.0 ∷ [])) 0) (leads_last x e.0)) graph.rels
       ∙ sym (sum_map (λ id. sum_by (λ ids. cond (leads_on graph r x (id ∷ ids) y) (f (id ∷ ids)) 0) ([] ∷ [])) (λ (e : RelId × Rel). e.0) graph.rels)
       ∙ sym (sum_longer (λ ids. cond (leads_on graph r x ids y) (f ids) 0) (numbers graph) ([] ∷ []))
   walks (suc count) f start x =
       sum_two graph (single r) any_node (between r (suc count)) (λ w. cond (is_walk (suc (suc count)) start x w) (f (flat_map relationships_of w)) 0)
-      ∙ sum_alike
+      ∙ sums_alike
       (λ (e : RelId × Rel). sum_by (λ (m : NodeId × Node). sum_by (λ w. cond (is_walk (suc (suc count)) start x (cell.Rel e.0 ∷ cell.Node m.0 ∷ w)) (f (e.0 ∷ flat_map relationships_of w)) 0) (assignments graph (between r (suc count)))) graph.nodes)
       (λ (e : RelId × Rel). sum_by (λ ids. cond (leads_on graph r x (e.0 ∷ ids) y) (f (e.0 ∷ ids)) 0) (lists_of (suc count) (numbers graph)))
       (λ e. after e.0 (λ n. walks count (λ ids. f (e.0 ∷ ids)) any_node n)) graph.rels
@@ -89,7 +90,7 @@ module _ (graph : Content) (rising : entries.is_sorted node_order graph.nodes �
           → sum_by (λ w. cond (is_walk (suc (suc count)) start x (cell.Rel id ∷ cell.Node n ∷ w)) (f (id ∷ flat_map relationships_of w)) 0) (assignments graph (between r (suc count)))
           ≡ sum_by (λ ids. cond (leads graph r x id n && leads_on graph r n ids y) (f (id ∷ ids)) 0) (lists_of (suc count) (numbers graph))
       by_way_of id n rest =
-          sum_alike (λ w. cond (is_walk (suc (suc count)) start x (cell.Rel id ∷ cell.Node n ∷ w)) (f (id ∷ flat_map relationships_of w)) 0)
+          sums_alike (λ w. cond (is_walk (suc (suc count)) start x (cell.Rel id ∷ cell.Node n ∷ w)) (f (id ∷ flat_map relationships_of w)) 0)
           (λ w. cond (leads graph r x id n && is_walk (suc count) any_node n w) (f (id ∷ flat_map relationships_of w)) 0)
           (λ w. ap (λ b. cond b (f (id ∷ flat_map relationships_of w)) 0) (first_step count start x id n w)) (assignments graph (between r (suc count)))
           ∙ pulled_out (leads graph r x id n) (λ w. is_walk (suc count) any_node n w) (λ w. f (id ∷ flat_map relationships_of w)) (assignments graph (between r (suc count)))
@@ -102,11 +103,11 @@ module _ (graph : Content) (rising : entries.is_sorted node_order graph.nodes �
           → sum_by (λ (m : NodeId × Node). sum_by (λ w. cond (is_walk (suc (suc count)) start x (cell.Rel id ∷ cell.Node m.0 ∷ w)) (f (id ∷ flat_map relationships_of w)) 0) (assignments graph (between r (suc count)))) graph.nodes
           ≡ sum_by (λ ids. cond (leads_on graph r x (id ∷ ids) y) (f (id ∷ ids)) 0) (lists_of (suc count) (numbers graph))
       after id rest =
-          sum_alike (λ (m : NodeId × Node). sum_by (λ w. cond (is_walk (suc (suc count)) start x (cell.Rel id ∷ cell.Node m.0 ∷ w)) (f (id ∷ flat_map relationships_of w)) 0) (assignments graph (between r (suc count))))
+          sums_alike (λ (m : NodeId × Node). sum_by (λ w. cond (is_walk (suc (suc count)) start x (cell.Rel id ∷ cell.Node m.0 ∷ w)) (f (id ∷ flat_map relationships_of w)) 0) (assignments graph (between r (suc count))))
           (λ (m : NodeId × Node). sum_by (λ ids. cond (leads graph r x id m.0 && leads_on graph r m.0 ids y) (f (id ∷ ids)) 0) (lists_of (suc count) (numbers graph)))
           (λ m. by_way_of id m.0 (rest m.0)) graph.nodes
           ∙ sum_exchanged (λ (m : NodeId × Node) ids. cond (leads graph r x id m.0 && leads_on graph r m.0 ids y) (f (id ∷ ids)) 0) graph.nodes (lists_of (suc count) (numbers graph))
-          ∙ sum_alike (λ ids. sum_by (λ (m : NodeId × Node). cond (leads graph r x id m.0 && leads_on graph r m.0 ids y) (f (id ∷ ids)) 0) graph.nodes)
+          ∙ sums_alike (λ ids. sum_by (λ (m : NodeId × Node). cond (leads graph r x id m.0 && leads_on graph r m.0 ids y) (f (id ∷ ids)) 0) graph.nodes)
           (λ ids. cond (leads_on graph r x (id ∷ ids) y) (f (id ∷ ids)) 0)
           (λ ids. sum_of_one (λ (m : NodeId × Node). leads graph r x id m.0 && leads_on graph r m.0 ids y)
           (λ m n h k. leads_to_one graph r x id m.0 n.0 (and_parts (leads graph r x id m.0) (leads_on graph r m.0 ids y) h).0 (and_parts (leads graph r x id n.0) (leads_on graph r n.0 ids y) k).0)

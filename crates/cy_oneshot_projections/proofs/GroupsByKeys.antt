@@ -12,6 +12,7 @@ use Rattle.std.proofs.lemmas.Cmp.{tied_itself}
 use Rattle.std.proofs.lemmas.List.{append-nil}
 use Rattle.cy_values.specs.declared.rows.Cell.{Cell}
 use Rattle.cy_values.specs.Order.{row_cmp}
+use Rattle.cy_values.proofs.Booleans.{unfalse, untrue}
 use Rattle.cy_oneshot_meaning.specs.Groups.{Grouped, rows_of_group}
 use Rattle.cy_oneshot_meaning.specs.Order.{each_once}
 use Rattle.cy_oneshot_projections.specs.internal.Grouping.{AreGroups, Gathering, with_row, with_rows}
@@ -58,14 +59,6 @@ second_passes false b h = absurd (cc h)
 where_first_fails : (a b : Bool) → (a ≡ false → b ≡ false) → cond a b false ≡ b
 where_first_fails true b h = refl
 where_first_fails false b h = sym (h refl)
-
-fails : (b : Bool) → not b ≡ true → b ≡ false
-fails true h = absurd (cc h)
-fails false h = refl
-
-holds : (b : Bool) → not b ≡ false → b ≡ true
-holds true h = refl
-holds false h = absurd (cc h)
 
 -- ---- groups
 
@@ -160,7 +153,7 @@ module _ (total : IsTotalOrder row_cmp) where
             let rest : with_rows [] (apart_from g.key left) ≡ map (gathering (g ∷ gs)) (filter p others) =
             ap (with_rows []) (both (λ (h : Grouped). p h.key) (λ h. not (eq_by_cmp row_cmp h.key g.key)) gs)
             ∙ groups_passing (and_not p g.key) gs
-            ∙ others_stay (and_not p g.key) g gs (λ q passes. fails (eq_by_cmp row_cmp q g.key) (second_passes (p q) (not (eq_by_cmp row_cmp q g.key)) passes)) keys
+            ∙ others_stay (and_not p g.key) g gs (λ q passes. untrue (eq_by_cmp row_cmp q g.key) (second_passes (p q) (not (eq_by_cmp row_cmp q g.key)) passes)) keys
             ∙ ap (map (gathering (g ∷ gs))) (keys_without p g.key keys) in
             first_takes (group_as g.key (g.row ∷ [])) [] left ∙ (λ i. group_as g.key (rows i) ∷ rest i)
         | false ↦ λ h.
@@ -169,7 +162,7 @@ module _ (total : IsTotalOrder row_cmp) where
             ∙ ap (map (gathering (g ∷ gs))) (sym (
             both (λ q. not (eq_by_cmp row_cmp g.key q)) p keys
             ∙ tests_alike (λ q. cond (not (eq_by_cmp row_cmp g.key q)) (p q) false) p
-            (λ q. where_first_fails (not (eq_by_cmp row_cmp g.key q)) (p q) (λ e. ap p (sym (identity g.key q (holds (eq_by_cmp row_cmp g.key q) e))) ∙ h)) keys
+            (λ q. where_first_fails (not (eq_by_cmp row_cmp g.key q)) (p q) (λ e. ap p (sym (identity g.key q (unfalse (eq_by_cmp row_cmp g.key q) e))) ∙ h)) keys
             ))
       ] refl
 

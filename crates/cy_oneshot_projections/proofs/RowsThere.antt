@@ -5,6 +5,7 @@ use Rattle.std.specs.List.{AllByRecursion}
 use Rattle.std.specs.Ordering.{eq_by_cmp}
 use Rattle.cy_values.specs.declared.rows.Cell.{Cell}
 use Rattle.cy_values.specs.Order.{row_cmp}
+use Rattle.cy_values.proofs.Lists.{each_append, each_filter}
 use Rattle.cy_trees.specs.Trees.{Expression, Item}
 use Rattle.cy_graph.specs.Graph.{Content}
 use Rattle.cy_expr.specs.declared.faults.EvalFault.{EvalFault}
@@ -18,7 +19,7 @@ use Rattle.cy_oneshot_meaning.specs.internal.Answers.{IsAnswer, sifted}
 use Rattle.cy_oneshot_projections.specs.internal.Grouping.{AreGroupsOf, Gathering, grouped_by}
 use Rattle.cy_oneshot_meaning.specs.internal.Seen.{cells_by, key_by, seen_by}
 use Rattle.cy_oneshot_meaning.specs.internal.Permuted.{Alike, IsAlikeAnswer}
-use Rattle.cy_oneshot_meaning.proofs.Each.{each_append, each_filter, each_gathered, each_in_order, each_made, each_map, each_of_once, each_take, if_ok_any, if_ok_then}
+use Rattle.cy_oneshot_meaning.proofs.Each.{each_gathered, each_in_order, each_made, each_map, each_of_once, each_take, if_ok_any, if_ok_then}
 use Rattle.cy_oneshot_meaning.proofs.EachValue.{each_value}
 use Rattle.cy_oneshot_meaning.proofs.InGraphLemmas.{cell_there}
 use Rattle.cy_oneshot_meaning.proofs.InGraphClauses.{aggregated_there}

@@ -1,5 +1,6 @@
 -- What an expression that is spelt does to its readers: chains of operators, of predicates and of properties.
 use Rattle.std.proofs.Common.{◌≡◌, ℕ, zero, suc, ◌≤◌, Bool, true, ◌&&◌, List, [], ◌∷◌, length, Option, Some, None, refl, ◌∙◌, arith}
+use Rattle.cy_values.proofs.Booleans.{both_first, both_second}
 use Rattle.cy_lexer.specs.declared.tokens.Token.{Token}
 use Rattle.cy_lexer.specs.declared.tokens.TokenKind.{TokenKind}
 use Rattle.cy_trees.specs.declared.expressions.BinaryOperator.{BinaryOperator}
@@ -7,7 +8,7 @@ use Rattle.cy_trees.specs.Trees.{Expression, binary}
 use Rattle.cy_trees.specs.Depth.{depth, greatest_depth}
 use Rattle.cy_parser_grammar.specs.internal.Reader.{Reader, and_then, kind_ahead, at_kind}
 use Rattle.cy_parser_grammar.specs.internal.Expressions.{chain, chain_from}
-use Rattle.cy_parser_grammar.proofs.Stops.{lacks, lacking, both_left, both_right}
+use Rattle.cy_parser_grammar.proofs.Stops.{lacks, lacking}
 use Rattle.cy_parser_grammar.proofs.Takes.{after, passes}
 
 -- the reader answers the expression, where it may end at what is left
@@ -79,6 +80,6 @@ module _ (n : ℕ) (first stops : Option TokenKind → Bool) (operators : TokenK
     begins = c.begins;
     shortens = c.shortens;
     reads = λ shallow stop.
-        let before = c.reads shallow (both_left _ _ stop) in
-        before.2 ∙ chain_end operators operand before.0 e rest (lacking _ (both_right _ _ stop));
+        let before = c.reads shallow (both_first _ _ stop) in
+        before.2 ∙ chain_end operators operand before.0 e rest (lacking _ (both_second _ _ stop));
   }

@@ -1,6 +1,7 @@
 -- What is spelt is what is read: expressions.
 use Rattle.std.proofs.Common.{◌≡◌, ℕ, zero, suc, ◌≤◌, ◌<◌, Bool, true, false, not, IsTrue, List, [], ◌∷◌, ◌++◌, length, Option, Some, None, refl, ap, ◌∙◌, append_assoc, arith, nat_lt, nat_le, pos}
 use Rattle.std.proofs.lemmas.Bool.Decides.{nat_tests}
+use Rattle.cy_values.proofs.Booleans.{both_first, both_second, untrue}
 use Rattle.cy_lexer.specs.declared.tokens.Token.{Token}
 use Rattle.cy_lexer.specs.declared.tokens.TokenKind.{TokenKind}
 use Rattle.cy_lexer.specs.declared.tokens.TokenKind.TheVariants as kind
@@ -26,7 +27,7 @@ use Rattle.cy_parser_grammar.specs.Spells.{Spells, SpellsAll, Level, whole, head
 use Rattle.cy_parser_grammar.specs.SpellsClauses.{most_levels}
 use Rattle.cy_parser_grammar.proofs.Takes.{after, after_peek, some_branch, then_branch, eats_symbol, eats_keyword, leaves_symbol, leaves_keyword, expects_symbol, expects_keyword, takes, passes}
 use Rattle.cy_parser_grammar.proofs.Continues.{predicates_end, links_end}
-use Rattle.cy_parser_grammar.proofs.Stops.{lacking, both_left, both_right, not_true, ends_postfix, ends_product, ends_sum, ends_predicate, ends_comparisons, ends_conjunction, ends_exclusion, ends_whole, begins_postfix, begins_signed, begins_negation, product_ends, sum_ends, comparator_ends, conjunction_ends, exclusion_ends, disjunction_ends, no_plus, no_minus, no_not, signed_begins, negation_begins, name_begins, no_bracket_end, no_parenthesis_end, no_star, no_distinct}
+use Rattle.cy_parser_grammar.proofs.Stops.{lacking, ends_postfix, ends_product, ends_sum, ends_predicate, ends_comparisons, ends_conjunction, ends_exclusion, ends_whole, begins_postfix, begins_signed, begins_negation, product_ends, sum_ends, comparator_ends, conjunction_ends, exclusion_ends, disjunction_ends, no_plus, no_minus, no_not, signed_begins, negation_begins, name_begins, no_bracket_end, no_parenthesis_end, no_star, no_distinct}
 use Rattle.cy_parser_grammar.proofs.LabelsComplete.{labels_read, labels_shorten}
 use Rattle.cy_parser_grammar.proofs.Chains.{Reading, Chaining, chain_of_one, chain_of_two, chain_whole}
 
@@ -110,8 +111,8 @@ module _ (line : List ℕ) where
     begins = c.begins;
     shortens = c.shortens;
     reads = λ shallow stop.
-        let before = c.reads shallow (both_left _ _ stop) in
-        before.2 ∙ predicates_end line (levels_at n) (inner_at n) before.0 e rest (not_true _ (both_right _ _ stop));
+        let before = c.reads shallow (both_first _ _ stop) in
+        before.2 ∙ predicates_end line (levels_at n) (inner_at n) before.0 e rest (untrue _ (both_second _ _ stop));
   }
 
   predicate_first : (n : ℕ) (e : Expression) (ts rest : List Token) → Claim n sum e ts rest → Claim n predicate e ts rest
@@ -218,7 +219,7 @@ module _ (line : List ℕ) where
         between = comparator_ends t.kind by is;
         shortens = (let x = p.shortens in omega (arith, x));
         reads = λ shallow stop k enough found.
-            on k found enough (p.reads (omega (arith, shallow)) (both_left _ _ stop)) (lacking _ (both_right _ _ stop));
+            on k found enough (p.reads (omega (arith, shallow)) (both_first _ _ stop)) (lacking _ (both_second _ _ stop));
       }
     where
       on : (k : ℕ) (found : List (Comparator × Expression)) → suc (length ts) ≤ k → read.predicate line (levels_at n) (inner_at n) ts ≡ Some (e, rest) →
@@ -263,8 +264,8 @@ module _ (line : List ℕ) where
         positive = p.positive;
         begins = p.begins;
         shortens = p.shortens;
-        reads = λ shallow stop. after _ (p.reads shallow (both_left _ _ stop))
-            (after _ (links_end line (levels_at n) (inner_at n) (length rest) [] rest (lacking _ (both_right _ _ stop))) refl);
+        reads = λ shallow stop. after _ (p.reads shallow (both_first _ _ stop))
+            (after _ (links_end line (levels_at n) (inner_at n) (length rest) [] rest (lacking _ (both_second _ _ stop))) refl);
       }
 
   comparisons_chain : (n : ℕ) (e : Expression) (ls : Links) (ts mid rest : List Token) → Claim n predicate e ts mid → LinksRead n ls mid rest →
@@ -405,10 +406,10 @@ module _ (line : List ℕ) where
     begins = c.begins;
     shortens = c.shortens;
     reads = λ shallow stop.
-        let before = c.reads shallow (both_left _ _ stop) in
-        let others = both_right _ _ stop in
-        before.2 ∙ after _ (properties_end before.0 e rest (not_true _ (both_left _ _ others)))
-        (after _ (leaves_symbol sign.Colon rest (not_true _ (both_right _ _ others))) refl);
+        let before = c.reads shallow (both_first _ _ stop) in
+        let others = both_second _ _ stop in
+        before.2 ∙ after _ (properties_end before.0 e rest (untrue _ (both_first _ _ others)))
+        (after _ (leaves_symbol sign.Colon rest (untrue _ (both_second _ _ others))) refl);
   }
 
   postfix_labelled : (n : ℕ) (e : Expression) (ls : List Name) (colon : Token) (ts mid rest : List Token) → Claim n owner e ts (colon ∷ mid) →
@@ -423,7 +424,7 @@ module _ (line : List ℕ) where
         let before = c.reads (omega (arith, shallow)) (ap (λ k. ends_head (Some k)) is) in
         before.2 ∙ after _ (properties_end before.0 e (colon ∷ mid) (ap (λ k. is_symbol sign.Dot (Some k)) is))
         (after _ (eats_symbol sign.Colon colon mid is)
-        (after _ (names (not_true _ (both_right _ _ (both_right _ _ stop)))) (passes (has_labels e ls) rest shallow)));
+        (after _ (names (untrue _ (both_second _ _ (both_second _ _ stop)))) (passes (has_labels e ls) rest shallow)));
   }
 
   -- a level opens, where an expression can be read inside
@@ -480,7 +481,7 @@ module _ (line : List ℕ) where
       Claim (suc n) head (variable (record { name = denotes line t; column = None })) (t ∷ rest) rest
   unfolding read.named
   head_variable n t rest is = head_named n _ t rest rest is (omega arith) (λ shallow stop.
-      after _ (takes is_name line t rest is) (after _ (leaves_symbol sign.LeftParenthesis rest (not_true _ stop)) refl))
+      after _ (takes is_name line t rest is) (after _ (leaves_symbol sign.LeftParenthesis rest (untrue _ stop)) refl))
 
   head_bracket : (n : ℕ) (e : Expression) (opening closing : Token) (ts rest : List Token) → IsSymbol sign.LeftParenthesis opening →
       Claim n whole e ts (closing ∷ rest) → IsSymbol sign.RightParenthesis closing → Claim (suc n) head e (opening ∷ ts) rest

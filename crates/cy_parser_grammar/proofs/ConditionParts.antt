@@ -1,5 +1,6 @@
 -- The parts of a WHERE: what is read is spelt, and what is spelt is read.
-use Rattle.std.proofs.Common.{◌≡◌, ℕ, zero, suc, ◌≤◌, Bool, true, false, IsTrue, List, [], ◌∷◌, ◌++◌, length, Some, None, if◌then◌else◌, refl, sym, ap, ◌∙◌, subst, append_assoc, arith}
+use Rattle.std.proofs.Common.{◌≡◌, ℕ, zero, suc, ◌≤◌, Bool, true, false, IsTrue, List, [], ◌∷◌, ◌++◌, length, Some, None, refl, sym, ap, ◌∙◌, subst, append_assoc, arith, if◌then◌else◌}
+use Rattle.cy_values.proofs.Booleans.{both_first}
 use Rattle.cy_lexer.specs.declared.keywords.Keyword.TheVariants as word
 use Rattle.cy_lexer.specs.declared.tokens.TokenKind.{TokenKind}
 use Rattle.cy_lexer.specs.declared.tokens.TokenKind.TheVariants as kind
@@ -14,7 +15,7 @@ use Rattle.cy_parser_grammar.specs.declared.places.Nested.TheVariants as nested
 use Rattle.cy_parser_grammar.specs.internal.Clauses as read
 use Rattle.cy_parser_grammar.proofs.Gives.{Gives, bind, answer, refused, ate_keyword, by_test, by_either, refuses, also}
 use Rattle.cy_parser_grammar.proofs.Takes.{after, takes_first, takes_second, leaves_one, then_branch, eats_keyword, leaves_keyword}
-use Rattle.cy_parser_grammar.proofs.Stops.{ends_comparisons, ends_whole, both_left}
+use Rattle.cy_parser_grammar.proofs.Stops.{ends_comparisons, ends_whole}
 use Rattle.cy_parser_grammar.proofs.Follows.{clause_ends_item, whole_ends}
 use Rattle.cy_parser_grammar.proofs.Sound.{later, conjunct-sound}
 use Rattle.cy_parser_grammar.proofs.Complete.{negation-complete}
@@ -26,7 +27,7 @@ use Rattle.cy_parser_grammar.proofs.PathTests.{path_test-sound, path_test_shorte
 where_operand : (k : TokenKind) → is_after_where k ≡ true → ends_comparisons (Some k) ≡ true
 where_operand k e =
     let whole : ends_whole (Some k) ≡ true = whole_ends (Some k) (clause_ends_item (Some k) e) in
-    both_left (ends_comparisons (Some k)) _ (both_left _ _ (both_left _ _ whole))
+    both_first (ends_comparisons (Some k)) _ (both_first _ _ (both_first _ _ whole))
 
 no_and_at : (k : TokenKind) → is_after_where k ≡ true → is_keyword word.And (Some k) ≡ false
 no_and_at (kind.Keyword word.And) e = cc

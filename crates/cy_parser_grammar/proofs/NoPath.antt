@@ -21,7 +21,7 @@ use Rattle.cy_parser_grammar.specs.Spells.{IsKeyword}
 use Rattle.cy_parser_grammar.specs.SpellsClauses.{SpellsVariableIfAny, no_variable, a_variable, variable as variable_spelt, SpellsNode, node, SpellsSteps, no_steps, a_step, SpellsPath, path, SpellsPathTest, path_there, no_path, no_path_in_brackets, any_step, ends_part}
 use Rattle.cy_parser_grammar.specs.internal.Reader.{kind_ahead, is_keyword}
 use Rattle.cy_parser_grammar.specs.internal.Clauses as read
-use Rattle.cy_parser_grammar.specs.internal.WellFormed.{IsNamed, Every, Several, IsWellFormed}
+use Rattle.cy_parser_grammar.specs.internal.WellFormed.{IsWellFormed}
 use Rattle.cy_parser_grammar.proofs.Takes.{leaves_one}
 use Rattle.cy_parser_grammar.proofs.Follows.{at_keyword}
 use Rattle.cy_parser_grammar.proofs.PatternsComplete.{at_symbol, labels_begin, map_begins, node_begins, node_reads, relationship_begins}
@@ -30,6 +30,7 @@ use Rattle.cy_parser_grammar.proofs.ConditionParts.{NoPath}
 use Rattle.cy_parser_grammar.proofs.Stands.{Stands, nothing_stands, word_stands}
 use Rattle.cy_parser_grammar.proofs.ShownTokens.{Shown}
 use Rattle.cy_parser_grammar.proofs.ShownPatterns.{shown_node}
+use Rattle.cy_parser_grammar.proofs.WellSpelt.{some_every}
 
 -- ---- how a path begins, by the kinds of its tokens
 
@@ -144,10 +145,6 @@ opens_none (comparison e (link c x ls)) w h ks =
     inside e (links_pieces (link c x ls)) (mark sign.RightParenthesis ∷ []) ks (λ is. comparator_follows c (space ∷ (expression_pieces x ++ links_pieces ls)) (mark sign.RightParenthesis ∷ []) ks)
 opens_none _ w h ks = refl
 
-every_name : (ns : List Name) → Several IsNamed ns → Every IsNamed ns
-every_name [] are = absurd are
-every_name (n ∷ ns) are = are
-
 module _ (line : List ℕ) where
   -- ---- tokens
 
@@ -188,7 +185,7 @@ module _ (line : List ℕ) where
 
   shown_labelled : (v : Variable) (labels : List Name) (ts rest : List Token) → IsWellFormed (has_labels (variable v) labels) →
       Shown line (expression_pieces (has_labels (variable v) labels)) ts rest → SpellsNode line (labelled_node v labels) ts rest
-  shown_labelled v labels ts rest w s = shown_node line (labelled_node v labels) ts rest (w.0, every_name labels w.1, tt)
+  shown_labelled v labels ts rest w s = shown_node line (labelled_node v labels) ts rest (w.0, some_every labels w.1, tt)
       (subst (λ z. Shown line (bracketed (named v.name ∷ z)) ts rest) (sym (append-nil (label_pieces labels))) s)
 
   steps_begin : (ss : List Step) (ts rest : List Token) → SpellsSteps line ss ts rest → IsTrue (any_step ss) → read.begins_step (kind_ahead ts) ≡ true

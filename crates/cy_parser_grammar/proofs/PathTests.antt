@@ -1,5 +1,6 @@
 -- Paths as conditions: what is read is spelt, and what is spelt is read.
 use Rattle.std.proofs.Common.{◌≡◌, ℕ, suc, ◌≤◌, Bool, true, false, not, ◌&&◌, IsTrue, List, [], ◌∷◌, length, Some, refl, sym, ap, ◌∙◌, subst, arith}
+use Rattle.cy_values.proofs.Booleans.{and_false}
 use Rattle.cy_lexer.specs.declared.keywords.Keyword.TheVariants as word
 use Rattle.cy_lexer.specs.declared.symbols.Symbol.TheVariants as sign
 use Rattle.cy_lexer.specs.declared.tokens.TokenKind.{TokenKind}
@@ -92,11 +93,7 @@ module _ (line : List ℕ) where
 
   one_bracket : (ts : List Token) → is_symbol sign.LeftParenthesis (kind_ahead (past ts)) ≡ false → sees_two_brackets ts ≡ false
   unfolding sees_two_brackets sees_symbol
-  one_bracket ts e = ap (λ b. is_symbol sign.LeftParenthesis (kind_ahead ts) && b) e ∙ never (is_symbol sign.LeftParenthesis (kind_ahead ts))
-    where
-      never : (b : Bool) → (b && false) ≡ false
-      never true = refl
-      never false = refl
+  one_bracket ts e = ap (λ b. is_symbol sign.LeftParenthesis (kind_ahead ts) && b) e ∙ and_false (is_symbol sign.LeftParenthesis (kind_ahead ts))
 
   path_opens : (p : Path) (ts rest : List Token) → SpellsPath line p ts rest → sees_symbol sign.LeftParenthesis ts ≡ true
   unfolding sees_symbol

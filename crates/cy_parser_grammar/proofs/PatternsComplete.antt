@@ -1,6 +1,7 @@
 -- Patterns that are spelt are read.
 use Rattle.std.proofs.Common.{◌≡◌, ℕ, zero, suc, ◌≤◌, Bool, true, false, not, ◌&&◌, List, [], ◌∷◌, ◌++◌, length, Option, Some, None, refl, sym, ap, ◌∙◌, append_assoc, append-nil, arith, nat_lt, nat_le, if◌then◌else◌}
 use Rattle.std.proofs.lemmas.Bool.Decides.{nat_tests}
+use Rattle.cy_values.proofs.Booleans.{untrue}
 use Rattle.cy_lexer.specs.declared.tokens.Token.{Token}
 use Rattle.cy_lexer.specs.declared.tokens.TokenKind.{TokenKind}
 use Rattle.cy_lexer.specs.declared.tokens.TokenKind.TheVariants as kind
@@ -19,7 +20,7 @@ use Rattle.cy_parser_grammar.specs.internal.Clauses as read
 use Rattle.cy_parser_grammar.specs.Spells.{IsSymbol, IsNumber}
 use Rattle.cy_parser_grammar.specs.SpellsClauses.{SpellsEach, last, next, most_levels, SpellsExpression, SpellsVariable, variable, SpellsVariableIfAny, no_variable, a_variable, SpellsLabelsIfAny, no_labels, labels, SpellsEntry, entry, SpellsMapIfAny, no_map, empty_map, map_of, SpellsNode, node, SpellsTypes, last_type, next_type, next_type_with_colon, SpellsTypesIfAny, no_types, types, SpellsLength, any_length, exactly, unbounded, at_least, at_most, between, SpellsLengthIfAny, no_length, a_length, SpellsArrow, arrow, no_arrow, SpellsDetails, no_details, details, SpellsRelationship, relationship, SpellsSteps, no_steps, a_step, SpellsPath, path, greatest_bound}
 use Rattle.cy_parser_grammar.proofs.Takes.{after, takes, eats_symbol, leaves_symbol, expects_symbol}
-use Rattle.cy_parser_grammar.proofs.Stops.{ends_whole, begins_negation, not_true}
+use Rattle.cy_parser_grammar.proofs.Stops.{ends_whole, begins_negation}
 use Rattle.cy_parser_grammar.proofs.Chains.{Reading}
 use Rattle.cy_parser_grammar.proofs.Complete.{expression-complete}
 use Rattle.cy_parser_grammar.proofs.LabelsComplete.{labels_shorten, labels_read}
@@ -470,7 +471,7 @@ module _ (line : List ℕ) where
   pub path_reads : (p : Path) (ts rest : List Token) → SpellsPath line p ts rest → ends_path (kind_ahead rest) ≡ true → read.path line ts ≡ Some (p, rest)
   unfolding read.path read.steps
   path_reads _ ts rest (path n more _ mid _ of_node of_steps) stop =
-      after _ (node_reads n ts mid of_node) (after _ (steps_read_from (length mid) [] more mid rest of_steps (not_true _ stop) (omega arith)) refl)
+      after _ (node_reads n ts mid of_node) (after _ (steps_read_from (length mid) [] more mid rest of_steps (untrue _ stop) (omega arith)) refl)
 
   pub paths_shorten : (ps : List Path) (ts rest : List Token) → SpellsEach (SpellsPath line) ps ts rest → suc (length rest) ≤ length ts
   paths_shorten ps ts rest s = each_shortens (read.path line) (SpellsPath line) ends_path refl path_shortens path_reads ps ts rest s

@@ -18,7 +18,8 @@ use Rattle.cy_lexer.specs.Words.{Word, signs}
 use Rattle.cy_lexer.specs.Words as words
 use Rattle.cy_lexer.specs.internal.SpacedWords.{is_word, may_touch, space, written, may_touch_next, are_words, IsTokenOf, AreTokensOf, characters}
 use Rattle.cy_lexer.proofs.WordsPiecesLemmas.{decimal-front}
-use Rattle.cy_trees.specs.Show.{Piece, word_text, piece_text, pieces_text}
+use Rattle.cy_lexer.proofs.WordsLemmas.{bytes_of_space}
+use Rattle.cy_trees.specs.Show.{Piece, word_text, pieces_text}
 use Rattle.cy_trees.specs.internal.PieceWords.{words_of}
 use Rattle.cy_trees.specs.Show as piece
 
@@ -234,12 +235,6 @@ encodes-characters (words.number n) is =
     encodes-digits (decimal n) (rw front.2 (and_from (is_ascii_digit front.0) (list_all is_ascii_digit front.1) front.3 front.4))
 encodes-characters (words.symbol s) is = encodes-signs s
 
--- a space is one byte
-pub encodes-space : (b : Bool) → encode_utf8_all (space b) ≡ space b
-unfolding encode_utf8
-encodes-space true = refl
-encodes-space false = refl
-
 pub free_first : (ps : List Piece) → stands free ps ≡ true → is_spaced ps ≡ false
 free_first [] h = refl
 free_first (piece.word w ∷ ps) h = refl
@@ -256,7 +251,7 @@ spaced-text b (piece.word w ∷ ps) h =
     ∙ ap (λ (x : List ℕ). x ++ encode_utf8_all (space (is_spaced ps) ++ written (spaced ps))) (encodes-characters w parts.0)
     ∙ ap (λ (x : List ℕ). word_text w ++ x)
     (encodes-append (space (is_spaced ps)) (written (spaced ps))
-    ∙ ap (λ (x : List ℕ). x ++ encode_utf8_all (written (spaced ps))) (encodes-space (is_spaced ps))
+    ∙ ap (λ (x : List ℕ). x ++ encode_utf8_all (written (spaced ps))) (bytes_of_space (is_spaced ps))
     ∙ spaced-text (after w) ps parts.1)
 spaced-text free (piece.space ∷ ps) h = absurd cc
 spaced-text ended (piece.space ∷ ps) h = after_space ps h (spaced-text free ps h)

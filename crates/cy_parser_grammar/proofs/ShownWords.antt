@@ -26,7 +26,7 @@ use Rattle.cy_trees.specs.declared.clauses.Direction.{Direction}
 use Rattle.cy_trees.specs.declared.clauses.Direction.TheVariants as direction
 use Rattle.cy_trees.specs.declared.clauses.Length.{Length}
 use Rattle.cy_trees.specs.Trees.{Name, Expression, null, boolean, integer, text, variable, property, has_labels, unary, binary, comparison, list, case, call, call_star, Expressions, no_more, more, Links, no_links, link, Arms, no_arms, arm, Otherwise, nothing, otherwise, MapEntry, NodePattern, RelationshipPattern, Step, Path, Item, Key, Projection, SetItem, set_property, set_labels, RemoveItem, remove_property, remove_labels, PathTest, Where, Clause, «match», unwind, «with», «return», create, set, remove, delete, Query, Statement}
-use Rattle.cy_trees.specs.Show.{Piece, says, mark, named, spelt, bracketed, each_after, separated, comma, list_pieces, binary_pieces, comparator_symbol, unary_pieces, label_pieces, is_literal_or_list, owner_pieces, distinct_pieces, expression_pieces, elements_pieces, further_pieces, links_pieces, arms_pieces, otherwise_pieces, entry_pieces, map_pieces, variable_pieces, node_pieces, type_pieces, bound_pieces, length_pieces, tail_pieces, head_pieces, relationship_pieces, step_pieces, path_pieces, denied_pieces, paths_pieces, and_pieces, path_test_pieces, where_pieces, filter_pieces, item_pieces, descending_pieces, key_pieces, order_pieces, count_pieces, projection_pieces, set_item_pieces, remove_item_pieces, optional_pieces, detach_pieces, clause_pieces, query_pieces, union_pieces, statement_pieces, pieces_text, show}
+use Rattle.cy_trees.specs.Show.{Piece, says, mark, named, bracketed, each_after, separated, comma, list_pieces, binary_pieces, comparator_symbol, unary_pieces, label_pieces, is_literal_or_list, owner_pieces, distinct_pieces, expression_pieces, elements_pieces, further_pieces, links_pieces, arms_pieces, otherwise_pieces, entry_pieces, map_pieces, variable_pieces, node_pieces, type_pieces, bound_pieces, length_pieces, tail_pieces, head_pieces, relationship_pieces, step_pieces, path_pieces, denied_pieces, paths_pieces, and_pieces, path_test_pieces, where_pieces, filter_pieces, item_pieces, descending_pieces, key_pieces, order_pieces, count_pieces, projection_pieces, set_item_pieces, remove_item_pieces, optional_pieces, detach_pieces, clause_pieces, query_pieces, union_pieces, statement_pieces, pieces_text, show}
 use Rattle.cy_trees.specs.internal.PieceWords.{words_of}
 use Rattle.cy_trees.specs.Show as piece
 use Rattle.cy_parser_grammar.specs.SpellsClauses.{greatest_bound, ClausePhase, phase_after, reading, may_end}
@@ -34,6 +34,7 @@ use Rattle.cy_parser_grammar.specs.internal.WellFormed.{IsText, IsNamed, Every, 
 use Rattle.cy_parser_grammar.proofs.PiecesLemmas.{Before, free, ended, owned, after, touches, stands, Allows, Runs, runs-stands, no_pieces, a_word, a_space, space_after, both, from, to, is_quiet, after_symbol, after_end, after_owner, ended_owned, last, spaced, AreTokens, spaced-words, spaced-are_words, spaced-text, free_first, unspaced}
 use Rattle.cy_parser_grammar.proofs.Stands.{Stands}
 use Rattle.cy_parser_grammar.proofs.WordsSpans.{words-have_spans, words-stand}
+use Rattle.cy_parser_grammar.proofs.WellSpelt.{some_every}
 
 -- ---- what can be written
 
@@ -92,10 +93,6 @@ labels-run (n ∷ labels) are =
     a_word (words.symbol sign.Colon) refl refl
     (a_word (words.name (chars n)) refl (name-is_word n are.0) (from (after_end (words.name (chars n)) refl) (labels-run labels are.1)))
 
-several : (xs : List Name) → Several IsNamed xs → Every IsNamed xs
-several [] are = absurd are
-several (x ∷ xs) are = are
-
 distinct-runs : (d : Bool) → Runs free (distinct_pieces d) free
 distinct-runs true = said keyword.Distinct refl no_pieces
 distinct-runs false = no_pieces
@@ -143,7 +140,7 @@ mutual
       in_free_brackets (both (owner-runs (is_literal_or_list e) (expression_pieces e) (expression-runs e is.0))
       (a_word (words.symbol sign.Dot) refl refl (last_name key refl is.1)))
   expression-runs (has_labels e labels) is =
-      in_free_brackets (both (owner-runs (is_literal_or_list e) (expression_pieces e) (expression-runs e is.0)) (from ended_owned (labels-run labels (several labels is.1))))
+      in_free_brackets (both (owner-runs (is_literal_or_list e) (expression_pieces e) (expression-runs e is.0)) (from ended_owned (labels-run labels (some_every labels is.1))))
   expression-runs (unary operator e) is = in_free_brackets (unary-runs operator (expression_pieces e) (operand (is_literal_or_list e) (expression-runs e is)))
   expression-runs (binary operator a b) is =
       in_free_brackets (both (operand (is_literal_or_list a) (expression-runs a is.0)) (space_after (binary-runs operator (operand (is_literal_or_list b) (expression-runs b is.1)))))
@@ -358,14 +355,14 @@ set_item-runs (set_property v key e) is =
     (a_space (a_word (words.symbol sign.Equal) refl refl (a_space (operand-runs e is.2.0))))))
 set_item-runs (set_labels v labels) is =
     a_word (words.name (chars v.name)) refl (name-is_word v.name is.0.0)
-    (from (after_end (words.name (chars v.name)) refl) (labels-run labels (several labels is.1)))
+    (from (after_end (words.name (chars v.name)) refl) (labels-run labels (some_every labels is.1)))
 
 remove_item-runs : (i : RemoveItem) → RemoveItemIsWellFormed i → Runs free (remove_item_pieces i) ended
 remove_item-runs (remove_property v key) is =
     a_word (words.name (chars v.name)) refl (name-is_word v.name is.0.0) (a_word (words.symbol sign.Dot) refl refl (last_name key refl is.1))
 remove_item-runs (remove_labels v labels) is =
     a_word (words.name (chars v.name)) refl (name-is_word v.name is.0.0)
-    (from (after_end (words.name (chars v.name)) refl) (labels-run labels (several labels is.1)))
+    (from (after_end (words.name (chars v.name)) refl) (labels-run labels (some_every labels is.1)))
 
 optional-runs : (b : Bool) → Runs free (optional_pieces b) free
 optional-runs true = said keyword.Optional refl no_pieces

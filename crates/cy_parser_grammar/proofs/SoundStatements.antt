@@ -1,5 +1,6 @@
 -- What is read spells what is answered: queries and statements.
 use Rattle.std.proofs.Common.{◌≡◌, ℕ, zero, suc, Bool, true, false, not, ◌&&◌, IsTrue, List, [], ◌∷◌, ◌++◌, length, None, refl, sym, ap, ◌∙◌, subst, append_assoc, append-nil, if◌then◌else◌}
+use Rattle.cy_values.proofs.Booleans.{both_first, both_second}
 use Rattle.cy_lexer.specs.declared.tokens.Token.{Token}
 use Rattle.cy_lexer.specs.declared.keywords.Keyword.TheVariants as word
 use Rattle.cy_lexer.specs.declared.symbols.Symbol.TheVariants as sign
@@ -11,13 +12,12 @@ use Rattle.cy_parser_grammar.specs.internal.Reader.{at_kind, kind_ahead, ◌>>�
 use Rattle.cy_parser_grammar.specs.internal.Clauses as read
 use Rattle.cy_parser_grammar.specs.SpellsClauses as spells
 use Rattle.cy_parser_grammar.proofs.Gives.{AteKeyword, AteSymbol, Gives, bind, answer, refused, keyword_there, ate_symbol, ate_keyword, by_test, bind_peek, by_option}
-use Rattle.cy_parser_grammar.proofs.Stops.{both_left, both_right}
 use Rattle.cy_parser_grammar.proofs.Sound.{later}
 use Rattle.cy_parser_grammar.proofs.SoundClauses.{spelt_phase, clause_in-sound}
 
 allowed_first : (later_one : Bool) (s : ClausePhase) (o : Opening) → IsTrue (read.is_allowed later_one s o) → read.allows s o ≡ true
 allowed_first false s o may = may
-allowed_first true s o may = both_left _ _ may
+allowed_first true s o may = both_first _ _ may
 
 nothing_left-sound : (ts : List Token) → Gives {A = Unit {0}} (read.nothing_left ts) (λ _ rest. (ts ≡ []) × (rest ≡ []))
 nothing_left-sound [] = answer _ _ _ (refl, refl)
@@ -85,7 +85,7 @@ module _ (line : List ℕ) where
   more_read : (later_one : Bool) (s : ClausePhase) (o : Opening) (c : Clause) (cs : List Clause) → IsTrue (read.is_allowed later_one s o) → spells.updates c ≡ read.updates o →
       (later_one ≡ true → IsTrue (spells.reads_alone cs)) → later_one ≡ true → IsTrue (spells.reads_alone (c ∷ cs))
   more_read true s o c cs may same others h =
-      let reads : not (spells.updates c) ≡ true = ap (λ b. not b) same ∙ both_right _ _ may in
+      let reads : not (spells.updates c) ≡ true = ap (λ b. not b) same ∙ both_second _ _ may in
       ap (λ b. b && spells.reads_alone cs) reads ∙ others h
   more_read false s o c cs may same others h = absurd cc
 

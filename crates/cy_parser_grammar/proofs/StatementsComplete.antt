@@ -1,5 +1,6 @@
 -- Queries and statements that are spelt are read.
 use Rattle.std.proofs.Common.{◌≡◌, ℕ, zero, suc, ◌≤◌, Bool, true, false, IsTrue, List, [], ◌∷◌, ◌++◌, length, Option, Some, None, refl, sym, ap, ◌∙◌, append_assoc, append-nil, arith}
+use Rattle.cy_values.proofs.Booleans.{both_first, both_second}
 use Rattle.cy_lexer.specs.declared.tokens.Token.{Token}
 use Rattle.cy_lexer.specs.declared.tokens.TokenKind.{TokenKind}
 use Rattle.cy_lexer.specs.declared.tokens.TokenKind.TheVariants as kind
@@ -12,7 +13,6 @@ use Rattle.cy_parser_grammar.specs.internal.Clauses as read
 use Rattle.cy_parser_grammar.specs.SpellsClauses as spells
 use Rattle.cy_parser_grammar.specs.SpellsClauses.{SpellsQuery, SpellsReading, SpellsUnion, SpellsFurther, SpellsEnd, SpellsStatement}
 use Rattle.cy_parser_grammar.proofs.Takes.{after, then_branch, eats_symbol, leaves_symbol, eats_keyword, leaves_keyword, expects_keyword, answers_one}
-use Rattle.cy_parser_grammar.proofs.Stops.{both_left, both_right}
 use Rattle.cy_parser_grammar.proofs.Follows.{at_keyword, ends_clause, opening_ends}
 use Rattle.cy_parser_grammar.proofs.PatternsComplete.{at_symbol}
 use Rattle.cy_parser_grammar.proofs.ClausesComplete.{phase_of, opening_for, leads, ends_as, clause_opens, clause_shortens, clause_in_reads}
@@ -94,8 +94,8 @@ module _ (line : List ℕ) where
       let fewer : length mid ≤ k = omega (arith, x, few) in
       let stop : ends_clause (kind_ahead mid) ≡ true = query_follows (spells.phase_after c) cs mid rest others e in
       after _ refl (rw (clause_opens line c ts mid spelt)
-      (after _ (clause_in_reads line later s c ts mid may (λ h. both_left _ _ (reads h)) spelt stop) (rw (leads c)
-      (clauses_read_from k later (spells.phase_after c) (found ++ c ∷ []) cs mid rest others (λ h. both_right _ _ (reads h)) e fewer ∙ ap (λ z. Some (z, rest)) (append_assoc found (c ∷ []) cs)))))
+      (after _ (clause_in_reads line later s c ts mid may (λ h. both_first _ _ (reads h)) spelt stop) (rw (leads c)
+      (clauses_read_from k later (spells.phase_after c) (found ++ c ∷ []) cs mid rest others (λ h. both_second _ _ (reads h)) e fewer ∙ ap (λ z. Some (z, rest)) (append_assoc found (c ∷ []) cs)))))
 
   query_reads : (later : Bool) (q : Query) (ts rest : List Token) → SpellsQuery line spells.reading q.clauses ts rest →
       (later ≡ true → IsTrue (spells.reads_alone q.clauses)) → EndsQuery rest → read.query line later ts ≡ Some (q, rest)

@@ -70,18 +70,6 @@ pub lacking : {A : Type 0} (o : Option A) → lacks o ≡ true → o ≡ None
 lacking None e = refl
 lacking (Some a) e = cc
 
-pub both_left : (a b : Bool) → (a && b) ≡ true → a ≡ true
-both_left true b e = refl
-both_left false b e = e
-
-pub both_right : (a b : Bool) → (a && b) ≡ true → b ≡ true
-both_right true b e = e
-both_right false b e = cc
-
-pub not_true : (b : Bool) → not b ≡ true → b ≡ false
-not_true true e = sym e
-not_true false e = refl
-
 -- where a test holds of the next token and not of a symbol or a keyword, that one is not next
 pub not_symbol : (test : Option TokenKind → Bool) (s : Symbol) → test (Some (kind.Symbol s)) ≡ false → (k : Option TokenKind) → test k ≡ true → is_symbol s k ≡ false
 not_symbol test s other None met = refl

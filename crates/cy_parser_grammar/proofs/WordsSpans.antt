@@ -14,9 +14,10 @@ use Rattle.cy_lexer.specs.Words.{Word, doubled, escaped}
 use Rattle.cy_lexer.specs.Words as words
 use Rattle.cy_lexer.specs.internal.SpacedWords.{is_word, space, written, may_touch_next, are_words, bytes_of, tokens_at, characters}
 use Rattle.cy_lexer.proofs.WordsPiecesLemmas.{spelling-front, decimal-front}
+use Rattle.cy_lexer.proofs.WordsLemmas.{bytes_of_space as encodes-space}
 use Rattle.cy_trees.specs.Show.{word_text}
 use Rattle.cy_parser_grammar.proofs.WithinLemmas.{within-span}
-use Rattle.cy_parser_grammar.proofs.PiecesLemmas.{encodes-characters, encodes-space, AreTokens}
+use Rattle.cy_parser_grammar.proofs.PiecesLemmas.{encodes-characters, AreTokens}
 use Rattle.cy_parser_grammar.proofs.Stands.{Stands, nothing_stands, word_stands}
 
 -- what doesn't begin in the middle of a character

@@ -4,6 +4,7 @@ use Rattle.std.specs.Prelude.{IfOk, IsOk, Result, Ok, Err}
 use Rattle.std.specs.List.{All, AllByRecursion, Contains}
 use Rattle.std.specs.Cmp.{IsTotalOrder}
 use Rattle.std.proofs.lemmas.List.Elements.{All-cons, All-nil}
+use Rattle.cy_planner_clauses.proofs.Outcomes.{then_ok}
 use Rattle.cy_values.specs.declared.rows.Cell.{Cell}
 use Rattle.cy_values.specs.Bag.{count_of, IsSameBag}
 use Rattle.cy_values.specs.Order.{row_cmp}
@@ -35,10 +36,6 @@ abbrev pub Outcome : Type 0
 Outcome = Result (List (List Cell)) EvalFault
 
 -- ---- outcomes
-
-ok_first : {A B : Type 0} (f : A → Result B EvalFault) (o : Result A EvalFault) → IsOk (on_one f o) → IsOk o
-ok_first f (Ok x) is = refl
-ok_first f (Err fault) is = cc
 
 pub value_of_ok : (o : Outcome) → IsOk o → (rows : List (List Cell)) × (o ≡ Ok rows)
 value_of_ok (Ok rows) is = (rows, refl)
@@ -150,7 +147,7 @@ module _ (total : IsTotalOrder row_cmp) (bags : (graph : Content) (clause : Clau
         (subst (λ (cs : List Clause). IsOk (rows_after_all graph.content cs start)) splits (ok graph is))
 
     meant : (rows : List (List Cell)) × (rows_after_all graph.content done start ≡ Ok rows)
-    meant = value_of_ok (rows_after_all graph.content done start) (ok_first (rows_after_all graph.content (c ∷ rest)) (rows_after_all graph.content done start) whole_ok)
+    meant = value_of_ok (rows_after_all graph.content done start) (then_ok (rows_after_all graph.content (c ∷ rest)) (rows_after_all graph.content done start) whole_ok)
 
     same_before : IsSameBag before meant.0
     same_before = subst (λ (o : Outcome). IsSameOutcome (Ok before) o) meant.1 (stands.rows graph is)
@@ -162,7 +159,7 @@ module _ (total : IsTotalOrder row_cmp) (bags : (graph : Content) (clause : Clau
     pub clause_ok : IsOk (rows_after graph.content c before)
     clause_ok =
         ok_same (rows_after graph.content c before) (rows_after graph.content c meant.0) same_after
-        (ok_first (rows_after_all graph.content rest) (rows_after graph.content c meant.0)
+        (then_ok (rows_after_all graph.content rest) (rows_after graph.content c meant.0)
         (subst (λ (o : Outcome). IsOk (on_one (rows_after_all graph.content (c ∷ rest)) o)) meant.1 whole_ok))
 
     seen : AllByRecursion (Fits scope) before

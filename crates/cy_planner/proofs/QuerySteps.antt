@@ -3,12 +3,12 @@ use Rattle.std.proofs.Common.{◌≡◌, ℕ, zero, suc, ◌+◌, ◌<◌, ◌�
 use Rattle.std.specs.List.{Contains}
 use Rattle.std.proofs.lemmas.List.{drop_all}
 use Rattle.std.proofs.lemmas.List.Elements.{All-contains}
+use Rattle.cy_oneshot_patterns.proofs.SliceReads.{next_of}
 use Rattle.cy_trees.specs.declared.clauses.Clause as coded
 use Rattle.cy_trees.specs.declared.clauses.Query as coded_query
 use Rattle.cy_trees.specs.Trees.{Clause, Query}
 use Rattle.cy_trees.specs.TreeModels.{clause_of, query_of}
 use Rattle.cy_scope.specs.Checked.{IsViewQuery, single}
-use Rattle.cy_planner_clauses.proofs.PlaceColumns.{next_of}
 use Rattle.cy_planner.specs.internal.QueryPlans.{AreViewQueries}
 use Rattle.cy_planner.proofs.GoingOn.{first_there, later_there}
 

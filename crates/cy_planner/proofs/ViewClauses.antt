@@ -2,10 +2,11 @@
 use Rattle.std.proofs.Common.{◌≡◌, Bool, true, false, cond, not, ◌&&◌, ◌||◌, List, [], ◌∷◌, length, map, refl, sym, ap, subst, ◌∙◌, inl, inr}
 use Rattle.std.specs.Prelude.{◌⊎◌, IfOk, Option, None, Some}
 use Rattle.std.specs.List.{AllByRecursion, list_any}
-use Rattle.std.proofs.lemmas.Bool.{and_parts, false≢true, true≢false}
+use Rattle.std.proofs.lemmas.Bool.{and_parts, true≢false, or_parts}
 use Rattle.std.proofs.lemmas.List.{length-map}
 use Rattle.std.proofs.lemmas.List.Elements.{recursion_from_All}
 use Rattle.cy_values.specs.declared.rows.Cell.{Cell}
+use Rattle.cy_values.proofs.Booleans.{untrue}
 use Rattle.cy_trees.specs.Trees.{Expression, null, boolean, integer, text, variable, property, has_labels, unary, binary, comparison, list, case, call, call_star, Path, Item, Projection, Clause, «match», unwind, «with», «return», create, set, remove, delete, Query, Statement, Where}
 use Rattle.cy_scope_kinds.specs.declared.functions.Function.{Function}
 use Rattle.cy_scope_kinds.specs.declared.kinds.Kind.{Kind}
@@ -37,11 +38,7 @@ use Rattle.cy_planner.specs.internal.ViewClauses.{AreViewClauses, IsViewClause}
 -- ---- a query
 
 none_of : (f : Clause → Bool) (c : Clause) (cs : List Clause) → list_any f (c ∷ cs) ≡ false → (f c ≡ false) × (list_any f cs ≡ false)
-none_of f c cs is = from (f c) (list_any f cs) is
-  where
-    from : (a b : Bool) → a || b ≡ false → (a ≡ false) × (b ≡ false)
-    from true b is = absurd (true≢false is)
-    from false b is = (refl, is)
+none_of f c cs is = or_parts (f c) (list_any f cs) is
 
 view_clauses : (scope : Scope) (cs : List Clause) → clauses_fault scope cs ≡ None → ClausesAreKinded scope (resolved_clauses scope cs) → are_sure_clauses scope (resolved_clauses scope cs) ≡ true
     → list_any is_update (resolved_clauses scope cs) ≡ false → list_any has_aggregate (resolved_clauses scope cs) ≡ false → list_any is_ordered (resolved_clauses scope cs) ≡ false
@@ -92,10 +89,6 @@ of_one : (b : Bool) → b || false ≡ false → b ≡ false
 of_one false is = refl
 of_one true is = is
 
-pub untold : (b : Bool) → not b ≡ true → b ≡ false
-untold true is = absurd (false≢true is)
-untold false is = refl
-
 -- a statement of one query comes of one query
 only_query : (q : Query) (qs : List Query) → q ∷ [] ≡ map resolved_query qs → (p : Query) × (qs ≡ p ∷ []) × (q ≡ resolved_query p)
 only_query q [] is = cc
@@ -108,7 +101,7 @@ view_query kinds query (of, good) =
     let facts =
     no_reason (is_reading cs && true) (list_any is_ordered cs || false) (list_any has_aggregate cs || false) (list_any is_unbounded cs || false) (are_sure_clauses [] cs && true) good in
     let reading = and_parts (is_reading cs) true facts.0 in
-    let reads : list_any is_update cs ≡ false = untold (list_any is_update cs) (and_parts (ends_with_return cs) (not (list_any is_update cs)) reading.0).1 in
+    let reads : list_any is_update cs ≡ false = untrue (list_any is_update cs) (and_parts (ends_with_return cs) (not (list_any is_update cs)) reading.0).1 in
     let found = only_query query of.0.queries (ap (λ (s : Statement). s.queries) of.2) in
     let written : List Clause = found.0.clauses in
     let free : query_fault found.0 ≡ None = (first_none (query_fault found.0) None (ap queries_fault (sym found.1) ∙ of.1)).0 in
@@ -169,11 +162,7 @@ item_read scope (call_star name) k (inr is) alone = absurd (true≢false (ap (λ
 
 no_aggregate : (i : Item) (items : List Item) → list_any (λ (j : Item). is_aggregate_call j.expression) (i ∷ items) ≡ false
     → (is_aggregate_call i.expression ≡ false) × (list_any (λ (j : Item). is_aggregate_call j.expression) items ≡ false)
-no_aggregate i items is = from (is_aggregate_call i.expression) (list_any (λ (j : Item). is_aggregate_call j.expression) items) is
-  where
-    from : (a b : Bool) → a || b ≡ false → (a ≡ false) × (b ≡ false)
-    from true b is = absurd (true≢false is)
-    from false b is = (refl, is)
+no_aggregate i items is = or_parts (is_aggregate_call i.expression) (list_any (λ (j : Item). is_aggregate_call j.expression) items) is
 
 module _ (scope : Scope) where
   each_read : (items : List Item) → AllByRecursion (ItemIsKinded scope) items → list_any (λ (i : Item). is_aggregate_call i.expression) items ≡ false → AllByRecursion (IsKinded scope) (expressions_in items)

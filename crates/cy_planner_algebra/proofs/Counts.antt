@@ -104,7 +104,7 @@ apart_step : (s r : Bool) (n : ℕ) → (r ≡ false → n ≡ 0) → (s || r) �
 apart_step true r n rest h = absurd (true≢false h)
 apart_step false r n rest h = let none = rest h in omega (arith, none)
 
-apart_counts : (row : List Cell) (xs : List (List Cell)) → is_among row xs ≡ false → count_of row xs ≡ 0
+pub apart_counts : (row : List Cell) (xs : List (List Cell)) → is_among row xs ≡ false → count_of row xs ≡ 0
 apart_counts row [] h = refl
 apart_counts row (x ∷ xs) h = count_cons row x xs ∙ apart_step (same row x) (is_among row xs) (count_of row xs) (apart_counts row xs) h
 

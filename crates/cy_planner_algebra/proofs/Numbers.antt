@@ -13,6 +13,7 @@ use Rattle.cy_values.specs.declared.numbers.RelId.{RelId}
 use Rattle.cy_values.specs.declared.scalars.Value.TheVariants as value
 use Rattle.cy_values.specs.declared.rows.Cell.{Cell}
 use Rattle.cy_values.specs.declared.rows.Cell.TheVariants as cell
+use Rattle.cy_values.proofs.Lists.{each_both}
 use Rattle.cy_trees.specs.Trees.{Name}
 use Rattle.cy_graph.specs.Graph.{IsGraph, State, number_end, node_at}
 use Rattle.cy_graph.specs.declared.nodes.Node.{Node}
@@ -68,10 +69,6 @@ each_rel P Q f step (e ∷ es) each = All-append Q (f e) (flat_map f es) (step e
 each_node : {K X B : Type 0} (P : K × X → Type 0) (Q : B → Type 0) (f : K × X → B) → ((e : K × X) → P e → Q (f e)) → (es : List (K × X)) → AllByRecursion P es → All Q (map f es)
 each_node P Q f step [] each = All-nil Q
 each_node P Q f step (e ∷ es) each = All-cons Q (f e) (map f es) (step e each.0) (each_node P Q f step es each.1)
-
-both_of_each : {A : Type 0} (P Q : A → Type 0) (xs : List A) → AllByRecursion P xs → AllByRecursion Q xs → AllByRecursion (λ x. P x × Q x) xs
-both_of_each P Q [] one other = tt
-both_of_each P Q (x ∷ xs) one other = ((one.0, other.0), both_of_each P Q xs one.1 other.1)
 
 paired_numbered : (left : List Cell) (rights : List (List Cell)) → IsNumberedRow left → All IsNumberedRow rights → All IsNumberedRow (paired left rights)
 paired_numbered left rights is each =
@@ -139,7 +136,7 @@ module _ (state : State) (is : IsGraph state) where
       each_node (λ (n : NodeId × Node). (1 ≤ n.0.0) × (n.0.0 < state.next_node)) IsNumberedRow (λ n. cell.Node n.0 ∷ []) node_row_numbered state.content.nodes is.numbered
   numbered_rows (plan.rels types orientation) =
       each_rel (λ r. IsGivenOut r × HasEnds r) IsNumberedRow (rows_of_rel types orientation) (rel_numbered types orientation) state.content.rels
-      (both_of_each IsGivenOut HasEnds state.content.rels is.rels_numbered is.ends)
+      (each_both IsGivenOut HasEnds state.content.rels is.rels_numbered is.ends)
   numbered_rows (plan.join left right keys) =
       all_made IsNumberedRow IsNumberedRow (λ l. paired l (filter (meet keys l) (rows_of state.content right)))
       (λ l here. paired_numbered l (filter (meet keys l) (rows_of state.content right)) here (All-filter (meet keys l) IsNumberedRow (rows_of state.content right) (numbered_rows right)))

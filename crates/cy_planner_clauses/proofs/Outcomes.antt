@@ -5,13 +5,13 @@ use Rattle.std.specs.List.{AllByRecursion}
 use Rattle.cy_values.specs.declared.rows.Cell.{Cell}
 use Rattle.cy_values.specs.declared.truth.Truth.{Truth}
 use Rattle.cy_values.specs.Truth.{is_yes}
+use Rattle.cy_values.proofs.Lists.{each_append}
 use Rattle.cy_trees.specs.Trees.{Expression, Path}
 use Rattle.cy_graph.specs.Graph.{Content}
 use Rattle.cy_expr.specs.declared.faults.EvalFault.{EvalFault}
 use Rattle.cy_expr.specs.Faults.{on_one}
 use Rattle.cy_oneshot_patterns.specs.Matching.{condition, fitting, found_and, kept, map_values, matched, matched_where, selected}
 use Rattle.cy_oneshot_patterns.specs.Outcomes.{joined, together}
-use Rattle.cy_oneshot_meaning.proofs.Each.{each_append}
 use Rattle.cy_oneshot_meaning.proofs.Together.{all_kept}
 use Rattle.cy_planner_algebra.specs.Expressions.{is_true}
 use Rattle.cy_planner_rows.specs.Rows.{condition_on, keeps}

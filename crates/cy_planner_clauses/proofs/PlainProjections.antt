@@ -2,7 +2,7 @@
 use Rattle.std.proofs.Common.{◌≡◌, ℕ, min, Bool, true, false, ◌||◌, List, [], ◌∷◌, ◌++◌, map, refl, sym, ap, subst, ◌∙◌}
 use Rattle.std.specs.Prelude.{IsOk, is_some, Option, None, Some, Result, Ok, Err, if◌then◌else◌}
 use Rattle.std.specs.List.{AllByRecursion}
-use Rattle.std.proofs.lemmas.Bool.{true≢false}
+use Rattle.std.proofs.lemmas.Bool.{true≢false, or_parts}
 use Rattle.cy_values.specs.declared.rows.Cell.{Cell}
 use Rattle.cy_values.specs.Bag.{count_of}
 use Rattle.cy_values.specs.Order.{row_cmp}
@@ -87,18 +87,14 @@ none_there : {A : Type 0} (o : Option A) → is_some o ≡ false → o ≡ None
 none_there None h = refl
 none_there (Some x) h = absurd (true≢false h)
 
-neither : (a b : Bool) → (a || b) ≡ false → (a ≡ false) × (b ≡ false)
-neither true b h = absurd (true≢false h)
-neither false b h = (refl, h)
-
 -- a projection without order
 abbrev plain : Projection → Projection
 plain p = record p { order = []; skip = None; limit = None }
 
 plain_is : (p : Projection) → has_order p ≡ false → p ≡ plain p
 plain_is p h =
-    let last = neither (has_keys p.order || is_some p.skip) (is_some p.limit) h in
-    let first = neither (has_keys p.order) (is_some p.skip) last.0 in
+    let last = or_parts (has_keys p.order || is_some p.skip) (is_some p.limit) h in
+    let first = or_parts (has_keys p.order) (is_some p.skip) last.0 in
     λ i. record p { order = keys_none p.order first.0 i; skip = none_there p.skip first.1 i; limit = none_there p.limit last.1 i }
 
 abbrev pub without_keys : Projected → Keyed

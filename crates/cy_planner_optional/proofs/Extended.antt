@@ -9,6 +9,7 @@ use Rattle.std.proofs.lemmas.List.FromFn.{length-map-range_with_len}
 use Rattle.std.proofs.Math.Seq.{take-append_seam}
 use Rattle.cy_values.specs.declared.rows.Cell.{Cell}
 use Rattle.cy_values.specs.Bag.{count_of}
+use Rattle.cy_values.proofs.Lists.{each_both, each_left, each_right}
 use Rattle.cy_trees.specs.Trees.{Expression}
 use Rattle.cy_scope_kinds.specs.Kinded.{IsKinded}
 use Rattle.cy_scope_kinds.specs.Rows.{row_fits}
@@ -34,8 +35,7 @@ use Rattle.cy_planner_rows.specs.Rows.{AreReadOver, FitsRows, cells_on}
 use Rattle.cy_planner_rows.specs.internal.Asked.{asked}
 use Rattle.cy_planner_rows.specs.internal.Lookups.{over, value_on, with_values}
 use Rattle.cy_planner_rows.proofs.Filtered.{same_value}
-use Rattle.cy_planner_rows.proofs.Lists.{all_of_each, each_both_of, each_mapped, first_elements, map_twice}
-use Rattle.cy_planner_rows.proofs.Lowerable.{each_left, each_right}
+use Rattle.cy_planner_rows.proofs.Lists.{all_of_each, each_mapped, first_elements, map_twice}
 use Rattle.cy_planner_rows.proofs.OverRows.{columns_have_cells, columns_read, first_over, long_rows, own_part, parts_over, rows_over, smaller_within, sure_over, width_over}
 use Rattle.cy_planner_rows.proofs.Placed.{IsAmong, asked_among}
 use Rattle.cy_planner_rows.proofs.Projected.{all_wanted_inside, outputs_over, wanted_of_all}
@@ -121,7 +121,7 @@ module _ (below : Plan) (es : List Expression) (well : IsWellFormed below) (read
       rows = rows_of graph.content below
 
       fit_rows : AllByRecursion Fits rows
-      fit_rows = each_both_of (λ row. row_fits scope row ≡ true) (λ row. length row ≡ n) rows fits.1 (long_rows graph.content below well)
+      fit_rows = each_both (λ row. row_fits scope row ≡ true) (λ row. length row ≡ n) rows fits.1 (long_rows graph.content below well)
 
       value_cells : (row : List Cell) → row_fits scope row ≡ true → (vs : List Expression) → AllByRecursion (IsKinded scope) vs → AllByRecursion (IsAmong wanted) (flat_map asked vs)
           → projected (map output vs) (with_values graph.content wanted row) ≡ cells_on graph.content vs row
@@ -170,7 +170,7 @@ module _ (below : Plan) (es : List Expression) (well : IsWellFormed below) (read
             (λ row both. All-append (HasCell (with_values graph.content wanted row)) (map column_output (range_with_len 0 n)) (map output es)
             (columns_have_cells (with_values graph.content wanted row) (range_with_len 0 n))
             (have_cells row both.0.0 es kinded (asked_among [] (flat_map asked es)) both.1)) rows
-            (each_both_of Fits HasAll rows fit_rows has))),
+            (each_both Fits HasAll rows fit_rows has))),
       )
 
       bounded_here : (tables : List (List (List Cell))) → All (IsWithin graph.content tables) (parts below) → All (IsWithin graph.content tables) (parts made)

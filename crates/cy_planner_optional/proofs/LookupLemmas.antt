@@ -1,5 +1,5 @@
 -- Look-ups that stand one after another are found by those that differ.
-use Rattle.std.proofs.Common.{◌≡◌, ℕ, ◌+◌, ◌<◌, ◌≤◌, ◌&&◌, ◌||◌, suc, subst, take, Bool, true, false, cond, is_some, List, [], ◌∷◌, ◌++◌, length, refl, sym, ap, ◌∙◌, arith}
+use Rattle.std.proofs.Common.{◌≡◌, ℕ, ◌+◌, ◌<◌, ◌≤◌, ◌&&◌, ◌||◌, subst, take, Bool, true, false, cond, is_some, List, [], ◌∷◌, ◌++◌, length, refl, sym, ap, ◌∙◌, arith}
 use Rattle.std.specs.Prelude.{Option, None, Some, ◌==◌, nat_lt, get_or}
 use Rattle.std.specs.List.{list_any, position_from, slice_get}
 use Rattle.std.specs.Option.{option_and_then, option_map_or, option_or}
@@ -7,52 +7,25 @@ use Rattle.std.proofs.lemmas.Bool.{false≢true}
 use Rattle.std.proofs.lemmas.Bool.Decides.{nat_tests}
 use Rattle.std.proofs.lemmas.List.{get_or_append_left, length-append, length-take-le, take_all, take_more}
 use Rattle.std.proofs.Math.Seq.{get_or-append_seam}
-use Rattle.std.proofs.lemmas.Option.{none-some, slice_get-get_or, slice_get_past, slice_get_read}
-use Rattle.std.proofs.lemmas.Slice.Eq.{bytes_eq-Decides}
+use Rattle.std.proofs.lemmas.Option.{slice_get-get_or, slice_get_past, slice_get_read}
+use Rattle.cy_values.proofs.Booleans.{both_first, both_second}
 use Rattle.cy_planner_algebra.specs.declared.operators.Attribute.{Attribute}
-use Rattle.cy_planner_algebra.specs.declared.operators.Attribute.TheVariants.{Property, RelType, Labels}
 use Rattle.cy_planner_rows.specs.declared.places.Wanted.{Wanted}
 use Rattle.cy_planner_rows.specs.Places.{added, is_of, place, same_attribute}
 use Rattle.cy_planner_rows.specs.internal.WantedLists.{has_words, words_of}
-use Rattle.cy_planner_rows.proofs.WantedLemmas.{place_found, same_place}
+use Rattle.cy_planner_rows.proofs.WantedLemmas.{place_found, same_place, any_placed}
+use Rattle.cy_planner_rows.proofs.Placed.{attribute_is}
 use Rattle.cy_planner_optional.specs.internal.LookupLists.{AreFirsts}
 use Rattle.cy_scope_kinds.proofs.ScopesLemmas.{position_both, position_inside}
 
 -- ---- a look-up is told by its column and its attribute
 
-attribute_alike : (a b : Attribute) → same_attribute a b ≡ true → a ≡ b
-attribute_alike (Property key) (Property other) h = ap Property ((bytes_eq-Decides key other).0 h)
-attribute_alike (Property key) RelType h = absurd (false≢true h)
-attribute_alike (Property key) Labels h = absurd (false≢true h)
-attribute_alike RelType (Property other) h = absurd (false≢true h)
-attribute_alike RelType RelType h = refl
-attribute_alike RelType Labels h = absurd (false≢true h)
-attribute_alike Labels (Property other) h = absurd (false≢true h)
-attribute_alike Labels RelType h = absurd (false≢true h)
-attribute_alike Labels Labels h = refl
-
-second : (b c : Bool) → (b && c) ≡ true → c ≡ true
-second true c h = h
-second false c h = absurd (false≢true h)
-
-first_one : (b c : Bool) → (b && c) ≡ true → b ≡ true
-first_one true c h = refl
-first_one false c h = h
-
 -- whoever asks for it asks as it does
 asked_alike : (column : ℕ) (a : Attribute) (w : Wanted) (ws : List Wanted) → is_of column a w ≡ true → list_any (is_of column a) ws ≡ list_any (is_of w.column w.attribute) ws
 asked_alike column a w ws h =
-    let k : column ≡ w.column = (let e = first_one (w.column == column) (same_attribute w.attribute a) h in grind (arith, nat_tests, e)) in
-    let b : a ≡ w.attribute = sym (attribute_alike w.attribute a (second (w.column == column) (same_attribute w.attribute a) h)) in
+    let k : column ≡ w.column = (let e = both_first (w.column == column) (same_attribute w.attribute a) h in grind (arith, nat_tests, e)) in
+    let b : a ≡ w.attribute = sym (attribute_is w.attribute a (both_second (w.column == column) (same_attribute w.attribute a) h)) in
     λ i. list_any (is_of (k i) (b i)) ws
-
-any_placed : (t : Wanted → Bool) (i : ℕ) (ws : List Wanted) → list_any t ws ≡ is_some (position_from t i ws)
-any_placed t i [] = refl
-any_placed t i (w ∷ ws) =
-    elim (t w) as (λ b. (b || list_any t ws) ≡ is_some (cond b (Some i) (position_from t (i + 1) ws))) [
-      | true ↦ refl
-      | false ↦ any_placed t (i + 1) ws
-    ]
 
 -- ---- one look-up more
 

@@ -3,6 +3,7 @@ use Rattle.std.proofs.Common.{◌≡◌, ℕ, ◌+◌, ◌<◌, ◌≤◌, List,
 use Rattle.std.specs.Cmp.{IsTotalOrder}
 use Rattle.std.specs.List.{All, AllByRecursion}
 use Rattle.cy_values.specs.Order.{row_cmp}
+use Rattle.cy_values.proofs.Lists.{each_then}
 use Rattle.cy_trees.specs.Trees.{Expression}
 use Rattle.cy_planner_algebra.specs.declared.operators.Attribute.{Attribute}
 use Rattle.cy_planner_algebra.specs.declared.operators.KeyColumns.{KeyColumns}
@@ -11,7 +12,7 @@ use Rattle.cy_planner_algebra.specs.Plans.{Plan, width}
 use Rattle.cy_planner_algebra.specs.WellFormed.{IsColumn, IsKeyBetween, IsOutputOver, IsOver, IsWellFormed, greatest_width}
 use Rattle.cy_planner_rows.specs.Columns.{column_output}
 use Rattle.cy_planner_rows.specs.Renumbered.{new_column, renumbered}
-use Rattle.cy_planner_rows.proofs.Lists.{all_of_each, each_weaker}
+use Rattle.cy_planner_rows.proofs.Lists.{all_of_each}
 use Rattle.cy_planner_rows.proofs.OverRows.{columns_over}
 use Rattle.cy_planner_rewriting.specs.Rewritten.{IsRewritten}
 use Rattle.cy_planner_rewriting.proofs.Congruent.{over_join, over_lookup, rewritten_again}
@@ -79,7 +80,7 @@ module _ (left right p q : Plan) (cl cr : List ℕ) (keys : List KeyColumns) (we
   columns_right = taken_inside cr q joined_well.1
 
   pub right_room : All (λ c. width p + c ≤ greatest_width) cr
-  right_room = all_of_each (λ c. width p + c ≤ greatest_width) cr (each_weaker (λ c. c < width q) (λ c. width p + c ≤ greatest_width) (λ c less. (let room = join_room in omega (arith, less, room))) cr columns_right)
+  right_room = all_of_each (λ c. width p + c ≤ greatest_width) cr (each_then (λ c. c < width q) (λ c. width p + c ≤ greatest_width) (λ c less. (let room = join_room in omega (arith, less, room))) cr columns_right)
 
   pub keys_there : All (IsKeyBetween (width p) (width q)) (map (renumbered_key cl cr) keys)
   keys_there =

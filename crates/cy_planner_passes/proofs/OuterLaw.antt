@@ -5,6 +5,8 @@ use Rattle.std.specs.List.{All, AllByRecursion}
 use Rattle.std.proofs.lemmas.List.Elements.{All-append, All-cons, All-filter, All-head, All-tail}
 use Rattle.std.proofs.Math.Seq.{drop-append_seam}
 use Rattle.cy_values.specs.declared.rows.Cell.{Cell}
+use Rattle.cy_values.proofs.Lists.{each_then}
+use Rattle.cy_values.proofs.Booleans.{and_past}
 use Rattle.cy_trees.specs.Trees.{Expression}
 use Rattle.cy_graph.specs.Graph.{Content, State, IsGraph}
 use Rattle.cy_expr.specs.Reading.{reads_columns}
@@ -18,7 +20,7 @@ use Rattle.cy_planner_algebra.specs.Parts.{parts}
 use Rattle.cy_planner_algebra.specs.Sure.{HasTruth, IsSureOn}
 use Rattle.cy_planner_algebra.specs.WellFormed.{IsWellFormed}
 use Rattle.cy_planner_algebra.specs.Within.{IsWithin}
-use Rattle.cy_planner_rows.proofs.Lists.{all_of_each, each_of_all, each_weaker}
+use Rattle.cy_planner_rows.proofs.Lists.{all_of_each, each_of_all}
 use Rattle.cy_planner_rows.proofs.OverRows.{IsLong, long_rows}
 use Rattle.cy_planner_pushdown.proofs.Commuting.{right_sifted}
 use Rattle.cy_planner_pushdown.proofs.Conjunctions.{sifted_both}
@@ -26,7 +28,6 @@ use Rattle.cy_planner_rewriting.proofs.Congruent.{all_split, same_within}
 use Rattle.cy_planner_passes.specs.Standing.{StandsFor}
 use Rattle.cy_planner_rows.specs.Conditions.{or_true}
 use Rattle.cy_planner_passes.specs.internal.SplitPredicates.{IsSplit}
-use Rattle.cy_planner_passes.proofs.Predicates.{and_over}
 
 flat_alike : {A B : Type 0} (P : A → Type 0) (f g : A → List B) → ((x : A) → P x → f x ≡ g x) → (xs : List A) → AllByRecursion P xs → flat_map f xs ≡ flat_map g xs
 flat_alike P f g alike [] each = refl
@@ -43,7 +44,7 @@ module _ (left right made : Plan) (keys : List KeyColumns) (test : Expression) (
   partners : (graph : Content) (l : List Cell) → length l ≡ width left → (rows : List (List Cell)) → filter (is_partner keys (or_true rest) l) (filter (is.keeps graph) rows) ≡ filter (is_partner keys test l) rows
   partners graph l long rows =
       sifted_both (is.keeps graph) (is_partner keys (or_true rest) l) (is_partner keys test l)
-      (λ r. ap (λ b. meet keys l r && b) (is.same reads graph l r long) ∙ and_over (meet keys l r) (is.keeps graph r) (holds (or_true rest) (l ++ r))) rows
+      (λ r. ap (λ b. meet keys l r && b) (is.same reads graph l r long) ∙ and_past (meet keys l r) (is.keeps graph r) (holds (or_true rest) (l ++ r))) rows
 
   module _ (graph : State) (good : IsGraph graph) where
     abbrev lefts : List (List Cell)
@@ -75,7 +76,7 @@ module _ (left right made : Plan) (keys : List KeyColumns) (test : Expression) (
         subst (λ rows. All (HasTruth (or_true rest)) rows) (sym kept_pairs)
         (All-filter (λ row. is.keeps graph.content (drop (width left) row)) (HasTruth (or_true rest)) (joined keys lefts rights)
         (all_of_each (HasTruth (or_true rest)) (joined keys lefts rights)
-        (each_weaker (HasTruth test) (HasTruth (or_true rest)) is.truth (joined keys lefts rights) (each_of_all (HasTruth test) (joined keys lefts rights) each))))
+        (each_then (HasTruth test) (HasTruth (or_true rest)) is.truth (joined keys lefts rights) (each_of_all (HasTruth test) (joined keys lefts rights) each))))
 
     law_sure : IsSureOn graph.content before → IsSureOn graph.content after
     law_sure sure = (sure.0, is.sure graph good sure.1, law_truths sure.2)

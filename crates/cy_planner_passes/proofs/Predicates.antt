@@ -1,5 +1,5 @@
 -- The predicate of an outer join, taken apart.
-use Rattle.std.proofs.Common.{◌≡◌, ℕ, Bool, true, false, ◌&&◌, List, [], ◌∷◌, ◌++◌, length, map, refl, sym, ap, subst, ◌∙◌, inl, inr}
+use Rattle.std.proofs.Common.{◌≡◌, ℕ, true, ◌&&◌, List, [], ◌∷◌, ◌++◌, length, map, refl, sym, ap, subst, ◌∙◌, inl, inr}
 use Rattle.std.specs.Prelude.{IsOk, Option, None, Some, Result, Ok, Err, option_map}
 use Rattle.std.specs.List.{AllByRecursion, Contains}
 use Rattle.std.proofs.lemmas.List.Folds.{list_all-append}
@@ -8,6 +8,7 @@ use Rattle.cy_values.specs.declared.rows.Cell.{Cell}
 use Rattle.cy_values.specs.declared.scalars.Value.{Value}
 use Rattle.cy_values.specs.declared.truth.Truth.{Truth}
 use Rattle.cy_values.specs.Truth.{both}
+use Rattle.cy_values.proofs.Lists.{each_append, each_parts}
 use Rattle.cy_trees.specs.declared.expressions.BinaryOperator.TheVariants.{And}
 use Rattle.cy_trees.specs.declared.expressions.Expr.{Expr}
 use Rattle.cy_trees.specs.Trees.{Expression, binary}
@@ -26,11 +27,10 @@ use Rattle.cy_planner_algebra.specs.Sure.{HasTruth}
 use Rattle.cy_planner_algebra.specs.WellFormed.{IsOver}
 use Rattle.cy_planner_rows.specs.Rows.{keeps}
 use Rattle.cy_planner_rows.specs.Conjuncts.{IsAllOf, all_conjuncts, conjuncts}
-use Rattle.cy_planner_rows.proofs.Alike.{one_or_both}
+use Rattle.cy_planner_rows.proofs.Alike.{one_or_both, in_cell}
 use Rattle.cy_planner_pushdown.specs.After.{AreKept, keeps_each}
-use Rattle.cy_planner_pushdown.proofs.Conjunctions.{in_cell, joined_truth, truth_back, whole, whole_ok, whole_true}
+use Rattle.cy_planner_pushdown.proofs.Conjunctions.{joined_truth, truth_back, whole, whole_ok}
 use Rattle.cy_planner_pushdown.proofs.Finding.{all_kept, among_each}
-use Rattle.cy_planner_pushdown.proofs.Splitting.{each_more, each_parts}
 use Rattle.cy_planner_passes.specs.internal.SplitPredicates.{IsSplit}
 
 -- ---- what a condition is
@@ -39,22 +39,6 @@ use Rattle.cy_planner_passes.specs.internal.SplitPredicates.{IsSplit}
 same_on_graphs : (graph : Content) (test : Expression) (row : List Cell) → reads_columns test ≡ true → holds test row ≡ keeps graph test row
 same_on_graphs graph test row reads =
     ap (λ (o : Result Cell EvalFault). is_true (on_one truth_of (on_one value_in_cell o))) (cell-alike no_graph (lookups graph) row row 0 (λ i less. refl) test (inr reads, inl refl))
-
-and_true : (b : Bool) → (b && true) ≡ b
-and_true true = refl
-and_true false = refl
-
-pub and_over : (m k h : Bool) → (m && (k && h)) ≡ (k && (m && h))
-and_over true true h = refl
-and_over true false h = refl
-and_over false true h = refl
-and_over false false h = refl
-
-and_swap : (p q r s : Bool) → ((p && q) && (r && s)) ≡ ((p && r) && (q && s))
-and_swap true true r s = refl
-and_swap true false true s = refl
-and_swap true false false s = refl
-and_swap false q r s = refl
 
 joined_of : (o p : Result Truth EvalFault) → IsOk o → IsOk p → IsOk (joined_truth o p)
 joined_of (Ok t) (Ok u) here there = subst (λ (o : Result Truth EvalFault). IsOk o) (sym (truth_back (both t u))) refl
@@ -69,9 +53,6 @@ whole_of (Err fault) w here there = cc
 
 abbrev value_on : List Cell → Expression → Result Value EvalFault
 value_on row e = on_one value_in_cell (cell_of row e)
-
-and_holds : (a b : Expression) (row : List Cell) → holds (binary And a b) row ≡ (holds a row && holds b row)
-and_holds a b row = whole_true (value_on row a) (value_on row b)
 
 parts_over : (n : ℕ) (a b : Expression) → IsOver n (binary And a b) → IsOver n a × IsOver n b
 parts_over n a b (reads, below) =
@@ -88,7 +69,7 @@ module _ (P : Expression → Type 0) (parts : (a b : Expression) → P (binary A
   of_each : (e : Expression) → P e → AllByRecursion P (conjuncts e)
   of_each =
       one_or_both (λ e. P e → AllByRecursion P (conjuncts e))
-      (λ a b here there is. let two = parts a b is in each_more P (conjuncts a) (conjuncts b) (here two.0) (there two.1))
+      (λ a b here there is. let two = parts a b is in each_append P (conjuncts a) (conjuncts b) (here two.0) (there two.1))
       (λ e one is. subst (AllByRecursion P) (sym one) (is, tt))
 
   of_all : (e : Expression) → AllByRecursion P (conjuncts e) → P e
@@ -99,7 +80,7 @@ module _ (P : Expression → Type 0) (parts : (a b : Expression) → P (binary A
 
   of_trees : (tests : List Expr) → AllByRecursion P (map expression_of tests) → AllByRecursion P (all_conjuncts tests)
   of_trees [] each = tt
-  of_trees (t ∷ tests) each = each_more P (conjuncts (expression_of t)) (all_conjuncts tests) (of_each (expression_of t) each.0) (of_trees tests each.1)
+  of_trees (t ∷ tests) each = each_append P (conjuncts (expression_of t)) (all_conjuncts tests) (of_each (expression_of t) each.0) (of_trees tests each.1)
 
   -- of what is left
   of_rest : (test : Expression) (tests : List Expr) (e : Expression) → AllByRecursion (Contains (conjuncts test)) (map expression_of tests) → conjuncts e ≡ all_conjuncts tests → P test → P e

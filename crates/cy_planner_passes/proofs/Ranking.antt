@@ -6,8 +6,8 @@ use Rattle.std.proofs.lemmas.Bool.{cases_eq}
 use Rattle.std.proofs.lemmas.List.{get_or-set_other, get_or-set_same, get_or_append_left, length-append, map-append}
 use Rattle.std.proofs.Math.Seq.{get_or-append_seam}
 use Rattle.std.proofs.lemmas.Option.{same_Some}
+use Rattle.cy_values.proofs.Lists.{each_then}
 use Rattle.cy_planner_rows.specs.Renumbered.{new_column}
-use Rattle.cy_planner_rows.proofs.Lists.{each_weaker}
 use Rattle.cy_planner_passes.specs.internal.Ranks.{AreRanked, AreRanks, IsLonger, IsPlace}
 
 pub place_longer : (kept longer : List ℕ) → IsLonger kept longer → (column place : ℕ) → IsPlace kept column place → IsPlace longer column place
@@ -54,7 +54,7 @@ ranked_longer width columns kept places longer column place so_far is at few the
     let more : length longer ≡ length kept + length is.0 = ap length is.1 ∙ length-append kept is.0 in
     record {
       same = map-append (new_column longer) places (place ∷ []) ∙ (λ i. (places_longer kept longer is places so_far.inside ∙ so_far.same) i ++ at.1 i ∷ []);
-      inside = each_longer (λ p. p < length longer) places place (each_weaker (λ p. p < length kept) (λ p. p < length longer) (λ p less. omega (arith, less, more)) places so_far.inside) at.0;
+      inside = each_longer (λ p. p < length longer) places place (each_then (λ p. p < length kept) (λ p. p < length longer) (λ p less. omega (arith, less, more)) places so_far.inside) at.0;
       there = there;
       few = (let before = so_far.few in let long = length-append columns (column ∷ []) in omega (arith, before, few, long));
     }

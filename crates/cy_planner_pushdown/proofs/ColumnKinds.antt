@@ -13,6 +13,7 @@ use Rattle.cy_values.specs.declared.rows.Cell.{Cell}
 use Rattle.cy_values.specs.declared.rows.Cell.TheVariants as cell
 use Rattle.cy_values.specs.declared.scalars.Value.{Value}
 use Rattle.cy_values.specs.declared.scalars.Value.TheVariants as value
+use Rattle.cy_values.proofs.Lists.{each_append, each_both}
 use Rattle.cy_trees.specs.declared.expressions.Variable.{Variable}
 use Rattle.cy_trees.specs.Trees.{Name, Expression, null, boolean, integer, text, variable, property, has_labels, unary, binary, comparison, list, case, call, call_star}
 use Rattle.cy_scope_kinds.specs.declared.kinds.Kind.{Kind}
@@ -34,11 +35,10 @@ use Rattle.cy_planner_algebra.specs.Expressions.{cell_at, cell_or_null, output_c
 use Rattle.cy_planner_algebra.specs.Keys.{meet}
 use Rattle.cy_planner_algebra.specs.Meaning.{backwards, each_once, forwards, is_among, is_loop, is_partner, nulls, or_nulls, paired, rows_of, rows_of_rel, ways, with_attribute}
 use Rattle.cy_planner_algebra.specs.WellFormed.{IsWellFormed}
-use Rattle.cy_planner_rows.proofs.Lists.{each_both_of, each_mapped}
-use Rattle.cy_planner_rows.proofs.Lowerable.{each_both}
+use Rattle.cy_planner_rows.proofs.Lists.{each_mapped}
 use Rattle.cy_planner_rows.proofs.OverRows.{IsLong, long_rows}
 use Rattle.cy_planner_pushdown.specs.internal.Pushed.{column_taken_over, common_kind, kind_at, kind_computed, kind_made, kind_of_nodes, kind_of_rels}
-use Rattle.cy_planner_pushdown.proofs.Conjunctions.{each_sifted}
+use Rattle.cy_planner_pushdown.proofs.Conjunctions.{each_sifted, all_anything, anything}
 
 pub rest_of_nodes : (column : ℕ) → 1 ≤ column → kind_of_nodes column ≡ None
 rest_of_nodes zero least = absurd (omega (arith, least))
@@ -196,7 +196,7 @@ module _ (P : List Cell → Type 0) where
     rel_rows : (types : List Name) (orientation : Orientation) (rs : List (RelId × Rel)) → AllByRecursion P (flat_map (rows_of_rel types orientation) rs)
     rel_rows types orientation [] = tt
     rel_rows types orientation (r ∷ rs) =
-        each_both P (rows_of_rel types orientation r) (flat_map (rows_of_rel types orientation) rs)
+        each_append P (rows_of_rel types orientation r) (flat_map (rows_of_rel types orientation) rs)
         (elim (has_type types r.1) as (λ b. AllByRecursion P (cond b (ways orientation r) [])) [ true ↦ rel_ways orientation r | false ↦ tt ])
         (rel_rows types orientation rs)
 
@@ -221,7 +221,7 @@ module _ (P Q R : List Cell → Type 0) (partners : List Cell → List (List Cel
   pub each_paired : (ls : List (List Cell)) → AllByRecursion P ls → AllByRecursion R (flat_map (λ l. paired l (partners l)) ls)
   each_paired [] each = tt
   each_paired (l ∷ ls) each =
-      each_both R (paired l (partners l)) (flat_map (λ k. paired k (partners k)) ls)
+      each_append R (paired l (partners l)) (flat_map (λ k. paired k (partners k)) ls)
       (each_mapped Q R (λ r. l ++ r) (λ r is. made l r each.0 is) (partners l) (found l)) (each_paired ls each.1)
 
 each_once_of : (P : List Cell → Type 0) (rows : List (List Cell)) → AllByRecursion P rows → AllByRecursion P (each_once rows)
@@ -243,20 +243,13 @@ null_at (suc n) zero = refl
 null_at (suc n) (suc column) = null_at n column
 
 module _ (k : Kind) where
-  abbrev anything : List Cell → Type 0
-  anything row = Unit {0}
-
-  all_anything : (rows : List (List Cell)) → AllByRecursion anything rows
-  all_anything [] = tt
-  all_anything (row ∷ rows) = (tt, all_anything rows)
-
   -- the cell of the left row
   pairs_left : (n column : ℕ) (partners : List Cell → List (List Cell)) (ls : List (List Cell)) → column < n → AllByRecursion (IsLong n) ls → AllByRecursion (HasKindAt column k) ls
       → AllByRecursion (HasKindAt column k) (flat_map (λ l. paired l (partners l)) ls)
   pairs_left n column partners ls less long have =
       each_paired (λ l. IsLong n l × HasKindAt column k l) anything (HasKindAt column k) partners (λ l. all_anything (partners l))
       (λ l r both any. ap (is_cell_of k) (get_or_append_left l r language.null column (let e = both.0 in omega (arith, less, e))) ∙ both.1)
-      ls (each_both_of (IsLong n) (HasKindAt column k) ls long have)
+      ls (each_both (IsLong n) (HasKindAt column k) ls long have)
 
   -- that of the right one
   pairs_right : (n column : ℕ) (partners : List Cell → List (List Cell)) (ls : List (List Cell)) → n ≤ column → AllByRecursion (IsLong n) ls
@@ -321,7 +314,7 @@ module _ (graph : Content) where
   project_has p outputs column k have (Some c) at is =
       each_mapped (HasKindAt c k) (HasKindAt column k) (projected outputs) (λ row here. ap (is_cell_of k) (taken_over outputs column c at row) ∙ here) (rows_of graph p) (have c is)
   project_has p outputs column k have None at is =
-      each_mapped (anything k) (HasKindAt column k) (projected outputs) (λ row any. made_has row k outputs column (slice_get outputs column) refl is) (rows_of graph p) (all_anything k (rows_of graph p))
+      each_mapped anything (HasKindAt column k) (projected outputs) (λ row any. made_has row k outputs column (slice_get outputs column) refl is) (rows_of graph p) (all_anything (rows_of graph p))
 
   pairs_have : (p left : Plan) (column : ℕ) (k : Kind) (b : Option Kind) (partners : List Cell → List (List Cell)) → rows_of graph p ≡ flat_map (λ l. paired l (partners l)) (rows_of graph left) → IsWellFormed left
       → (kind_at left column ≡ Some k → Have left column k) → (b ≡ Some k → (l : List Cell) → AllByRecursion (HasKindAt (column - width left) k) (partners l))
@@ -340,7 +333,7 @@ module _ (graph : Content) where
       by (inl both) =
           each_mapped (λ row. IsLong (width p) row × HasKindAt column k row) (HasKindAt column k) (with_attribute graph c attribute)
           (λ row seen. ap (is_cell_of k) (get_or_append_left row _ language.null column (let e = seen.0 in let less = both.0 in omega (arith, less, e))) ∙ seen.1)
-          (rows_of graph p) (each_both_of (IsLong (width p)) (HasKindAt column k) (rows_of graph p) (long_rows graph p well) (have both.1))
+          (rows_of graph p) (each_both (IsLong (width p)) (HasKindAt column k) (rows_of graph p) (long_rows graph p well) (have both.1))
       by (inr both) =
           let last = last_part (width p) column k both.1 in
           each_mapped (IsLong (width p)) (HasKindAt column k) (with_attribute graph c attribute) (λ row long. added_value k graph p c column attribute row last.0 last.1 long) (rows_of graph p) (long_rows graph p well)
@@ -365,4 +358,4 @@ module _ (graph : Content) where
   have_kind (plan.distinct p) column k good is = each_once_of (HasKindAt column k) (rows_of graph p) (have_kind p column k good is)
   have_kind (plan.union left right) column k good is =
       let both = both_kinds (kind_at left column) (kind_at right column) k is in
-      each_both (HasKindAt column k) (rows_of graph left) (rows_of graph right) (have_kind left column k good.0 both.0) (have_kind right column k good.1 both.1)
+      each_append (HasKindAt column k) (rows_of graph left) (rows_of graph right) (have_kind left column k good.0 both.0) (have_kind right column k good.1 both.1)

@@ -5,9 +5,9 @@ use Rattle.std.specs.List.{AllByRecursion}
 use Rattle.std.proofs.lemmas.Bool.{false≢true}
 use Rattle.std.proofs.lemmas.List.Elements.{filter-append}
 use Rattle.cy_values.specs.declared.rows.Cell.{Cell}
+use Rattle.cy_values.proofs.Lists.{filters_swap, each_then}
 use Rattle.cy_planner_algebra.specs.Meaning.{each_once, is_among, paired}
 use Rattle.cy_planner_algebra.proofs.Counts.{identity, same}
-use Rattle.cy_planner_rows.proofs.Lists.{each_weaker}
 
 -- ---- lists
 
@@ -21,32 +21,6 @@ pub sifted_mapped : {A B : Type 0} (P : A → Type 0) (f : A → B) (p : B → B
 sifted_mapped P f p q same [] each = refl
 sifted_mapped P f p q same (x ∷ xs) each =
     mapped_step f x (filter q xs) (filter p (map f xs)) (q x) (p (f x)) (same x each.0) (sifted_mapped P f p q same xs each.1)
-
-pub sifted_twice : {A : Type 0} (p q : A → Bool) (xs : List A) → filter p (filter q xs) ≡ filter q (filter p xs)
-sifted_twice p q [] = refl
-sifted_twice p q (x ∷ xs) = step (sifted_twice p q xs) (p x) (q x) refl refl
-  where
-    step : filter p (filter q xs) ≡ filter q (filter p xs) → (b c : Bool) → p x ≡ b → q x ≡ c → filter p (cond (q x) (x ∷ filter q xs) (filter q xs)) ≡ filter q (cond (p x) (x ∷ filter p xs) (filter p xs))
-    step rest true true here there =
-        ap (λ k. filter p (cond k (x ∷ filter q xs) (filter q xs))) there
-        ∙ ap (λ k. cond k (x ∷ filter p (filter q xs)) (filter p (filter q xs))) here
-        ∙ ap (λ l. x ∷ l) rest
-        ∙ sym (ap (λ k. cond k (x ∷ filter q (filter p xs)) (filter q (filter p xs))) there)
-        ∙ sym (ap (λ k. filter q (cond k (x ∷ filter p xs) (filter p xs))) here)
-    step rest true false here there =
-        ap (λ k. filter p (cond k (x ∷ filter q xs) (filter q xs))) there
-        ∙ rest
-        ∙ sym (ap (λ k. cond k (x ∷ filter q (filter p xs)) (filter q (filter p xs))) there)
-        ∙ sym (ap (λ k. filter q (cond k (x ∷ filter p xs) (filter p xs))) here)
-    step rest false true here there =
-        ap (λ k. filter p (cond k (x ∷ filter q xs) (filter q xs))) there
-        ∙ ap (λ k. cond k (x ∷ filter p (filter q xs)) (filter p (filter q xs))) here
-        ∙ rest
-        ∙ sym (ap (λ k. filter q (cond k (x ∷ filter p xs) (filter p xs))) here)
-    step rest false false here there =
-        ap (λ k. filter p (cond k (x ∷ filter q xs) (filter q xs))) there
-        ∙ rest
-        ∙ sym (ap (λ k. filter q (cond k (x ∷ filter p xs) (filter p xs))) here)
 
 -- once more: the same ones
 pub sifted_again : {A : Type 0} (q : A → Bool) (xs : List A) → filter q (filter q xs) ≡ filter q xs
@@ -141,7 +115,7 @@ module _ (q : List Cell → Bool) where
     right_sifted qr meets alike rs [] each = refl
     right_sifted qr meets alike rs (l ∷ ls) each =
         ap (λ rows. rows ++ flat_map (λ k. paired k (filter (meets k) (filter qr rs))) ls)
-        (ap (paired l) (sifted_twice (meets l) qr rs)
+        (ap (paired l) (filters_swap (meets l) qr rs)
         ∙ sifted_mapped (λ r. meets l r ≡ true) (λ r. l ++ r) q qr (λ r met. alike l r each.0 met) (filter (meets l) rs) (each_kept (meets l) rs))
         ∙ ap (λ rows. filter q (paired l (filter (meets l) rs)) ++ rows) (right_sifted qr meets alike rs ls each.1)
         ∙ sym (filter-append q (paired l (filter (meets l) rs)) (flat_map (λ k. paired k (filter (meets k) rs)) ls))
@@ -166,10 +140,10 @@ module _ (q : List Cell → Bool) where
         by true is =
             ap (λ b. flat_map (λ k. paired k (filter (meets k) (filter qr rs))) (cond b (l ∷ rest) rest)) is
             ∙ ap (λ rows. rows ++ others)
-            (ap (paired l) (sifted_twice (meets l) qr rs)
+            (ap (paired l) (filters_swap (meets l) qr rs)
             ∙ sifted_mapped (λ r. meets l r ≡ true) (λ r. l ++ r) q qr (λ r met. sym (alike l r each.0 met ∙ ap (λ b. b && qr r) is)) (filter (meets l) rs) (each_kept (meets l) rs))
         by false is =
             ap (λ b. flat_map (λ k. paired k (filter (meets k) (filter qr rs))) (cond b (l ∷ rest) rest)) is
             ∙ ap (λ rows. rows ++ others)
             (sym (all_or_none l false (filter (meets l) rs)
-            (each_weaker (λ r. meets l r ≡ true) (λ r. q (l ++ r) ≡ false) (λ r met. alike l r each.0 met ∙ ap (λ b. b && qr r) is) (filter (meets l) rs) (each_kept (meets l) rs))))
+            (each_then (λ r. meets l r ≡ true) (λ r. q (l ++ r) ≡ false) (λ r met. alike l r each.0 met ∙ ap (λ b. b && qr r) is) (filter (meets l) rs) (each_kept (meets l) rs))))

@@ -1,4 +1,4 @@
--- Two conditions that AND joins, one after the other.
+-- Two conditions that AND joins, one after the other, and what holds of any row.
 use Rattle.std.proofs.Common.{◌≡◌, Bool, true, false, cond, ◌&&◌, List, [], ◌∷◌, filter, refl, sym, ap, subst, ◌∙◌}
 use Rattle.std.specs.Prelude.{IsOk, Result, Ok, Err}
 use Rattle.std.specs.List.{AllByRecursion}
@@ -7,6 +7,7 @@ use Rattle.cy_values.specs.declared.scalars.Value.{Value}
 use Rattle.cy_values.specs.declared.truth.Truth.{Truth}
 use Rattle.cy_values.specs.declared.truth.Truth.TheVariants.{No, Unknown, Yes}
 use Rattle.cy_values.specs.Truth.{both, is_yes}
+use Rattle.cy_values.proofs.Booleans.{none_and}
 use Rattle.cy_trees.specs.declared.expressions.BinaryOperator.TheVariants.{And}
 use Rattle.cy_trees.specs.Trees.{Expression, binary}
 use Rattle.cy_scope_kinds.specs.Scopes.{Scope}
@@ -19,7 +20,17 @@ use Rattle.cy_expr.specs.Logic.{conjunction, truth_of, value_of}
 use Rattle.cy_expr.specs.Operators.{value_in_cell}
 use Rattle.cy_planner_algebra.specs.Expressions.{is_true}
 use Rattle.cy_planner_rows.specs.Rows.{condition_on, keeps}
+use Rattle.cy_planner_rows.proofs.Alike.{in_cell}
 use Rattle.cy_scope_kinds.specs.Kinded.{IsKinded}
+
+-- ---- what holds of any row
+
+abbrev pub anything : List Cell → Type 0
+anything row = Unit {0}
+
+pub all_anything : (rows : List (List Cell)) → AllByRecursion anything rows
+all_anything [] = tt
+all_anything (row ∷ rows) = (tt, all_anything rows)
 
 -- ---- AND
 
@@ -39,17 +50,13 @@ yes_both Unknown Yes = refl
 yes_both Unknown No = refl
 yes_both Unknown Unknown = refl
 
-and_false : (b : Bool) → false ≡ (b && false)
-and_false true = refl
-and_false false = refl
-
 -- the truth of AND, by the outcomes of its operands
 abbrev pub joined_truth : Result Truth EvalFault → Result Truth EvalFault → Result Truth EvalFault
 joined_truth o p = on_one truth_of (on_two (λ a b. Ok (value_of (both a b))) o p)
 
 joined_true : (o p : Result Truth EvalFault) → is_true (joined_truth o p) ≡ (is_true o && is_true p)
 joined_true (Ok t) (Ok u) = ap is_true (truth_back (both t u)) ∙ yes_both t u
-joined_true (Ok t) (Err fault) = and_false (is_yes t)
+joined_true (Ok t) (Err fault) = none_and (is_yes t)
 joined_true (Err fault) p = refl
 
 joined_ok : (o p : Result Truth EvalFault) → IsOk (joined_truth o p) → IsOk o × IsOk p
@@ -60,13 +67,9 @@ joined_ok (Err fault) p is = cc
 abbrev pub whole : Result Value EvalFault → Result Value EvalFault → Result Truth EvalFault
 whole v w = on_one truth_of (on_one value_in_cell (as_cell (on_two conjunction v w)))
 
-pub in_cell : (o : Result Value EvalFault) → on_one value_in_cell (as_cell o) ≡ o
-in_cell (Ok v) = refl
-in_cell (Err fault) = refl
-
 pub whole_true : (v w : Result Value EvalFault) → is_true (whole v w) ≡ (is_true (on_one truth_of v) && is_true (on_one truth_of w))
 whole_true (Ok v) (Ok w) = ap (λ (o : Result Value EvalFault). is_true (on_one truth_of o)) (in_cell (conjunction v w)) ∙ joined_true (truth_of v) (truth_of w)
-whole_true (Ok v) (Err fault) = and_false (is_true (truth_of v))
+whole_true (Ok v) (Err fault) = none_and (is_true (truth_of v))
 whole_true (Err fault) w = refl
 
 pub whole_ok : (v w : Result Value EvalFault) → IsOk (whole v w) → IsOk (on_one truth_of v) × IsOk (on_one truth_of w)

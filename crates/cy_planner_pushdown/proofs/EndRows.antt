@@ -7,10 +7,9 @@ use Rattle.std.specs.Cmp.{Equal-is, IsTotalOrder, tied_itself}
 use Rattle.std.specs.declared.cmp.Ordering.{Ordering}
 use Rattle.std.specs.declared.cmp.Ordering.TheVariants.{Less, Equal, Greater}
 use Rattle.std.specs.Option.{option_map_or}
-use Rattle.std.specs.Ordering.{eq_by_cmp, is_eq, is_lt, ordering_then}
+use Rattle.std.specs.Ordering.{eq_by_cmp, is_eq, is_lt}
 use Rattle.std.proofs.lemmas.Bool.{and_parts, false≢true, lt-ltb}
 use Rattle.std.proofs.lemmas.Cmp.{nat_cmp_total, on_total}
-use Rattle.std.proofs.lemmas.Option.{same_Some}
 use Rattle.std.proofs.lemmas.List.Elements.{All-append, All-cons, All-filter, All-map, All-nil, All-weaker}
 use Rattle.std.proofs.Math.Seq.{take-append_seam}
 use Rattle.cy_values.specs.declared.numbers.NodeId.{NodeId}
@@ -20,6 +19,8 @@ use Rattle.cy_values.specs.declared.rows.Cell.TheVariants as cell
 use Rattle.cy_values.specs.Bag.{count_of}
 use Rattle.cy_values.specs.Order.{cell_order, row_cmp}
 use Rattle.cy_values.proofs.Identity.{same_cells}
+use Rattle.cy_values.proofs.Booleans.{and_true}
+use Rattle.cy_values.proofs.Lists.{filters_swap}
 use Rattle.cy_trees.specs.Trees.{Expression, Name}
 use Rattle.cy_scope_kinds.specs.declared.kinds.Kind.TheVariants as kind
 use Rattle.cy_graph.specs.Graph.{Content, IsGraph, State, node_at, node_in, node_order}
@@ -30,9 +31,8 @@ use Rattle.cy_expr.specs.Graphs.{has_type}
 use Rattle.cy_planner_algebra.specs.declared.operators.KeyColumns.{KeyColumns}
 use Rattle.cy_planner_algebra.specs.declared.operators.Orientation.{Orientation}
 use Rattle.cy_planner_algebra.specs.declared.operators.Orientation.TheVariants.{Directed, Either}
-use Rattle.cy_planner_algebra.specs.Below.{sifted}
 use Rattle.cy_planner_algebra.specs.Plans as plan
-use Rattle.cy_planner_algebra.specs.Plans.{Plan, Output, width}
+use Rattle.cy_planner_algebra.specs.Plans.{Plan, width}
 use Rattle.cy_planner_algebra.specs.Expressions.{cell_at, projected}
 use Rattle.cy_planner_algebra.specs.Keys.{meet}
 use Rattle.cy_planner_algebra.specs.Meaning.{backwards, forwards, is_loop, paired, rows_of, rows_of_rel, ways, with_attribute}
@@ -42,12 +42,14 @@ use Rattle.cy_planner_algebra.specs.WellFormed.{IsKeyBetween, IsWellFormed, grea
 use Rattle.cy_planner_algebra.specs.Within.{IsWithin}
 use Rattle.cy_planner_algebra.proofs.Counts.{count_cons, count_passing, identity, same}
 use Rattle.cy_planner_algebra.proofs.Widths.{all_made, wide_rows}
+use Rattle.cy_planner_algebra.proofs.Pairs.{first_and}
 use Rattle.cy_planner_rows.specs.internal.Lookups.{narrowed}
 use Rattle.cy_planner_rows.proofs.Lists.{all_of_each, each_of_all}
 use Rattle.cy_planner_rows.proofs.OverRows.{IsLong, cond_less, own_part, parts_narrowed, rows_narrowed, smaller_within, sure_narrowed, width_narrowed}
 use Rattle.cy_planner_pushdown.specs.internal.Conditions.{cells_at}
 use Rattle.cy_planner_pushdown.specs.internal.Ends.{IsEnd}
 use Rattle.cy_planner_pushdown.specs.internal.Pushed.{AreDistinct, CanBePushed, IsSifted, kind_at, kind_made, kind_of_rels}
+use Rattle.cy_planner_pushdown.proofs.Conjunctions.{all_anything, anything}
 use Rattle.cy_planner_pushdown.proofs.ColumnKinds.{each_paired, inside, taken_over}
 use Rattle.cy_planner_pushdown.proofs.SameKinds.{kinds_narrowed}
 
@@ -72,21 +74,6 @@ end_kind (plan.project p outputs) column good end =
 end_kind (plan.distinct p) column good end = absurd end
 end_kind (plan.union left right) column good end = absurd end
 
--- a part that is sifted has the ends of the one that it sifts
-pub sifted_end : (p q : Plan) (column : ℕ) → sifted p ≡ Some q → IsEnd q column → IsEnd p column
-sifted_end (plan.semi left right keys keeping) q column is end = subst (λ r. IsEnd r column) (sym (same_Some left q is)) end
-sifted_end (plan.filter p test) q column is end = subst (λ r. IsEnd r column) (sym (same_Some p q is)) end
-sifted_end (plan.all_different p columns) q column is end = subst (λ r. IsEnd r column) (sym (same_Some p q is)) end
-sifted_end plan.unit q column is end = cc
-sifted_end plan.nodes q column is end = cc
-sifted_end (plan.rels types orientation) q column is end = cc
-sifted_end (plan.join left right keys) q column is end = cc
-sifted_end (plan.outer left right keys test) q column is end = cc
-sifted_end (plan.lookup p other attribute) q column is end = cc
-sifted_end (plan.project p outputs) q column is end = cc
-sifted_end (plan.distinct p) q column is end = cc
-sifted_end (plan.union left right) q column is end = cc
-
 -- so the condition can be put on the table of nodes
 first_alone : AreDistinct (0 ∷ [])
 unfolding IsDistinct
@@ -96,13 +83,6 @@ pub can_nodes : (p : Plan) (column : ℕ) (test : Expression) → IsWellFormed p
 can_nodes p column test good end can = (can.0, ((λ i. sym (end_kind p column good end) i ∷ []) ∙ can.1.0, first_alone), can.2)
 
 -- ---- the nodes that stand at the ends
-
-abbrev anything : List Cell → Type 0
-anything row = Unit {0}
-
-all_anything : (rows : List (List Cell)) → AllByRecursion anything rows
-all_anything [] = tt
-all_anything (row ∷ rows) = (tt, all_anything rows)
 
 -- the cell in the column is a node of the graph
 abbrev IsNodeAt : Content → ℕ → List Cell → Type 0
@@ -191,15 +171,6 @@ not_equal Less h = refl
 not_equal Equal h = cc
 not_equal Greater h = cc
 
-first_and : (o p : Ordering) → is_eq (ordering_then o p) ≡ (is_eq o && is_eq p)
-first_and Less p = refl
-first_and Equal p = refl
-first_and Greater p = refl
-
-and_true : (b : Bool) → (b && true) ≡ b
-and_true true = refl
-and_true false = refl
-
 same_node : (id n : NodeId) → same (cell.Node id ∷ []) (cell.Node n ∷ []) ≡ eq_by_cmp node_order id n
 same_node id n = first_and (cell_order (cell.Node id) (cell.Node n)) (row_cmp [] []) ∙ and_true (eq_by_cmp node_order id n)
 
@@ -246,24 +217,6 @@ counted_once x (e ∷ es) sorted =
       | true ↦ λ is. let none = none_counted x e es (identity x (node_row e) is) split.0 in omega (arith, none)
       | false ↦ λ is. omega (arith, rest)
     ] refl)
-
-swap_step : {A : Type 0} (p q : A → Bool) (x : A) (xs : List A) (a b : Bool) → filter p (filter q xs) ≡ filter q (filter p xs) → p x ≡ a → q x ≡ b
-    → filter p (cond (q x) (x ∷ filter q xs) (filter q xs)) ≡ filter q (cond (p x) (x ∷ filter p xs) (filter p xs))
-swap_step p q x xs true true rest is at =
-    ap (λ b. filter p (cond b (x ∷ filter q xs) (filter q xs))) at ∙ ap (λ b. cond b (x ∷ filter p (filter q xs)) (filter p (filter q xs))) is ∙ (λ i. x ∷ rest i)
-    ∙ sym (ap (λ b. filter q (cond b (x ∷ filter p xs) (filter p xs))) is ∙ ap (λ b. cond b (x ∷ filter q (filter p xs)) (filter q (filter p xs))) at)
-swap_step p q x xs true false rest is at =
-    ap (λ b. filter p (cond b (x ∷ filter q xs) (filter q xs))) at ∙ rest
-    ∙ sym (ap (λ b. filter q (cond b (x ∷ filter p xs) (filter p xs))) is ∙ ap (λ b. cond b (x ∷ filter q (filter p xs)) (filter q (filter p xs))) at)
-swap_step p q x xs false true rest is at =
-    ap (λ b. filter p (cond b (x ∷ filter q xs) (filter q xs))) at ∙ ap (λ b. cond b (x ∷ filter p (filter q xs)) (filter p (filter q xs))) is ∙ rest
-    ∙ sym (ap (λ b. filter q (cond b (x ∷ filter p xs) (filter p xs))) is)
-swap_step p q x xs false false rest is at =
-    ap (λ b. filter p (cond b (x ∷ filter q xs) (filter q xs))) at ∙ rest ∙ sym (ap (λ b. filter q (cond b (x ∷ filter p xs) (filter p xs))) is)
-
-swapped : {A : Type 0} (p q : A → Bool) (xs : List A) → filter p (filter q xs) ≡ filter q (filter p xs)
-swapped p q [] = refl
-swapped p q (x ∷ xs) = swap_step p q x xs (p x) (q x) (swapped p q xs) refl refl
 
 -- ---- what is left of the nodes, joined to the relationships
 
@@ -313,7 +266,7 @@ module _ (below : Plan) (column : ℕ) (passes : Content → List Cell → Bool)
         → filter (meet keys row) (rows_of state.content nodes) ≡ cond (keep row) ((cell_at row column ∷ []) ∷ []) []
     partners row (id, at, there) =
         ap (filter (meet keys row)) (pushed.rows state is)
-        ∙ swapped (meet keys row) keep_node (map node_row state.content.nodes)
+        ∙ filters_swap (meet keys row) keep_node (map node_row state.content.nodes)
         ∙ ap (filter keep_node) (one_passes id (meet keys row) (meets_node row id at) state.content.nodes is.rising there)
         ∙ ap (λ (c : Cell). cond (passes state.content (c ∷ [])) ((c ∷ []) ∷ []) []) (sym at)
 

@@ -5,6 +5,8 @@ use Rattle.std.specs.List.{AllByRecursion, Contains}
 use Rattle.std.proofs.lemmas.List.{get_or-append-add, length-append, length-reverse}
 use Rattle.std.proofs.lemmas.List.Folds.{list_all-append}
 use Rattle.cy_values.specs.declared.rows.Cell.{Cell}
+use Rattle.cy_values.proofs.Booleans.{and_swap, with_true}
+use Rattle.cy_values.proofs.Lists.{each_append, each_parts, each_reversed}
 use Rattle.cy_trees.specs.Trees.{Expression}
 use Rattle.cy_scope_kinds.specs.Kinded.{IsKinded}
 use Rattle.cy_scope_kinds.specs.Rows.{row_fits}
@@ -22,7 +24,7 @@ use Rattle.cy_planner_pushdown.specs.internal.Finding.{AreFilteredSoFar, AreFoun
 use Rattle.cy_planner_pushdown.specs.internal.Pushed.{CanBePushed, IsSifted}
 use Rattle.cy_planner_pushdown.specs.internal.Tests.{are_true}
 use Rattle.cy_planner_pushdown.proofs.Conjunctions.{both_have, both_kinded, each_sifted, keeps_both, sifted_both}
-use Rattle.cy_planner_pushdown.proofs.Splitting.{all_reversed, each_more, each_parts, each_reversed}
+use Rattle.cy_planner_pushdown.proofs.Splitting.{all_reversed, stays_too, done_too, alone_too}
 
 -- ---- lists
 
@@ -42,16 +44,6 @@ one_of P (y ∷ all) x each (suc i, less, at) = one_of P all x each.1 (i, omega 
 pub among_each : {A : Type 0} (P : A → Type 0) (all some : List A) → AllByRecursion P all → AllByRecursion (Contains all) some → AllByRecursion P some
 among_each P all [] each lie = tt
 among_each P all (x ∷ some) each lie = (one_of P all x each lie.0, among_each P all some each lie.1)
-
-and_true : (b : Bool) → b ≡ (b && true)
-and_true true = refl
-and_true false = refl
-
-and_swap : (a b : Bool) → (a && b) ≡ (b && a)
-and_swap true true = refl
-and_swap true false = refl
-and_swap false true = refl
-and_swap false false = refl
 
 each_both : (graph : Content) (xs ys : List Expression) (row : List Cell) → keeps_each graph (xs ++ ys) row ≡ (keeps_each graph xs row && keeps_each graph ys row)
 each_both graph xs ys row = list_all-append (λ (e : Expression). keeps graph e row) xs ys
@@ -74,28 +66,12 @@ keeps_after before test columns cells_test same graph left row long =
 
 pub none_found : (before : ℕ) (below : Plan) (all : List Expression) → AreFound before below all (reverse all) [] []
 none_found before below all = record {
-  same = λ graph left right long. sym (all_reversed (λ (e : Expression). keeps graph e (left ++ right)) all) ∙ and_true (keeps_each graph (reverse all) (left ++ right));
+  same = λ graph left right long. sym (all_reversed (λ (e : Expression). keeps graph e (left ++ right)) all) ∙ with_true (keeps_each graph (reverse all) (left ++ right));
   can = tt;
   among_waiting = each_reversed (Contains all) all (each_itself all);
   fewer = let long = length-reverse all in omega (arith, long);
   among = tt;
 }
-
-found_too : (w x f r : Bool) → ((w && (x && true)) && (f && r)) ≡ (w && ((f && (x && true)) && r))
-found_too false x f r = refl
-found_too true true true r = refl
-found_too true true false r = refl
-found_too true false true r = refl
-found_too true false false r = refl
-
-rest_too : (w x f r : Bool) → ((w && (x && true)) && (f && r)) ≡ (w && (f && (r && (x && true))))
-rest_too false x f r = refl
-rest_too true true f true = refl
-rest_too true true true false = refl
-rest_too true true false false = refl
-rest_too true false true true = refl
-rest_too true false true false = refl
-rest_too true false false r = refl
 
 module _ (before : ℕ) (below : Plan) (all waiting : List Expression) (e : Expression) (found : List (List ℕ × Expression)) (rest : List Expression)
     (is : AreFound before below all (waiting ++ e ∷ []) found rest) where
@@ -115,10 +91,10 @@ module _ (before : ℕ) (below : Plan) (all waiting : List Expression) (e : Expr
         same_now graph left right long
         ∙ ap (λ x. (keeps_each graph waiting (left ++ right) && (x && true)) && (are_true found graph right && keeps_each graph rest (left ++ right)))
         (keeps_after before e columns cells_test on graph left right long)
-        ∙ found_too (keeps_each graph waiting (left ++ right)) (keeps_cells graph cells_test columns right) (are_true found graph right) (keeps_each graph rest (left ++ right))
+        ∙ alone_too (keeps_each graph waiting (left ++ right)) (keeps_cells graph cells_test columns right) (are_true found graph right) (keeps_each graph rest (left ++ right))
         ∙ ap (λ b. keeps_each graph waiting (left ++ right) && (b && keeps_each graph rest (left ++ right)))
         (sym (list_all-append (λ (t : List ℕ × Expression). keeps_cells graph t.1 t.0 right) found ((columns, cells_test) ∷ [])));
-    can = each_more (λ (t : List ℕ × Expression). CanBePushed below t.0 t.1) found ((columns, cells_test) ∷ []) is.can (can, tt);
+    can = each_append (λ (t : List ℕ × Expression). CanBePushed below t.0 t.1) found ((columns, cells_test) ∷ []) is.can (can, tt);
     among_waiting = lie.0;
     fewer = let long = length-append waiting (e ∷ []) in let most = is.fewer in omega (arith, long, most);
     among = is.among;
@@ -128,12 +104,12 @@ module _ (before : ℕ) (below : Plan) (all waiting : List Expression) (e : Expr
   left_next = record {
     same = λ graph left right long.
         same_now graph left right long
-        ∙ rest_too (keeps_each graph waiting (left ++ right)) (keeps graph e (left ++ right)) (are_true found graph right) (keeps_each graph rest (left ++ right))
+        ∙ stays_too (keeps_each graph waiting (left ++ right)) (keeps graph e (left ++ right)) (are_true found graph right) (keeps_each graph rest (left ++ right))
         ∙ ap (λ b. keeps_each graph waiting (left ++ right) && (are_true found graph right && b)) (sym (each_both graph rest (e ∷ []) (left ++ right)));
     can = is.can;
     among_waiting = lie.0;
     fewer = let long = length-append waiting (e ∷ []) in let longer = length-append rest (e ∷ []) in let most = is.fewer in omega (arith, long, longer, most);
-    among = each_more (Contains all) rest (e ∷ []) is.among lie.1;
+    among = each_append (Contains all) rest (e ∷ []) is.among lie.1;
   }
 
 -- what was found is put on the plan
@@ -157,21 +133,21 @@ all_kinded scope =
     one_or_both (λ e. IsKinded scope e → AllByRecursion (IsKinded scope) (conjuncts e))
     (λ a b here there is.
     let both = both_kinded scope a b is in
-    each_more (IsKinded scope) (conjuncts a) (conjuncts b) (here both.0) (there both.1))
+    each_append (IsKinded scope) (conjuncts a) (conjuncts b) (here both.0) (there both.1))
     (λ e one is. subst (AllByRecursion (IsKinded scope)) (sym one) (is, tt))
 
 pub all_kept : (graph : Content) (row : List Cell) (test : Expression) → keeps graph test row ≡ keeps_each graph (conjuncts test) row
 all_kept graph row =
     one_or_both (λ e. keeps graph e row ≡ keeps_each graph (conjuncts e) row)
     (λ a b here there. keeps_both graph a b row ∙ (λ i. here i && there i) ∙ sym (each_both graph (conjuncts a) (conjuncts b) row))
-    (λ e one. and_true (keeps graph e row) ∙ sym (ap (λ (es : List Expression). keeps_each graph es row) one))
+    (λ e one. with_true (keeps graph e row) ∙ sym (ap (λ (es : List Expression). keeps_each graph es row) one))
 
 all_true : (graph : Content) (rows : List (List Cell)) (test : Expression) → HaveTruth graph rows test → AllByRecursion (HaveTruth graph rows) (conjuncts test)
 all_true graph rows =
     one_or_both (λ e. HaveTruth graph rows e → AllByRecursion (HaveTruth graph rows) (conjuncts e))
     (λ a b here there have.
     let both = both_have graph a b rows have in
-    each_more (HaveTruth graph rows) (conjuncts a) (conjuncts b) (here both.0) (there both.1))
+    each_append (HaveTruth graph rows) (conjuncts a) (conjuncts b) (here both.0) (there both.1))
     (λ e one have. subst (AllByRecursion (HaveTruth graph rows)) (sym one) (have, tt))
 
 -- ---- what is left is asked of the rows
@@ -215,13 +191,6 @@ pub read_rest : (before : ℕ) (below : Plan) (test : Expression) (rest : List E
 read_rest before below test rest p is (scope, wide, kinded) =
     (scope, wide ∙ sym is.as_wide, among_each (IsKinded scope) (conjuncts test) rest (all_kinded scope test kinded) is.among)
 
-asked_too : (w x h : Bool) → ((w && (x && true)) && h) ≡ (w && (h && x))
-asked_too false x h = refl
-asked_too true true true = refl
-asked_too true true false = refl
-asked_too true false true = refl
-asked_too true false false = refl
-
 module _ (below : Plan) (all waiting : List Expression) (e : Expression) (p : Plan) (is : AreFilteredSoFar below all (waiting ++ e ∷ []) p) where
   lies : AllByRecursion (Contains all) waiting × AllByRecursion (Contains all) (e ∷ [])
   lies = each_parts (Contains all) waiting (e ∷ []) is.among
@@ -244,7 +213,7 @@ module _ (below : Plan) (all waiting : List Expression) (e : Expression) (p : Pl
     same = λ graph row.
         is.same graph row
         ∙ ap (λ b. b && is.holds graph row) (each_both graph waiting (e ∷ []) row)
-        ∙ asked_too (keeps_each graph waiting row) (keeps graph e row) (is.holds graph row);
+        ∙ done_too (keeps_each graph waiting row) (keeps graph e row) (is.holds graph row);
     among = lies.0;
     rows = λ graph scope good kinded fits.
         next.rows graph scope good (kinded_now graph scope good kinded fits) (fits_now graph scope good kinded fits)

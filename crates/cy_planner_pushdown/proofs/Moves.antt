@@ -1,12 +1,12 @@
 -- Columns of a plan, and those of the parts below it in which there stands the same.
-use Rattle.std.proofs.Common.{◌≡◌, ℕ, zero, suc, ◌+◌, ◌-◌, ◌<◌, ◌≤◌, ◌==◌, Bool, true, false, cond, List, [], ◌∷◌, ◌++◌, length, map, drop, take, get_or, refl, sym, ap, subst, ◌∙◌, arith}
+use Rattle.std.proofs.Common.{◌≡◌, ℕ, zero, suc, ◌+◌, ◌-◌, ◌<◌, ◌≤◌, ◌==◌, true, false, cond, List, [], ◌∷◌, ◌++◌, length, map, drop, take, get_or, refl, sym, ap, subst, ◌∙◌, arith}
 use Rattle.std.specs.Prelude.{◌||◌, IfSome, Option, Some, None, nat_lt, slice_get}
 use Rattle.std.specs.List.{AllByRecursion, Contains, IsDistinct, list_all}
 use Rattle.std.specs.declared.alloc.Global.{Global}
 use Rattle.std.specs.declared.vec.Vec.{Vec}
 use Rattle.std.specs.Option.{option_map_or}
 use Rattle.std.specs.Ordering.{eq_by_cmp}
-use Rattle.std.proofs.lemmas.Bool.{and_parts, le-ltb, lt-ltb, ltb-true}
+use Rattle.std.proofs.lemmas.Bool.{and_parts, le-ltb, lt-ltb, ltb-true, or_parts}
 use Rattle.std.proofs.lemmas.List.{get_or-append-add, get_or_append_left}
 use Rattle.std.proofs.Math.Seq.{take-suc}
 use Rattle.cy_values.specs.declared.rows.Cell.{Cell}
@@ -38,10 +38,6 @@ each_longer R (x ∷ columns) (o ∷ others) c d each next = (each.0, each_longe
 apart_longer : (x d : ℕ) (columns : List ℕ) → (x == d) ≡ false → AllByRecursion (λ y. (x == y) ≡ false) columns → AllByRecursion (λ y. (x == y) ≡ false) (columns ++ d ∷ [])
 apart_longer x d [] here each = (here, tt)
 apart_longer x d (c ∷ columns) here each = (each.0, apart_longer x d columns here each.1)
-
-or_parts : (a b : Bool) → (a || b) ≡ false → (a ≡ false) × (b ≡ false)
-or_parts true b is = cc
-or_parts false b is = (refl, is)
 
 pub distinct_longer : (columns : List ℕ) (d : ℕ) → AreDistinct columns → is_among columns d ≡ false → AreDistinct (columns ++ d ∷ [])
 unfolding IsDistinct

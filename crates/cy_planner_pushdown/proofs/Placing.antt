@@ -7,10 +7,8 @@ use Rattle.cy_planner_pushdown.specs.declared.above.Above.{Above}
 use Rattle.cy_planner_pushdown.specs.declared.above.Above.TheVariants as above
 use Rattle.cy_planner_pushdown.specs.Above.{placed, placed_over}
 use Rattle.cy_planner_pushdown.specs.declared.ways.Frame.{Frame}
-use Rattle.cy_planner_pushdown.specs.internal.Pushed.{IsSifted}
-use Rattle.cy_planner_pushdown.specs.internal.Steps.{LeadThrough, LeadsTo, Stay}
-use Rattle.cy_planner_pushdown.specs.internal.Tests.{are_true, tests_of}
-use Rattle.cy_planner_pushdown.proofs.SiftedPlans.{passes_alike}
+use Rattle.cy_planner_pushdown.specs.internal.Steps.{LeadThrough, LeadsTo}
+use Rattle.cy_planner_pushdown.specs.internal.Tests.{tests_of}
 
 -- one more, below the others
 over_lowest : (parts : List Above) (a : Above) (p : Plan) → placed_over (parts ++ a ∷ []) p ≡ placed_over parts (placed a p)
@@ -22,7 +20,7 @@ pub lowest_off : (all parts : List Above) (a : Above) (p : Plan) → all ≡ par
 lowest_off all parts a p is = ap (λ (ps : List Above). placed_over ps p) is ∙ over_lowest parts a p
 
 -- what is below can be meant where the whole can
-well_below : (a : Above) (p : Plan) → IsWellFormed (placed a p) → IsWellFormed p
+pub well_below : (a : Above) (p : Plan) → IsWellFormed (placed a p) → IsWellFormed p
 well_below above.Distinct p well = well
 well_below (above.JoinRight left keys) p well = well.1
 well_below _ p well = well.0
@@ -72,15 +70,3 @@ pub lowest : (whole : Plan) (tests : List (List ℕ × Expression)) (all frames 
     → LeadThrough whole tests all part others → IsLowest whole tests frames f part others
 lowest whole tests all frames f part others last through =
     lowest_of whole tests frames f part others (subst (λ (fs : List Frame). LeadThrough whole tests fs part others) last through)
-
--- none is left
-pub at_the_top : (whole : Plan) (tests : List (List ℕ × Expression)) (frames : List Frame) (part : Plan) (others : List (List ℕ × Expression)) → frames ≡ [] → LeadThrough whole tests frames part others
-    → (p : Plan) → IsSifted part (are_true others) p → IsSifted whole (are_true tests) p
-at_the_top whole tests frames part others none through p is =
-    let same : LeadThrough whole tests [] part others = subst (λ (fs : List Frame). LeadThrough whole tests fs part others) none through in
-    subst (λ (q : Plan). IsSifted q (are_true tests) p) (sym same.0) (subst (λ (ts : List (List ℕ × Expression)). IsSifted part (are_true ts) p) (sym same.1) is)
-
--- They stay on a plan.
-pub stay_sifted : (whole : Plan) (tests : List (List ℕ × Expression)) (part : Plan) (here : List (List ℕ × Expression)) → Stay whole tests part here → (p : Plan) → IsSifted part (are_true here) p → IsSifted whole (are_true tests) p
-stay_sifted whole tests part here stay p is =
-    passes_alike whole p (are_true here) (are_true tests) (λ graph row. sym (stay.same graph row)) (subst (λ (q : Plan). IsSifted q (are_true here) p) stay.is is)

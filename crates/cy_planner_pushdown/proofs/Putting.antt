@@ -4,6 +4,8 @@ use Rattle.std.specs.Prelude.{reverse}
 use Rattle.std.specs.List.{AllByRecursion}
 use Rattle.std.proofs.lemmas.List.Folds.{list_all-append}
 use Rattle.cy_values.specs.declared.rows.Cell.{Cell}
+use Rattle.cy_values.proofs.Booleans.{and_swap, with_true}
+use Rattle.cy_values.proofs.Lists.{each_append, each_parts, each_reversed}
 use Rattle.cy_trees.specs.Trees.{Expression}
 use Rattle.cy_graph.specs.Graph.{Content}
 use Rattle.cy_planner_algebra.specs.Plans as plan
@@ -17,40 +19,11 @@ use Rattle.cy_planner_pushdown.specs.internal.Sifting.{AreDivided, AreParted, Ar
 use Rattle.cy_planner_pushdown.specs.internal.Tests.{CanAllBePushed, are_true}
 use Rattle.cy_planner_pushdown.proofs.EndRows.{can_nodes}
 use Rattle.cy_planner_pushdown.proofs.SiftedPlans.{passes_alike, sifted_after, sifted_itself}
-use Rattle.cy_planner_pushdown.proofs.Splitting.{all_reversed, each_more, each_parts, each_reversed}
+use Rattle.cy_planner_pushdown.proofs.Splitting.{all_reversed, alone_too, done_too, stays_too}
 use Rattle.cy_planner_pushdown.proofs.Stepping.{can_alike}
 
 are_both : (xs ys : List (List ℕ × Expression)) (graph : Content) (row : List Cell) → are_true (xs ++ ys) graph row ≡ (are_true xs graph row && are_true ys graph row)
 are_both xs ys graph row = list_all-append (λ (t : List ℕ × Expression). keeps_cells graph t.1 t.0 row) xs ys
-
-and_true : (b : Bool) → b ≡ (b && true)
-and_true true = refl
-and_true false = refl
-
--- what is left with one more, and what is done
-done_too : (r x d : Bool) → ((r && (x && true)) && d) ≡ (r && (d && x))
-done_too false x d = refl
-done_too true true true = refl
-done_too true true false = refl
-done_too true false true = refl
-done_too true false false = refl
-
-later_too : (r x d l : Bool) → ((r && (x && true)) && (d && l)) ≡ (r && (d && (l && (x && true))))
-later_too false x d l = refl
-later_too true true d true = refl
-later_too true true true false = refl
-later_too true true false false = refl
-later_too true false true true = refl
-later_too true false true false = refl
-later_too true false false l = refl
-
--- what is left with one more, and what is parted
-alone_too : (r x a o : Bool) → ((r && (x && true)) && (a && o)) ≡ (r && ((a && (x && true)) && o))
-alone_too false x a o = refl
-alone_too true true true o = refl
-alone_too true true false o = refl
-alone_too true false true o = refl
-alone_too true false false o = refl
 
 abbrev CanGo : Plan → List ℕ × Expression → Type 0
 CanGo p t = CanBePushed p t.0 t.1
@@ -60,7 +33,7 @@ CanGo p t = CanBePushed p t.0 t.1
 pub put_none : (below : Plan) (all : List (List ℕ × Expression)) → CanAllBePushed below all → ArePartlyPut below all all below
 put_none below all can = record {
   done = λ graph row. true;
-  same = λ graph row. and_true (are_true all graph row);
+  same = λ graph row. with_true (are_true all graph row);
   sifted = sifted_itself below;
   can_rest = can;
 }
@@ -87,7 +60,7 @@ put_all below all p put = passes_alike below p put.done (are_true all) put.same 
 
 pub divide_none : (all : List (List ℕ × Expression)) → AreDivided all (reverse all) [] []
 divide_none all = record {
-  same = λ graph row. sym (all_reversed (λ (t : List ℕ × Expression). keeps_cells graph t.1 t.0 row) all) ∙ and_true (are_true (reverse all) graph row);
+  same = λ graph row. sym (all_reversed (λ (t : List ℕ × Expression). keeps_cells graph t.1 t.0 row) all) ∙ with_true (are_true (reverse all) graph row);
   can = λ p can. (each_reversed (CanGo p) all can, tt, tt);
 }
 
@@ -104,26 +77,20 @@ module _ (all rest : List (List ℕ × Expression)) (t : List ℕ × Expression)
     can = λ p can.
         let parts = is.can p can in
         let now = each_parts (CanGo p) rest (t ∷ []) parts.0 in
-        (now.0, each_more (CanGo p) asked (t ∷ []) parts.1 now.1, parts.2);
+        (now.0, each_append (CanGo p) asked (t ∷ []) parts.1 now.1, parts.2);
   }
 
   pub divide_other : AreDivided all rest asked (others ++ t ∷ [])
   divide_other = record {
     same = λ graph row.
         same_now graph row
-        ∙ later_too (are_true rest graph row) (keeps_cells graph t.1 t.0 row) (are_true asked graph row) (are_true others graph row)
+        ∙ stays_too (are_true rest graph row) (keeps_cells graph t.1 t.0 row) (are_true asked graph row) (are_true others graph row)
         ∙ ap (λ b. are_true rest graph row && (are_true asked graph row && b)) (sym (are_both others (t ∷ []) graph row));
     can = λ p can.
         let parts = is.can p can in
         let now = each_parts (CanGo p) rest (t ∷ []) parts.0 in
-        (now.0, parts.1, each_more (CanGo p) others (t ∷ []) parts.2 now.1);
+        (now.0, parts.1, each_append (CanGo p) others (t ∷ []) parts.2 now.1);
   }
-
-and_swap : (a b : Bool) → (a && b) ≡ (b && a)
-and_swap true true = refl
-and_swap true false = refl
-and_swap false true = refl
-and_swap false false = refl
 
 -- one part after the other
 pub put_divided : (below : Plan) (all asked others : List (List ℕ × Expression)) → AreDivided all [] asked others → (p q : Plan) → IsSifted below (are_true others) p → IsSifted p (are_true asked) q → IsSifted below (are_true all) q
@@ -173,7 +140,7 @@ module _ (column : ℕ) (t : List ℕ × Expression) (on : t.0 ≡ column ∷ []
   part_first rest = record {
     same = λ graph row.
         are_both rest (t ∷ []) graph row
-        ∙ ap (λ b. are_true rest graph row && b) (ap (λ b. b && true) (cell_kept graph t.1 t.0 column on row) ∙ and_true (keeps_cells graph t.1 (0 ∷ []) (cells_at (column ∷ []) row) && true));
+        ∙ ap (λ b. are_true rest graph row && b) (ap (λ b. b && true) (cell_kept graph t.1 t.0 column on row) ∙ with_true (keeps_cells graph t.1 (0 ∷ []) (cells_at (column ∷ []) row) && true));
     can = λ p can. ((each_parts (CanGo p) rest (t ∷ []) can).0, tt);
     on_nodes = λ p good end can. (can_on p good end (each_parts (CanGo p) rest (t ∷ []) can).1.0, tt);
     single = (refl, tt);
@@ -189,9 +156,9 @@ module _ (column : ℕ) (t : List ℕ × Expression) (on : t.0 ≡ column ∷ []
         ∙ ap (λ b. are_true rest graph row && (b && are_true others graph row)) (sym (are_both alone ((0 ∷ [], t.1) ∷ []) graph (cells_at (column ∷ []) row)));
     can = λ p can. let both = parted.can p can in ((each_parts (CanGo p) rest (t ∷ []) both.0).0, both.1);
     on_nodes = λ p good end can.
-        each_more (CanGo plan.nodes) alone ((0 ∷ [], t.1) ∷ []) (parted.on_nodes p good end can)
+        each_append (CanGo plan.nodes) alone ((0 ∷ [], t.1) ∷ []) (parted.on_nodes p good end can)
         (can_on p good end (each_parts (CanGo p) rest (t ∷ []) (parted.can p can).0).1.0, tt);
-    single = each_more (λ (u : List ℕ × Expression). u.0 ≡ 0 ∷ []) alone ((0 ∷ [], t.1) ∷ []) parted.single (refl, tt);
+    single = each_append (λ (u : List ℕ × Expression). u.0 ≡ 0 ∷ []) alone ((0 ∷ [], t.1) ∷ []) parted.single (refl, tt);
   }
 
 pub part_other : (column : ℕ) (t : List ℕ × Expression) (all rest alone others : List (List ℕ × Expression)) → AreParted column all (rest ++ t ∷ []) alone others → AreParted column all rest alone (others ++ t ∷ [])
@@ -199,12 +166,12 @@ part_other column t all rest alone others parted = record {
   same = λ graph row.
       parted.same graph row
       ∙ ap (λ b. b && (are_true alone graph (cells_at (column ∷ []) row) && are_true others graph row)) (are_both rest (t ∷ []) graph row)
-      ∙ later_too (are_true rest graph row) (keeps_cells graph t.1 t.0 row) (are_true alone graph (cells_at (column ∷ []) row)) (are_true others graph row)
+      ∙ stays_too (are_true rest graph row) (keeps_cells graph t.1 t.0 row) (are_true alone graph (cells_at (column ∷ []) row)) (are_true others graph row)
       ∙ ap (λ b. are_true rest graph row && (are_true alone graph (cells_at (column ∷ []) row) && b)) (sym (are_both others (t ∷ []) graph row));
   can = λ p can.
       let both = parted.can p can in
       let parts = each_parts (CanGo p) rest (t ∷ []) both.0 in
-      (parts.0, each_more (CanGo p) others (t ∷ []) both.1 parts.1);
+      (parts.0, each_append (CanGo p) others (t ∷ []) both.1 parts.1);
   on_nodes = parted.on_nodes;
   single = parted.single;
 }

@@ -1,9 +1,10 @@
 -- Variables that stand in columns of a plan, one more at a time.
-use Rattle.std.proofs.Common.{◌≡◌, ℕ, ◌+◌, ◌-◌, ◌≤◌, Bool, true, false, cond, not, List, [], ◌∷◌, ◌++◌, length, map, refl, sym, ap, subst, ◌∙◌, arith}
+use Rattle.std.proofs.Common.{◌≡◌, ℕ, ◌+◌, ◌-◌, ◌≤◌, true, cond, not, List, [], ◌∷◌, ◌++◌, length, map, refl, sym, ap, subst, ◌∙◌, arith}
 use Rattle.std.specs.Prelude.{Option, Some}
 use Rattle.std.specs.List.{IsDistinct}
-use Rattle.std.proofs.lemmas.Bool.{and_parts, false≢true}
+use Rattle.std.proofs.lemmas.Bool.{and_parts}
 use Rattle.std.proofs.lemmas.List.{length-map, map-append}
+use Rattle.cy_values.proofs.Booleans.{untrue}
 use Rattle.cy_trees.specs.Trees.{Name}
 use Rattle.cy_scope_kinds.specs.declared.kinds.Kind.{Kind}
 use Rattle.cy_scope_kinds.specs.Scopes.{Scope, added_name, is_bound}
@@ -11,10 +12,6 @@ use Rattle.cy_planner_algebra.specs.Plans.{Plan}
 use Rattle.cy_planner_pushdown.specs.internal.Conditions.{is_among, is_new}
 use Rattle.cy_planner_pushdown.specs.internal.Pushed.{StandIn, kind_at, kind_in_scope}
 use Rattle.cy_planner_pushdown.proofs.Moves.{distinct_longer}
-
-not_true : (b : Bool) → not b ≡ true → b ≡ false
-not_true true is = absurd (false≢true is)
-not_true false is = refl
 
 stand_longer : (p : ℕ → Option Kind) (columns : List ℕ) (scope : Scope) (c : ℕ) (name : Name) (k : Kind) → map p columns ≡ map kind_in_scope scope → p c ≡ Some k
     → map p (columns ++ c ∷ []) ≡ map kind_in_scope (scope ++ (name, k) ∷ [])
@@ -28,9 +25,9 @@ pub stands_next : (part : Plan) (columns : List ℕ) (scope : Scope) (column : �
     → StandIn part (columns ++ column ∷ []) (added_name scope k name)
 stands_next part columns scope column name k stand at new =
     let parts = and_parts (not (is_bound scope name)) (not (is_among columns column)) new in
-    let added : added_name scope k name ≡ scope ++ (name, k) ∷ [] = ap (λ b. cond b scope (scope ++ (name, k) ∷ [])) (not_true (is_bound scope name) parts.0) in (
+    let added : added_name scope k name ≡ scope ++ (name, k) ∷ [] = ap (λ b. cond b scope (scope ++ (name, k) ∷ [])) (untrue (is_bound scope name) parts.0) in (
       subst (λ (vs : Scope). map (kind_at part) (columns ++ column ∷ []) ≡ map kind_in_scope vs) (sym added) (stand_longer (kind_at part) columns scope column name k stand.0 at),
-      distinct_longer columns column stand.1 (not_true (is_among columns column) parts.1),
+      distinct_longer columns column stand.1 (untrue (is_among columns column) parts.1),
     )
 
 pub written_next : (before after : ℕ) (columns written : List ℕ) → written ≡ map (λ c. before + c) columns → before ≤ after → written ++ after ∷ [] ≡ map (λ c. before + c) (columns ++ (after - before) ∷ [])

@@ -1,11 +1,13 @@
 -- Plans whose inputs are sifted: operator by operator, they are sifted themselves.
-use Rattle.std.proofs.Common.{◌≡◌, ℕ, ◌+◌, ◌-◌, ◌==◌, ◌≤◌, Bool, true, false, cond, ◌&&◌, List, [], ◌∷◌, ◌++◌, length, map, filter, refl, sym, ap, subst, ◌∙◌}
+use Rattle.std.proofs.Common.{◌≡◌, ℕ, ◌+◌, ◌-◌, ◌==◌, ◌≤◌, Bool, true, cond, ◌&&◌, List, [], ◌∷◌, ◌++◌, length, map, filter, refl, sym, ap, subst, ◌∙◌}
 use Rattle.std.specs.Prelude.{Some, None, flat_map, nat_lt, slice_get}
-use Rattle.std.specs.List.{All, AllByRecursion}
+use Rattle.std.specs.List.{All}
 use Rattle.std.specs.Option.{option_map_or}
 use Rattle.std.proofs.lemmas.List.Elements.{All-append, All-cons, All-filter, All-head, All-nil, All-tail, filter-append}
 use Rattle.cy_values.specs.declared.rows.Cell.{Cell}
 use Rattle.cy_values.specs.Bag.{count_of}
+use Rattle.cy_values.proofs.Booleans.{with_true}
+use Rattle.cy_values.proofs.Lists.{each_then, filters_swap}
 use Rattle.cy_trees.specs.Trees.{Expression}
 use Rattle.cy_scope_kinds.specs.declared.kinds.Kind.TheVariants as kind
 use Rattle.cy_graph.specs.Graph.{Content, State, IsGraph}
@@ -23,11 +25,10 @@ use Rattle.cy_planner_algebra.specs.Sure.{HasCells, HasTruth, IsSureOn}
 use Rattle.cy_planner_algebra.specs.WellFormed.{IsWellFormed}
 use Rattle.cy_planner_algebra.specs.Within.{IsWithin}
 use Rattle.cy_planner_algebra.proofs.Counts.{count_passing}
-use Rattle.cy_planner_rows.proofs.Lists.{each_weaker}
 use Rattle.cy_planner_rows.proofs.OverRows.{IsLong, cond_less, long_rows, own_part, smaller_within}
 use Rattle.cy_planner_pushdown.specs.internal.Pushed.{IsSifted, column_taken_over, common_kind, kind_at, kind_made}
-use Rattle.cy_planner_pushdown.proofs.Commuting.{both_sifted, left_sifted, once_sifted, sifted_mapped, sifted_twice}
-use Rattle.cy_planner_pushdown.proofs.Conjunctions.{sifted_both}
+use Rattle.cy_planner_pushdown.proofs.Commuting.{both_sifted, left_sifted, once_sifted, sifted_mapped}
+use Rattle.cy_planner_pushdown.proofs.Conjunctions.{sifted_both, all_anything, anything}
 
 all_split : (P : Plan → Type 0) (xs ys : List Plan) → All P (xs ++ ys) → All P xs × All P ys
 all_split P [] ys each = (All-nil P, each)
@@ -113,7 +114,7 @@ module _ (below other : Plan) (passes : Content → List Cell → Bool) (is_sift
   pub sifted_filter : (condition : Expression) → IsSifted (plan.filter below condition) passes (plan.filter other condition)
   sifted_filter condition =
       one_below below other passes passes is_sifted (plan.filter below condition) (plan.filter other condition) is_sifted.as_wide is_sifted.kinds
-      (λ graph is. ap (filter (holds condition)) (is_sifted.rows graph is) ∙ sifted_twice (holds condition) (passes graph.content) (rows_of graph.content below))
+      (λ graph is. ap (filter (holds condition)) (is_sifted.rows graph is) ∙ filters_swap (holds condition) (passes graph.content) (rows_of graph.content below))
       (λ graph is sure. (
         is_sifted.sure graph is sure.0,
         subst (λ rows. All (HasTruth condition) rows) (sym (is_sifted.rows graph is)) (All-filter (passes graph.content) (HasTruth condition) (rows_of graph.content below) sure.1),
@@ -125,7 +126,7 @@ module _ (below other : Plan) (passes : Content → List Cell → Bool) (is_sift
       one_below below other passes passes is_sifted (plan.all_different below others) (plan.all_different other others) is_sifted.as_wide is_sifted.kinds
       (λ graph is.
       ap (filter (λ row. are_different (relationships_at others row))) (is_sifted.rows graph is)
-      ∙ sifted_twice (λ row. are_different (relationships_at others row)) (passes graph.content) (rows_of graph.content below))
+      ∙ filters_swap (λ row. are_different (relationships_at others row)) (passes graph.content) (rows_of graph.content below))
       (λ graph is sure. is_sifted.sure graph is sure)
       (tail_below below other passes passes is_sifted (plan.all_different below others)) (cons_over below other passes passes is_sifted (plan.all_different other others))
 
@@ -150,13 +151,6 @@ module _ (below other : Plan) (inner outer : Content → List Cell → Bool) (is
       (rows_of graph.content below) (long_rows graph.content below well))
       (λ graph is sure. is_sifted.sure graph is sure)
       (tail_below below other inner outer is_sifted (plan.lookup below at attribute)) (cons_over below other inner outer is_sifted (plan.lookup other at attribute))
-
-abbrev anything : List Cell → Type 0
-anything row = Unit {0}
-
-all_anything : (rows : List (List Cell)) → AllByRecursion anything rows
-all_anything [] = tt
-all_anything (row ∷ rows) = (tt, all_anything rows)
 
 module _ (below other : Plan) (inner outer : Content → List Cell → Bool) (is_sifted : IsSifted below inner other) where
   pub sifted_project : (outputs : List Output) → ((graph : Content) (row : List Cell) → outer graph (projected outputs row) ≡ inner graph row)
@@ -210,10 +204,6 @@ module _ (left right other_left other_right : Plan) (keys : List KeyColumns) (on
         (here.bounded graph tables is both.0) (there.bounded graph tables is both.1);
   }
 
-and_true : (b : Bool) → b ≡ (b && true)
-and_true true = refl
-and_true false = refl
-
 module _ (left right other : Plan) (inner outer : Content → List Cell → Bool) (well : IsWellFormed left)
     (agree : (graph : Content) (l r : List Cell) → length l ≡ width left → outer graph (l ++ r) ≡ inner graph l) (is_sifted : IsSifted left inner other) where
   -- the left row passes, whatever stands after it
@@ -223,13 +213,13 @@ module _ (left right other : Plan) (inner outer : Content → List Cell → Bool
       ap (flat_map (λ l. paired l (or_nulls (width right) (filter (is_partner keys predicate l) (rows_of graph.content right))))) (is_sifted.rows graph is)
       ∙ left_sifted (outer graph.content) (IsLong (width left)) (inner graph.content) (λ l. or_nulls (width right) (filter (is_partner keys predicate l) (rows_of graph.content right)))
       (λ l long.
-      each_weaker anything (λ r. outer graph.content (l ++ r) ≡ inner graph.content l) (λ r any. agree graph.content l r long)
+      each_then anything (λ r. outer graph.content (l ++ r) ≡ inner graph.content l) (λ r any. agree graph.content l r long)
       (or_nulls (width right) (filter (is_partner keys predicate l) (rows_of graph.content right))) (all_anything (or_nulls (width right) (filter (is_partner keys predicate l) (rows_of graph.content right)))))
       (rows_of graph.content left) (long_rows graph.content left well)
 
   pairs_sifted : (keys : List KeyColumns) → IsSifted (plan.join left right keys) outer (plan.join other right keys)
   pairs_sifted keys =
-      sifted_join left right other right keys inner (λ graph row. true) outer well (λ graph l r long met. agree graph l r long ∙ and_true (inner graph l)) is_sifted (sifted_itself right)
+      sifted_join left right other right keys inner (λ graph row. true) outer well (λ graph l r long met. agree graph l r long ∙ with_true (inner graph l)) is_sifted (sifted_itself right)
 
   pub sifted_outer : (keys : List KeyColumns) (predicate : Expression) → IsSifted (plan.outer left right keys predicate) outer (plan.outer other right keys predicate)
   sifted_outer keys predicate =
@@ -256,7 +246,7 @@ module _ (left right other : Plan) (passes : Content → List Cell → Bool) (is
   semi_rows : (graph : State) → IsGraph graph → rows_of graph.content (plan.semi other right keys keeping) ≡ filter (passes graph.content) (rows_of graph.content (plan.semi left right keys keeping))
   semi_rows graph is =
       ap (filter (λ l. stays keeping (has_partner keys (rows_of graph.content right) l))) (is_sifted.rows graph is)
-      ∙ sifted_twice (λ l. stays keeping (has_partner keys (rows_of graph.content right) l)) (passes graph.content) (rows_of graph.content left)
+      ∙ filters_swap (λ l. stays keeping (has_partner keys (rows_of graph.content right) l)) (passes graph.content) (rows_of graph.content left)
 
   pub sifted_semi : IsSifted (plan.semi left right keys keeping) passes (plan.semi other right keys keeping)
   sifted_semi = record {

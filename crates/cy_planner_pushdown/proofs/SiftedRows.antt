@@ -7,6 +7,7 @@ use Rattle.std.proofs.Math.Seq.{take-append_seam}
 use Rattle.cy_values.specs.declared.rows.Cell.{Cell}
 use Rattle.cy_values.specs.declared.truth.Truth.{Truth}
 use Rattle.cy_values.specs.Bag.{count_of}
+use Rattle.cy_values.proofs.Lists.{each_both}
 use Rattle.cy_trees.specs.Trees.{Expression}
 use Rattle.cy_scope_kinds.specs.declared.kinds.Kind.TheVariants as kind
 use Rattle.cy_scope_kinds.specs.Rows.{row_fits}
@@ -35,7 +36,7 @@ use Rattle.cy_planner_rows.specs.internal.Asked.{asked, wanted_of}
 use Rattle.cy_planner_rows.specs.internal.Lookups.{narrowed, over, with_values}
 use Rattle.cy_planner_rows.specs.Rows.{condition_on}
 use Rattle.cy_planner_rows.proofs.Filtered.{same_value, wanted_inside}
-use Rattle.cy_planner_rows.proofs.Lists.{all_of_each, each_both_of, each_mapped, sifted_same}
+use Rattle.cy_planner_rows.proofs.Lists.{all_of_each, each_mapped, sifted_same}
 use Rattle.cy_planner_rows.proofs.OverRows.{cond_less, filter_within, long_rows, own_part, parts_narrowed, parts_over, rows_narrowed, rows_over, smaller_within, sure_narrowed, sure_over, width_narrowed, width_over, within_over}
 use Rattle.cy_planner_rows.proofs.Placed.{asked_among}
 use Rattle.cy_planner_pushdown.specs.internal.Conditions.{cells_at, keeps_cells}
@@ -65,7 +66,7 @@ module _ (below : Plan) (columns : List ℕ) (test : Expression) (well : IsWellF
 
     seen : AllByRecursion Seen (rows_of graph.content below)
     seen =
-        each_both_of (λ row. row_fits can.0 (cells_at columns row) ≡ true) (λ row. length row ≡ width below) (rows_of graph.content below)
+        each_both (λ row. row_fits can.0 (cells_at columns row) ≡ true) (λ row. length row ≡ width below) (rows_of graph.content below)
         (all_fit below columns test well can graph.content) (long_rows graph.content below well)
 
     -- on the row with what is looked up

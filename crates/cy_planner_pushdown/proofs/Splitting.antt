@@ -1,11 +1,13 @@
 -- Conditions on columns of an operator, one more at a time: each stays there or goes on in the inputs.
 use Rattle.std.proofs.Common.{◌≡◌, ℕ, Bool, true, false, ◌&&◌, List, [], ◌∷◌, ◌++◌, length, map, refl, sym, ap, subst, ◌∙◌, arith}
 use Rattle.std.specs.Prelude.{nat_lt, reverse}
-use Rattle.std.specs.List.{AllByRecursion, list_all}
+use Rattle.std.specs.List.{list_all}
 use Rattle.std.proofs.lemmas.Grind.{reverse_onto}
 use Rattle.std.proofs.lemmas.List.{append-nil, length-append, map-append}
 use Rattle.std.proofs.lemmas.List.Folds.{list_all-append}
 use Rattle.cy_values.specs.declared.rows.Cell.{Cell}
+use Rattle.cy_values.proofs.Lists.{each_append, each_parts, each_reversed}
+use Rattle.cy_values.proofs.Booleans.{and_four, with_true}
 use Rattle.cy_trees.specs.Trees.{Expression}
 use Rattle.cy_graph.specs.Graph.{Content}
 use Rattle.cy_planner_algebra.specs.Plans as plan
@@ -22,18 +24,6 @@ use Rattle.cy_planner_pushdown.proofs.Moves.{can_left, can_lookup, can_outer, ca
 
 -- ---- lists
 
-pub each_more : {A : Type 0} (P : A → Type 0) (xs ys : List A) → AllByRecursion P xs → AllByRecursion P ys → AllByRecursion P (xs ++ ys)
-each_more P [] ys here there = there
-each_more P (x ∷ xs) ys here there = (here.0, each_more P xs ys here.1 there)
-
-pub each_parts : {A : Type 0} (P : A → Type 0) (xs ys : List A) → AllByRecursion P (xs ++ ys) → AllByRecursion P xs × AllByRecursion P ys
-each_parts P [] ys each = (tt, each)
-each_parts P (x ∷ xs) ys each = let rest = each_parts P xs ys each.1 in ((each.0, rest.0), rest.1)
-
-and_true : (b : Bool) → b ≡ (b && true)
-and_true true = refl
-and_true false = refl
-
 and_last : (a b : Bool) → (a && (b && true)) ≡ (b && a)
 and_last true true = refl
 and_last true false = refl
@@ -48,10 +38,6 @@ all_reversed p (x ∷ xs) =
     ∙ and_last (list_all p (reverse xs)) (p x)
     ∙ ap (λ b. p x && b) (all_reversed p xs)
 
-pub each_reversed : {A : Type 0} (P : A → Type 0) (xs : List A) → AllByRecursion P xs → AllByRecursion P (reverse xs)
-each_reversed P [] each = tt
-each_reversed P (x ∷ xs) each = subst (AllByRecursion P) (sym (reverse_onto xs x [])) (each_more P (reverse xs) (x ∷ []) (each_reversed P xs each.1) (each.0, tt))
-
 pub map_reversed : {A B : Type 0} (f : A → B) (xs : List A) → map f (reverse xs) ≡ reverse (map f xs)
 map_reversed f [] = refl
 map_reversed f (x ∷ xs) =
@@ -65,18 +51,12 @@ not_none xs x is =
 
 -- ---- rows that pass two tests
 
-and_swap : (p q r s : Bool) → ((p && q) && (r && s)) ≡ ((p && r) && (q && s))
-and_swap true true r s = refl
-and_swap true false true s = refl
-and_swap true false false s = refl
-and_swap false q r s = refl
-
 agree_twice : (p : Plan) (m f s n g t : Content → List Cell → Bool) → Agree p m f s → Agree p n g t
     → Agree p (λ graph row. m graph row && n graph row) (λ graph row. f graph row && g graph row) (λ graph row. s graph row && t graph row)
 agree_twice plan.unit m f s n g t one two = λ graph row i. one graph row i && two graph row i
 agree_twice plan.nodes m f s n g t one two = λ graph row i. one graph row i && two graph row i
 agree_twice (plan.rels types orientation) m f s n g t one two = λ graph row i. one graph row i && two graph row i
-agree_twice (plan.join left right keys) m f s n g t one two = λ graph l r long met. (λ i. one graph l r long met i && two graph l r long met i) ∙ and_swap (f graph l) (s graph r) (g graph l) (t graph r)
+agree_twice (plan.join left right keys) m f s n g t one two = λ graph l r long met. (λ i. one graph l r long met i && two graph l r long met i) ∙ and_four (f graph l) (s graph r) (g graph l) (t graph r)
 agree_twice (plan.outer left right keys test) m f s n g t one two = λ graph l r long i. one graph l r long i && two graph l r long i
 agree_twice (plan.semi left right keys keeping) m f s n g t one two = λ graph row i. one graph row i && two graph row i
 agree_twice (plan.lookup p column attribute) m f s n g t one two = λ graph row more long i. one graph row more long i && two graph row more long i
@@ -107,7 +87,7 @@ module _ (columns : List ℕ) (test : Expression) where
   no_test = are_true []
 
   same_cells : (graph : Content) (row : List Cell) (others : List ℕ) → others ≡ columns → kept graph row ≡ alone others graph row
-  same_cells graph row others same = ap (λ cs. keeps graph test (cells_at cs row)) (sym same) ∙ and_true (keeps graph test (cells_at others row))
+  same_cells graph row others same = ap (λ cs. keeps graph test (cells_at cs row)) (sym same) ∙ with_true (keeps graph test (cells_at others row))
 
   first_cells : (n : ℕ) (others : List ℕ) → others ≡ columns → list_all (λ c. nat_lt c n) columns ≡ true → (graph : Content) (row more : List Cell) → length row ≡ n → kept graph (row ++ more) ≡ alone others graph row
   first_cells n others same less graph row more long = ap (keeps graph test) (cells_first n columns less row more long) ∙ same_cells graph row others same
@@ -124,7 +104,7 @@ module _ (columns : List ℕ) (test : Expression) where
   first_agrees (plan.filter p condition) others is = λ graph row. same_cells graph row others is
   first_agrees (plan.all_different p ends) others is = λ graph row. same_cells graph row others is
   first_agrees (plan.project p outputs) others is =
-      λ graph row. ap (keeps graph test) (sym (cells_taken_over outputs columns others is.0 row)) ∙ and_true (keeps graph test (cells_at others row))
+      λ graph row. ap (keeps graph test) (sym (cells_taken_over outputs columns others is.0 row)) ∙ with_true (keeps graph test (cells_at others row))
   first_agrees (plan.distinct p) others is = λ graph row. same_cells graph row others is
   first_agrees (plan.union left right) others is = absurd is
 
@@ -147,7 +127,7 @@ module _ (columns : List ℕ) (test : Expression) where
   second_agrees plan.nodes others is = absurd is
   second_agrees (plan.rels types orientation) others is = absurd is
   second_agrees (plan.join left right keys) others is =
-      λ graph l r long met. ap (keeps graph test) (sym (cells_right test left right keys columns others is l r long met)) ∙ and_true (keeps graph test (cells_at others r))
+      λ graph l r long met. ap (keeps graph test) (sym (cells_right test left right keys columns others is l r long met)) ∙ with_true (keeps graph test (cells_at others r))
   second_agrees (plan.outer left right keys predicate) others is = absurd is
   second_agrees (plan.semi left right keys keeping) others is = absurd is
   second_agrees (plan.lookup p column attribute) others is = absurd is
@@ -204,8 +184,24 @@ module _ (columns : List ℕ) (test : Expression) where
 are_both : (xs ys : List (List ℕ × Expression)) → (λ (graph : Content) (row : List Cell). are_true xs graph row && are_true ys graph row) ≡ are_true (xs ++ ys)
 are_both xs ys = λ i graph row. sym (list_all-append (λ (t : List ℕ × Expression). keeps_cells graph t.1 t.0 row) xs ys) i
 
+-- what is left with one more, and what is done
+pub done_too : (r x d : Bool) → ((r && (x && true)) && d) ≡ (r && (d && x))
+done_too false x d = refl
+done_too true true true = refl
+done_too true true false = refl
+done_too true false true = refl
+done_too true false false = refl
+
+-- what is left with one more, and what is parted
+pub alone_too : (r x a o : Bool) → ((r && (x && true)) && (a && o)) ≡ (r && ((a && (x && true)) && o))
+alone_too false x a o = refl
+alone_too true true true o = refl
+alone_too true true false o = refl
+alone_too true false true o = refl
+alone_too true false false o = refl
+
 -- what is left, one more of it, what moves, and what stays
-stays_too : (r x m h : Bool) → ((r && (x && true)) && (m && h)) ≡ (r && (m && (h && (x && true))))
+pub stays_too : (r x m h : Bool) → ((r && (x && true)) && (m && h)) ≡ (r && (m && (h && (x && true))))
 stays_too false x m h = refl
 stays_too true true m true = refl
 stays_too true true true false = refl
@@ -244,7 +240,7 @@ module _ (p : Plan) (all rest : List (List ℕ × Expression)) (tests : Tests) (
     agree = split.agree;
     still = split.still;
     can_rest = can_now.0;
-    can_here = each_more (CanGo p) tests.here ((others, test) ∷ []) split.can_here (subst (λ cs. CanBePushed p cs test) (sym same) can_now.1.0, tt);
+    can_here = each_append (CanGo p) tests.here ((others, test) ∷ []) split.can_here (subst (λ cs. CanBePushed p cs test) (sym same) can_now.1.0, tt);
     can_first = split.can_first;
     can_second = split.can_second;
   }
@@ -266,8 +262,8 @@ module _ (p : Plan) (all rest : List (List ℕ × Expression)) (tests : Tests) (
       still = λ no_first no_second. absurd (some no_first no_second);
       can_rest = can_now.0;
       can_here = split.can_here;
-      can_first = subst (CanAllBePushed (first_input p)) (sym is_first) (each_more (CanGo (first_input p)) tests.first firsts split.can_first can_firsts);
-      can_second = subst (CanAllBePushed (second_input p)) (sym is_second) (each_more (CanGo (second_input p)) tests.second seconds split.can_second can_seconds);
+      can_first = subst (CanAllBePushed (first_input p)) (sym is_first) (each_append (CanGo (first_input p)) tests.first firsts split.can_first can_firsts);
+      can_second = subst (CanAllBePushed (second_input p)) (sym is_second) (each_append (CanGo (second_input p)) tests.second seconds split.can_second can_seconds);
     }
 
   pub split_next : (w : Way) → IsWay w p columns → IsSplit p all rest (with_way w test tests)
@@ -303,7 +299,7 @@ none_agree (plan.union left right) = λ graph row. (refl, refl)
 pub split_none : (p : Plan) (all : List (List ℕ × Expression)) → CanAllBePushed p all → IsSplit p all (reverse all) none
 split_none p all can = record {
   moving = λ graph row. true;
-  same = λ graph row. sym (all_reversed (λ (t : List ℕ × Expression). keeps_cells graph t.1 t.0 row) all) ∙ and_true (are_true (reverse all) graph row);
+  same = λ graph row. sym (all_reversed (λ (t : List ℕ × Expression). keeps_cells graph t.1 t.0 row) all) ∙ with_true (are_true (reverse all) graph row);
   agree = none_agree p;
   still = λ first second graph row. refl;
   can_rest = each_reversed (λ (t : List ℕ × Expression). CanBePushed p t.0 t.1) all can;
@@ -318,7 +314,7 @@ whole_first : (p : Plan) (all : List (List ℕ × Expression)) → Agree p (are_
     → IsSplit p all [] (all_first all)
 whole_first p all agree can can_first can_second = record {
   moving = are_true all;
-  same = λ graph row. and_true (are_true all graph row);
+  same = λ graph row. with_true (are_true all graph row);
   agree = agree;
   still = λ first second graph row. ap (λ (ts : List (List ℕ × Expression)). are_true ts graph row) first;
   can_rest = tt;

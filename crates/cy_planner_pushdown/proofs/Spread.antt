@@ -8,6 +8,8 @@ use Rattle.std.proofs.lemmas.Option.{get_or_from_slice_get, same_Some}
 use Rattle.cy_values.specs.declared.rows.Cell.{Cell}
 use Rattle.cy_values.specs.declared.rows.Cell.TheVariants as cell
 use Rattle.cy_values.specs.declared.scalars.Value.TheVariants as value
+use Rattle.cy_values.proofs.Lists.{each_both, each_then}
+use Rattle.cy_values.proofs.Naturals.{nothing_added}
 use Rattle.cy_trees.specs.Trees.{Name, Expression}
 use Rattle.cy_scope_kinds.specs.declared.kinds.Kind.{Kind}
 use Rattle.cy_scope_kinds.specs.declared.kinds.Kind.TheVariants as kind
@@ -21,7 +23,6 @@ use Rattle.cy_planner_algebra.specs.Meaning.{nulls, rows_of}
 use Rattle.cy_planner_algebra.specs.WellFormed.{IsWellFormed}
 use Rattle.cy_planner_rows.specs.Renumbered.{new_column, renumbered}
 use Rattle.cy_planner_rows.specs.Rows.{IsReadOver}
-use Rattle.cy_planner_rows.proofs.Lists.{each_both_of, each_weaker}
 use Rattle.cy_planner_pushdown.specs.internal.Conditions.{IsTest, cells_at}
 use Rattle.cy_planner_pushdown.specs.internal.Pushed.{AreDistinct, CanBePushed, StandIn, kind_at, kind_in_scope}
 use Rattle.cy_planner_pushdown.proofs.ColumnKinds.{HasKindAt, have_kind, inside}
@@ -116,11 +117,8 @@ stands_fits (w ∷ scope) (d ∷ columns) row c v fits at =
         (ap (λ n. is_cell_of w.1 (cell_at row n)) (eqb-true c d same) ∙ here)
     by rest here false same is = rest is
 
-none_more : (n : ℕ) → 0 + n ≡ n
-none_more n = omega arith
-
 pub row_spread : (scope : Scope) (columns : List ℕ) (row : List Cell) → row_fits scope (cells_at columns row) ≡ true → row_fits (spread scope columns 0 row) row ≡ true
-row_spread scope columns row fits = spread_fits scope columns 0 row (λ n v less at. stands_fits scope columns row n v fits (ap (stands scope columns) (sym (none_more n)) ∙ at))
+row_spread scope columns row fits = spread_fits scope columns 0 row (λ n v less at. stands_fits scope columns row n v fits (ap (stands scope columns) (sym (nothing_added n)) ∙ at))
 
 -- ---- a condition on columns of a plan
 
@@ -148,7 +146,7 @@ module _ (p : Plan) (columns : List ℕ) (test : Expression) (good : IsWellForme
       let known = kind_known (kind_at p) columns scope i v can.1.0 at in
       let less : known.0 < width p = inside p known.0 v.1 good known.2 in
       ap (slice_get (spread scope columns 0 row)) (get_or_from_slice_get columns i known.0 i known.1)
-      ∙ spread_at scope columns 0 known.0 row v (omega (arith, less, long)) (ap (stands scope columns) (none_more known.0) ∙ stands_at scope columns i known.0 v can.1.1 at known.1)
+      ∙ spread_at scope columns 0 known.0 row v (omega (arith, less, long)) (ap (stands scope columns) (nothing_added known.0) ∙ stands_at scope columns i known.0 v can.1.1 at known.1)
 
   pub spread_kinded : (row : List Cell) → length row ≡ width p → HasKind (spread scope columns 0 row) (renumbered columns test) kind.Flag
   spread_kinded row long = kind_renumbered columns scope (spread scope columns 0 row) (same_column row long) test kind.Flag is.kinded
@@ -178,8 +176,8 @@ module _ (p : Plan) (columns : List ℕ) (test : Expression) (good : IsWellForme
     fit_each [] (v ∷ vs) same = cc
     fit_each (c ∷ cs) [] same = cc
     fit_each (c ∷ cs) (v ∷ vs) same =
-        each_weaker (λ row. HasKindAt c v.1 row × Fits vs cs row) (Fits (v ∷ vs) (c ∷ cs)) (λ row both. and_from (is_cell_of v.1 (cell_at row c)) (row_fits vs (cells_at cs row)) both.0 both.1) (rows_of graph p)
-        (each_both_of (HasKindAt c v.1) (Fits vs cs) (rows_of graph p) (have_kind graph p c v.1 good (ap (λ ks. get_or ks 0 None) same)) (fit_each cs vs (ap (λ ks. drop 1 ks) same)))
+        each_then (λ row. HasKindAt c v.1 row × Fits vs cs row) (Fits (v ∷ vs) (c ∷ cs)) (λ row both. and_from (is_cell_of v.1 (cell_at row c)) (row_fits vs (cells_at cs row)) both.0 both.1) (rows_of graph p)
+        (each_both (HasKindAt c v.1) (Fits vs cs) (rows_of graph p) (have_kind graph p c v.1 good (ap (λ ks. get_or ks 0 None) same)) (fit_each cs vs (ap (λ ks. drop 1 ks) same)))
 
     pub all_fit : AllByRecursion (λ row. row_fits scope (cells_at columns row) ≡ true) (rows_of graph p)
     all_fit = fit_each columns scope can.1.0

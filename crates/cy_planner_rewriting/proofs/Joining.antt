@@ -10,6 +10,7 @@ use Rattle.std.proofs.lemmas.List.Elements.{All-append, All-cons, All-head, All-
 use Rattle.cy_values.specs.declared.rows.Cell.{Cell}
 use Rattle.cy_values.specs.Bag.{count_of}
 use Rattle.cy_values.specs.Order.{row_cmp}
+use Rattle.cy_values.proofs.Lists.{each_filter}
 use Rattle.cy_trees.specs.Trees.{Expression}
 use Rattle.cy_graph.specs.Graph.{Content}
 use Rattle.cy_planner_algebra.specs.declared.operators.KeyColumns.{KeyColumns}
@@ -98,14 +99,6 @@ all_of left right (k ∷ keys) each =
 pub keys_wider : (left right more others : ℕ) (keys : List KeyColumns) → All (IsKeyBetween left right) keys → All (IsKeyBetween (left + more) (right + others)) keys
 keys_wider left right more others keys each = All-weaker (IsKeyBetween left right) (IsKeyBetween (left + more) (right + others)) (λ k is. (let one = is.0 in omega (arith, one), let two = is.1 in omega (arith, two))) keys each
 
-each_tested : {A : Type 0} (P : A → Type 0) (q : A → Bool) (xs : List A) → AllByRecursion P xs → AllByRecursion P (filter q xs)
-each_tested P q [] each = tt
-each_tested P q (x ∷ xs) each =
-    elim (q x) as (λ b. AllByRecursion P (cond b (x ∷ filter q xs) (filter q xs))) [
-      | true ↦ (each.0, each_tested P q xs each.1)
-      | false ↦ each_tested P q xs each.1
-    ]
-
 -- ---- look-ups on pairs
 
 module _ (graph : Content) (ws : List Wanted) (left right : ℕ) (inside : AllByRecursion (IsInside (left + right)) ws) where
@@ -147,7 +140,7 @@ module _ (graph : Content) (ws : List Wanted) (left right : ℕ) (inside : AllBy
 
     pub joined_pairs : (ls rs : List (List Cell)) → AllByRecursion (IsLong left) ls → AllByRecursion (IsLong right) rs → map back (joined keys (map on_left ls) (map on_right rs)) ≡ map (with_values graph ws) (joined keys ls rs)
     joined_pairs ls rs long_left long_right =
-        all_pairs (λ l. filter (meet keys l) rs) (λ l. filter (meet keys l) (map on_right rs)) ls long_left (λ l long. each_tested (IsLong right) (meet keys l) rs long_right)
+        all_pairs (λ l. filter (meet keys l) rs) (λ l. filter (meet keys l) (map on_right rs)) ls long_left (λ l long. each_filter (IsLong right) (meet keys l) rs long_right)
         (λ l long. tested_before (IsLong right) on_right (meet keys (on_left l)) (meet keys l) (λ r long_r. meets_same l r long long_r) rs long_right)
 
     module _ (test : Expression) (is : IsOver (left + right) test) where
@@ -177,7 +170,7 @@ module _ (graph : Content) (ws : List Wanted) (left right : ℕ) (inside : AllBy
           → map back (outer_joined keys moved_test (right + length R) (map on_left ls) (map on_right rs)) ≡ map (with_values graph ws) (outer_joined keys test right ls rs)
       outer_pairs ls rs long_left long_right =
           all_pairs (λ l. or_nulls right (filter (is_partner keys test l) rs)) (λ l. or_nulls (right + length R) (filter (is_partner keys moved_test l) (map on_right rs))) ls long_left
-          (λ l long. long_or_nulls (filter (is_partner keys test l) rs) (each_tested (IsLong right) (is_partner keys test l) rs long_right))
+          (λ l long. long_or_nulls (filter (is_partner keys test l) rs) (each_filter (IsLong right) (is_partner keys test l) rs long_right))
           (λ l long.
           ap (or_nulls (right + length R)) (tested_before (IsLong right) on_right (is_partner keys moved_test (on_left l)) (is_partner keys test l) (λ r long_r. partners_same l r long long_r) rs long_right)
           ∙ nulls_same (filter (is_partner keys test l) rs))
@@ -195,7 +188,7 @@ module _ (graph : Content) (ws : List Wanted) (left right : ℕ) (inside : AllBy
           let both = rows_split (HasTruth test) (paired l (filter (meet keys l) rs)) (joined keys ls rs) all in
           let found : filter (meet keys (on_left l)) (map on_right rs) ≡ map on_right (filter (meet keys l) rs) = tested_before (IsLong right) on_right (meet keys (on_left l)) (meet keys l) (λ r long_r. meets_same l r long_left.0 long_r) rs long_right in
           All-append (HasTruth moved_test) (paired (on_left l) (filter (meet keys (on_left l)) (map on_right rs))) (joined keys (map on_left ls) (map on_right rs))
-          (subst (λ rows. All (HasTruth moved_test) (paired (on_left l) rows)) (sym found) (sure_pair l (filter (meet keys l) rs) long_left.0 (each_tested (IsLong right) (meet keys l) rs long_right) both.0))
+          (subst (λ rows. All (HasTruth moved_test) (paired (on_left l) rows)) (sym found) (sure_pair l (filter (meet keys l) rs) long_left.0 (each_filter (IsLong right) (meet keys l) rs long_right) both.0))
           (sure_pairs ls rs long_left.1 long_right both.1)
 
 -- ---- the plans

@@ -7,6 +7,7 @@ use Rattle.std.proofs.lemmas.List.{get_or-append-add, get_or_append_left, length
 use Rattle.std.proofs.lemmas.List.Elements.{All-cons, All-contains, All-contains_itself, All-get_or, All-nil}
 use Rattle.cy_values.specs.declared.rows.Cell.{Cell}
 use Rattle.cy_values.specs.declared.rows.Cell.TheVariants as cell
+use Rattle.cy_values.proofs.Lists.{each_append}
 use Rattle.cy_graph.specs.Graph.{Content}
 use Rattle.cy_planner_algebra.specs.declared.operators.KeyColumns.{KeyColumns}
 use Rattle.cy_planner_algebra.specs.Plans as plan
@@ -78,14 +79,10 @@ module _ (keys : List KeyColumns) (left right : ℕ) (between : All (IsKeyBetwee
         | false ↦ λ is. pairs_there redirects each l rs long
       ] refl
 
-  both_each : {A : Type 0} (P : A → Type 0) (xs ys : List A) → AllByRecursion P xs → AllByRecursion P ys → AllByRecursion P (xs ++ ys)
-  both_each P [] ys each others = others
-  both_each P (x ∷ xs) ys each others = (each.0, both_each P xs ys each.1 others)
-
   pub joined_there : (redirects : List Redirect) → AllByRecursion (IsRedirect keys left) redirects → (ls rs : List (List Cell)) → AllByRecursion (IsLong left) ls → AllByRecursion (SameThere redirects) (joined keys ls rs)
   joined_there redirects each [] rs long = tt
   joined_there redirects each (l ∷ ls) rs long =
-      both_each (SameThere redirects) (paired l (filter (meet keys l) rs)) (joined keys ls rs) (pairs_there redirects each l rs long.0) (joined_there redirects each ls rs long.1)
+      each_append (SameThere redirects) (paired l (filter (meet keys l) rs)) (joined keys ls rs) (pairs_there redirects each l rs long.0) (joined_there redirects each ls rs long.1)
 
   -- ---- columns of the pairs
 

@@ -1,5 +1,5 @@
 -- Conditions in which AND joins the same ones.
-use Rattle.std.proofs.Common.{◌≡◌, ◌≤◌, Bool, true, false, ◌&&◌, List, [], ◌∷◌, ◌++◌, length, refl, sym, ap, subst, ◌∙◌, arith}
+use Rattle.std.proofs.Common.{◌≡◌, ◌≤◌, Bool, true, ◌&&◌, List, [], ◌∷◌, ◌++◌, length, refl, sym, ap, subst, ◌∙◌, arith}
 use Rattle.std.specs.Prelude.{IsTrue, Option, None, Some, Result, Ok, Err, get_or}
 use Rattle.std.specs.List.{AllByRecursion}
 use Rattle.std.proofs.lemmas.Bool.{and_from, and_parts}
@@ -9,6 +9,7 @@ use Rattle.cy_values.specs.declared.scalars.Value.{Value}
 use Rattle.cy_values.specs.declared.truth.Truth.{Truth}
 use Rattle.cy_values.specs.declared.truth.Truth.TheVariants.{No, Unknown, Yes}
 use Rattle.cy_values.specs.Truth.{both}
+use Rattle.cy_values.proofs.Booleans.{and_true, grouped_right}
 use Rattle.cy_trees.specs.declared.expressions.BinaryOperator.TheVariants as operator
 use Rattle.cy_trees.specs.declared.expressions.BinaryOperator.TheVariants.{And}
 use Rattle.cy_trees.specs.Trees as tree
@@ -25,6 +26,7 @@ use Rattle.cy_expr.specs.Logic.{conjunction, truth_of, value_of}
 use Rattle.cy_expr.specs.Lookups.{Lookups}
 use Rattle.cy_expr.specs.Operators.{value_in_cell}
 use Rattle.cy_expr.specs.Reading.{reads_below, reads_columns}
+use Rattle.cy_expr.proofs.Rules.{both-both}
 use Rattle.cy_planner_rows.specs.internal.Alike.{IsAlike, if_ok, truth_on}
 use Rattle.cy_planner_rows.specs.Conjuncts.{conjuncts}
 
@@ -71,37 +73,8 @@ both_of (Some t) (Some u) = Some (both t u)
 both_of (Some t) None = None
 both_of None o = None
 
-both_again : (t u v : Truth) → both (both t u) v ≡ both t (both u v)
-both_again Yes Yes Yes = refl
-both_again Yes Yes No = refl
-both_again Yes Yes Unknown = refl
-both_again Yes No Yes = refl
-both_again Yes No No = refl
-both_again Yes No Unknown = refl
-both_again Yes Unknown Yes = refl
-both_again Yes Unknown No = refl
-both_again Yes Unknown Unknown = refl
-both_again No Yes Yes = refl
-both_again No Yes No = refl
-both_again No Yes Unknown = refl
-both_again No No Yes = refl
-both_again No No No = refl
-both_again No No Unknown = refl
-both_again No Unknown Yes = refl
-both_again No Unknown No = refl
-both_again No Unknown Unknown = refl
-both_again Unknown Yes Yes = refl
-both_again Unknown Yes No = refl
-both_again Unknown Yes Unknown = refl
-both_again Unknown No Yes = refl
-both_again Unknown No No = refl
-both_again Unknown No Unknown = refl
-both_again Unknown Unknown Yes = refl
-both_again Unknown Unknown No = refl
-both_again Unknown Unknown Unknown = refl
-
 of_again : (o p q : Option Truth) → both_of (both_of o p) q ≡ both_of o (both_of p q)
-of_again (Some t) (Some u) (Some v) = ap (λ w. Some w) (both_again t u v)
+of_again (Some t) (Some u) (Some v) = ap (λ w. Some w) (both-both t u v)
 of_again (Some t) (Some u) None = refl
 of_again (Some t) None q = refl
 of_again None p q = refl
@@ -128,7 +101,7 @@ joined_truth (Ok t) (Ok u) = ap if_ok (truth_back (both t u))
 joined_truth (Ok t) (Err fault) = refl
 joined_truth (Err fault) p = refl
 
-in_cell : (o : Result Value EvalFault) → on_one value_in_cell (as_cell o) ≡ o
+pub in_cell : (o : Result Value EvalFault) → on_one value_in_cell (as_cell o) ≡ o
 in_cell (Ok v) = refl
 in_cell (Err fault) = refl
 
@@ -166,17 +139,9 @@ module _ (f : Expression → Bool) (splits : (a b : Expression) → f (binary An
   of_each [] = true
   of_each (e ∷ es) = f e && of_each es
 
-  and_again : (a b c : Bool) → ((a && b) && c) ≡ (a && (b && c))
-  and_again true b c = refl
-  and_again false b c = refl
-
-  and_true : (b : Bool) → (b && true) ≡ b
-  and_true true = refl
-  and_true false = refl
-
   each_of_both : (xs ys : List Expression) → of_each (xs ++ ys) ≡ (of_each xs && of_each ys)
   each_of_both [] ys = refl
-  each_of_both (x ∷ xs) ys = ap (λ b. f x && b) (each_of_both xs ys) ∙ sym (and_again (f x) (of_each xs) (of_each ys))
+  each_of_both (x ∷ xs) ys = ap (λ b. f x && b) (each_of_both xs ys) ∙ sym (grouped_right (f x) (of_each xs) (of_each ys))
 
   by_each : (e : Expression) → f e ≡ of_each (conjuncts e)
   by_each =

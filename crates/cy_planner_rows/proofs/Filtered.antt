@@ -7,6 +7,7 @@ use Rattle.std.proofs.Math.Seq.{take-append_seam}
 use Rattle.cy_values.specs.declared.rows.Cell.{Cell}
 use Rattle.cy_values.specs.declared.truth.Truth.{Truth}
 use Rattle.cy_values.specs.Bag.{count_of}
+use Rattle.cy_values.proofs.Lists.{each_both}
 use Rattle.cy_trees.specs.Trees.{Expression}
 use Rattle.cy_scope_kinds.specs.Rows.{row_fits}
 use Rattle.cy_scope_kinds.specs.Scopes.{Scope}
@@ -34,7 +35,7 @@ use Rattle.cy_planner_rows.specs.internal.Asked.{asked, wanted_of}
 use Rattle.cy_planner_rows.specs.internal.Lookups.{narrowed, over, with_values}
 use Rattle.cy_planner_rows.specs.Rows.{FitsRows, IsFiltered, IsReadOver, condition_on, keeps}
 use Rattle.cy_scope_kinds.specs.Kinded.{IsKinded}
-use Rattle.cy_planner_rows.proofs.Lists.{all_of_each, each_both_of, each_mapped, sifted_same}
+use Rattle.cy_planner_rows.proofs.Lists.{all_of_each, each_mapped, sifted_same}
 use Rattle.cy_planner_rows.proofs.Lowerable.{good, inside}
 use Rattle.cy_planner_rows.proofs.OverRows.{IsInside, cond_less, filter_within, long_rows, own_part, parts_narrowed, parts_over, rows_narrowed, rows_over, smaller_within, sure_narrowed, sure_over, width_narrowed, well_over, width_over, within_over}
 use Rattle.cy_planner_rows.proofs.Placed.{IsAmong, asked_among, asked_each}
@@ -94,7 +95,7 @@ module _ (below : Plan) (test : Expression) (well : IsWellFormed below) (room : 
     same_truth row fit = ap (λ o. on_one truth_of (on_one value_in_cell o)) (same_value graph scope (width below) wanted test is fits.0 kinded (asked_among [] (asked test)) row fit)
 
     seen : AllByRecursion Seen (rows_of graph.content below)
-    seen = each_both_of (Fits scope) (λ row. length row ≡ width below) (rows_of graph.content below) fits.1 (long_rows graph.content below well)
+    seen = each_both (Fits scope) (λ row. length row ≡ width below) (rows_of graph.content below) fits.1 (long_rows graph.content below well)
 
     over_is : rows_of graph.content (over below wanted) ≡ map (with_values graph.content wanted) (rows_of graph.content below)
     over_is = rows_over graph.content below wanted well (wanted_inside below test read)
@@ -116,7 +117,7 @@ module _ (below : Plan) (test : Expression) (well : IsWellFormed below) (room : 
                 (all_of_each (HasTruth condition) (map (with_values graph.content wanted) (rows_of graph.content below))
                 (each_mapped (λ row. Fits scope row × IsOk (condition_on graph.content test row)) (HasTruth condition) (with_values graph.content wanted)
                 (λ row both. subst (λ (o : Result Truth EvalFault). IsOk o) (sym (same_truth row both.0)) both.1) (rows_of graph.content below)
-                (each_both_of (Fits scope) (λ row. IsOk (condition_on graph.content test row)) (rows_of graph.content below) fits.1 has))),
+                (each_both (Fits scope) (λ row. IsOk (condition_on graph.content test row)) (rows_of graph.content below) fits.1 has))),
           )
 
       filtered_bounded : (tables : List (List (List Cell))) → All (IsWithin graph.content tables) (parts below) → All (IsWithin graph.content tables) (parts made)

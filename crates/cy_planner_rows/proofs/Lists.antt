@@ -12,14 +12,6 @@ pub all_of_each : {A : Type 0} (P : A → Type 0) (xs : List A) → AllByRecursi
 all_of_each P [] each = All-nil P
 all_of_each P (x ∷ xs) each = All-cons P x xs each.0 (all_of_each P xs each.1)
 
-pub each_weaker : {A : Type 0} (P Q : A → Type 0) → ((x : A) → P x → Q x) → (xs : List A) → AllByRecursion P xs → AllByRecursion Q xs
-each_weaker P Q step [] each = tt
-each_weaker P Q step (x ∷ xs) each = (step x each.0, each_weaker P Q step xs each.1)
-
-pub each_both_of : {A : Type 0} (P Q : A → Type 0) (xs : List A) → AllByRecursion P xs → AllByRecursion Q xs → AllByRecursion (λ x. P x × Q x) xs
-each_both_of P Q [] each others = tt
-each_both_of P Q (x ∷ xs) each others = ((each.0, others.0), each_both_of P Q xs each.1 others.1)
-
 pub each_mapped : {A B : Type 0} (P : A → Type 0) (Q : B → Type 0) (f : A → B) → ((x : A) → P x → Q (f x)) → (xs : List A) → AllByRecursion P xs → AllByRecursion Q (map f xs)
 each_mapped P Q f step [] each = tt
 each_mapped P Q f step (x ∷ xs) each = (step x each.0, each_mapped P Q f step xs each.1)

@@ -4,10 +4,11 @@ use Rattle.std.proofs.Common.{◌≡◌, ℕ, ◌+◌, ◌<◌, Bool, true, fals
 use Rattle.std.specs.Prelude.{Option, Some, nat_lt, option_map, slice_get}
 use Rattle.std.specs.List.{AllByRecursion, list_all}
 use Rattle.std.specs.Option.{option_map_or}
-use Rattle.std.proofs.lemmas.Bool.{and_parts, false≢true, lt-ltb, true≢false}
+use Rattle.std.proofs.lemmas.Bool.{and_parts, false≢true, lt-ltb, true≢false, and_from}
 use Rattle.std.proofs.lemmas.Option.{slice_get_within}
 use Rattle.std.proofs.Math.ListN.{get_or-append}
 use Rattle.cy_values.specs.declared.rows.Cell.{Cell}
+use Rattle.cy_values.proofs.Lists.{each_append, each_left, each_right}
 use Rattle.cy_trees.specs.declared.expressions.Variable.{Variable}
 use Rattle.cy_trees.specs.Trees.{Name, Expression, null, boolean, integer, text, variable, property, has_labels, unary, binary, comparison, list, case, call, call_star, Expressions, no_more, more, Links, no_links, link, Arms, no_arms, arm, Otherwise, nothing, otherwise}
 use Rattle.cy_scope_kinds.specs.declared.kinds.Kind.{Kind}
@@ -35,21 +36,6 @@ use Rattle.cy_planner_rows.specs.internal.Asked.{all_asked, asked, asked_by_arms
 use Rattle.cy_planner_rows.specs.internal.Lookups.{value_on, with_values}
 use Rattle.cy_planner_rows.proofs.Attributes.{binary_value, called_value, cell_gives, chosen_value, fits_cell, fits_long, has_attribute, no_value, unary_value}
 use Rattle.cy_planner_rows.proofs.Placed.{IsAmong, place_below, place_reads}
-
-and_both : (a b : Bool) → a ≡ true → b ≡ true → (a && b) ≡ true
-and_both a b p q = λ i. p i && q i
-
-pub each_left : {A : Type 0} (P : A → Type 0) (xs ys : List A) → AllByRecursion P (xs ++ ys) → AllByRecursion P xs
-each_left P [] ys each = tt
-each_left P (x ∷ xs) ys each = (each.0, each_left P xs ys each.1)
-
-pub each_right : {A : Type 0} (P : A → Type 0) (xs ys : List A) → AllByRecursion P (xs ++ ys) → AllByRecursion P ys
-each_right P [] ys each = each
-each_right P (x ∷ xs) ys each = each_right P xs ys each.1
-
-pub each_both : {A : Type 0} (P : A → Type 0) (xs ys : List A) → AllByRecursion P xs → AllByRecursion P ys → AllByRecursion P (xs ++ ys)
-each_both P [] ys left right = right
-each_both P (x ∷ xs) ys left right = (left.0, each_both P xs ys left.1 right)
 
 -- a test of labels reads what the list of labels reads
 missing_columns : (e : Expression) (labels : List Name) → reads_columns e ≡ true → arms_read_columns (missing_arms e labels) ≡ true
@@ -218,7 +204,7 @@ module _ (scope : Scope) (wanted : List Wanted) where
   other_good name distinct es f is unread good =
       let asks : Expression = call name distinct (lowered_expressions at es) in (
         subst (λ (e : Expression). reads_columns e ≡ true) (sym (call_stays f unread es asks))
-            (and_both (not (reads_graph (function_named name))) (all_read_columns (lowered_expressions at es)) (ap (λ (o : Option Function). not (reads_graph o)) is ∙ ap not unread) good.0),
+            (and_from (not (reads_graph (function_named name))) (all_read_columns (lowered_expressions at es)) (ap (λ (o : Option Function). not (reads_graph o)) is ∙ ap not unread) good.0),
         subst (λ (e : Expression). reads_below wide e ≡ true) (sym (call_stays f unread es asks)) good.1,
         λ graph row fit. call_readable f unread graph row es (AreReadable at (lookups graph) row (with_values graph wanted row) es) (good.2 graph row fit),
       )
@@ -302,10 +288,10 @@ module _ (scope : Scope) (wanted : List Wanted) where
     inside (property e key) k h = owner_inside e h.1 (Property key) h.2 h.3
     inside (has_labels e labels) k h = owner_inside e h.1 Labels h.2 h.3
     inside (unary operator e) k h = inside e h.1 h.2
-    inside (binary operator l r) k h = each_both IsInside (asked l) (asked r) (inside l h.1 h.3) (inside r h.2 h.4)
-    inside (comparison e links) k h = each_both IsInside (asked e) (asked_by_links links) (inside e h.1 h.2) (links_inside links h.1 h.3)
+    inside (binary operator l r) k h = each_append IsInside (asked l) (asked r) (inside l h.1 h.3) (inside r h.2 h.4)
+    inside (comparison e links) k h = each_append IsInside (asked e) (asked_by_links links) (inside e h.1 h.2) (links_inside links h.1 h.3)
     inside (list es) k h = all_inside es h.1 h.2
-    inside (case arms e) k h = each_both IsInside (asked_by_arms arms) (asked_by_else e) (arms_inside arms h.0 h.1 h.3) (else_inside e h.2 h.4)
+    inside (case arms e) k h = each_append IsInside (asked_by_arms arms) (asked_by_else e) (arms_inside arms h.0 h.1 h.3) (else_inside e h.2 h.4)
     inside (call name distinct es) k h =
         subst (λ (f : Option Function). Inside (asked_by_call f es (all_asked es))) (sym h.2) (call_inside distinct es h.0 h.1 h.4 h.5 (all_inside es h.1 h.4))
     inside (call_star name) k h = absurd h
@@ -313,17 +299,17 @@ module _ (scope : Scope) (wanted : List Wanted) where
 
     all_inside : (es : Expressions) (kinds : List Kind) → HaveKinds scope es kinds → Inside (all_asked es)
     all_inside no_more kinds h = tt
-    all_inside (more e es) kinds h = each_both IsInside (asked e) (all_asked es) (inside e h.0 h.3) (all_inside es h.1 h.4)
+    all_inside (more e es) kinds h = each_append IsInside (asked e) (all_asked es) (inside e h.0 h.3) (all_inside es h.1 h.4)
 
     links_inside : (links : Links) (k : Kind) → AreComparable scope k links → Inside (asked_by_links links)
     links_inside no_links k h = tt
-    links_inside (link by e links) k h = each_both IsInside (asked e) (asked_by_links links) (inside e h.0 h.1) (links_inside links h.0 h.3)
+    links_inside (link by e links) k h = each_append IsInside (asked e) (asked_by_links links) (inside e h.0 h.1) (links_inside links h.0 h.3)
 
     arms_inside : (arms : Arms) (conditions outcomes : List Kind) → ArmsHaveKinds scope arms conditions outcomes → Inside (asked_by_arms arms)
     arms_inside no_arms conditions outcomes h = tt
     arms_inside (arm condition outcome arms) conditions outcomes h =
-        each_both IsInside (asked condition ++ asked outcome) (asked_by_arms arms)
-        (each_both IsInside (asked condition) (asked outcome) (inside condition h.0 h.6) (inside outcome h.2 h.7)) (arms_inside arms h.1 h.3 h.8)
+        each_append IsInside (asked condition ++ asked outcome) (asked_by_arms arms)
+        (each_append IsInside (asked condition) (asked outcome) (inside condition h.0 h.6) (inside outcome h.2 h.7)) (arms_inside arms h.1 h.3 h.8)
 
     else_inside : (e : Otherwise) (k : Kind) → LastHasKind scope e k → Inside (asked_by_else e)
     else_inside nothing k h = tt

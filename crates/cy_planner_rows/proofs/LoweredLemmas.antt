@@ -14,6 +14,7 @@ use Rattle.cy_values.specs.declared.rows.Cell.{Cell}
 use Rattle.cy_values.specs.declared.rows.Cell.TheVariants as cell
 use Rattle.cy_values.specs.Truth.{both, is_yes, known, one_at_least}
 use Rattle.cy_values.specs.Compare.{is_null}
+use Rattle.cy_values.proofs.Booleans.{with_true}
 use Rattle.cy_trees.specs.declared.expressions.UnaryOperator.TheVariants.{IsNotNull, IsNull, Not}
 use Rattle.cy_trees.specs.declared.expressions.BinaryOperator.TheVariants.{In}
 use Rattle.cy_trees.specs.Trees.{Name, Expression, null, boolean, text, variable, property, has_labels, unary, binary, comparison, list, case, call, Expressions, no_more, more, Links, no_links, link, Arms, no_arms, arm, Otherwise, nothing, otherwise}
@@ -29,6 +30,7 @@ use Rattle.cy_expr.specs.Logic.{truth_of, value_of}
 use Rattle.cy_expr.specs.Lookups.{Lookups, existence, labels_test, labels_value, property_value}
 use Rattle.cy_expr.specs.Reading.{reads_graph}
 use Rattle.cy_expr.specs.Operators.{binary_value, compared, unary_value, value_in_cell}
+use Rattle.cy_expr.proofs.ReadingLemmas.{on_one-pointwise}
 use Rattle.cy_planner_algebra.specs.declared.operators.Attribute.{Attribute}
 use Rattle.cy_planner_algebra.specs.declared.operators.Attribute.TheVariants.{Property, RelType, Labels}
 use Rattle.cy_planner_algebra.specs.Expressions.{no_graph}
@@ -48,10 +50,6 @@ label_among l (m ∷ ls) = ap (one_at_least (known (bytes_eq l m))) (label_among
 known_value : (a : Bool) → value_of (known a) ≡ value.Bool a
 known_value true = refl
 known_value false = refl
-
-and_true : (b : Bool) → b ≡ (b && true)
-and_true true = refl
-and_true false = refl
 
 abbrev ok_bool : Bool → Result Value EvalFault
 ok_bool b = Ok (value.Bool b)
@@ -93,7 +91,7 @@ module _ (wide : List Cell) (labels : Expression) where
 
   each_in : (ls : List Name) (asked : List Name) → cell_of no_graph wide labels ≡ Ok (cell.Value (value.List (map (λ m. scalar.Text m) ls)))
       → cell_of no_graph wide (all_in labels asked) ≡ Ok (cell.Value (value.Bool (list_all (λ l. list_any (bytes_eq l) ls) asked)))
-  each_in ls (l ∷ []) is = one_in ls l is ∙ ap (λ b. Ok (cell.Value (value.Bool b))) (and_true (list_any (bytes_eq l) ls))
+  each_in ls (l ∷ []) is = one_in ls l is ∙ ap (λ b. Ok (cell.Value (value.Bool b))) (with_true (list_any (bytes_eq l) ls))
   each_in ls [] is = by_arms ls [] is
   each_in ls (l ∷ m ∷ asked) is = by_arms ls (l ∷ m ∷ asked) is
 
@@ -127,16 +125,12 @@ none_called : (graph : Lookups) (cs : List Cell) → called no_graph None cs ≡
 none_called graph [] = refl
 none_called graph (c ∷ cs) = refl
 
-on_one_same : {A B : Type 0} (f g : A → Result B EvalFault) (r s : Result A EvalFault) → r ≡ s → ((a : A) → f a ≡ g a) → on_one f r ≡ on_one g s
-on_one_same f g (Ok a) s is alike = alike a ∙ ap (on_one g) is
-on_one_same f g (Err fault) s is alike = ap (on_one g) is
-
 call_same : (graph : Lookups) (f : Option Function) (r s : Result (List Cell) EvalFault) (os us : List (Result Value EvalFault)) (there others : Result Value EvalFault)
     → reads_graph f ≡ false → r ≡ s → os ≡ us → call_value no_graph f r os there ≡ call_value graph f s us others
 call_same graph (Some function.Coalesce) r s os us there others h is same = ap coalesce same
 call_same graph (Some function.Exists) r s os us there others h is same = absurd (true≢false h)
-call_same graph None r s os us there others h is same = on_one_same (called no_graph None) (called graph None) r s is (none_called graph)
-call_same graph (Some f) r s os us there others h is same = on_one_same (called no_graph (Some f)) (called graph (Some f)) r s is (called_same graph (f) h)
+call_same graph None r s os us there others h is same = on_one-pointwise (called no_graph None) (called graph None) r s is (none_called graph)
+call_same graph (Some f) r s os us there others h is same = on_one-pointwise (called no_graph (Some f)) (called graph (Some f)) r s is (called_same graph (f) h)
 
 module _ (place : ℕ → Attribute → ℕ) (graph : Lookups) (row wide : List Cell) where
   column_looked_up : (column : Option ℕ) (attribute : Attribute) → IsColumnLookedUp place graph row wide column attribute

@@ -10,12 +10,13 @@ use Rattle.std.proofs.Math.Seq.{take-length}
 use Rattle.cy_values.specs.declared.rows.Cell.{Cell}
 use Rattle.cy_values.specs.declared.rows.Cell.TheVariants as cell
 use Rattle.cy_values.specs.Bag.{count_of}
+use Rattle.cy_values.proofs.Lists.{each_then}
 use Rattle.cy_graph.specs.Graph.{Content}
 use Rattle.cy_trees.specs.Trees.{Expression}
 use Rattle.cy_planner_algebra.specs.declared.operators.Attribute.{Attribute}
 use Rattle.cy_planner_algebra.specs.Plans as plan
 pub use Rattle.cy_planner_algebra.proofs.Widths.{width_bounded}
-use Rattle.cy_planner_algebra.specs.Plans.{Plan, Output, width}
+use Rattle.cy_planner_algebra.specs.Plans.{Plan, width}
 use Rattle.cy_planner_algebra.specs.Expressions.{cell_at, holds, null, projected}
 use Rattle.cy_planner_algebra.specs.Meaning.{attribute_of, rows_of, with_attribute}
 use Rattle.cy_planner_algebra.specs.Parts.{parts}
@@ -28,7 +29,7 @@ use Rattle.cy_planner_algebra.proofs.Widths.{wide_rows}
 use Rattle.cy_planner_rows.specs.declared.places.Wanted.{Wanted}
 use Rattle.cy_planner_rows.specs.Columns.{column_output}
 use Rattle.cy_planner_rows.specs.internal.Lookups.{first_columns, narrowed, over, value_on, with_values}
-use Rattle.cy_planner_rows.proofs.Lists.{each_mapped, each_of_all, each_weaker, first_elements, map_alike, map_same, map_twice}
+use Rattle.cy_planner_rows.proofs.Lists.{each_mapped, each_of_all, first_elements, map_alike, map_same, map_twice}
 
 abbrev pub IsInside : ℕ → Wanted → Type 0
 IsInside n w = w.column < n
@@ -60,7 +61,7 @@ rows_over_wide graph p [] n long inside = sym (map_same (IsLong n) (with_values 
 rows_over_wide graph p (w ∷ wanted) n long inside =
     rows_over_wide graph (plan.lookup p w.column w.attribute) wanted (n + 1)
     (each_mapped (IsLong n) (IsLong (n + 1)) (with_attribute graph w.column w.attribute) (λ row is. length-append row _ ∙ ap (λ m. m + 1) is) (rows_of graph p) long)
-    (each_weaker (IsInside n) (IsInside (n + 1)) (λ o less. omega (arith, less)) wanted inside.1)
+    (each_then (IsInside n) (IsInside (n + 1)) (λ o less. omega (arith, less)) wanted inside.1)
     ∙ map_twice (IsLong n) (with_attribute graph w.column w.attribute) (with_values graph wanted) (with_values graph (w ∷ wanted)) (next_values graph w wanted n inside.1) (rows_of graph p) long
 
 pub long_rows : (graph : Content) (p : Plan) → IsWellFormed p → AllByRecursion (IsLong (width p)) (rows_of graph p)
@@ -119,7 +120,7 @@ parts_over graph tables p [] good inside room each own = each
 parts_over graph tables p (w ∷ wanted) good inside room each own =
     let next : Plan = plan.lookup p w.column w.attribute in
     let more : IsWithin graph tables next = lookup_within graph tables p w.column w.attribute good own in
-    parts_over graph tables next wanted (good, inside.0, omega (arith, room)) (each_weaker (IsInside (width p)) (IsInside (width p + 1)) (λ o less. omega (arith, less)) wanted inside.1) (omega (arith, room))
+    parts_over graph tables next wanted (good, inside.0, omega (arith, room)) (each_then (IsInside (width p)) (IsInside (width p + 1)) (λ o less. omega (arith, less)) wanted inside.1) (omega (arith, room))
     (All-cons (IsWithin graph tables) next (parts p) more each) more
 
 -- the plan itself with look-ups on top
@@ -128,7 +129,7 @@ pub within_over : (graph : Content) (tables : List (List (List Cell))) (p : Plan
 within_over graph tables p [] good inside room own = own
 within_over graph tables p (w ∷ wanted) good inside room own =
     within_over graph tables (plan.lookup p w.column w.attribute) wanted (good, inside.0, omega (arith, room))
-    (each_weaker (IsInside (width p)) (IsInside (width p + 1)) (λ o less. omega (arith, less)) wanted inside.1) (omega (arith, room))
+    (each_then (IsInside (width p)) (IsInside (width p + 1)) (λ o less. omega (arith, less)) wanted inside.1) (omega (arith, room))
     (lookup_within graph tables p w.column w.attribute good own)
 
 -- the first part of a plan is the plan itself
@@ -205,7 +206,7 @@ pub well_over : (p : Plan) (wanted : List Wanted) → IsWellFormed p → AllByRe
 well_over p [] good inside room = good
 well_over p (w ∷ wanted) good inside room =
     well_over (plan.lookup p w.column w.attribute) wanted (good, inside.0, omega (arith, room))
-    (each_weaker (IsInside (width p)) (IsInside (width p + 1)) (λ o less. omega (arith, less)) wanted inside.1) (omega (arith, room))
+    (each_then (IsInside (width p)) (IsInside (width p + 1)) (λ o less. omega (arith, less)) wanted inside.1) (omega (arith, room))
 
 pub columns_over : (n : ℕ) (columns : List ℕ) → AllByRecursion (λ i. i < n) columns → All (IsOutputOver n) (map column_output columns)
 columns_over n [] each = All-nil (IsOutputOver n)

@@ -1,7 +1,7 @@
 -- Where look-ups stand: each that is wanted in a column of its own, with its value.
 use Rattle.std.proofs.Common.{◌≡◌, ℕ, suc, ◌+◌, ◌<◌, Bool, true, false, cond, ◌&&◌, ◌||◌, List, [], ◌∷◌, ◌++◌, length, map, get_or, refl, sym, ap, ◌∙◌, arith}
 use Rattle.std.specs.List.{AllByRecursion, list_any}
-use Rattle.std.proofs.lemmas.Bool.{and_parts, eq-eqb, eqb-true, false≢true}
+use Rattle.std.proofs.lemmas.Bool.{and_parts, eq-eqb, eqb-true, false≢true, or_left, or_right}
 use Rattle.std.proofs.lemmas.List.{append_assoc, length-append}
 use Rattle.std.proofs.lemmas.List.Folds.{list_any-append}
 use Rattle.std.proofs.lemmas.Slice.Eq.{bytes_eq-Decides}
@@ -19,7 +19,7 @@ abbrev pub IsAmong : List Wanted → Wanted → Type 0
 IsAmong wanted w = list_any (is_of w.column w.attribute) wanted ≡ true
 
 -- attributes that are the same are equal
-attribute_is : (a b : Attribute) → same_attribute a b ≡ true → a ≡ b
+pub attribute_is : (a b : Attribute) → same_attribute a b ≡ true → a ≡ b
 attribute_is (Property key) (Property other) h = ap Property ((bytes_eq-Decides key other).0 h)
 attribute_is (Property key) RelType h = absurd (false≢true h)
 attribute_is (Property key) Labels h = absurd (false≢true h)
@@ -30,7 +30,7 @@ attribute_is Labels (Property key) h = absurd (false≢true h)
 attribute_is Labels RelType h = absurd (false≢true h)
 attribute_is Labels Labels h = refl
 
-attribute_itself : (a : Attribute) → same_attribute a a ≡ true
+pub attribute_itself : (a : Attribute) → same_attribute a a ≡ true
 attribute_itself (Property key) = (bytes_eq-Decides key key).1 refl
 attribute_itself RelType = refl
 attribute_itself Labels = refl
@@ -44,14 +44,6 @@ look_up_itself : (w : Wanted) → is_of w.column w.attribute w ≡ true
 look_up_itself w = (λ i. eq-eqb w.column w.column refl i && attribute_itself w.attribute i)
 
 -- ---- what has been asked is wanted
-
-or_left : (a b : Bool) → a ≡ true → (a || b) ≡ true
-or_left true b h = refl
-or_left false b h = absurd (false≢true h)
-
-or_right : (a b : Bool) → b ≡ true → (a || b) ≡ true
-or_right true b h = refl
-or_right false b h = h
 
 among_more : (wanted others : List Wanted) (w : Wanted) → IsAmong wanted w → IsAmong (wanted ++ others) w
 among_more wanted others w among = list_any-append (is_of w.column w.attribute) wanted others ∙ or_left _ _ among

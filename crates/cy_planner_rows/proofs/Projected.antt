@@ -5,6 +5,7 @@ use Rattle.std.specs.List.{All, AllByRecursion}
 use Rattle.std.proofs.lemmas.List.{length-map}
 use Rattle.std.proofs.lemmas.List.Elements.{All-cons, All-nil}
 use Rattle.cy_values.specs.declared.rows.Cell.{Cell}
+use Rattle.cy_values.proofs.Lists.{each_append, each_both, each_left, each_right}
 use Rattle.cy_trees.specs.Trees.{Expression}
 use Rattle.cy_scope_kinds.specs.Rows.{row_fits}
 use Rattle.cy_scope_kinds.specs.Scopes.{Scope}
@@ -28,8 +29,8 @@ use Rattle.cy_planner_rows.specs.internal.Lookups.{over, with_values}
 use Rattle.cy_planner_rows.specs.Rows.{AreReadOver, FitsRows, IsProjected, cells_on}
 use Rattle.cy_scope_kinds.specs.Kinded.{IsKinded}
 use Rattle.cy_planner_rows.proofs.Filtered.{lowered_over, same_value}
-use Rattle.cy_planner_rows.proofs.Lists.{all_of_each, each_both_of, each_mapped, map_twice}
-use Rattle.cy_planner_rows.proofs.Lowerable.{each_both, each_left, each_right, inside}
+use Rattle.cy_planner_rows.proofs.Lists.{all_of_each, each_mapped, map_twice}
+use Rattle.cy_planner_rows.proofs.Lowerable.{inside}
 use Rattle.cy_planner_rows.proofs.OverRows.{IsInside, own_part, parts_over, rows_over, sure_over}
 use Rattle.cy_planner_rows.proofs.Placed.{IsAmong, asked_among, asked_each}
 
@@ -39,7 +40,7 @@ wanted_of_all es = with_asked [] (flat_map asked es)
 
 all_inside : (scope : Scope) (es : List Expression) → AllByRecursion (IsKinded scope) es → AllByRecursion (IsInside (length scope)) (flat_map asked es)
 all_inside scope [] kinded = tt
-all_inside scope (e ∷ es) kinded = each_both (IsInside (length scope)) (asked e) (flat_map asked es) (inside scope [] e kinded.0.0 kinded.0.1) (all_inside scope es kinded.1)
+all_inside scope (e ∷ es) kinded = each_append (IsInside (length scope)) (asked e) (flat_map asked es) (inside scope [] e kinded.0.0 kinded.0.1) (all_inside scope es kinded.1)
 
 pub all_wanted_inside : (p : Plan) (es : List Expression) → AreReadOver p es → AllByRecursion (IsInside (width p)) (wanted_of_all es)
 all_wanted_inside p es read =
@@ -107,7 +108,7 @@ module _ (below : Plan) (all : List Expression) (well : IsWellFormed below) (roo
           (all_of_each (HasCells (map output all)) (map (with_values graph.content wanted) (rows_of graph.content below))
           (each_mapped (λ row. Fits row × HasAll row) (HasCells (map output all)) (with_values graph.content wanted)
           (λ row both. have_cells row both.0 all kinded (asked_among [] (flat_map asked all)) both.1) (rows_of graph.content below)
-          (each_both_of Fits HasAll (rows_of graph.content below) fits.1 has))),
+          (each_both Fits HasAll (rows_of graph.content below) fits.1 has))),
     )
 
   pub projected_on : IsProjected below all made

@@ -36,9 +36,6 @@ module _ (graph : Lookups) (row : List Cell) (columns : List ℕ) where
   column_same None h = refl
   column_same (Some c) h = cell_moved row columns c c (grind (arith, nat_tests, h))
 
-  parts : (a b : Bool) → (a && b) ≡ true → (a ≡ true) × (b ≡ true)
-  parts a b h = and_parts a b h
-
   mutual
     pub same_cell : (e : Expression) → reads_below (length columns) e ≡ true → cell_of graph row (renumbered columns e) ≡ cell_of graph moved e
     same_cell (variable v) h = λ i. Ok (column_same v.column h i)
@@ -46,14 +43,14 @@ module _ (graph : Lookups) (row : List Cell) (columns : List ℕ) where
     same_cell (has_labels e labels) h = λ i. as_cell (on_one (labels_test graph labels) (same_cell e h i))
     same_cell (unary operator e) h = λ i. as_cell (on_one (unary_value operator) (same_cell e h i))
     same_cell (binary operator a b) h =
-        let two = parts (reads_below (length columns) a) (reads_below (length columns) b) h in
+        let two = and_parts (reads_below (length columns) a) (reads_below (length columns) b) h in
         λ i. as_cell (on_two (binary_value operator) (on_one value_in_cell (same_cell a two.0 i)) (on_one value_in_cell (same_cell b two.1 i)))
     same_cell (comparison e links) h =
-        let two = parts (reads_below (length columns) e) (links_read_below (length columns) links) h in
+        let two = and_parts (reads_below (length columns) e) (links_read_below (length columns) links) h in
         λ i. as_cell (on_one (λ a. Ok (value_of a)) (on_one (λ c. same_chain c links two.1 i) (same_cell e two.0 i)))
     same_cell (list es) h = λ i. as_cell (on_one list_of (same_values es h i))
     same_cell (case arms e) h =
-        let two = parts (arms_read_below (length columns) arms) (else_reads_below (length columns) e) h in
+        let two = and_parts (arms_read_below (length columns) arms) (else_reads_below (length columns) e) h in
         λ i. as_cell (choice (same_arms arms two.0 i) (same_else e two.1 i))
     same_cell (call name distinct es) h =
         λ i. as_cell (call_value graph (function_named name) (same_cells es h i) (same_outcomes es h i) (same_exists es h i))
@@ -62,32 +59,32 @@ module _ (graph : Lookups) (row : List Cell) (columns : List ℕ) where
     same_cells : (es : Expressions) → all_read_below (length columns) es ≡ true → cells_of graph row (renumbered_expressions columns es) ≡ cells_of graph moved es
     same_cells no_more h = refl
     same_cells (more e es) h =
-        let two = parts (reads_below (length columns) e) (all_read_below (length columns) es) h in
+        let two = and_parts (reads_below (length columns) e) (all_read_below (length columns) es) h in
         λ i. on_two (λ c cs. Ok (c ∷ cs)) (same_cell e two.0 i) (same_cells es two.1 i)
 
     same_values : (es : Expressions) → all_read_below (length columns) es ≡ true → values_of graph row (renumbered_expressions columns es) ≡ values_of graph moved es
     same_values no_more h = refl
     same_values (more e es) h =
-        let two = parts (reads_below (length columns) e) (all_read_below (length columns) es) h in
+        let two = and_parts (reads_below (length columns) e) (all_read_below (length columns) es) h in
         λ i. on_two (λ v vs. Ok (v ∷ vs)) (on_one value_in_cell (same_cell e two.0 i)) (same_values es two.1 i)
 
     same_chain : (c : Cell) (links : Links) → links_read_below (length columns) links ≡ true → chain graph row c (renumbered_links columns links) ≡ chain graph moved c links
     same_chain c no_links h = refl
     same_chain c (link comparator e links) h =
-        let two = parts (reads_below (length columns) e) (links_read_below (length columns) links) h in
+        let two = and_parts (reads_below (length columns) e) (links_read_below (length columns) links) h in
         λ i. on_one (λ d. on_two (λ a b. Ok (both a b)) (compared comparator c d) (same_chain d links two.1 i)) (same_cell e two.0 i)
 
     same_outcomes : (es : Expressions) → all_read_below (length columns) es ≡ true → outcomes_of graph row (renumbered_expressions columns es) ≡ outcomes_of graph moved es
     same_outcomes no_more h = refl
     same_outcomes (more e es) h =
-        let two = parts (reads_below (length columns) e) (all_read_below (length columns) es) h in
+        let two = and_parts (reads_below (length columns) e) (all_read_below (length columns) es) h in
         λ i. on_one value_in_cell (same_cell e two.0 i) ∷ same_outcomes es two.1 i
 
     same_arms : (arms : Arms) → arms_read_below (length columns) arms ≡ true → outcomes_of_arms graph row (renumbered_arms columns arms) ≡ outcomes_of_arms graph moved arms
     same_arms no_arms h = refl
     same_arms (arm condition outcome arms) h =
-        let two = parts (reads_below (length columns) condition && reads_below (length columns) outcome) (arms_read_below (length columns) arms) h in
-        let first = parts (reads_below (length columns) condition) (reads_below (length columns) outcome) two.0 in
+        let two = and_parts (reads_below (length columns) condition && reads_below (length columns) outcome) (arms_read_below (length columns) arms) h in
+        let first = and_parts (reads_below (length columns) condition) (reads_below (length columns) outcome) two.0 in
         λ i. (on_one value_in_cell (same_cell condition first.0 i), on_one value_in_cell (same_cell outcome first.1 i)) ∷ same_arms arms two.1 i
 
     same_else : (e : Otherwise) → else_reads_below (length columns) e ≡ true → outcome_of_else graph row (renumbered_otherwise columns e) ≡ outcome_of_else graph moved e
@@ -97,7 +94,7 @@ module _ (graph : Lookups) (row : List Cell) (columns : List ℕ) where
     same_exists : (es : Expressions) → all_read_below (length columns) es ≡ true → property_exists graph row (renumbered_expressions columns es) ≡ property_exists graph moved es
     same_exists no_more h = refl
     same_exists (more (property e key) no_more) h =
-        let two = parts (reads_below (length columns) e) true h in λ i. on_one (existence graph key) (same_cell e two.0 i)
+        let two = and_parts (reads_below (length columns) e) true h in λ i. on_one (existence graph key) (same_cell e two.0 i)
     same_exists (more (property e key) (more d es)) h = refl
     same_exists (more null es) h = refl
     same_exists (more _ es) h = refl

@@ -1,5 +1,5 @@
 -- Where look-ups stand, by their words.
-use Rattle.std.proofs.Common.{◌≡◌, ℕ, ◌+◌, ◌&&◌, ◌||◌, Bool, true, false, cond, eqb, is_some, not, if◌then◌else◌, List, [], ◌∷◌, ◌++◌, Some, None, length, refl, sym, ap, ◌∙◌, arith}
+use Rattle.std.proofs.Common.{◌≡◌, ℕ, ◌+◌, ◌&&◌, ◌||◌, Bool, true, false, cond, eqb, is_some, not, List, [], ◌∷◌, ◌++◌, Some, None, length, refl, sym, ap, ◌∙◌, arith, if◌then◌else◌}
 use Rattle.std.specs.Prelude.{Option}
 use Rattle.std.specs.BTreeMap.{insert_entry}
 use Rattle.std.specs.Cmp.Lexicographic.{nat_list_eq_equiv, slice_cmp}
@@ -105,7 +105,7 @@ place_found first column attribute ws found is =
 
 -- ---- one look-up more
 
-any_placed : (t : Wanted → Bool) (i : ℕ) (ws : List Wanted) → list_any t ws ≡ is_some (position_from t i ws)
+pub any_placed : (t : Wanted → Bool) (i : ℕ) (ws : List Wanted) → list_any t ws ≡ is_some (position_from t i ws)
 any_placed t i [] = refl
 any_placed t i (w ∷ ws) =
     elim (t w) as (λ b. (b || list_any t ws) ≡ is_some (cond b (Some i) (position_from t (i + 1) ws))) [

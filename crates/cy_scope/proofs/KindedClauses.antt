@@ -1,10 +1,11 @@
 -- Clauses without a fault, with the columns of their variables: each expression is of a kind that its place takes.
-use Rattle.std.proofs.Common.{arith, ◌≡◌, Bool, true, false, not, ◌||◌, List, [], ◌∷◌, ◌++◌, map, append_assoc, Option, Some, None, if◌then◌else◌, inl, inr, refl, sym, ap, subst, ◌∙◌}
+use Rattle.std.proofs.Common.{arith, ◌≡◌, Bool, true, false, not, ◌||◌, List, [], ◌∷◌, ◌++◌, map, append_assoc, Option, Some, None, inl, inr, refl, sym, ap, subst, ◌∙◌, if◌then◌else◌}
 use Rattle.std.specs.Prelude.{is_some, ◌⊎◌}
 use Rattle.std.specs.List.{All, Contains}
 use Rattle.std.proofs.lemmas.List.{append-nil}
 use Rattle.std.proofs.lemmas.List.Elements.{All-nil, All-cons, Contains-append_right}
 use Rattle.std.proofs.lemmas.Option.{none-some}
+use Rattle.cy_values.proofs.Booleans.{untrue}
 use Rattle.cy_trees.specs.declared.expressions.Variable.{Variable}
 use Rattle.cy_trees.specs.Trees.{Name, Expression, null, boolean, integer, text, variable, property, has_labels, unary, binary, comparison, list, case, call, call_star, Expressions, Path, Item, Key, Projection, SetItem, set_property, set_labels, RemoveItem, remove_property, remove_labels, Clause, «match», unwind, «with», «return», create, set, remove, delete}
 use Rattle.cy_scope_kinds.specs.declared.kinds.Kind.{Kind}
@@ -81,11 +82,7 @@ module _ (scope : Scope) where
       let named = unless (has_name naming i) MissingAlias in
       let fresh = unless (not (is_bound columns i.column)) DuplicateColumn in
       let (inner, others) = first_none (item_fault scope i.expression) (first named fresh) good in
-      (inner, negated (is_bound columns i.column) (unless_none (not (is_bound columns i.column)) DuplicateColumn (first_none named fresh others).1))
-    where
-      negated : (t : Bool) → not t ≡ true → t ≡ false
-      negated true is = cc
-      negated false is = refl
+      (inner, untrue (is_bound columns i.column) (unless_none (not (is_bound columns i.column)) DuplicateColumn (first_none named fresh others).1))
 
   items_kinded : (naming : Bool) (columns : Scope) (items : List Item) → items_fault naming scope columns items ≡ None → All (ItemIsKinded scope) (map (resolved_item scope) items)
   items_kinded naming columns [] good = All-nil (ItemIsKinded scope)

@@ -5,6 +5,7 @@ use Rattle.std.specs.Str.{bytes_eq}
 use Rattle.std.proofs.lemmas.Bool.{and_parts, or_parts, true≢false}
 use Rattle.std.proofs.lemmas.List.Elements.{All-nil, All-cons, All-head, All-tail, All-contains}
 use Rattle.std.proofs.lemmas.Slice.Eq.{bytes_eq-Decides}
+use Rattle.cy_values.proofs.Booleans.{unfalse}
 use Rattle.cy_trees.specs.Trees.{Name, Clause, Query, Statement}
 use Rattle.cy_scope_kinds.specs.declared.faults.ScopeFault.TheVariants.{DuplicateColumn}
 use Rattle.cy_scope_kinds.specs.declared.faults.ViewFault.{ViewFault}
@@ -103,10 +104,6 @@ past : {A : Type 0} (b : Bool) (x : A) (o : Option A) → cond b (Some x) o ≡ 
 past true x o is = cc
 past false x o is = (refl, is)
 
-turned : (b : Bool) → not b ≡ false → b ≡ true
-turned true is = refl
-turned false is = absurd (true≢false is)
-
 abbrev reads : Query → Bool
 reads q = is_reading q.clauses
 
@@ -157,5 +154,5 @@ each_view tree (checked, good) =
     let groups = past (any_clause has_aggregate qs) AggregateInView bounded_part orders.1 in
     let lengths = past (any_clause is_unbounded qs) Unbounded sure_part groups.1 in
     let all_sure = past (not (list_all sure qs)) MayFail None lengths.1 in
-    all_views qs (each_checked tree checked) (and_parts (has_queries qs) (list_all reads qs) (turned (are_readings qs) reading.0)).1
-    orders.0 groups.0 lengths.0 (turned (list_all sure qs) all_sure.0)
+    all_views qs (each_checked tree checked) (and_parts (has_queries qs) (list_all reads qs) (unfalse (are_readings qs) reading.0)).1
+    orders.0 groups.0 lengths.0 (unfalse (list_all sure qs) all_sure.0)

@@ -1,6 +1,7 @@
 -- The entries of a line, printed one by one after its answer.
 use Rattle.std.proofs.Common.{◌≡◌, ℕ, ◌&&◌, Bool, true, false, List, [], ◌∷◌, ◌++◌, Option, Some, refl, sym, ap, subst, ◌∙◌, append_assoc, inl}
 use Rattle.std.proofs.lemmas.List.{append-nil}
+use Rattle.cy_values.proofs.Booleans.{and_false, and_true}
 use Rattle.cy_engine.specs.Model.{Machine}
 use Rattle.cy_engine.specs.KeptStep.{KeptState}
 use Rattle.cy_bags.specs.declared.changes.Entry.{Entry}
@@ -68,24 +69,15 @@ carried_line : (old : KeptState) (line printed entry_texts : List ℕ) (new : Ma
 carried_line old line printed entry_texts new feed answer feeds =
     Executed answer.2.0 new.entries answer.0 answer.1 answer.2.1 refl (record { answer = printed; entry_texts = entry_texts; is = refl; answered = answer.2.2; feeds = feeds })
 
--- nothing is fed of a line that is none for the engine
-unfed : (feed : Bool) → (feed && false) ≡ false
-unfed true = refl
-unfed false = refl
-
-all_fed : (feed : Bool) → (feed && true) ≡ feed
-all_fed true = refl
-all_fed false = refl
-
 pub line_served : (old : KeptState) (line printed : List ℕ) (is_executed : Bool) (new : Machine) (feed : Bool) (before mid after : Option (List ℕ)) → IsAnswer old line printed is_executed new
     → mid ≡ appended before printed → (list : Entries) → list ≡ fed (feed && is_executed) new.entries → WritesFeed list mid after
     → WritesRun (record { engine = old; feed = feed }) (line ∷ []) (serving new feed) before after
 line_served old line printed true new feed before mid after answer is list same written =
-    let entry_texts = subst (λ (b : Bool). IsFeedText (fed b new.entries) written.text) (all_fed feed) (subst (λ (es : Entries). IsFeedText es written.text) same written.entry_texts) in
+    let entry_texts = subst (λ (b : Bool). IsFeedText (fed b new.entries) written.text) (and_true feed) (subst (λ (es : Entries). IsFeedText es written.text) same written.entry_texts) in
     one_line _ _ line (printed ++ written.text) before after (carried_line old line printed written.text new feed answer entry_texts)
     (written.is ∙ ap (λ k. appended k written.text) is ∙ appended-appended before printed written.text)
 line_served old line printed false new feed before mid after answer is list same written =
-    let none : written.text ≡ [] = subst (λ (b : Bool). IsFeedText (fed b new.entries) written.text) (unfed feed) (subst (λ (es : Entries). IsFeedText es written.text) same written.entry_texts) in
+    let none : written.text ≡ [] = subst (λ (b : Bool). IsFeedText (fed b new.entries) written.text) (and_false feed) (subst (λ (es : Entries). IsFeedText es written.text) same written.entry_texts) in
     one_line _ _ line printed before after (answer feed) (written.is ∙ ap (appended mid) none ∙ sym (appended-nil mid) ∙ is)
 
 pub line_begun : (old : KeptState) (line printed : List ℕ) (is_executed : Bool) (new : Machine) (feed : Bool) (before after : Option (List ℕ)) → IsAnswer old line printed is_executed new
@@ -100,7 +92,7 @@ pub line_feeding : (old : KeptState) (line printed : List ℕ) (is_executed : Bo
     → mid ≡ appended before printed → (list : Entries) → list ≡ fed (feed && is_executed) new.entries → BeginsFeed list mid after
     → WritesBeginning (record { engine = old; feed = feed }) (line ∷ []) before after
 line_feeding old line printed true new feed before mid after answer is list same begun =
-    let entry_texts = subst (λ (b : Bool). IsFeedText (fed b new.entries) (begun.text ++ begun.unwritten)) (all_fed feed) (subst (λ (es : Entries). IsFeedText es (begun.text ++ begun.unwritten)) same begun.entry_texts) in
+    let entry_texts = subst (λ (b : Bool). IsFeedText (fed b new.entries) (begun.text ++ begun.unwritten)) (and_true feed) (subst (λ (es : Entries). IsFeedText es (begun.text ++ begun.unwritten)) same begun.entry_texts) in
     one_line_begun _ _ line (printed ++ (begun.text ++ begun.unwritten)) before after (carried_line old line printed (begun.text ++ begun.unwritten) new feed answer entry_texts)
     (record {
       front = printed ++ begun.text;
@@ -109,7 +101,7 @@ line_feeding old line printed true new feed before mid after answer is list same
       is = begun.is ∙ ap (λ k. appended k begun.text) is ∙ appended-appended before printed begun.text;
     })
 line_feeding old line printed false new feed before mid after answer is list same begun =
-    let none : begun.text ++ begun.unwritten ≡ [] = subst (λ (b : Bool). IsFeedText (fed b new.entries) (begun.text ++ begun.unwritten)) (unfed feed) (subst (λ (es : Entries). IsFeedText es (begun.text ++ begun.unwritten)) same begun.entry_texts) in
+    let none : begun.text ++ begun.unwritten ≡ [] = subst (λ (b : Bool). IsFeedText (fed b new.entries) (begun.text ++ begun.unwritten)) (and_false feed) (subst (λ (es : Entries). IsFeedText es (begun.text ++ begun.unwritten)) same begun.entry_texts) in
     let nothing : begun.text ≡ [] = first_nil begun.text begun.unwritten none in
     one_line_begun _ _ line printed before after (answer feed)
     (record { front = printed; rest = []; whole = sym (append-nil printed); is = begun.is ∙ ap (appended mid) nothing ∙ sym (appended-nil mid) ∙ is })

@@ -14,6 +14,7 @@ use Rattle.cy_values.specs.declared.scalars.Value.TheVariants as value
 use Rattle.cy_values.specs.declared.rows.Cell.{Cell}
 use Rattle.cy_values.specs.declared.rows.Cell.TheVariants as cell
 use Rattle.cy_values.specs.Order.{cell_order, row_cmp}
+use Rattle.cy_values.proofs.Lists.{each_append}
 use Rattle.cy_trees.specs.declared.clauses.Length.{Length}
 use Rattle.cy_trees.specs.declared.expressions.Variable.{Variable}
 use Rattle.cy_trees.specs.Trees.{Expression, MapEntry, NodePattern, RelationshipPattern, Step, Path, Clause, create, set, remove, delete, SetItem, set_property, set_labels, RemoveItem, remove_property, remove_labels}
@@ -25,11 +26,12 @@ use Rattle.cy_expr.specs.Faults.{on_one}
 use Rattle.cy_expr.specs.Operators.{value_in_cell}
 use Rattle.cy_oneshot_patterns.specs.Places.{Place, column_at, entries_at, entries_if, link_place, node, path_places, places, step_places}
 use Rattle.cy_oneshot_meaning.specs.Order.{in_order, placed}
-use Rattle.cy_oneshot_meaning.proofs.Each.{each_append, each_in_order}
+use Rattle.cy_oneshot_meaning.proofs.Each.{each_in_order}
 use Rattle.cy_oneshot_meaning.proofs.KeyOrders.{cells_total}
 use Rattle.cy_oneshot.specs.Carried.{AreEntriesRead, AreNeeded, ArePlacesRead, IsClauseRead, IsRemoveRead, IsSetRead, IsVariableRead, carried_from, is_needed}
 use Rattle.cy_oneshot.proofs.Carried.{column_carried, from_long, get_from, less_last}
 use Rattle.cy_oneshot.proofs.CarriedMatch.{cell_less}
+use Rattle.cy_oneshot.proofs.Marked.{known_column}
 use Rattle.cy_updates_meaning.specs.declared.faults.UpdateFault.{UpdateFault}
 use Rattle.cy_updates_meaning.specs.Creating.{Creation, bound_to, created, ends_of, new_relationship, next_node, next_relationship, node_at_place, node_in_cell, source_of, target_of, type_of, unless_full, with_column, with_new_node, with_node_if, with_node_place, with_path, with_relationship, with_relationship_column, with_step}
 use Rattle.cy_updates_meaning.specs.Deleting.{deleted, is_left_over, named, unless_left_over, without_set}
@@ -90,11 +92,6 @@ module _ (needed : List Bool) where
 abbrev pub IsOver : List Bool → Bool → List Cell → List Cell → Type 0
 IsOver needed alike base row = (length needed ≤ length row) × (alike ≡ true → (column : ℕ) → is_needed needed column ≡ false → slice_get row column ≡ slice_get base column)
 
-below : (needed : List Bool) (column : ℕ) → is_needed needed column ≡ false → column < length needed
-below [] column not = absurd (false≢true (sym not))
-below (b ∷ needed) zero not = omega arith
-below (b ∷ needed) (suc column) not = let less_one : column < length needed = below needed column not in omega (arith, less_one)
-
 get_append : (row : List Cell) (c : Cell) (column : ℕ) → column < length row → slice_get (row ++ c ∷ []) column ≡ slice_get row column
 get_append [] c column within = absurd (omega arith)
 get_append (d ∷ row) c zero within = refl
@@ -108,7 +105,7 @@ module _ (needed : List Bool) (alike : Bool) (base : List Cell) where
   over_more row c over =
       let long : length needed ≤ length row = over.0 in
       let more : length (row ++ c ∷ []) ≡ length row + 1 = length-append row (c ∷ []) in
-      (omega (arith, long, more), λ are column not. get_append row c column (let within : column < length needed = below needed column not in omega (arith, within, long)) ∙ over.1 are column not)
+      (omega (arith, long, more), λ are column not. get_append row c column (let within : column < length needed = known_column needed column not in omega (arith, within, long)) ∙ over.1 are column not)
 
   abbrev small : List Cell → List Cell
   small row = carried_from needed 0 row

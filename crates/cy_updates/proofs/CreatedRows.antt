@@ -1,7 +1,6 @@
 -- CREATE as the code does it: step after step, path after path, row after row.
 use Rattle.std.proofs.Common.{◌≡◌, ◌≢◌, ℕ, true, false, cond, List, [], ◌∷◌, ◌++◌, Option, Some, None, IsSome, refl, sym, ap, subst, ◌∙◌, arith, inl, inr}
 use Rattle.std.specs.Prelude.{⊤, ◌==◌, ◌⊎◌, option_map, slice_get, Result, Ok, Err, IfOk}
-use Rattle.std.specs.List.{AllByRecursion}
 use Rattle.std.specs.Option.{option_and_then, option_map_or}
 use Rattle.std.proofs.lemmas.Bool.Decides.{nat_tests}
 use Rattle.std.proofs.lemmas.Result.{IfOk-at_ok}
@@ -29,11 +28,6 @@ use Rattle.cy_updates.specs.internal.Creating.{IsCreation, variable_column, crea
 use Rattle.cy_updates_meaning.proofs.Created.{Good, created_good, path_good, start_good, step_ends, step_good}
 use Rattle.cy_updates_meaning.proofs.InTurn.{same_ok}
 use Rattle.cy_updates_meaning.proofs.Grown.{grown_nothing, node_still, rel_still, rows_still}
-
--- what holds of each of two lists holds of the first
-pub front_there : {A : Type 0} (P : A → Type 0) (xs ys : List A) → AllByRecursion P (xs ++ ys) → AllByRecursion P xs
-front_there P [] ys all = tt
-front_there P (x ∷ xs) ys all = (all.0, front_there P xs ys all.1)
 
 -- ---- what stays true
 

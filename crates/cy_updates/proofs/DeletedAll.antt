@@ -12,6 +12,7 @@ use Rattle.cy_values.specs.declared.numbers.NodeId.{NodeId}
 use Rattle.cy_values.specs.declared.numbers.RelId.{RelId}
 use Rattle.cy_values.specs.declared.numbers.Entity.{Entity}
 use Rattle.cy_values.specs.declared.rows.Cell.{Cell}
+use Rattle.cy_values.proofs.Booleans.{or_false, or_four}
 use Rattle.cy_trees.specs.declared.expressions.Variable.{Variable}
 use Rattle.cy_graph.specs.Graph.{State, IsGraph, rels_with, with_nodes, with_rels}
 use Rattle.cy_graph.specs.internal.Ends.{rels_from, rels_into}
@@ -21,9 +22,10 @@ use Rattle.cy_updates_meaning.specs.declared.faults.UpdateFault.TheVariants.{Sti
 use Rattle.cy_updates_meaning.specs.Deleting.{deleted, is_going, is_left_over, is_node_of, lies_at, named, unless_left_over, without_set}
 use Rattle.cy_updates.specs.internal.Deleting.{AreAmong, is_node_among, is_rel_among, lesser_of, lies_among, nodes_among, rels_among, rels_at, without_nodes, without_rels}
 use Rattle.cy_updates_meaning.proofs.Deleted.{none_pass}
-use Rattle.cy_updates.proofs.DeletedSets.{each_is, filter_alike, filter_both, lies_at_set, node_of_set, or_last, rel_of_set, shuffled}
+use Rattle.cy_updates.proofs.DeletedSets.{each_is, filter_both, lies_at_set, node_of_set, rel_of_set}
 use Rattle.cy_updates_meaning.proofs.Entries.{Sorted, Below, order}
 use Rattle.cy_updates_meaning.proofs.Graphs.{rel_number}
+use Rattle.cy_updates_meaning.proofs.EntryCounts.{same_filtered as filter_alike}
 
 abbrev pub Entry : Type 0
 Entry = RelId × Rel
@@ -116,7 +118,7 @@ module _ (rels : List Entry) (sorted : SortedRels rels) where
       (λ e. is_rel_among (rels_at (id ∷ ids) rels) e.0 ≡ lies_among (id ∷ ids) e)
       (λ e one others. list_any-append (λ (other : RelId). e.0.0 == other.0) (rels_from id rels ++ rels_into id rels) (rels_at ids rels)
       ∙ (λ i. one i || others i)
-      ∙ shuffled (e.1.source.0 == id.0) (e.1.target.0 == id.0) (is_node_among ids e.1.source) (is_node_among ids e.1.target))
+      ∙ or_four (e.1.source.0 == id.0) (e.1.target.0 == id.0) (is_node_among ids e.1.source) (is_node_among ids e.1.target))
       rels (at_one id) (at_each ids)
 
 same_lies : (ids others : List NodeId) → ((id : NodeId) → is_node_among ids id ≡ is_node_among others id) → (e : Entry) → lies_among ids e ≡ lies_among others e
@@ -134,7 +136,7 @@ with_those_at graph is named going ids nodes same are =
 
 -- without DETACH there are none but those that are named
 pub named_alone : (named : List RelId) (nodes : List NodeId) (rels : List Entry) → AreAmong (λ e. is_rel_among named e.0 || (false && lies_among nodes e)) named rels
-named_alone named nodes rels = each_is (λ (e : Entry). is_rel_among named e.0 ≡ (is_rel_among named e.0 || false)) (λ e. sym (or_last (is_rel_among named e.0))) rels
+named_alone named nodes rels = each_is (λ (e : Entry). is_rel_among named e.0 ≡ (is_rel_among named e.0 || false)) (λ e. sym (or_false (is_rel_among named e.0))) rels
 
 -- without the relationships that go, the others are left
 pub remaining : (graph : State) (detach : Bool) (set : List Entity) (named : List RelId) → named ≡ rels_among set → (nodes : List NodeId) → nodes ≡ nodes_among set → (going : List RelId)
@@ -258,10 +260,10 @@ at_node id e = eqb id.0 e.1.source.0 || eqb id.0 e.1.target.0
 lies_last : (ids : List NodeId) (id : NodeId) (e : Entry) → lies_among (ids ++ id ∷ []) e ≡ (lies_among ids e || at_node id e)
 lies_last ids id e =
     (λ i. (one e.1.source i) || (one e.1.target i))
-    ∙ shuffled (is_node_among ids e.1.source) (eqb id.0 e.1.source.0) (is_node_among ids e.1.target) (eqb id.0 e.1.target.0)
+    ∙ or_four (is_node_among ids e.1.source) (eqb id.0 e.1.source.0) (is_node_among ids e.1.target) (eqb id.0 e.1.target.0)
   where
     one : (k : NodeId) → is_node_among (ids ++ id ∷ []) k ≡ (is_node_among ids k || eqb id.0 k.0)
-    one k = list_any-append (λ (other : NodeId). k.0 == other.0) ids (id ∷ []) ∙ ap (λ b. is_node_among ids k || b) (or_last (k.0 == id.0) ∙ sym (same_turned id.0 k.0))
+    one k = list_any-append (λ (other : NodeId). k.0 == other.0) ids (id ∷ []) ∙ ap (λ b. is_node_among ids k || b) (or_false (k.0 == id.0) ∙ sym (same_turned id.0 k.0))
 
 -- one more node
 pub least_more : (graph : State) → IsGraph graph → (ids : List NodeId) (id : NodeId) (items : List NodeId) → items ≡ ids ++ id ∷ [] → (least : Option RelId)

@@ -14,27 +14,18 @@ use Rattle.cy_values.specs.declared.numbers.NodeId.{NodeId}
 use Rattle.cy_values.specs.declared.numbers.RelId.{RelId}
 use Rattle.cy_values.specs.declared.numbers.Entity.{Entity}
 use Rattle.cy_values.specs.declared.numbers.Entity.TheVariants as entity
+use Rattle.cy_values.proofs.Booleans.{or_false}
+use Rattle.cy_values.proofs.Lists.{all_passing}
 use Rattle.cy_graph.specs.Graph.{State, IsGraph, rel_at, node_at, number_end, with_nodes, with_rels, without_node, without_rel}
 use Rattle.cy_graph.specs.declared.nodes.Node.{Node}
 use Rattle.cy_graph.specs.declared.nodes.Rel.{Rel}
 use Rattle.cy_updates_meaning.specs.Deleting.{is_node_of, is_relationship_of, lies_at}
 use Rattle.cy_updates.specs.internal.Deleting.{is_node_among, is_rel_among, lies_among, nodes_among, rels_among, without_nodes, without_rels}
 use Rattle.cy_updates_meaning.proofs.Entries.{Sorted, Below, found, order}
-use Rattle.cy_updates_meaning.proofs.EntryCounts.{few}
+use Rattle.cy_updates_meaning.proofs.EntryCounts.{few, same_filtered}
 use Rattle.cy_updates_meaning.proofs.Graphs.{node_number, rel_number}
 
 -- ---- tests
-
-pub or_last : (b : Bool) → (b || false) ≡ b
-or_last true = refl
-or_last false = refl
-
-pub shuffled : (a b c d : Bool) → ((a || b) || (c || d)) ≡ ((a || c) || (b || d))
-shuffled true b c d = refl
-shuffled false true true d = refl
-shuffled false true false d = refl
-shuffled false false true d = refl
-shuffled false false false d = refl
 
 neither_is : (a b : Bool) → (not a && not b) ≡ not (b || a)
 neither_is true true = refl
@@ -55,11 +46,6 @@ filter_both p q (x ∷ xs) =
       | false ↦ rest
     ]
 
--- tests that agree at each of the things
-pub filter_alike : {A : Type 0} (p q : A → Bool) (xs : List A) → AllByRecursion (λ x. p x ≡ q x) xs → filter p xs ≡ filter q xs
-filter_alike p q [] all = refl
-filter_alike p q (x ∷ xs) all = λ i. cond (all.0 i) (x ∷ filter_alike p q xs all.1 i) (filter_alike p q xs all.1 i)
-
 pub each_is : {A : Type 0} (P : A → Type 0) → ((x : A) → P x) → (xs : List A) → AllByRecursion P xs
 each_is P every [] = tt
 each_is P every (x ∷ xs) = (every x, each_is P every xs)
@@ -78,7 +64,7 @@ module _ {K : Type 0} (num : K → ℕ) where
       ] refl
 
   among_last : (ids : List K) (id k : K) → among (ids ++ id ∷ []) k ≡ (among ids k || (num k == num id))
-  among_last ids id k = list_any-append (λ (other : K). num k == num other) ids (id ∷ []) ∙ ap (λ b. among ids k || b) (or_last (num k == num id))
+  among_last ids id k = list_any-append (λ (other : K). num k == num other) ids (id ∷ []) ∙ ap (λ b. among ids k || b) (or_false (num k == num id))
 
   module _ {V : Type 0} where
     abbrev pub removed : K → List (K × V) → List (K × V)
@@ -91,7 +77,7 @@ module _ {K : Type 0} (num : K → ℕ) where
     pub one_removed : (ids : List K) (id : K) (es : List (K × V)) → left_of ids (removed id es) ≡ left_of (ids ++ id ∷ []) es
     one_removed ids id es =
         filter_both (λ (e : K × V). not (among ids e.0)) (λ (e : K × V). not (eq_by_cmp (order num) id e.0)) es
-        ∙ filter_alike (λ (e : K × V). not (eq_by_cmp (order num) id e.0) && not (among ids e.0)) (λ (e : K × V). not (among (ids ++ id ∷ []) e.0)) es
+        ∙ same_filtered (λ (e : K × V). not (eq_by_cmp (order num) id e.0) && not (among ids e.0)) (λ (e : K × V). not (among (ids ++ id ∷ []) e.0)) es
         (each_is (λ (e : K × V). (not (eq_by_cmp (order num) id e.0) && not (among ids e.0)) ≡ not (among (ids ++ id ∷ []) e.0))
         (λ e. ap (λ b. not b && not (among ids e.0)) (same_test id e.0) ∙ neither_is (num e.0 == num id) (among ids e.0) ∙ ap not (sym (among_last ids id e.0))) es)
 
@@ -146,16 +132,11 @@ pub nodes_none : (ids : List NodeId) (id : NodeId) (items : List NodeId) (graph 
 nodes_none ids id items graph are none =
     ap (λ es. with_nodes es graph) (none_removed node_number ids id graph.content.nodes none) ∙ ap (λ l. without_nodes l graph) (sym are)
 
--- nothing is left
-all_left : {A : Type 0} (test : A → Bool) (xs : List A) → AllByRecursion (λ x. test x ≡ true) xs → filter test xs ≡ xs
-all_left test [] all = refl
-all_left test (x ∷ xs) all = ap (λ b. cond b (x ∷ filter test xs) (filter test xs)) all.0 ∙ ap (λ l. x ∷ l) (all_left test xs all.1)
-
 pub without_no_rels : (graph : State) → without_rels [] graph ≡ graph
-without_no_rels graph = ap (λ es. with_rels es graph) (all_left (λ (e : RelId × Rel). true) graph.content.rels (each_is (λ (e : RelId × Rel). true ≡ true) (λ e. refl) graph.content.rels))
+without_no_rels graph = ap (λ es. with_rels es graph) (all_passing (λ (e : RelId × Rel). true) graph.content.rels (each_is (λ (e : RelId × Rel). true ≡ true) (λ e. refl) graph.content.rels))
 
 pub without_no_nodes : (graph : State) → without_nodes [] graph ≡ graph
-without_no_nodes graph = ap (λ es. with_nodes es graph) (all_left (λ (e : NodeId × Node). true) graph.content.nodes (each_is (λ (e : NodeId × Node). true ≡ true) (λ e. refl) graph.content.nodes))
+without_no_nodes graph = ap (λ es. with_nodes es graph) (all_passing (λ (e : NodeId × Node). true) graph.content.nodes (each_is (λ (e : NodeId × Node). true ≡ true) (λ e. refl) graph.content.nodes))
 
 -- ---- sorted, and each once
 

@@ -41,10 +41,6 @@ module _ (graph : State) (row : List Cell) where
       with_value : set_from props (e ∷ entries) ≡ ((settable v >>= others) >>= λ values. Ok (set_all props values))
       with_value = ap (λ r. (r >>= λ v. settable v >>= others) >>= λ values. Ok (set_all props values)) is
 
-      -- it can't be stored
-      pub entry_refused : (why : UpdateFault) → settable v ≡ Err why → all ≡ Err why
-      entry_refused why stops = sym first ∙ with_value ∙ ap (λ r. (r >>= others) >>= λ values. Ok (set_all props values)) stops
-
       by : (r : Result (List (Name × Value)) UpdateFault) → ((r >>= λ values. Ok ((e.key, v) ∷ values)) >>= λ values. Ok (set_all props values)) ≡ (r >>= λ values. Ok (set_all (with_entry e.key v props) values))
       by (Ok values) = refl
       by (Err why) = refl

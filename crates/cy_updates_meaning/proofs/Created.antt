@@ -8,6 +8,7 @@ use Rattle.std.proofs.lemmas.Result.{IfOk-at_ok}
 use Rattle.cy_values.specs.declared.numbers.NodeId.{NodeId}
 use Rattle.cy_values.specs.declared.rows.Cell.{Cell}
 use Rattle.cy_values.specs.declared.rows.Cell.TheVariants as cell
+use Rattle.cy_values.proofs.Lists.{each_append, each_then}
 use Rattle.cy_trees.specs.declared.clauses.Direction.{Direction}
 use Rattle.cy_trees.specs.declared.clauses.Direction.TheVariants.{Right, Left, Either}
 use Rattle.cy_trees.specs.declared.expressions.Variable.{Variable}
@@ -17,14 +18,13 @@ use Rattle.cy_graph.specs.declared.nodes.Node.{Node}
 use Rattle.cy_graph.specs.declared.nodes.Rel.{Rel}
 use Rattle.cy_oneshot_patterns.specs.Places.{node, column_at}
 use Rattle.cy_oneshot_meaning.specs.Reading.{AreInGraph, IsInGraph}
-use Rattle.cy_oneshot_meaning.proofs.Each.{each_append}
 use Rattle.cy_updates_meaning.specs.declared.faults.UpdateFault.{UpdateFault}
 use Rattle.cy_updates_meaning.specs.declared.faults.UpdateFault.TheVariants.{Full}
 use Rattle.cy_updates_meaning.specs.Creating.{Creation, bound_to, created, ends_of, new_relationship, next_node, next_relationship, node_at_place, node_in_cell, source_of, target_of, type_of, unless_full, with_column, with_new_node, with_node_if, with_node_place, with_path, with_relationship_column, with_step}
 use Rattle.cy_updates_meaning.specs.Faults.{◌>>=◌, each_in_turn}
 use Rattle.cy_updates_meaning.specs.Statements.{GraphTable, create_row}
 use Rattle.cy_updates_meaning.specs.Values.{label_set, map_properties}
-use Rattle.cy_updates_meaning.proofs.Entries.{all_then, found_before, found_last}
+use Rattle.cy_updates_meaning.proofs.Entries.{found_before, found_last}
 use Rattle.cy_updates_meaning.proofs.Graphs.{node_number, rel_number, with_node_is, with_rel_is}
 use Rattle.cy_updates_meaning.proofs.Grown.{Grown, cell_still, grown_node, grown_nothing, grown_rel, grown_then, node_still, rel_still, row_still, rows_still}
 use Rattle.cy_updates_meaning.proofs.StoredValues.{AreProperties, and_then, if_ok_weaker, label_set_rises, map_made}
@@ -101,7 +101,7 @@ module _ (Q : State → Cell → Type 0) (keeps : KeepsCells Q) (before : List C
       and_then (λ _. Placed Q n old new) (Placed Q n old) (λ _. Ok new) (λ _ there. there) (unless_full old.graph.next_node)
       (left_over (Placed Q n old new) old.graph.next_node (λ left. record {
         is = with_node_is old.graph made is (label_set_rises n.labels, good) left;
-        row = column_too (Q next) n.variable (cell.Node (next_node old.graph)) old.row (keeps.made old.graph made) (all_then (Q old.graph) (Q next) (keeps.grows old.graph made) old.row row);
+        row = column_too (Q next) n.variable (cell.Node (next_node old.graph)) old.row (keeps.made old.graph made) (each_then (Q old.graph) (Q next) (keeps.grows old.graph made) old.row row);
         last = found_last node_number old.graph.content.nodes (next_node old.graph, made);
         stands = ap (λ o. option_map_or node_in_cell o (Some (next_node old.graph))) (sym free);
         grown = grown_node made old.graph;

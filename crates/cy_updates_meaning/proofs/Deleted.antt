@@ -4,23 +4,22 @@ use Rattle.std.proofs.Common.{◌≡◌, ◌<◌, ◌≤◌, Bool, true, false, 
 use Rattle.std.specs.Prelude.{IfOk}
 use Rattle.std.specs.List.{AllByRecursion}
 use Rattle.std.specs.declared.cmp.Ordering.TheVariants.{Equal}
-use Rattle.std.proofs.lemmas.Bool.{false≢true}
+use Rattle.std.proofs.lemmas.Bool.{false≢true, or_parts}
 use Rattle.std.proofs.lemmas.Map.Lookups.{exact_unsigned}
 use Rattle.cy_values.specs.declared.numbers.NodeId.{NodeId}
 use Rattle.cy_values.specs.declared.numbers.RelId.{RelId}
 use Rattle.cy_values.specs.declared.numbers.Entity.{Entity}
 use Rattle.cy_values.specs.declared.rows.Cell.{Cell}
+use Rattle.cy_values.proofs.Lists.{each_filter}
 use Rattle.cy_trees.specs.declared.expressions.Variable.{Variable}
 use Rattle.cy_graph.specs.Graph.{State, IsGraph, node_at, node_order}
 use Rattle.cy_graph.specs.Maps.{rises}
 use Rattle.cy_graph.specs.Stored.{IsStorable}
 use Rattle.cy_graph.specs.declared.nodes.Node.{Node}
 use Rattle.cy_graph.specs.declared.nodes.Rel.{Rel}
-use Rattle.cy_oneshot_meaning.proofs.Each.{each_filter}
 use Rattle.cy_updates_meaning.specs.Deleting.{deleted, is_going, is_left_over, is_node_of, lies_at, named, unless_left_over, without_set}
 use Rattle.cy_updates_meaning.proofs.Entries.{sorted_filter}
 use Rattle.cy_updates_meaning.proofs.Graphs.{node_number, rel_number}
-use Rattle.cy_updates_meaning.proofs.ReadingStatements.{neither}
 
 abbrev has_some : {A : Type 0} → List A → Bool
 has_some [] = false
@@ -76,7 +75,7 @@ module _ (detach : Bool) (set : List Entity) (graph : State) (is : IsGraph graph
   ends_stay [] none there = tt
   ends_stay (e ∷ es) none there = (
     λ kept.
-        let apart = neither (is_node_of set e.1.source) (is_node_of set e.1.target) (remaining (lies_at set e) (is_going detach set e) none.0 kept) in
+        let apart = or_parts (is_node_of set e.1.source) (is_node_of set e.1.target) (remaining (lies_at set e) (is_going detach set e) none.0 kept) in
         (node_stays e.1.source apart.0 there.0.0, node_stays e.1.target apart.1 there.0.1),
     ends_stay es none.1 there.1,
   )

@@ -6,18 +6,10 @@ use Rattle.std.specs.Option.{option_map}
 use Rattle.std.specs.declared.cmp.Ordering.{Ordering}
 use Rattle.std.specs.declared.cmp.Ordering.TheVariants.{Less, Equal, Greater}
 use Rattle.std.specs.Ordering.{nat_cmp, eq_by_cmp, is_eq, is_lt}
-use Rattle.std.proofs.lemmas.Bool.{and_parts}
+use Rattle.std.proofs.lemmas.Bool.{and_parts, and_from}
 use Rattle.std.proofs.lemmas.Bool.Decides.{nat_tests}
 
-pub both : (a b : Bool) → a ≡ true → b ≡ true → (a && b) ≡ true
-both true b h k = k
-both false b h k = cc
-
 -- ---- what holds of each
-
-pub all_then : {A : Type 0} (P Q : A → Type 0) → ((x : A) → P x → Q x) → (xs : List A) → AllByRecursion P xs → AllByRecursion Q xs
-all_then P Q step [] all = tt
-all_then P Q step (x ∷ xs) all = (step x all.0, all_then P Q step xs all.1)
 
 module _ {K : Type 0} (num : K → ℕ) where
   abbrev pub order : K → K → Ordering
@@ -51,15 +43,15 @@ module _ {K : Type 0} (num : K → ℕ) where
     -- ---- one more at the end
 
     below_push : (low : K) (es : List (K × V)) (e : K × V) → Below low es → num low < num e.0 → Below low (es ++ e ∷ [])
-    below_push low [] e below lt = both _ _ (less_from low e.0 lt) refl
+    below_push low [] e below lt = and_from _ _ (less_from low e.0 lt) refl
     below_push low (f ∷ es) e below lt =
-        let parts = and_parts (is_lt (order low f.0)) (entries.below_all order low es) below in both _ _ parts.0 (below_push low es e parts.1 lt)
+        let parts = and_parts (is_lt (order low f.0)) (entries.below_all order low es) below in and_from _ _ parts.0 (below_push low es e parts.1 lt)
 
     pub sorted_push : (es : List (K × V)) (e : K × V) → Sorted es → AllByRecursion (λ (f : K × V). num f.0 < num e.0) es → Sorted (es ++ e ∷ [])
     sorted_push [] e sorted all = refl
     sorted_push (f ∷ es) e sorted all =
         let parts = and_parts (entries.below_all order f.0 es) (entries.is_sorted order es) sorted in
-        both _ _ (below_push f.0 es e parts.0 all.0) (sorted_push es e parts.1 all.1)
+        and_from _ _ (below_push f.0 es e parts.0 all.0) (sorted_push es e parts.1 all.1)
 
     pub found_before : (id : K) (es fs : List (K × V)) → IsSome (found id es) → IsSome (found id (es ++ fs))
     found_before id [] fs there = cc
@@ -123,12 +115,12 @@ module _ {K : Type 0} (num : K → ℕ) where
       below_less : (y : K) (es : List (K × V)) → order id y ≡ Less → Below y es → Below id es
       below_less y [] h below = refl
       below_less y (e ∷ es) h below =
-          let parts = and_parts (is_lt (order y e.0)) (entries.below_all order y es) below in both _ _ (less_still id y e.0 h parts.0) (below_less y es h parts.1)
+          let parts = and_parts (is_lt (order y e.0)) (entries.below_all order y es) below in and_from _ _ (less_still id y e.0 h parts.0) (below_less y es h parts.1)
 
       below_tied : (y : K) (es : List (K × V)) → order id y ≡ Equal → Below y es → Below id es
       below_tied y [] h below = refl
       below_tied y (e ∷ es) h below =
-          let parts = and_parts (is_lt (order y e.0)) (entries.below_all order y es) below in both _ _ (less_tied id y e.0 h parts.0) (below_tied y es h parts.1)
+          let parts = and_parts (is_lt (order y e.0)) (entries.below_all order y es) below in and_from _ _ (less_tied id y e.0 h parts.0) (below_tied y es h parts.1)
 
       past : (e : K × V) (es : List (K × V)) → order id e.0 ≡ Greater → (o : Option V) → put_if id (option_map f o) es ≡ revalued change es
           → put_if id (option_map f o) (e ∷ es) ≡ e ∷ revalued change es
@@ -143,7 +135,7 @@ module _ {K : Type 0} (num : K → ℕ) where
           let parts = and_parts (entries.below_all order e.0 es) (entries.is_sorted order es) sorted in
           elim (order id e.0) as (λ o. order id e.0 ≡ o → put_if id (option_map f (found id (e ∷ es))) (e ∷ es) ≡ revalued change (e ∷ es)) [
             | Less ↦ λ h.
-                let below : Below id (e ∷ es) = both _ _ (ap is_lt h) (below_less e.0 es h parts.0) in
+                let below : Below id (e ∷ es) = and_from _ _ (ap is_lt h) (below_less e.0 es h parts.0) in
                 ap (λ o. put_if id (option_map f o) (e ∷ es)) (not_found (e ∷ es) below) ∙ sym (unchanged (e ∷ es) below)
             | Equal ↦ λ h.
                 ap (λ o. put_if id (option_map f (cond (is_eq o) (Some e.1) (found id es))) (e ∷ es)) h
@@ -162,11 +154,11 @@ module _ {K : Type 0} (num : K → ℕ) where
     below_filter test low (e ∷ es) below =
         let parts = and_parts (is_lt (order low e.0)) (entries.below_all order low es) below in
         let rest = below_filter test low es parts.1 in
-        elim (test e) as (λ b. Below low (cond b (e ∷ filter test es) (filter test es))) [ true ↦ both _ _ parts.0 rest | false ↦ rest ]
+        elim (test e) as (λ b. Below low (cond b (e ∷ filter test es) (filter test es))) [ true ↦ and_from _ _ parts.0 rest | false ↦ rest ]
 
     pub sorted_filter : (test : K × V → Bool) (es : List (K × V)) → Sorted es → Sorted (filter test es)
     sorted_filter test [] sorted = refl
     sorted_filter test (e ∷ es) sorted =
         let parts = and_parts (entries.below_all order e.0 es) (entries.is_sorted order es) sorted in
         let rest = sorted_filter test es parts.1 in
-        elim (test e) as (λ b. Sorted (cond b (e ∷ filter test es) (filter test es))) [ true ↦ both _ _ (below_filter test e.0 es parts.0) rest | false ↦ rest ]
+        elim (test e) as (λ b. Sorted (cond b (e ∷ filter test es) (filter test es))) [ true ↦ and_from _ _ (below_filter test e.0 es parts.0) rest | false ↦ rest ]

@@ -9,8 +9,8 @@ use Rattle.std.proofs.lemmas.Bool.Decides.{nat_tests}
 use Rattle.std.proofs.lemmas.List.{length-append, length-map}
 use Rattle.std.proofs.lemmas.List.Elements.{filter-append}
 use Rattle.std.proofs.lemmas.List.Filters.{length-filter_both}
-use Rattle.cy_oneshot_meaning.proofs.Each.{each_filter}
-use Rattle.cy_updates_meaning.proofs.Entries.{all_then, order, found, Sorted, Below, itself, below_filter, found_before, not_less}
+use Rattle.cy_values.proofs.Lists.{all_passing, each_filter, each_then}
+use Rattle.cy_updates_meaning.proofs.Entries.{order, found, Sorted, Below, itself, below_filter, found_before, not_less}
 
 some_not_none : {A : Type 0} (o : Option A) → is_some o ≡ true → is_none o ≡ false
 some_not_none None h = cc
@@ -20,11 +20,7 @@ none_filtered : {A : Type 0} (test : A → Bool) (xs : List A) → AllByRecursio
 none_filtered test [] all = refl
 none_filtered test (x ∷ xs) all = ap (λ b. length (cond b (x ∷ filter test xs) (filter test xs))) all.0 ∙ none_filtered test xs all.1
 
-all_filtered : {A : Type 0} (test : A → Bool) (xs : List A) → AllByRecursion (λ x. test x ≡ true) xs → filter test xs ≡ xs
-all_filtered test [] all = refl
-all_filtered test (x ∷ xs) all = ap (λ b. cond b (x ∷ filter test xs) (filter test xs)) all.0 ∙ ap (λ l. x ∷ l) (all_filtered test xs all.1)
-
-same_filtered : {A : Type 0} (test other : A → Bool) (xs : List A) → AllByRecursion (λ x. test x ≡ other x) xs → filter test xs ≡ filter other xs
+pub same_filtered : {A : Type 0} (test other : A → Bool) (xs : List A) → AllByRecursion (λ x. test x ≡ other x) xs → filter test xs ≡ filter other xs
 same_filtered test other [] all = refl
 same_filtered test other (x ∷ xs) all = λ i. cond (all.0 i) (x ∷ same_filtered test other xs all.1 i) (same_filtered test other xs all.1 i)
 
@@ -46,12 +42,12 @@ module _ {K V : Type 0} (num : K → ℕ) where
   all_found [] = tt
   all_found (e ∷ es) = (
     subst (λ b. IsSome (cond b (Some e.1) (found num e.0 es))) (sym (itself num e.0)) refl,
-    all_then (λ (f : K × V). IsSome (found num f.0 es)) (λ (f : K × V). IsSome (found num f.0 (e ∷ es))) (λ f there. found_later f.0 e es there) es (all_found es),
+    each_then (λ (f : K × V). IsSome (found num f.0 es)) (λ (f : K × V). IsSome (found num f.0 (e ∷ es))) (λ f there. found_later f.0 e es there) es (all_found es),
   )
 
   none_absent : (es fs : List (K × V)) → AllByRecursion (λ (e : K × V). IsSome (found num e.0 fs)) es → length (filter (absent fs) es) ≡ 0
   none_absent es fs there =
-      none_filtered (absent fs) es (all_then (λ (e : K × V). IsSome (found num e.0 fs)) (λ (e : K × V). absent fs e ≡ false) (λ e here. some_not_none (found num e.0 fs) here) es there)
+      none_filtered (absent fs) es (each_then (λ (e : K × V). IsSome (found num e.0 fs)) (λ (e : K × V). absent fs e ≡ false) (λ e here. some_not_none (found num e.0 fs) here) es there)
 
   -- ---- entries under higher numbers at the end
 
@@ -69,9 +65,9 @@ module _ {K V : Type 0} (num : K → ℕ) where
       ap length (filter-append (absent old) old news) ∙ length-append (filter (absent old) old) (filter (absent old) news) in
       let none : length (filter (absent old) old) ≡ 0 = none_absent old old (all_found old) in
       let all : length (filter (absent old) news) ≡ length news =
-      ap length (all_filtered (absent old) news (all_then (λ (e : K × V). next ≤ num e.0) (λ (e : K × V). absent old e ≡ true) (λ e up. ap is_none (not_found_above e.0 next old below up)) news above)) in
+      ap length (all_passing (absent old) news (each_then (λ (e : K × V). next ≤ num e.0) (λ (e : K × V). absent old e ≡ true) (λ e up. ap is_none (not_found_above e.0 next old below up)) news above)) in
       let gone : length (filter (absent (old ++ news)) old) ≡ 0 =
-      none_absent old (old ++ news) (all_then (λ (e : K × V). IsSome (found num e.0 old)) (λ (e : K × V). IsSome (found num e.0 (old ++ news))) (λ e there. found_before num e.0 old news there) old (all_found old)) in
+      none_absent old (old ++ news) (each_then (λ (e : K × V). IsSome (found num e.0 old)) (λ (e : K × V). IsSome (found num e.0 (old ++ news))) (λ e there. found_before num e.0 old news there) old (all_found old)) in
       let longer : length (old ++ news) ≡ length old + length news = length-append old news in
       record {
         numbers = omega (arith, made, none, all);
@@ -90,9 +86,9 @@ module _ {K V : Type 0} (num : K → ℕ) where
   pub agrees_same : (old new : List (K × V)) (next : ℕ) → keys new ≡ keys old → Agrees old new next next
   agrees_same old new next same =
       let made : length (filter (absent old) new) ≡ 0 =
-      none_absent new old (all_then (λ (e : K × V). IsSome (found num e.0 new)) (λ (e : K × V). IsSome (found num e.0 old)) (λ e there. found_by_keys new old same e.0 there) new (all_found new)) in
+      none_absent new old (each_then (λ (e : K × V). IsSome (found num e.0 new)) (λ (e : K × V). IsSome (found num e.0 old)) (λ e there. found_by_keys new old same e.0 there) new (all_found new)) in
       let gone : length (filter (absent new) old) ≡ 0 =
-      none_absent old new (all_then (λ (e : K × V). IsSome (found num e.0 old)) (λ (e : K × V). IsSome (found num e.0 new)) (λ e there. found_by_keys old new (sym same) e.0 there) old (all_found old)) in
+      none_absent old new (each_then (λ (e : K × V). IsSome (found num e.0 old)) (λ (e : K × V). IsSome (found num e.0 new)) (λ e there. found_by_keys old new (sym same) e.0 there) old (all_found old)) in
       let as_long : length new ≡ length old = sym (length-map new (λ (e : K × V). e.0)) ∙ ap length same ∙ length-map old (λ (e : K × V). e.0) in
       record { numbers = omega (arith, made); entries = omega (arith, made, gone, as_long) }
 

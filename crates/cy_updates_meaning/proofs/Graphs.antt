@@ -11,6 +11,7 @@ use Rattle.cy_values.specs.declared.numbers.RelId.{RelId}
 use Rattle.cy_values.specs.declared.numbers.Entity.{Entity}
 use Rattle.cy_values.specs.declared.numbers.Entity.TheVariants as entity
 use Rattle.cy_values.specs.declared.scalars.Value.{Value}
+use Rattle.cy_values.proofs.Lists.{each_append, each_then}
 use Rattle.cy_trees.specs.Trees.{Name}
 use Rattle.cy_graph.specs.Graph.{State, IsGraph, node_at, node_order, number_end, rel_at, rel_order, rel_set_at, replaced, replaced_rel, set_at, with_label, with_node, with_node_changed, with_nodes, with_prop, with_rel, with_rel_changed, with_rels, without_label}
 use Rattle.cy_graph.specs.Maps.{rises}
@@ -18,8 +19,7 @@ use Rattle.cy_graph.specs.Stored.{is_storable, IsStorable}
 use Rattle.cy_graph.specs.declared.nodes.Node.{Node}
 use Rattle.cy_graph.specs.declared.nodes.Rel.{Rel}
 use Rattle.cy_graph.proofs.Places.{rises-with_value, rises-without}
-use Rattle.cy_oneshot_meaning.proofs.Each.{each_append}
-use Rattle.cy_updates_meaning.proofs.Entries.{all_then, change, found_before, keys_revalued, all_revalued, put_changed, put_if, revalued, sorted_push, sorted_revalued}
+use Rattle.cy_updates_meaning.proofs.Entries.{change, found_before, keys_revalued, all_revalued, put_changed, put_if, revalued, sorted_push, sorted_revalued}
 use Rattle.cy_updates_meaning.proofs.StoredValues.{AreProperties, set_properties}
 
 -- the number of a node, and of a relationship
@@ -43,9 +43,9 @@ with_node_is graph n is form left =
     let e : NodeId × Node = (record { 0 = graph.next_node }, n) in
     record {
       rising = sorted_push node_number graph.content.nodes e is.rising
-          (all_then (λ (f : NodeId × Node). (1 ≤ f.0.0) × (f.0.0 < graph.next_node)) (λ (f : NodeId × Node). f.0.0 < graph.next_node) (λ f within. within.1) graph.content.nodes is.numbered);
+          (each_then (λ (f : NodeId × Node). (1 ≤ f.0.0) × (f.0.0 < graph.next_node)) (λ (f : NodeId × Node). f.0.0 < graph.next_node) (λ f within. within.1) graph.content.nodes is.numbered);
       numbered = each_append (λ (f : NodeId × Node). (1 ≤ f.0.0) × (f.0.0 < graph.next_node + 1)) graph.content.nodes (e ∷ [])
-          (all_then (λ (f : NodeId × Node). (1 ≤ f.0.0) × (f.0.0 < graph.next_node)) (λ (f : NodeId × Node). (1 ≤ f.0.0) × (f.0.0 < graph.next_node + 1))
+          (each_then (λ (f : NodeId × Node). (1 ≤ f.0.0) × (f.0.0 < graph.next_node)) (λ (f : NodeId × Node). (1 ≤ f.0.0) × (f.0.0 < graph.next_node + 1))
           (λ f within. (within.0, omega (arith, within.1))) graph.content.nodes is.numbered)
           ((is.node_range.0, omega arith), tt);
       in_form = each_append (λ (f : NodeId × Node). IsTrue (rises f.1.labels) × IsTrue (rises f.1.props)) graph.content.nodes (e ∷ []) is.in_form ((form.0, form.1.0), tt);
@@ -54,7 +54,7 @@ with_node_is graph n is form left =
       rels_numbered = is.rels_numbered;
       rels_in_form = is.rels_in_form;
       rels_stored = is.rels_stored;
-      ends = all_then (λ (r : RelId × Rel). IsSome (node_at r.1.source graph) × IsSome (node_at r.1.target graph))
+      ends = each_then (λ (r : RelId × Rel). IsSome (node_at r.1.source graph) × IsSome (node_at r.1.target graph))
           (λ (r : RelId × Rel). IsSome (node_at r.1.source (with_node n graph)) × IsSome (node_at r.1.target (with_node n graph)))
           (λ r there. (found_before node_number r.1.source graph.content.nodes (e ∷ []) there.0, found_before node_number r.1.target graph.content.nodes (e ∷ []) there.1))
           graph.content.rels is.ends;
@@ -72,9 +72,9 @@ with_rel_is graph r is props left from to =
       in_form = is.in_form;
       stored = is.stored;
       rels_rising = sorted_push rel_number graph.content.rels e is.rels_rising
-          (all_then (λ (f : RelId × Rel). (1 ≤ f.0.0) × (f.0.0 < graph.next_rel)) (λ (f : RelId × Rel). f.0.0 < graph.next_rel) (λ f within. within.1) graph.content.rels is.rels_numbered);
+          (each_then (λ (f : RelId × Rel). (1 ≤ f.0.0) × (f.0.0 < graph.next_rel)) (λ (f : RelId × Rel). f.0.0 < graph.next_rel) (λ f within. within.1) graph.content.rels is.rels_numbered);
       rels_numbered = each_append (λ (f : RelId × Rel). (1 ≤ f.0.0) × (f.0.0 < graph.next_rel + 1)) graph.content.rels (e ∷ [])
-          (all_then (λ (f : RelId × Rel). (1 ≤ f.0.0) × (f.0.0 < graph.next_rel)) (λ (f : RelId × Rel). (1 ≤ f.0.0) × (f.0.0 < graph.next_rel + 1))
+          (each_then (λ (f : RelId × Rel). (1 ≤ f.0.0) × (f.0.0 < graph.next_rel)) (λ (f : RelId × Rel). (1 ≤ f.0.0) × (f.0.0 < graph.next_rel + 1))
           (λ f within. (within.0, omega (arith, within.1))) graph.content.rels is.rels_numbered)
           ((is.rel_range.0, omega arith), tt);
       rels_in_form = each_append (λ (f : RelId × Rel). IsTrue (rises f.1.props)) graph.content.rels (e ∷ []) is.rels_in_form (props.0, tt);
@@ -158,13 +158,13 @@ module _ (graph : State) (is : IsGraph graph) where
         rising = sorted_revalued node_number (change node_number id f) graph.content.nodes ∙ is.rising;
         numbered = all_revalued node_number (change node_number id f) (λ (e : NodeId × Node). (1 ≤ e.0.0) × (e.0.0 < graph.next_node)) (λ (e : NodeId × Node). (1 ≤ e.0.0) × (e.0.0 < graph.next_node))
             (λ e within. within) graph.content.nodes is.numbered;
-        in_form = all_then (λ (e : NodeId × Node). IsNode e.1) (λ (e : NodeId × Node). IsTrue (rises e.1.labels) × IsTrue (rises e.1.props)) (λ e here. (here.0, here.1.0)) nodes_after forms;
-        stored = all_then (λ (e : NodeId × Node). IsNode e.1) (λ (e : NodeId × Node). IsStorable e.1.props) (λ e here. here.1.1) nodes_after forms;
+        in_form = each_then (λ (e : NodeId × Node). IsNode e.1) (λ (e : NodeId × Node). IsTrue (rises e.1.labels) × IsTrue (rises e.1.props)) (λ e here. (here.0, here.1.0)) nodes_after forms;
+        stored = each_then (λ (e : NodeId × Node). IsNode e.1) (λ (e : NodeId × Node). IsStorable e.1.props) (λ e here. here.1.1) nodes_after forms;
         rels_rising = is.rels_rising;
         rels_numbered = is.rels_numbered;
         rels_in_form = is.rels_in_form;
         rels_stored = is.rels_stored;
-        ends = all_then (λ (r : RelId × Rel). IsSome (node_at r.1.source graph) × IsSome (node_at r.1.target graph))
+        ends = each_then (λ (r : RelId × Rel). IsSome (node_at r.1.source graph) × IsSome (node_at r.1.target graph))
             (λ (r : RelId × Rel). IsSome (node_at r.1.source (with_nodes nodes_after graph)) × IsSome (node_at r.1.target (with_nodes nodes_after graph)))
             (λ r there. (node_kept graph (with_nodes nodes_after graph) same_nodes r.1.source there.0, node_kept graph (with_nodes nodes_after graph) same_nodes r.1.target there.1))
             graph.content.rels is.ends;
@@ -205,8 +205,8 @@ module _ (graph : State) (is : IsGraph graph) where
         rels_rising = sorted_revalued rel_number (change rel_number id f) graph.content.rels ∙ is.rels_rising;
         rels_numbered = all_revalued rel_number (change rel_number id f) (λ (e : RelId × Rel). (1 ≤ e.0.0) × (e.0.0 < graph.next_rel)) (λ (e : RelId × Rel). (1 ≤ e.0.0) × (e.0.0 < graph.next_rel))
             (λ e within. within) graph.content.rels is.rels_numbered;
-        rels_in_form = all_then (λ (e : RelId × Rel). AreProperties e.1.props) (λ (e : RelId × Rel). IsTrue (rises e.1.props)) (λ e here. here.0) rels_after rel_forms;
-        rels_stored = all_then (λ (e : RelId × Rel). AreProperties e.1.props) (λ (e : RelId × Rel). IsStorable e.1.props) (λ e here. here.1) rels_after rel_forms;
+        rels_in_form = each_then (λ (e : RelId × Rel). AreProperties e.1.props) (λ (e : RelId × Rel). IsTrue (rises e.1.props)) (λ e here. here.0) rels_after rel_forms;
+        rels_stored = each_then (λ (e : RelId × Rel). AreProperties e.1.props) (λ (e : RelId × Rel). IsStorable e.1.props) (λ e here. here.1) rels_after rel_forms;
         ends = all_revalued rel_number (change rel_number id f) (λ (e : RelId × Rel). EndsThere e.1) (λ (e : RelId × Rel). EndsThere e.1)
             (λ e there. chosen EndsThere (eq_by_cmp rel_order id e.0) f e.1
             (λ r here. (subst (λ (n : NodeId). IsSome (node_at n graph)) (sym (same_source r)) here.0, subst (λ (n : NodeId). IsSome (node_at n graph)) (sym (same_target r)) here.1)) there)

@@ -7,12 +7,12 @@ use Rattle.cy_values.specs.declared.numbers.NodeId.{NodeId}
 use Rattle.cy_values.specs.declared.numbers.RelId.{RelId}
 use Rattle.cy_values.specs.declared.rows.Cell.{Cell}
 use Rattle.cy_values.specs.declared.rows.Cell.TheVariants as cell
+use Rattle.cy_values.proofs.Lists.{each_append, each_then}
 use Rattle.cy_graph.specs.Graph.{Content, State, node_at, node_order, rel_at, rel_order, with_node, with_rel}
 use Rattle.cy_graph.specs.declared.nodes.Node.{Node}
 use Rattle.cy_graph.specs.declared.nodes.Rel.{Rel}
 use Rattle.cy_oneshot_meaning.specs.Reading.{AreInGraph, IsInGraph}
-use Rattle.cy_oneshot_meaning.proofs.Each.{each_append}
-use Rattle.cy_updates_meaning.proofs.Entries.{all_then, found_before}
+use Rattle.cy_updates_meaning.proofs.Entries.{found_before}
 use Rattle.cy_updates_meaning.proofs.Graphs.{node_number, rel_number}
 
 pub record Grown (old new : State) : Type 0 where
@@ -77,9 +77,9 @@ grown_then a b c first second =
       next_node = omega (arith, more_nodes, node_up, node_on);
       next_rel = omega (arith, more_rels, rel_up, rel_on);
       nodes_new = each_append (λ (e : NodeId × Node). a.next_node ≤ e.0.0) first.nodes second.nodes first.nodes_new
-          (all_then (λ (e : NodeId × Node). b.next_node ≤ e.0.0) (λ (e : NodeId × Node). a.next_node ≤ e.0.0) (λ e above. omega (arith, node_up, above)) second.nodes second.nodes_new);
+          (each_then (λ (e : NodeId × Node). b.next_node ≤ e.0.0) (λ (e : NodeId × Node). a.next_node ≤ e.0.0) (λ e above. omega (arith, node_up, above)) second.nodes second.nodes_new);
       rels_new = each_append (λ (e : RelId × Rel). a.next_rel ≤ e.0.0) first.rels second.rels first.rels_new
-          (all_then (λ (e : RelId × Rel). b.next_rel ≤ e.0.0) (λ (e : RelId × Rel). a.next_rel ≤ e.0.0) (λ e above. omega (arith, rel_up, above)) second.rels second.rels_new);
+          (each_then (λ (e : RelId × Rel). b.next_rel ≤ e.0.0) (λ (e : RelId × Rel). a.next_rel ≤ e.0.0) (λ e above. omega (arith, rel_up, above)) second.rels second.rels_new);
     }
 
 module _ (old new : State) (grown : Grown old new) where
@@ -97,11 +97,11 @@ module _ (graph other : Content) (nodes : (id : NodeId) → IsSome (entries.find
   cell_still (cell.Node id) there = nodes id there
   cell_still (cell.Rel id) there = rels id there
   cell_still (cell.Rels ids) there =
-      all_then (λ (id : RelId). IsSome (entries.find rel_order id graph.rels)) (λ (id : RelId). IsSome (entries.find rel_order id other.rels)) rels ids there
+      each_then (λ (id : RelId). IsSome (entries.find rel_order id graph.rels)) (λ (id : RelId). IsSome (entries.find rel_order id other.rels)) rels ids there
   cell_still (cell.Value v) there = tt
 
   pub row_still : (row : List Cell) → AllByRecursion (IsInGraph graph) row → AllByRecursion (IsInGraph other) row
-  row_still = all_then (IsInGraph graph) (IsInGraph other) cell_still
+  row_still = each_then (IsInGraph graph) (IsInGraph other) cell_still
 
   pub rows_still : (rows : List (List Cell)) → AreInGraph graph rows → AreInGraph other rows
-  rows_still = all_then (AllByRecursion (IsInGraph graph)) (AllByRecursion (IsInGraph other)) row_still
+  rows_still = each_then (AllByRecursion (IsInGraph graph)) (AllByRecursion (IsInGraph other)) row_still

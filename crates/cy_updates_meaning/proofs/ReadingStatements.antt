@@ -2,7 +2,7 @@
 use Rattle.std.proofs.Common.{◌≡◌, Bool, true, false, cond, ◌||◌, List, [], ◌∷◌, ◌++◌, refl, ap, ◌∙◌}
 use Rattle.std.specs.Prelude.{Result, Ok, Err}
 use Rattle.std.specs.List.{list_all, list_any}
-use Rattle.std.proofs.lemmas.Bool.{and_parts}
+use Rattle.std.proofs.lemmas.Bool.{and_parts, or_parts}
 use Rattle.cy_values.specs.declared.rows.Cell.{Cell}
 use Rattle.cy_trees.specs.Trees.{Name, Clause, Query, Statement}
 use Rattle.cy_scope.specs.Views.{ends_with_return, is_update}
@@ -15,10 +15,6 @@ use Rattle.cy_updates_meaning.specs.Counts.{no_counts}
 use Rattle.cy_updates_meaning.specs.Faults.{◌>>=◌, each_in_turn, evaluated}
 use Rattle.cy_updates_meaning.specs.Readings.{reading_outcome, rows_outcome, tables_of_all}
 use Rattle.cy_updates_meaning.specs.Statements.{Outcome, Progress, after_clause, after_query, after_reading, after_updating, beginning, columns_of, outcome_of, statement_outcome, table_of}
-
-pub neither : (a b : Bool) → (a || b) ≡ false → (a ≡ false) × (b ≡ false)
-neither true b h = cc
-neither false b h = (refl, h)
 
 -- progress with other rows
 abbrev with_rows : Progress → Result (List (List Cell)) EvalFault → Result Progress UpdateFault
@@ -36,7 +32,7 @@ all_read : (clauses : List Clause) → list_any is_update clauses ≡ false → 
     → each_in_turn after_clause clauses so_far ≡ with_rows so_far (rows_after_all so_far.graph.content clauses so_far.rows)
 all_read [] none so_far = refl
 all_read (clause ∷ clauses) none so_far =
-    let parts = neither (is_update clause) (list_any is_update clauses) none in
+    let parts = or_parts (is_update clause) (list_any is_update clauses) none in
     ap (λ b. cond b (after_updating clause so_far) (after_reading clause so_far) >>= λ next. each_in_turn after_clause clauses next) parts.0
     ∙ then_all clauses (all_read clauses parts.1) so_far (rows_after so_far.graph.content clause so_far.rows)
 
@@ -78,7 +74,7 @@ queries_read : (queries : List Query) → list_any updates queries ≡ false →
     → each_in_turn after_query queries so_far ≡ with_rows so_far (tables_of_all so_far.graph.content queries so_far.rows)
 queries_read [] none so_far = refl
 queries_read (query ∷ queries) none so_far =
-    let parts = neither (updates query) (list_any updates queries) none in
+    let parts = or_parts (updates query) (list_any updates queries) none in
     ap (others_on queries) (query_read query parts.0 so_far) ∙ then_others queries (queries_read queries parts.1) query so_far (query_rows so_far.graph.content query)
 
 -- a query that ends with RETURN

@@ -8,6 +8,7 @@ use Rattle.std.proofs.lemmas.List.{append-nil}
 use Rattle.cy_values.specs.declared.rows.Cell.{Cell}
 use Rattle.cy_values.specs.declared.rows.Cell.TheVariants as cell
 use Rattle.cy_values.specs.Order.{row_cmp}
+use Rattle.cy_values.proofs.Lists.{each_append}
 use Rattle.cy_trees.specs.declared.clauses.Length.{Length}
 use Rattle.cy_trees.specs.declared.expressions.Variable.{Variable}
 use Rattle.cy_trees.specs.Trees.{Name, MapEntry, NodePattern, RelationshipPattern, Step, Path, Clause, create, set, remove, delete}
@@ -25,7 +26,7 @@ use Rattle.cy_scope.specs.Views.{is_update}
 use Rattle.cy_scope.proofs.KindedExpressions.{first_none, unless_none}
 use Rattle.cy_graph.specs.Graph.{State, with_node, with_rel}
 use Rattle.cy_oneshot_meaning.specs.Order.{in_order}
-use Rattle.cy_oneshot_meaning.proofs.Each.{each_append, each_in_order}
+use Rattle.cy_oneshot_meaning.proofs.Each.{each_in_order}
 use Rattle.cy_oneshot_meaning.proofs.ScopePlaces.{GoesOn, added_on, bound_column, fits_more, new_column, old_column, same_length}
 use Rattle.cy_updates_meaning.specs.declared.faults.UpdateFault.{UpdateFault}
 use Rattle.cy_updates_meaning.specs.Creating.{Creation, bound_to, created, new_relationship, next_node, next_relationship, node_at_place, unless_full, with_column, with_new_node, with_node_if, with_node_place, with_path as with_created_path, with_relationship_column, with_step as with_created_step}

@@ -5,7 +5,7 @@ use Rattle.std.specs.List.{AllByRecursion}
 use Rattle.std.specs.Ordering.{eq_by_cmp}
 use Rattle.std.specs.declared.cmp.Ordering.TheVariants.{Less, Equal, Greater}
 use Rattle.std.specs.FinMap.Entries.{by_order}
-use Rattle.std.proofs.lemmas.Bool.{and_parts}
+use Rattle.std.proofs.lemmas.Bool.{and_parts, and_from}
 use Rattle.cy_values.specs.declared.scalars.Value.{Value}
 use Rattle.cy_values.specs.declared.scalars.Value.TheVariants as value
 use Rattle.cy_values.specs.declared.rows.Cell.{Cell}
@@ -20,7 +20,6 @@ use Rattle.cy_updates_meaning.specs.declared.faults.UpdateFault.{UpdateFault}
 use Rattle.cy_updates_meaning.specs.declared.faults.UpdateFault.TheVariants.{NotStorable}
 use Rattle.cy_updates_meaning.specs.Faults.{◌>>=◌}
 use Rattle.cy_updates_meaning.specs.Values.{entry_values, label_set, map_properties, set_all, with_entry, settable, unless_null, value_on}
-use Rattle.cy_updates_meaning.proofs.Entries.{both}
 
 -- what follows an outcome that has a value
 pub and_then : {A B F : Type 0} (P : A → Type 0) (Q : B → Type 0) (f : A → Result B F) → ((x : A) → P x → IfOk (f x) Q) → (r : Result A F) → IfOk r P → IfOk (r >>= f) Q
@@ -58,13 +57,13 @@ storable_if _ is = is
 -- ---- properties
 
 storable_with : (key : Name) (v : Value) (props : List (Name × Value)) → is_storable v ≡ true → IsStorable props → IsStorable (with_value key v props)
-storable_with key v [] one all = both _ _ one refl
+storable_with key v [] one all = and_from _ _ one refl
 storable_with key v (e ∷ es) one all =
     let parts = and_parts (is_storable e.1) _ all in
     elim (text_order key e.0) as (λ o. IsStorable (by_order o ((key, v) ∷ e ∷ es) ((e.0, v) ∷ es) (e ∷ with_value key v es))) [
-      | Less ↦ both _ _ one all
-      | Equal ↦ both _ _ one parts.1
-      | Greater ↦ both _ _ parts.0 (storable_with key v es one parts.1)
+      | Less ↦ and_from _ _ one all
+      | Equal ↦ and_from _ _ one parts.1
+      | Greater ↦ and_from _ _ parts.0 (storable_with key v es one parts.1)
     ]
 
 storable_without : (key : Name) (props : List (Name × Value)) → IsStorable props → IsStorable (without key props)
@@ -74,7 +73,7 @@ storable_without key (e ∷ es) all =
     let rest = storable_without key es parts.1 in
     elim (eq_by_cmp text_order key e.0) as (λ b. IsStorable (cond (not b) (e ∷ without key es) (without key es))) [
       | true ↦ rest
-      | false ↦ both _ _ parts.0 rest
+      | false ↦ and_from _ _ parts.0 rest
     ]
 
 -- the properties of an entity: their keys rise, and they can be stored

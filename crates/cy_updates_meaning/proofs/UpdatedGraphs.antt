@@ -6,6 +6,7 @@ use Rattle.cy_values.specs.declared.numbers.NodeId.{NodeId}
 use Rattle.cy_values.specs.declared.numbers.RelId.{RelId}
 use Rattle.cy_values.specs.declared.rows.Cell.{Cell}
 use Rattle.cy_values.specs.Order.{row_cmp}
+use Rattle.cy_values.proofs.Lists.{each_then}
 use Rattle.cy_trees.specs.Trees.{Clause, create, set, remove, delete, Query, Statement}
 use Rattle.cy_scope.specs.Views.{is_update}
 use Rattle.cy_graph.specs.Graph.{Content, State, IsGraph}
@@ -22,7 +23,6 @@ use Rattle.cy_updates_meaning.specs.Deleting.{deleted, is_going, is_node_of, wit
 use Rattle.cy_updates_meaning.specs.Statements.{GraphTable, Outcome, Progress, after_clause, after_query, after_reading, after_updating, beginning, create_row, outcome_of, remove_row, rows_taken, set_row, statement_outcome, table_of, updated}
 use Rattle.cy_updates_meaning.proofs.Created.{GoodTable, rows_good}
 use Rattle.cy_updates_meaning.proofs.Deleted.{Left, delete_left}
-use Rattle.cy_updates_meaning.proofs.Entries.{all_then}
 use Rattle.cy_updates_meaning.proofs.EntryCounts.{Agrees, agrees_grown, agrees_left, agrees_same}
 use Rattle.cy_updates_meaning.proofs.Graphs.{Kept, SameNumbers, node_kept, node_number, rel_kept, rel_number, same_numbers}
 use Rattle.cy_updates_meaning.proofs.Grown.{Grown, rows_still}
@@ -47,11 +47,11 @@ counted_grown old new is grown =
     by_series old new
     (agrees_alike node_number old.content.nodes (old.content.nodes ++ grown.nodes) new.content.nodes old.next_node (old.next_node + length grown.nodes) new.next_node
     (agrees_grown node_number old.content.nodes grown.nodes old.next_node
-    (all_then (λ (e : NodeId × Node). (1 ≤ e.0.0) × (e.0.0 < old.next_node)) (λ (e : NodeId × Node). e.0.0 < old.next_node) (λ e within. within.1) old.content.nodes is.numbered) grown.nodes_new)
+    (each_then (λ (e : NodeId × Node). (1 ≤ e.0.0) × (e.0.0 < old.next_node)) (λ (e : NodeId × Node). e.0.0 < old.next_node) (λ e within. within.1) old.content.nodes is.numbered) grown.nodes_new)
     grown.nodes_are grown.next_node)
     (agrees_alike rel_number old.content.rels (old.content.rels ++ grown.rels) new.content.rels old.next_rel (old.next_rel + length grown.rels) new.next_rel
     (agrees_grown rel_number old.content.rels grown.rels old.next_rel
-    (all_then (λ (e : RelId × Rel). (1 ≤ e.0.0) × (e.0.0 < old.next_rel)) (λ (e : RelId × Rel). e.0.0 < old.next_rel) (λ e within. within.1) old.content.rels is.rels_numbered) grown.rels_new)
+    (each_then (λ (e : RelId × Rel). (1 ≤ e.0.0) × (e.0.0 < old.next_rel)) (λ (e : RelId × Rel). e.0.0 < old.next_rel) (λ e within. within.1) old.content.rels is.rels_numbered) grown.rels_new)
     grown.rels_are grown.next_rel)
 
 counted_same : (old new : State) → SameNumbers old new → Counted old new

@@ -1,6 +1,6 @@
 use Rattle.std.proofs.Common.{◌≡◌, ◌-◌, ◌%◌, ◌<◌, ℕ, suc, cond, List, length, slice_get, slice_set, sym, ap, ◌∙◌, slice_index_or, arith}
+use Rattle.std.proofs.lemmas.Bool.{ne_eqb}
 use Rattle.cy_network_columns.specs.internal.Chains.{hashes_of, placed_at, those_below, with_place, without}
-use Rattle.cy_network_columns.proofs.Chaining.{apart_numbers}
 use Rattle.cy_network_columns.proofs.Links.{as_placed, both_out, filled_then, last_hash, last_there, last_went, no_link, past_last, placed_is, removed_then}
 use Rattle.cy_network_columns.proofs.chains.remove.Goals as goal
 
@@ -97,4 +97,4 @@ returns-else-number-last-clause-linked c =
 pub returns-else-number-last-clause-hashes : goal.returns-else-number-last-clause-hashes
 returns-else-number-last-clause-hashes c = λ i less.
     ap (λ (hs : List ℕ). slice_get hs i) c.leave_chain.ensures.hashes
-    ∙ ap (λ b. slice_get (hashes_of c.args.links.now) (cond b (length c.args.links.now - 1) i)) (sym (apart_numbers c.args.number i (λ e. omega (arith, e, less, c.if-number-last.false))))
+    ∙ ap (λ b. slice_get (hashes_of c.args.links.now) (cond b (length c.args.links.now - 1) i)) (sym (ne_eqb c.args.number i (λ e. omega (arith, e, less, c.if-number-last.false))))

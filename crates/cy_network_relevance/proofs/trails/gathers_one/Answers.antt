@@ -1,7 +1,7 @@
 use Rattle.std.proofs.Common.{sym, ◌∙◌}
+use Rattle.cy_values.proofs.Lists.{any_mapped}
 use Rattle.cy_planner_algebra.specs.PlanModels.{output_of}
 use Rattle.cy_network_relevance.specs.Trails.{gathers_both}
-use Rattle.cy_network_relevance.proofs.AnyOutput.{any_mapped}
 use Rattle.cy_network_relevance.proofs.trails.gathers_one.Goals as goal
 
 pub returns : goal.returns

@@ -1,7 +1,8 @@
 use Rattle.std.proofs.Common.{map, sym, ◌∙◌}
+use Rattle.cy_values.proofs.Lists.{any_mapped}
 use Rattle.cy_planner_algebra.specs.PlanModels.{output_of}
 use Rattle.cy_network_relevance.specs.Trails.{is_alone}
-use Rattle.cy_network_relevance.proofs.AnyOutput.{any_mapped, at_kept}
+use Rattle.cy_network_relevance.proofs.AnyOutput.{at_kept}
 use Rattle.cy_network_relevance.proofs.trails.is_kept.Goals as goal
 
 pub returns-then-is_at : goal.returns-then-is_at

@@ -1,14 +1,10 @@
 use Rattle.std.proofs.Common.{◌≡◌, ℕ, true, ◌&&◌, List, Some, map, ap, sym, ◌∙◌, nat_eq}
-use Rattle.std.specs.Cmp.Lexicographic.{pointwise, bytes_decides}
-use Rattle.std.proofs.lemmas.Bool.{and_parts}
+use Rattle.std.specs.Cmp.Lexicographic.{pointwise}
 use Rattle.cy_values.specs.declared.scalars.Scalar.TheVariants as scalar
 use Rattle.cy_values.specs.declared.scalars.Value.TheVariants as value
-use Rattle.cy_graph.proofs.Same.{same_lists}
+use Rattle.cy_graph.proofs.Same.{same_lists, same_label}
 use Rattle.cy_network_touches.specs.Attributes.{node_attribute}
 use Rattle.cy_network_sources.proofs.alike.node_has_same.Goals as goal
-
-same_label : (x y : List ℕ × Unit {0}) → (pointwise nat_eq x.0 y.0 && true) ≡ true → x ≡ y
-same_label x y e = let same = (bytes_decides x.0 y.0).0 (and_parts _ _ e).0 in λ i. (same i, tt)
 
 pub returns-in-Labels : goal.returns-in-Labels
 returns-in-Labels c = λ yes.

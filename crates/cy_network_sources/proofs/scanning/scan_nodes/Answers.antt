@@ -1,4 +1,4 @@
-use Rattle.std.proofs.Common.{◌≡◌, ℕ, ◌+◌, ◌-◌, ◌^◌, ◌≤◌, min, List, ◌++◌, Option, map, sym, ap, subst, ◌∙◌, arith}
+use Rattle.std.proofs.Common.{◌≡◌, ℕ, ◌+◌, ◌-◌, ◌^◌, ◌≤◌, List, ◌++◌, Option, map, sym, ap, subst, ◌∙◌}
 use Rattle.std.specs.Prelude.{flat_map}
 use Rattle.std.specs.Option.{option_copied}
 use Rattle.cy_values.specs.declared.rows.Cell.{Cell}
@@ -11,13 +11,11 @@ use Rattle.cy_network_operators.specs.Deltas.{deltas_of}
 use Rattle.cy_network_sources.specs.internal.Through.{IsNodeFit, node_made, recounted}
 use Rattle.cy_network_touches.proofs.AttributeLemmas.{one_less, walked}
 use Rattle.cy_network_sources.proofs.ScanDeltas.{first_of_all, node_under}
+use Rattle.cy_network_sources.proofs.FirstScans.{one_read}
 use Rattle.cy_network_sources.proofs.scanning.scan_nodes.Goals as goal
 
 abbrev IsFitAt : Versions → List Plan → ℕ × Option Node → Type 0
 IsFitAt graph ps e = IsNodeFit ps e.0 e.1 × IsNodeFit ps e.0 (node_under graph.now e.0)
-
-one_read : (old new : SightState) → new ≡ record old { reads = min (old.reads + 1) (2 ^ 64 - 1) } → new.reads ≤ old.reads + 1
-one_read old new is = let reads : new.reads ≡ min (old.reads + 1) (2 ^ 64 - 1) = ap (λ (s : SightState). s.reads) is in omega (arith, reads)
 
 pub add_node-requires-clause-old : goal.add_node-requires-clause-old
 add_node-requires-clause-old c =

@@ -1,4 +1,4 @@
-use Rattle.std.proofs.Common.{◌≡◌, ℕ, ◌+◌, ◌-◌, ◌^◌, ◌≤◌, min, List, ◌++◌, Option, map, sym, ap, subst, ◌∙◌, arith}
+use Rattle.std.proofs.Common.{◌≡◌, ℕ, ◌+◌, ◌-◌, ◌^◌, ◌≤◌, List, ◌++◌, Option, map, sym, ap, subst, ◌∙◌}
 use Rattle.std.specs.Prelude.{flat_map}
 use Rattle.std.specs.Option.{option_copied}
 use Rattle.cy_graph.specs.declared.nodes.Rel.{Rel}
@@ -12,13 +12,11 @@ use Rattle.cy_planner_algebra.specs.declared.operators.Orientation.{Orientation}
 use Rattle.cy_network_sources.specs.internal.Through.{IsRelFit, recounted, rel_made}
 use Rattle.cy_network_touches.proofs.AttributeLemmas.{one_less, walked}
 use Rattle.cy_network_sources.proofs.ScanDeltas.{first_of_all, rel_under}
+use Rattle.cy_network_sources.proofs.FirstScans.{one_read}
 use Rattle.cy_network_sources.proofs.scanning.scan_rels.Goals as goal
 
 abbrev IsFitAt : List Name → Orientation → Versions → List Plan → ℕ × Option Rel → Type 0
 IsFitAt types orientation graph ps e = IsRelFit types orientation ps e.0 e.1 × IsRelFit types orientation ps e.0 (rel_under graph.now e.0)
-
-one_read : (old new : SightState) → new ≡ record old { reads = min (old.reads + 1) (2 ^ 64 - 1) } → new.reads ≤ old.reads + 1
-one_read old new is = let reads : new.reads ≡ min (old.reads + 1) (2 ^ 64 - 1) = ap (λ (s : SightState). s.reads) is in omega (arith, reads)
 
 pub add_rel-requires-clause-old : goal.add_rel-requires-clause-old
 add_rel-requires-clause-old c =

@@ -1,10 +1,11 @@
-use Rattle.std.proofs.Common.{◌≡◌, ℕ, ◌+◌, ◌≤◌, List, Option, Some, Result, Ok, filter, map, refl, ap, sym, subst, ◌∙◌, arith}
+use Rattle.std.proofs.Common.{◌≡◌, ℕ, ◌+◌, ◌≤◌, List, Option, Some, Result, Ok, filter, map, refl, ap, sym, subst, ◌∙◌}
 use Rattle.std.specs.Prelude.{IsErr, IsErrAnd, sum_by}
 use Rattle.std.specs.declared.alloc.Global.{Global}
 use Rattle.std.specs.declared.vec.Vec.{Vec}
 use Rattle.std.proofs.lemmas.Result.{IfOk-from_err}
 use Rattle.std.specs.List.{All}
 use Rattle.cy_values.specs.declared.rows.Cell.{Cell}
+use Rattle.cy_values.proofs.Naturals.{no_less}
 use Rattle.cy_trees.specs.Trees.{Expression}
 use Rattle.cy_trees.specs.TreeModels.{expression_of}
 use Rattle.cy_graph.specs.Graph.{State}
@@ -70,10 +71,6 @@ made_distinct : (old : Option State) (now : State) (touches : Touches) (part p :
 made_distinct old now touches part p deltas made columns was staged is leads bounds fed =
     let own = subst (λ q. IsFed old now touches q columns was staged deltas) is fed in
     subst (λ q. IsOwnDone old now q staged made) (sym is) (distinct_done old now p deltas made columns was staged leads bounds own.own own.below)
-
--- an operator that keeps nothing and reads nothing
-no_less : (m n : ℕ) → m ≤ m + n
-no_less m n = omega arith
 
 kept_nothing : {M C : Type 0} (memory : Ghosts M C) (p : Plan) (touches : Touches) (deltas : List RowDelta) (own : List M) (sight : SightState) (made : Vec RowDelta Global)
     → ((old : Option State) → FedRows memory own p deltas old sight.graph.now touches → IsOwnDone old sight.graph.now p (map memory.staged own) made.items)

@@ -1,18 +1,19 @@
 use Rattle.std.proofs.Common.{sym, subst}
 use Rattle.std.specs.Prelude.{Result}
 use Rattle.std.proofs.lemmas.Result.{err_from_is_err_and}
+use Rattle.cy_values.proofs.Lists.{each_left}
 use Rattle.cy_trees.specs.TreeModels.{path_of}
 use Rattle.cy_oneshot_meaning.specs.Reading.{IsInGraph}
 use Rattle.cy_updates_meaning.specs.declared.faults.UpdateFault.{UpdateFault}
 use Rattle.cy_updates_meaning.specs.Creating.{Creation}
 use Rattle.cy_updates_meaning.specs.internal.Answers.{IsAnswer}
 use Rattle.cy_updates.specs.internal.Creating.{creation}
-use Rattle.cy_updates.proofs.CreatedRows.{front_there, path_after, path_at_start, start_kept}
+use Rattle.cy_updates.proofs.CreatedRows.{path_after, path_at_start, start_kept}
 use Rattle.cy_updates_meaning.proofs.InTurn.{or_wants}
 use Rattle.cy_updates.proofs.writes.creating.create_path.Goals as goal
 
 pub place_node-requires-clause-there : goal.place_node-requires-clause-there
-place_node-requires-clause-there c = front_there (IsInGraph c.args.store.now.graph.now.content) c.args.before.now c.args.made.now.cells.items c.requires.there.row
+place_node-requires-clause-there c = each_left (IsInGraph c.args.store.now.graph.now.content) c.args.before.now c.args.made.now.cells.items c.requires.there.row
 
 pub returns-in_err-place_node-clause-meaning : goal.returns-in_err-place_node-clause-meaning
 returns-in_err-place_node-clause-meaning c =

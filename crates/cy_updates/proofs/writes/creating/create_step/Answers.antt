@@ -1,20 +1,21 @@
 use Rattle.std.proofs.Common.{◌≡◌, Err, Ok, ap, sym, ◌∙◌, inl}
 use Rattle.std.proofs.lemmas.Result.{err_from_is_err_and}
+use Rattle.cy_values.proofs.Lists.{each_left}
 use Rattle.cy_trees.specs.TreeModels.{step_of}
 use Rattle.cy_graph.specs.Graph.{with_rel}
 use Rattle.cy_index.specs.Index.{StoreState}
 use Rattle.cy_oneshot_meaning.specs.Reading.{IsInGraph}
 use Rattle.cy_updates_meaning.specs.Creating.{Creation}
 use Rattle.cy_updates.specs.internal.Creating.{creation}
-use Rattle.cy_updates.proofs.CreatedRows.{ends_there, front_there, memory_only, named_is, never_full, place_is, step_at_place, step_at_rel, step_done}
+use Rattle.cy_updates.proofs.CreatedRows.{ends_there, memory_only, named_is, never_full, place_is, step_at_place, step_at_rel, step_done}
 use Rattle.cy_updates_meaning.proofs.InTurn.{or_wants}
 use Rattle.cy_updates.proofs.writes.creating.create_step.Goals as goal
 
 pub new_relationship-requires : goal.new_relationship-requires
-new_relationship-requires c = front_there (IsInGraph c.args.store.now.graph.now.content) c.args.before.now c.args.made.now.cells.items c.requires.there.row
+new_relationship-requires c = each_left (IsInGraph c.args.store.now.graph.now.content) c.args.before.now c.args.made.now.cells.items c.requires.there.row
 
 pub place_node-requires-clause-there : goal.place_node-requires-clause-there
-place_node-requires-clause-there c = front_there (IsInGraph c.args.store.now.graph.now.content) c.args.before.now c.args.made.now.cells.items c.requires.there.row
+place_node-requires-clause-there c = each_left (IsInGraph c.args.store.now.graph.now.content) c.args.before.now c.args.made.now.cells.items c.requires.there.row
 
 pub returns-in_err-rel-clause-meaning : goal.returns-in_err-rel-clause-meaning
 returns-in_err-rel-clause-meaning c =

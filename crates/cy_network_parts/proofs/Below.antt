@@ -1,6 +1,6 @@
 -- The parts right below a part, as the crate of plans lends them.
 use Rattle.std.proofs.Common.{◌≡◌, ◌-◌, get_or, length, refl}
-use Rattle.cy_planner_algebra.specs.Below.{below}
+use Rattle.cy_planner_algebra.specs.internal.Below.{below}
 use Rattle.cy_planner_algebra.specs.Plans as plan
 use Rattle.cy_planner_algebra.specs.Plans.{Plan}
 use Rattle.cy_network_parts.specs.Parts.{below_count, first_below, second_below}

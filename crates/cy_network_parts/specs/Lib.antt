@@ -1,5 +1,4 @@
 pub mod KeptRows
-pub mod Added
 pub mod Chains
 pub mod Counted
 pub mod Limits

@@ -1,4 +1,5 @@
 -- What proofs and the crate's own functions need.
+pub mod Added
 pub mod Held
 pub mod Inputs
 pub mod Kept

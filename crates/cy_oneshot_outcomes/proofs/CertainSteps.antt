@@ -10,7 +10,7 @@ use Rattle.cy_trees.specs.TreeModels.{expression_of, expressions_from, link_of, 
 use Rattle.cy_scope_kinds.specs.Sure.{is_literal}
 use Rattle.cy_oneshot_outcomes.specs.declared.certain.Shape.{Shape}
 use Rattle.cy_oneshot_outcomes.specs.declared.certain.Shape.TheVariants as shape
-use Rattle.cy_oneshot_outcomes.specs.Certain.{are_certain, are_certain_links, are_literals, asked_shape, first_shape, gives_value, is_certain, may_compare}
+use Rattle.cy_oneshot_outcomes.specs.internal.Certain.{are_certain, are_certain_links, are_literals, asked_shape, first_shape, gives_value, is_certain, may_compare}
 use Rattle.cy_oneshot_patterns.proofs.Chains.{link_is}
 use Rattle.cy_oneshot_patterns.proofs.SliceReads.{next_of}
 

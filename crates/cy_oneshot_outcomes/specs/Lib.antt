@@ -1,4 +1,3 @@
 pub mod Columns
 pub mod Lengths
-pub mod Certain
 pub mod internal

@@ -1,2 +1,3 @@
 -- What proofs and the crate's own functions need.
+pub mod Certain
 pub mod Collected

@@ -4,7 +4,7 @@ ghost use Rattle.std.specs.Prelude.{◌≡◌, ◌++◌, ◌&&◌, IfOk, map};
 ghost use Rattle.std.specs.List.{list_all};
 ghost use Rattle.cy_scope_kinds.specs.Sure.{is_literal};
 ghost use Rattle.cy_trees.specs.TreeModels.{expression_of, expressions_from, link_of, links_from};
-ghost use Rattle.cy_oneshot_outcomes.specs.Certain as spec;
+ghost use Rattle.cy_oneshot_outcomes.specs.internal.Certain as spec;
 ghost use Rattle.cy_oneshot_patterns.specs.internal.Patterns.{place_of};
 
 use cy_oneshot_patterns::Place;

@@ -3,7 +3,7 @@ use Rattle.std.proofs.Common.{◌≡◌, List, [], ◌∷◌, ◌++◌, sym, ap,
 use Rattle.cy_planner_algebra.specs.Plans.{Plan}
 use Rattle.cy_planner_pushdown.specs.declared.above.Above.{Above}
 use Rattle.cy_planner_pushdown.specs.declared.above.Above.TheVariants as above
-use Rattle.cy_planner_pushdown.specs.Above.{placed, placed_over}
+use Rattle.cy_planner_pushdown.specs.internal.Above.{placed, placed_over}
 use Rattle.cy_planner_pushdown.proofs.Placing.{lowest_off}
 
 -- one part more

@@ -3,7 +3,7 @@ use Rattle.std.proofs.Common.{◌≡◌, ℕ, ◌+◌, List, [], ◌∷◌, ◌+
 use Rattle.std.proofs.lemmas.List.{length-append}
 use Rattle.cy_planner_algebra.specs.declared.operators.Below as coded_below
 use Rattle.cy_planner_algebra.specs.declared.operators.Below.TheVariants as parts_below
-use Rattle.cy_planner_algebra.specs.Below.{below, plans_in}
+use Rattle.cy_planner_algebra.specs.internal.Below.{below, plans_in}
 use Rattle.cy_planner_algebra.specs.Parts.{parts}
 use Rattle.cy_planner_algebra.specs.Plans as plan
 use Rattle.cy_planner_algebra.specs.Plans.{Plan}

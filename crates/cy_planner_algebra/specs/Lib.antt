@@ -7,5 +7,5 @@ pub mod Meaning
 pub mod Sure
 pub mod WellFormed
 pub mod PlanModels
-pub mod Below
 pub mod Within
+pub mod internal

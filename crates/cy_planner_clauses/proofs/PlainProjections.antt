@@ -20,7 +20,7 @@ use Rattle.cy_oneshot_meaning.specs.Groups as groups
 use Rattle.cy_oneshot_meaning.specs.Projection.{Projected, cut, distinct_rows, item_rows, keyed, project, projected, projection_rows, with_columns_alone}
 use Rattle.cy_planner_algebra.specs.Expressions.{cell_or_null}
 use Rattle.cy_planner_rows.specs.Rows.{cells_on}
-use Rattle.cy_planner_clauses.specs.Projections.{IsPlain, expressions_in}
+use Rattle.cy_planner_clauses.specs.internal.Projections.{IsPlain, expressions_in}
 use Rattle.cy_planner_clauses.proofs.Outcomes.{both_ok, then_ok}
 
 -- ---- outcomes of single things

@@ -26,7 +26,7 @@ use Rattle.cy_planner_algebra.specs.Sure.{IsSureOn}
 use Rattle.cy_planner_algebra.specs.Within.{IsWithin}
 use Rattle.cy_planner_algebra.proofs.Counts.{count_once}
 use Rattle.cy_planner_rows.specs.Rows.{AreReadOver, IsProjected, cells_on}
-use Rattle.cy_planner_clauses.specs.Projections.{CanProject, IsPlain, IsProjection, expressions_in}
+use Rattle.cy_planner_clauses.specs.internal.Projections.{CanProject, IsPlain, IsProjection, expressions_in}
 use Rattle.cy_planner_clauses.proofs.PlainProjections.{HasCells, counted, counts_are, have_all, rows_are}
 
 module _ (graph : Content) where

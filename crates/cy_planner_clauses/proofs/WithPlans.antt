@@ -25,7 +25,7 @@ use Rattle.cy_planner_algebra.specs.Parts.{parts}
 use Rattle.cy_planner_algebra.specs.Within.{IsWithin}
 use Rattle.cy_planner_rows.specs.Rows.{FitsRows, IsFiltered, keeps}
 use Rattle.cy_planner_clauses.specs.Matched.{where_only}
-use Rattle.cy_planner_clauses.specs.Projections.{CanGoOn, CanProject, IsProjection, IsWith}
+use Rattle.cy_planner_clauses.specs.internal.Projections.{CanGoOn, CanProject, IsProjection, IsWith}
 use Rattle.cy_planner_clauses.proofs.MatchPlans.{sift_bag}
 use Rattle.cy_planner_clauses.proofs.Outcomes.{IsTested, kept_rows, selected_each, selected_rows, then_ok, where_selected}
 

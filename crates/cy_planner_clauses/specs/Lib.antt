@@ -2,4 +2,4 @@ pub mod OwnPatterns
 pub mod Shared
 pub mod Columns
 pub mod Matched
-pub mod Projections
+pub mod internal

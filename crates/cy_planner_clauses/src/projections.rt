@@ -6,7 +6,7 @@ ghost use Rattle.cy_scope_kinds.specs.Scopes.{Scope};
 ghost use Rattle.cy_planner_algebra.specs.PlanModels.{plan_of};
 ghost use Rattle.cy_planner_rows.specs.Rows.{AreReadOver};
 ghost use Rattle.cy_planner_clauses.specs.Matched.{IsTestKinded};
-ghost use Rattle.cy_planner_clauses.specs.Projections as spec;
+ghost use Rattle.cy_planner_clauses.specs.internal.Projections as spec;
 
 use cy_oneshot_meaning::laws::distinct_and_order;
 use cy_planner_algebra::Plan;

@@ -28,7 +28,7 @@ use Rattle.cy_planner_algebra.specs.WellFormed.{IsOutputOver, IsWellFormed, grea
 use Rattle.cy_planner_algebra.specs.Within.{IsWithin}
 use Rattle.cy_planner_algebra.proofs.Counts.{count_cons, identity, same}
 use Rattle.cy_planner_rows.specs.declared.places.Wanted.{Wanted}
-use Rattle.cy_planner_rows.specs.Lowered.{lowered}
+use Rattle.cy_planner_rows.specs.internal.Lowered.{lowered}
 use Rattle.cy_planner_rows.specs.Places.{place}
 use Rattle.cy_planner_rows.specs.Columns.{column_output}
 use Rattle.cy_planner_rows.specs.Rows.{AreReadOver, FitsRows, cells_on}

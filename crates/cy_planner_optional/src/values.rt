@@ -7,7 +7,7 @@ ghost use Rattle.cy_oneshot_patterns.specs.internal.Patterns.{place_of};
 ghost use Rattle.cy_planner_algebra.specs.Plans.{computed};
 ghost use Rattle.cy_planner_algebra.specs.PlanModels.{output_of, plan_of};
 ghost use Rattle.cy_planner_algebra.specs.WellFormed.{greatest_width};
-ghost use Rattle.cy_planner_rows.specs.Lowered.{lowered};
+ghost use Rattle.cy_planner_rows.specs.internal.Lowered.{lowered};
 ghost use Rattle.cy_planner_rows.specs.Places.{place};
 ghost use Rattle.cy_planner_rows.specs.Columns.{column_output};
 ghost use Rattle.cy_planner_rows.specs.Rows.{AreReadOver};

@@ -9,7 +9,7 @@ use Rattle.cy_planner_rewriting.proofs.Layering.{well_below}
 use Rattle.cy_planner_passes.specs.Standing.{StandsFor}
 use Rattle.cy_planner_passes.specs.declared.outer_filters.OuterAbove.{OuterAbove}
 use Rattle.cy_planner_passes.specs.internal.OuterAbove.{StandsBelowOuters, put_outer_over, put_outer_over_one}
-use Rattle.cy_planner_rewriting.specs.Opened.{together}
+use Rattle.cy_planner_rewriting.specs.internal.Opened.{together}
 use Rattle.cy_planner_passes.proofs.Congruent.{equal_plans, on_graphs, stands_again}
 use Rattle.cy_planner_passes.proofs.Together.{both_replaced, over_all, over_both, well_sides}
 

@@ -26,7 +26,7 @@ use Rattle.cy_planner_algebra.specs.Plans.{Plan}
 use Rattle.cy_planner_algebra.specs.Sure.{HasTruth}
 use Rattle.cy_planner_algebra.specs.WellFormed.{IsOver}
 use Rattle.cy_planner_rows.specs.Rows.{keeps}
-use Rattle.cy_planner_rows.specs.Conjuncts.{IsAllOf, all_conjuncts, conjuncts}
+use Rattle.cy_planner_rows.specs.internal.Conjuncts.{IsAllOf, all_conjuncts, conjuncts}
 use Rattle.cy_planner_rows.proofs.Alike.{one_or_both, in_cell}
 use Rattle.cy_planner_pushdown.specs.After.{AreKept, keeps_each}
 use Rattle.cy_planner_pushdown.proofs.Conjunctions.{joined_truth, truth_back, whole, whole_ok}

@@ -14,7 +14,7 @@ use Rattle.cy_planner_rewriting.specs.declared.layers.Joint.{Joint}
 use Rattle.cy_planner_rewriting.specs.declared.layers.Joint.TheVariants as joint
 use Rattle.cy_planner_passes.specs.internal.NarrowAbove.{StandsBelow, over_all, over_one}
 use Rattle.cy_planner_passes.specs.internal.Narrows.{restored}
-use Rattle.cy_planner_rewriting.specs.Opened.{over_layer, together}
+use Rattle.cy_planner_rewriting.specs.internal.Opened.{over_layer, together}
 use Rattle.cy_planner_passes.proofs.Together.{well_sides}
 
 -- ---- two plans in place of two others

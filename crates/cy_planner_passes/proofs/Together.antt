@@ -12,7 +12,7 @@ use Rattle.cy_planner_rewriting.proofs.Layering.{layers_over, well_below}
 use Rattle.cy_planner_passes.specs.Standing.{StandsFor}
 use Rattle.cy_planner_rewriting.specs.declared.layers.Joint.{Joint}
 use Rattle.cy_planner_rewriting.specs.declared.layers.Joint.TheVariants as joint
-use Rattle.cy_planner_rewriting.specs.Opened.{over_layer, together}
+use Rattle.cy_planner_rewriting.specs.internal.Opened.{over_layer, together}
 use Rattle.cy_planner_passes.proofs.Congruent.{on_graphs, over_different, over_distinct, over_filter, over_join, over_lookup, over_outer, over_project, over_semi, over_union, stands_again}
 
 over_any : (l : Layer) (p q : Plan) → StandsFor p q → StandsFor (over_layer l p) (over_layer l q)

@@ -7,7 +7,7 @@ mod splitting;
 ghost use Rattle.std.specs.Prelude.{IfOk};
 ghost use Rattle.cy_planner_algebra.specs.PlanModels.{plan_of};
 ghost use Rattle.cy_planner_algebra.specs.WellFormed.{IsWellFormed};
-ghost use Rattle.cy_planner_rewriting.specs.Opened.{together};
+ghost use Rattle.cy_planner_rewriting.specs.internal.Opened.{together};
 ghost use Rattle.cy_planner_passes.specs.Standing.{StandsFor};
 ghost use Rattle.cy_planner_passes.specs.internal.OuterAbove as spec;
 

@@ -4,7 +4,7 @@ use Rattle.std.specs.Option.{option_and_then}
 use Rattle.cy_planner_algebra.specs.declared.operators.Operator.{Operator, roll-Operator}
 use Rattle.cy_planner_algebra.specs.declared.operators.Operator.TheOpen.{Operator-F}
 use Rattle.cy_planner_algebra.specs.declared.operators.Operator.TheVariants.{rolls-Nodes, rolls-Rels, rolls-Join, rolls-Outer, rolls-Lookup, rolls-Project, rolls-Distinct, rolls-Union}
-use Rattle.cy_planner_algebra.specs.Below.{sifted}
+use Rattle.cy_planner_algebra.specs.internal.Below.{sifted}
 use Rattle.cy_planner_algebra.specs.PlanModels.{plan_of}
 use Rattle.cy_planner_algebra.proofs.Layers.{IsNoNodes, IsNoRels, IsNoJoin, IsNoOuter, IsNoLookup, IsNoProject, IsNoDistinct, IsNoUnion, by_layer, plan_from}
 use Rattle.cy_planner_pushdown.specs.internal.Pushed.{kind_at}

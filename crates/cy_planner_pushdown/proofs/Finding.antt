@@ -15,7 +15,7 @@ use Rattle.cy_graph.specs.Graph.{Content, State, IsGraph}
 use Rattle.cy_planner_algebra.specs.Expressions.{null}
 use Rattle.cy_planner_algebra.specs.Plans.{Plan, width}
 use Rattle.cy_planner_algebra.specs.Meaning.{rows_of}
-use Rattle.cy_planner_rows.specs.Conjuncts.{conjuncts}
+use Rattle.cy_planner_rows.specs.internal.Conjuncts.{conjuncts}
 use Rattle.cy_planner_rows.specs.Rows.{AreReadOver, FitsRows, IsFiltered, IsReadOver, condition_on, keeps}
 use Rattle.cy_planner_rows.proofs.Alike.{one_or_both}
 use Rattle.cy_planner_pushdown.specs.After.{AreKept, keeps_each}

@@ -5,7 +5,7 @@ use Rattle.cy_planner_algebra.specs.Plans.{Plan}
 use Rattle.cy_planner_algebra.specs.WellFormed.{IsWellFormed}
 use Rattle.cy_planner_pushdown.specs.declared.above.Above.{Above}
 use Rattle.cy_planner_pushdown.specs.declared.above.Above.TheVariants as above
-use Rattle.cy_planner_pushdown.specs.Above.{placed, placed_over}
+use Rattle.cy_planner_pushdown.specs.internal.Above.{placed, placed_over}
 use Rattle.cy_planner_pushdown.specs.declared.ways.Frame.{Frame}
 use Rattle.cy_planner_pushdown.specs.internal.Steps.{LeadThrough, LeadsTo}
 use Rattle.cy_planner_pushdown.specs.internal.Tests.{tests_of}

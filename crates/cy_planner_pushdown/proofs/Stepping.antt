@@ -20,7 +20,7 @@ use Rattle.cy_planner_pushdown.specs.declared.splits.Split.{Split}
 use Rattle.cy_planner_pushdown.specs.declared.ways.Step.{Step}
 use Rattle.cy_planner_pushdown.specs.declared.ways.Step.TheVariants as step
 use Rattle.cy_planner_pushdown.specs.declared.tests.CellsTest.{CellsTest}
-use Rattle.cy_planner_pushdown.specs.Above.{placed}
+use Rattle.cy_planner_pushdown.specs.internal.Above.{placed}
 use Rattle.cy_planner_pushdown.specs.internal.Pushed.{IsSifted, kind_at}
 use Rattle.cy_planner_pushdown.specs.internal.Splits.{IsSplit, Tests}
 use Rattle.cy_planner_pushdown.specs.internal.Steps.{IsBelow, IsStep, LeadsTo, LeadsToBoth, Stay}

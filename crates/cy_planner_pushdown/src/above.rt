@@ -4,7 +4,7 @@ ghost use Rattle.std.specs.Prelude.{◌≡◌, IfOk};
 ghost use Rattle.cy_planner_algebra.specs.Plans as plan;
 ghost use Rattle.cy_planner_algebra.specs.PlanModels.{plan_of};
 ghost use Rattle.cy_planner_algebra.specs.WellFormed.{IsWellFormed};
-ghost use Rattle.cy_planner_pushdown.specs.Above as spec;
+ghost use Rattle.cy_planner_pushdown.specs.internal.Above as spec;
 ghost use Rattle.cy_planner_pushdown.specs.internal.Pairs.{paired};
 
 use cy_planner_algebra::{Attribute, Keeping, KeyColumns, Output, Plan};

@@ -3,7 +3,7 @@
 ghost use Rattle.std.specs.Prelude.{IfOk};
 ghost use Rattle.cy_planner_algebra.specs.PlanModels.{plan_of};
 ghost use Rattle.cy_planner_algebra.specs.WellFormed.{IsWellFormed};
-ghost use Rattle.cy_planner_pushdown.specs.Above as standing;
+ghost use Rattle.cy_planner_pushdown.specs.internal.Above as standing;
 ghost use Rattle.cy_planner_pushdown.specs.internal.Pushed.{IsSifted};
 ghost use Rattle.cy_planner_pushdown.specs.internal.Tests.{CanAllBePushed, are_true, tests_of};
 

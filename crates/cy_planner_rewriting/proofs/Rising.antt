@@ -29,7 +29,7 @@ use Rattle.cy_planner_rows.proofs.OverRows.{filter_within, own_part}
 use Rattle.cy_planner_rewriting.specs.declared.layers.Layer.{Layer}
 use Rattle.cy_planner_rewriting.specs.declared.layers.Layer.TheVariants as layer
 use Rattle.cy_planner_rewriting.specs.internal.Columns.{AreColumns}
-use Rattle.cy_planner_rewriting.specs.Opened.{over_layer}
+use Rattle.cy_planner_rewriting.specs.internal.Opened.{over_layer}
 use Rattle.cy_planner_rewriting.specs.internal.Layers.{AreInPlace, layered}
 use Rattle.cy_planner_rewriting.specs.Rewritten.{IsRewritten}
 use Rattle.cy_planner_rewriting.proofs.Congruent.{rewritten_again, same_within}

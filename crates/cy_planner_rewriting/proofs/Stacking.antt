@@ -13,7 +13,7 @@ use Rattle.cy_planner_rows.specs.declared.places.Wanted.{Wanted}
 use Rattle.cy_planner_rows.specs.internal.Lookups.{over}
 use Rattle.cy_planner_rewriting.specs.declared.layers.Layer.{Layer}
 use Rattle.cy_planner_rewriting.specs.declared.layers.Layer.TheVariants as layer
-use Rattle.cy_planner_rewriting.specs.Opened.{over_layer}
+use Rattle.cy_planner_rewriting.specs.internal.Opened.{over_layer}
 use Rattle.cy_planner_rewriting.specs.internal.Layers.{AreInPlace, GoesOn, layered, lookup_layer, stacked}
 use Rattle.cy_planner_rewriting.specs.internal.Lowered.{AreMoved, moved, with_columns}
 use Rattle.cy_planner_rewriting.specs.Rewritten.{IsRewritten}

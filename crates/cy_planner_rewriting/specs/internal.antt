@@ -1,7 +1,8 @@
 -- What proofs and the crate's own functions need.
 pub mod Above
 pub mod Columns
+pub mod Layers
 pub mod Lowered
+pub mod Opened
 pub mod Redirected
 pub mod Splits
-pub mod Layers

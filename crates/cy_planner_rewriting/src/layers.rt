@@ -11,7 +11,7 @@ ghost use Rattle.cy_planner_algebra.specs.PlanModels.{output_of, plan_of};
 ghost use Rattle.cy_planner_algebra.specs.WellFormed.{IsWellFormed};
 ghost use Rattle.cy_planner_rows.specs.internal.Lookups.{over};
 ghost use Rattle.cy_planner_rewriting.specs.declared.layers.Layer.TheVariants as layer;
-ghost use Rattle.cy_planner_rewriting.specs.Opened as opened;
+ghost use Rattle.cy_planner_rewriting.specs.internal.Opened as opened;
 ghost use Rattle.cy_planner_rewriting.specs.Rewritten.{IsRewritten};
 ghost use Rattle.cy_planner_rewriting.specs.internal.Columns.{AreColumns};
 ghost use Rattle.cy_planner_rewriting.specs.internal.Layers as spec;

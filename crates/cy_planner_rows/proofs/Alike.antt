@@ -28,7 +28,7 @@ use Rattle.cy_expr.specs.Operators.{value_in_cell}
 use Rattle.cy_expr.specs.Reading.{reads_below, reads_columns}
 use Rattle.cy_expr.proofs.Rules.{both-both}
 use Rattle.cy_planner_rows.specs.internal.Alike.{IsAlike, if_ok, truth_on}
-use Rattle.cy_planner_rows.specs.Conjuncts.{conjuncts}
+use Rattle.cy_planner_rows.specs.internal.Conjuncts.{conjuncts}
 
 -- ---- a condition is an AND, or it is the only one in it
 

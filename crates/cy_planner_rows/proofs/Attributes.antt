@@ -26,7 +26,7 @@ use Rattle.cy_planner_algebra.specs.declared.operators.Attribute.{Attribute}
 use Rattle.cy_planner_algebra.specs.declared.operators.Attribute.TheVariants.{Property, RelType, Labels}
 use Rattle.cy_planner_algebra.specs.Expressions.{null}
 use Rattle.cy_planner_algebra.specs.Meaning.{attribute_of}
-use Rattle.cy_planner_rows.specs.Lowered.{attribute_outcome}
+use Rattle.cy_planner_rows.specs.internal.Lowered.{attribute_outcome}
 
 -- the kinds of what has an attribute
 abbrev pub has_attribute : Attribute → Kind → Bool

@@ -30,7 +30,7 @@ use Rattle.cy_planner_algebra.specs.declared.operators.Attribute.TheVariants.{Pr
 use Rattle.cy_planner_algebra.specs.Expressions.{cell_at}
 use Rattle.cy_planner_algebra.specs.Meaning.{attribute_of}
 use Rattle.cy_planner_rows.specs.declared.places.Wanted.{Wanted}
-use Rattle.cy_planner_rows.specs.Lowered.{AreArmsReadable, AreLinksReadable, AreReadable, IsCallReadable, IsColumnLookedUp, IsOtherwiseReadable, IsOwnerLookedUp, IsReadable, all_in, looked_up, lowered, lowered_arms, lowered_call, lowered_expressions, lowered_links, lowered_otherwise, lowered_single, missing_arms}
+use Rattle.cy_planner_rows.specs.internal.Lowered.{AreArmsReadable, AreLinksReadable, AreReadable, IsCallReadable, IsColumnLookedUp, IsOtherwiseReadable, IsOwnerLookedUp, IsReadable, all_in, looked_up, lowered, lowered_arms, lowered_call, lowered_expressions, lowered_links, lowered_otherwise, lowered_single, missing_arms}
 use Rattle.cy_planner_rows.specs.Places.{place}
 use Rattle.cy_planner_rows.specs.internal.Asked.{all_asked, asked, asked_by_arms, asked_by_call, asked_by_else, asked_by_links, asked_in, asked_of, asked_of_first}
 use Rattle.cy_planner_rows.specs.internal.Lookups.{value_on, with_values}

@@ -34,7 +34,7 @@ use Rattle.cy_expr.proofs.ReadingLemmas.{on_one-pointwise}
 use Rattle.cy_planner_algebra.specs.declared.operators.Attribute.{Attribute}
 use Rattle.cy_planner_algebra.specs.declared.operators.Attribute.TheVariants.{Property, RelType, Labels}
 use Rattle.cy_planner_algebra.specs.Expressions.{no_graph}
-use Rattle.cy_planner_rows.specs.Lowered.{AreArmsReadable, AreLinksReadable, AreReadable, IsCallReadable, IsColumnLookedUp, IsExistsReadable, IsKept, IsOtherwiseReadable, IsOwnerLookedUp, IsReadable, all_in, attribute_outcome, looked_up, lowered, lowered_arms, lowered_call, lowered_exists, lowered_expressions, lowered_links, lowered_otherwise, missing_arms, unless_null}
+use Rattle.cy_planner_rows.specs.internal.Lowered.{AreArmsReadable, AreLinksReadable, AreReadable, IsCallReadable, IsColumnLookedUp, IsExistsReadable, IsKept, IsOtherwiseReadable, IsOwnerLookedUp, IsReadable, all_in, attribute_outcome, looked_up, lowered, lowered_arms, lowered_call, lowered_exists, lowered_expressions, lowered_links, lowered_otherwise, missing_arms, unless_null}
 
 -- a label in the list of a node's labels
 either_known : (a b : Bool) → one_at_least (known a) (known b) ≡ known (a || b)

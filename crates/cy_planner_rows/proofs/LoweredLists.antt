@@ -12,7 +12,7 @@ use Rattle.cy_trees.proofs.TreeModelsLemmas.{case_otherwise}
 use Rattle.cy_scope_kinds.specs.declared.functions.Function.{Function}
 use Rattle.cy_planner_algebra.specs.declared.operators.Attribute.{Attribute}
 use Rattle.cy_scope_kinds.specs.internal.ExpressionTrees.{otherwise_of}
-use Rattle.cy_planner_rows.specs.Lowered.{all_in, lowered, lowered_arm, lowered_arms, lowered_call, lowered_expressions, lowered_link, lowered_links, lowered_otherwise, lowered_single, missing_arms, unless_null}
+use Rattle.cy_planner_rows.specs.internal.Lowered.{all_in, lowered, lowered_arm, lowered_arms, lowered_call, lowered_expressions, lowered_link, lowered_links, lowered_otherwise, lowered_single, missing_arms, unless_null}
 use Rattle.cy_planner_rows.proofs.CaseTrees.{case_is}
 
 pub lowered_list : (place : ℕ → Attribute → ℕ) (es : List Expression) → expressions_from (map (lowered place) es) ≡ lowered_expressions place (expressions_from es)

@@ -22,7 +22,7 @@ use Rattle.cy_planner_algebra.specs.Sure.{HasCell, HasCells, IsSureOn}
 use Rattle.cy_planner_algebra.specs.WellFormed.{IsOutputOver, IsWellFormed, greatest_width}
 use Rattle.cy_planner_algebra.specs.Within.{IsWithin}
 use Rattle.cy_planner_rows.specs.declared.places.Wanted.{Wanted}
-use Rattle.cy_planner_rows.specs.Lowered.{lowered}
+use Rattle.cy_planner_rows.specs.internal.Lowered.{lowered}
 use Rattle.cy_planner_rows.specs.Places.{place}
 use Rattle.cy_planner_rows.specs.internal.Asked.{asked, with_asked}
 use Rattle.cy_planner_rows.specs.internal.Lookups.{over, with_values}

@@ -7,7 +7,7 @@ use Rattle.cy_trees.specs.declared.expressions.Expr.{Expr}
 use Rattle.cy_trees.specs.declared.expressions.BinaryOperator.TheVariants.{And}
 use Rattle.cy_trees.specs.Trees.{Expression, binary}
 use Rattle.cy_trees.specs.TreeModels.{expression_of}
-use Rattle.cy_planner_rows.specs.Conjuncts.{all_conjuncts, conjuncts}
+use Rattle.cy_planner_rows.specs.internal.Conjuncts.{all_conjuncts, conjuncts}
 use Rattle.cy_planner_rows.specs.internal.Opened.{AreFewer, branches, steps_left, waiting}
 use Rattle.cy_planner_rows.proofs.Alike.{one_or_both}
 

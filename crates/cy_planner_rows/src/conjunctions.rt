@@ -2,7 +2,7 @@
 
 ghost use Rattle.std.specs.Prelude.{◌≡◌, ◌<◌, IfOk, length, map};
 ghost use Rattle.cy_trees.specs.TreeModels.{expression_of};
-ghost use Rattle.cy_planner_rows.specs.Conjuncts as spec;
+ghost use Rattle.cy_planner_rows.specs.internal.Conjuncts as spec;
 ghost use Rattle.cy_planner_rows.specs.internal.Opened.{IsOpened};
 
 use cy_trees::{BinaryOperator, Expr};

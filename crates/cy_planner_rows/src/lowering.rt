@@ -18,7 +18,7 @@ ghost use Rattle.cy_planner_algebra.specs.declared.operators.Attribute as declar
 ghost use Rattle.cy_planner_algebra.specs.declared.operators.Attribute.TheVariants.{Labels, Property};
 ghost use Rattle.cy_planner_algebra.specs.WellFormed.{greatest_width};
 ghost use Rattle.cy_planner_algebra.specs.Expressions.{no_graph};
-ghost use Rattle.cy_planner_rows.specs.Lowered as spec;
+ghost use Rattle.cy_planner_rows.specs.internal.Lowered as spec;
 ghost use Rattle.cy_planner_rows.specs.Places as places;
 
 use crate::wanted::WantedList;

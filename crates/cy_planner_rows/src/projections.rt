@@ -5,7 +5,7 @@ ghost use Rattle.cy_trees.specs.TreeModels.{expression_of};
 ghost use Rattle.cy_planner_algebra.specs.Plans.{computed};
 ghost use Rattle.cy_planner_algebra.specs.PlanModels.{output_of, plan_of};
 ghost use Rattle.cy_planner_algebra.specs.WellFormed.{greatest_width};
-ghost use Rattle.cy_planner_rows.specs.Lowered.{lowered};
+ghost use Rattle.cy_planner_rows.specs.internal.Lowered.{lowered};
 ghost use Rattle.cy_planner_rows.specs.Places.{place};
 ghost use Rattle.cy_planner_rows.specs.internal.Asked.{asked, with_asked};
 ghost use Rattle.cy_planner_rows.specs.Rows as spec;

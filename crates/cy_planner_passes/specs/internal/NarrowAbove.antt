@@ -6,7 +6,7 @@ use Rattle.cy_planner_rewriting.specs.Rewritten.{IsRewritten}
 use Rattle.cy_planner_passes.specs.declared.narrowing.Above.{Above}
 use Rattle.cy_planner_passes.specs.declared.narrowing.Above.TheVariants as above
 use Rattle.cy_planner_passes.specs.internal.Narrows.{restored}
-use Rattle.cy_planner_rewriting.specs.Opened.{over_layer, together}
+use Rattle.cy_planner_rewriting.specs.internal.Opened.{over_layer, together}
 
 abbrev pub over_one : Above → Plan → Plan
 over_one (above.Layer l) p = over_layer l p

@@ -6,7 +6,7 @@ use Rattle.cy_planner_algebra.specs.WellFormed.{IsWellFormed}
 use Rattle.cy_planner_rewriting.specs.internal.Layers.{layered}
 use Rattle.cy_planner_passes.specs.Standing.{StandsFor}
 use Rattle.cy_planner_passes.specs.declared.outer_filters.OuterAbove.{OuterAbove}
-use Rattle.cy_planner_rewriting.specs.Opened.{together}
+use Rattle.cy_planner_rewriting.specs.internal.Opened.{together}
 
 -- layers over a plan together with another one
 abbrev pub put_outer_over_one : OuterAbove → Plan → Plan

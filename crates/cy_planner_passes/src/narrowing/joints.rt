@@ -9,7 +9,7 @@ ghost use Rattle.cy_planner_rows.specs.Renumbered.{new_column};
 ghost use Rattle.cy_planner_rewriting.specs.Rewritten.{IsRewritten};
 ghost use Rattle.cy_planner_passes.specs.internal.Narrows.{restored};
 ghost use Rattle.cy_planner_passes.specs.internal.KeyPairs as spec;
-ghost use Rattle.cy_planner_rewriting.specs.Opened.{together};
+ghost use Rattle.cy_planner_rewriting.specs.internal.Opened.{together};
 
 use crate::narrowing::narrows::{Narrow, exact, settled, whole};
 use cy_planner_algebra::{Keeping, KeyColumns, Plan};

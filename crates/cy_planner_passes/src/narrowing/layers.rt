@@ -6,7 +6,7 @@ ghost use Rattle.cy_planner_algebra.specs.Plans as plan;
 ghost use Rattle.cy_planner_algebra.specs.PlanModels.{output_of};
 ghost use Rattle.cy_planner_algebra.specs.WellFormed.{IsWellFormed};
 ghost use Rattle.cy_planner_rewriting.specs.Rewritten.{IsRewritten};
-ghost use Rattle.cy_planner_rewriting.specs.Opened.{over_layer};
+ghost use Rattle.cy_planner_rewriting.specs.internal.Opened.{over_layer};
 ghost use Rattle.cy_planner_passes.specs.internal.Narrows.{restored};
 
 use crate::narrowing::narrows::{Narrow, exact, settled, whole};

@@ -5,7 +5,7 @@ ghost use Rattle.cy_planner_algebra.specs.declared.operators.Operator.{size-Oper
 ghost use Rattle.cy_planner_algebra.specs.PlanModels.{plan_of};
 ghost use Rattle.cy_planner_algebra.specs.WellFormed.{IsWellFormed};
 ghost use Rattle.cy_planner_rewriting.specs.Rewritten.{IsRewritten};
-ghost use Rattle.cy_planner_rewriting.specs.Opened.{together};
+ghost use Rattle.cy_planner_rewriting.specs.internal.Opened.{together};
 ghost use Rattle.cy_planner_rewriting.specs.internal.Layers as layers;
 ghost use Rattle.cy_planner_passes.specs.Standing.{StandsFor};
 

@@ -12,7 +12,7 @@ use Rattle.cy_planner_pushdown.specs.declared.splits.Split.{Split}
 use Rattle.cy_planner_pushdown.specs.declared.ways.Frame.{Frame}
 use Rattle.cy_planner_pushdown.specs.declared.ways.Step.{Step}
 use Rattle.cy_planner_pushdown.specs.declared.ways.Step.TheVariants as step
-use Rattle.cy_planner_pushdown.specs.Above.{placed}
+use Rattle.cy_planner_pushdown.specs.internal.Above.{placed}
 use Rattle.cy_planner_pushdown.specs.internal.Pairs.{paired}
 use Rattle.cy_planner_pushdown.specs.internal.Pushed.{IsSifted}
 use Rattle.cy_planner_pushdown.specs.internal.Tests.{CanAllBePushed, are_true, tests_of}

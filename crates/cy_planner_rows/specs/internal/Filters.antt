@@ -4,7 +4,7 @@ use Rattle.cy_trees.specs.Trees.{Expression}
 use Rattle.cy_planner_algebra.specs.Plans as plan
 use Rattle.cy_planner_algebra.specs.Plans.{Plan, width}
 use Rattle.cy_planner_algebra.specs.WellFormed.{IsWellFormed, greatest_width}
-use Rattle.cy_planner_rows.specs.Lowered.{lowered}
+use Rattle.cy_planner_rows.specs.internal.Lowered.{lowered}
 use Rattle.cy_planner_rows.specs.Places.{place}
 use Rattle.cy_planner_rows.specs.internal.Asked.{wanted_of}
 use Rattle.cy_planner_rows.specs.internal.Lookups.{narrowed, over}

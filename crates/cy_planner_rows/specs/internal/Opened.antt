@@ -6,7 +6,7 @@ use Rattle.cy_trees.specs.Trees.{Expression, binary}
 use Rattle.cy_trees.specs.TreeModels.{expression_of}
 use Rattle.cy_planner_rows.specs.declared.conjunctions.Opened.{Opened}
 use Rattle.cy_planner_rows.specs.declared.conjunctions.Opened.TheVariants as opened
-use Rattle.cy_planner_rows.specs.Conjuncts.{conjuncts}
+use Rattle.cy_planner_rows.specs.internal.Conjuncts.{conjuncts}
 
 -- two conditions that AND joins, or one that is no AND
 abbrev pub IsOpened : Expression → Opened → Type 0

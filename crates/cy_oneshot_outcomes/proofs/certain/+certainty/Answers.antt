@@ -1,7 +1,7 @@
 -- The next of what is left settles the answer, or leaves it to the others.
 use Rattle.std.proofs.Common.{◌≡◌, ◌+◌, ◌&&◌, true, false, drop, map, sym, ap, ◌∙◌}
 use Rattle.cy_trees.specs.TreeModels.{expression_of, expressions_from, link_of, links_from}
-use Rattle.cy_oneshot_outcomes.specs.Certain as spec
+use Rattle.cy_oneshot_outcomes.specs.internal.Certain as spec
 use Rattle.cy_oneshot_outcomes.proofs.CertainSteps.{next_expression, next_link}
 use Rattle.cy_oneshot_outcomes.proofs.certain.+certainty.Goals as goal
 

@@ -1,7 +1,7 @@
 -- What is left decides.
 use Rattle.std.proofs.Common.{◌≡◌, drop, map}
 use Rattle.cy_trees.specs.TreeModels.{expression_of, expressions_from, link_of, links_from}
-use Rattle.cy_oneshot_outcomes.specs.Certain as spec
+use Rattle.cy_oneshot_outcomes.specs.internal.Certain as spec
 use Rattle.cy_oneshot_outcomes.proofs.certain.+certainty.Given as goal
 
 abbrev pub invariant-are_certain_links-loop-link : goal.invariant-are_certain_links-loop-link

@@ -1,6 +1,6 @@
 -- The shapes of the row, and of the places so far.
 use Rattle.std.proofs.Common.{◌≡◌, ◌++◌, map, take}
-use Rattle.cy_oneshot_outcomes.specs.Certain.{shape_in, shape_of}
+use Rattle.cy_oneshot_outcomes.specs.internal.Certain.{shape_in, shape_of}
 use Rattle.cy_oneshot_patterns.specs.internal.Patterns.{place_of}
 use Rattle.cy_oneshot_outcomes.proofs.certain.shapes.Given as goal
 

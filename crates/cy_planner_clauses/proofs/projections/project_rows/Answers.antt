@@ -7,7 +7,7 @@ use Rattle.cy_planner_algebra.specs.Plans.{Plan}
 use Rattle.cy_planner_algebra.specs.PlanModels.{plan_of}
 use Rattle.cy_planner_rows.specs.Rows.{AreReadOver, IsProjected}
 use Rattle.cy_planner_rows.proofs.Filtered.{if_ok_map}
-use Rattle.cy_planner_clauses.specs.Projections.{IsProjection, expressions_in}
+use Rattle.cy_planner_clauses.specs.internal.Projections.{IsProjection, expressions_in}
 use Rattle.cy_planner_clauses.proofs.ProjectedPlans.{expressions_are, projection_made}
 use Rattle.cy_planner_clauses.proofs.projections.project_rows.Goals as goal
 

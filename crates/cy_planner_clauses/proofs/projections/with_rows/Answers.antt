@@ -5,7 +5,7 @@ use Rattle.cy_planner_algebra.specs.Plans.{Plan}
 use Rattle.cy_planner_algebra.specs.PlanModels.{plan_of}
 use Rattle.cy_planner_rows.specs.Rows.{IsFiltered}
 use Rattle.cy_planner_rows.proofs.Filtered.{if_ok_map}
-use Rattle.cy_planner_clauses.specs.Projections.{IsWith}
+use Rattle.cy_planner_clauses.specs.internal.Projections.{IsWith}
 use Rattle.cy_planner_clauses.proofs.WithPlans.{with_alone, with_where}
 use Rattle.cy_planner_clauses.proofs.projections.with_rows.Goals as goal
 

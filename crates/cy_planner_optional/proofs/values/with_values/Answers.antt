@@ -12,7 +12,7 @@ use Rattle.cy_planner_algebra.specs.Plans.{Output, Plan, computed, width}
 use Rattle.cy_planner_algebra.specs.PlanModels.{output_of, plan_of}
 use Rattle.cy_planner_algebra.specs.WellFormed.{IsOutputOver, greatest_width}
 use Rattle.cy_planner_rows.specs.declared.places.Wanted.{Wanted}
-use Rattle.cy_planner_rows.specs.Lowered.{lowered}
+use Rattle.cy_planner_rows.specs.internal.Lowered.{lowered}
 use Rattle.cy_planner_rows.specs.Places.{place}
 use Rattle.cy_planner_rows.specs.Columns.{column_output}
 use Rattle.cy_planner_rows.specs.internal.Lookups.{over}

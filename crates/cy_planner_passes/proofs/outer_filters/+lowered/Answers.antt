@@ -11,7 +11,7 @@ use Rattle.cy_planner_rewriting.proofs.Congruent.{rewritten_again}
 use Rattle.cy_planner_passes.specs.Standing.{StandsFor}
 use Rattle.cy_planner_passes.specs.declared.outer_filters.OuterAbove.{OuterAbove}
 use Rattle.cy_planner_passes.specs.internal.OuterAbove.{StandsBelowOuters, put_outer_over}
-use Rattle.cy_planner_rewriting.specs.Opened.{together}
+use Rattle.cy_planner_rewriting.specs.internal.Opened.{together}
 use Rattle.cy_planner_passes.proofs.Congruent.{on_graphs, stands_again}
 use Rattle.cy_planner_passes.proofs.Together.{no_layer, well_base, well_sides}
 use Rattle.cy_planner_passes.proofs.OuterPutting.{stands_alone, stands_left}

@@ -2,7 +2,7 @@ use Rattle.std.proofs.Common.{◌≡◌, rules, [], ◌∷◌, ◌++◌, sym, ap
 use Rattle.std.proofs.lemmas.Grind.{common_steps}
 use Rattle.cy_planner_algebra.specs.PlanModels.{plan_of}
 use Rattle.cy_planner_algebra.specs.WellFormed.{IsWellFormed}
-use Rattle.cy_planner_pushdown.specs.Above.{placed_over}
+use Rattle.cy_planner_pushdown.specs.internal.Above.{placed_over}
 use Rattle.cy_planner_pushdown.proofs.Placing.{lowest_off, well_lowest}
 use Rattle.cy_planner_pushdown.proofs.above.placed_over.Goals as goal
 

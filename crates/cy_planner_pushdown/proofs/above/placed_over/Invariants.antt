@@ -1,7 +1,7 @@
 -- What is left over the plan so far is all over the plan below.
 use Rattle.std.proofs.Common.{◌≡◌, vec_len}
 use Rattle.cy_planner_algebra.specs.PlanModels.{plan_of}
-use Rattle.cy_planner_pushdown.specs.Above as spec
+use Rattle.cy_planner_pushdown.specs.internal.Above as spec
 use Rattle.cy_planner_pushdown.proofs.above.placed_over.Given as goal
 
 abbrev pub invariant-loop-part : goal.invariant-loop-part

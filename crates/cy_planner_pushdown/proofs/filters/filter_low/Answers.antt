@@ -4,7 +4,7 @@ use Rattle.cy_trees.specs.Trees.{Expression}
 use Rattle.cy_trees.specs.TreeModels.{expression_of}
 use Rattle.cy_planner_algebra.specs.Plans.{Plan}
 use Rattle.cy_planner_algebra.specs.PlanModels.{plan_of}
-use Rattle.cy_planner_rows.specs.Conjuncts.{conjuncts}
+use Rattle.cy_planner_rows.specs.internal.Conjuncts.{conjuncts}
 use Rattle.cy_planner_pushdown.specs.After.{AreKept}
 use Rattle.cy_planner_pushdown.proofs.Finding.{all_asked, left_to_ask, read_rest}
 use Rattle.cy_planner_pushdown.proofs.filters.filter_low.Goals as goal

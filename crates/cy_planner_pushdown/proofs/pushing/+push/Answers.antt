@@ -4,7 +4,7 @@ use Rattle.cy_planner_algebra.specs.declared.operators.Operator.{size-Operator}
 use Rattle.cy_planner_algebra.specs.Plans.{Plan}
 use Rattle.cy_planner_algebra.specs.PlanModels.{plan_of}
 use Rattle.cy_planner_pushdown.specs.declared.ways.Frame.{Frame}
-use Rattle.cy_planner_pushdown.specs.Above.{placed}
+use Rattle.cy_planner_pushdown.specs.internal.Above.{placed}
 use Rattle.cy_planner_pushdown.specs.internal.Pairs.{paired}
 use Rattle.cy_planner_pushdown.specs.internal.Steps.{LeadThrough, LeadsTo, LeadsToBoth}
 use Rattle.cy_planner_pushdown.specs.internal.Tests.{tests_of}

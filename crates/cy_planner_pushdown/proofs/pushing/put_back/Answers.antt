@@ -3,7 +3,7 @@ use Rattle.std.proofs.lemmas.Grind.{common_steps}
 use Rattle.cy_trees.specs.Trees.{Expression}
 use Rattle.cy_planner_algebra.specs.Plans.{Plan}
 use Rattle.cy_planner_algebra.specs.PlanModels.{plan_of}
-use Rattle.cy_planner_pushdown.specs.Above.{placed}
+use Rattle.cy_planner_pushdown.specs.internal.Above.{placed}
 use Rattle.cy_planner_pushdown.specs.internal.Pushed.{IsSifted}
 use Rattle.cy_planner_pushdown.specs.internal.Tests.{are_true, tests_of}
 use Rattle.cy_planner_pushdown.proofs.SiftedPlans.{sifted_itself}

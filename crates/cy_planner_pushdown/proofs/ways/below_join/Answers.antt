@@ -6,7 +6,7 @@ use Rattle.cy_planner_algebra.specs.Plans.{Output, Plan}
 use Rattle.cy_planner_algebra.specs.PlanModels.{plan_of}
 use Rattle.cy_planner_pushdown.specs.declared.above.Above.TheVariants as above
 use Rattle.cy_planner_pushdown.specs.declared.above.Pair.TheVariants as pair
-use Rattle.cy_planner_pushdown.specs.Above.{placed}
+use Rattle.cy_planner_pushdown.specs.internal.Above.{placed}
 use Rattle.cy_planner_pushdown.specs.internal.Splits.{Tests, tests_in}
 use Rattle.cy_planner_pushdown.specs.internal.Pairs.{paired}
 use Rattle.cy_planner_pushdown.specs.internal.Steps.{LeadsTo}

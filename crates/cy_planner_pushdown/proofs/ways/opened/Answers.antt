@@ -12,7 +12,7 @@ use Rattle.cy_planner_algebra.specs.declared.operators.Operator.TheVariants.{rol
 use Rattle.cy_planner_algebra.specs.Fields.{operator_of}
 use Rattle.cy_planner_algebra.specs.WellFormed.{IsWellFormed}
 use Rattle.cy_planner_pushdown.specs.declared.above.Above.TheVariants as above
-use Rattle.cy_planner_pushdown.specs.Above.{placed}
+use Rattle.cy_planner_pushdown.specs.internal.Above.{placed}
 use Rattle.cy_planner_pushdown.specs.internal.Splits.{IsSplit, Tests, tests_in}
 use Rattle.cy_planner_pushdown.specs.internal.Steps.{IsStep, LeadsTo}
 use Rattle.cy_planner_pushdown.proofs.Stepping.{into_different, into_distinct, into_filter, into_lookup, into_outer, into_project, into_semi, steps_below}

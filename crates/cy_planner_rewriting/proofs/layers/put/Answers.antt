@@ -5,7 +5,7 @@ use Rattle.cy_planner_algebra.specs.PlanModels.{plan_of}
 use Rattle.cy_planner_rows.specs.declared.places.Wanted.{Wanted}
 use Rattle.cy_planner_rewriting.specs.declared.layers.Layer.{Layer}
 use Rattle.cy_planner_rewriting.specs.declared.layers.Layer.TheVariants as layer
-use Rattle.cy_planner_rewriting.specs.Opened.{over_layer}
+use Rattle.cy_planner_rewriting.specs.internal.Opened.{over_layer}
 use Rattle.cy_planner_rewriting.specs.internal.Layers.{GoesOn, stacked}
 use Rattle.cy_planner_rewriting.proofs.Stacking.{goes_on_same, one_lower, stays, through_different, through_filter}
 use Rattle.cy_planner_rewriting.proofs.layers.put.Goals as goal

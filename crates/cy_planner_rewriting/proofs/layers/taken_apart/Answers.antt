@@ -5,7 +5,7 @@ use Rattle.cy_planner_algebra.specs.PlanModels.{plan_of}
 use Rattle.cy_planner_algebra.specs.WellFormed.{IsWellFormed}
 use Rattle.cy_planner_rows.specs.declared.places.Wanted.{Wanted}
 use Rattle.cy_planner_rows.specs.internal.Lookups.{over}
-use Rattle.cy_planner_rewriting.specs.Opened.{over_layer}
+use Rattle.cy_planner_rewriting.specs.internal.Opened.{over_layer}
 use Rattle.cy_planner_rewriting.specs.internal.Layers.{stacked}
 use Rattle.cy_planner_rewriting.specs.Rewritten.{IsRewritten}
 use Rattle.cy_planner_rewriting.proofs.Congruent.{equal_plans}

@@ -2,7 +2,7 @@ use Rattle.std.proofs.Common.{sym, ap, ◌∙◌}
 use Rattle.std.proofs.lemmas.Result.{IfOk-weaker}
 use Rattle.cy_planner_algebra.specs.Plans.{Plan}
 use Rattle.cy_planner_algebra.specs.PlanModels.{plan_of}
-use Rattle.cy_planner_rewriting.specs.Opened.{over_layer}
+use Rattle.cy_planner_rewriting.specs.internal.Opened.{over_layer}
 use Rattle.cy_planner_rewriting.proofs.Congruent.{equal_plans}
 use Rattle.cy_planner_rewriting.proofs.parts.with_layer.Goals as goal
 

@@ -1,6 +1,6 @@
 -- The conditions stay the same.
 use Rattle.std.proofs.Common.{◌≡◌, vec_len}
-use Rattle.cy_planner_rows.specs.Conjuncts.{all_conjuncts}
+use Rattle.cy_planner_rows.specs.internal.Conjuncts.{all_conjuncts}
 use Rattle.cy_planner_rows.proofs.conjunctions.all_of.Given as goal
 
 abbrev pub invariant-loop-alloc : goal.invariant-loop-alloc

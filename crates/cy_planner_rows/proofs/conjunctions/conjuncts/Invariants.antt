@@ -1,7 +1,7 @@
 -- The conditions that were found, and those in the trees that wait.
 use Rattle.std.proofs.Common.{◌≡◌, ◌++◌, map}
 use Rattle.cy_trees.specs.TreeModels.{expression_of}
-use Rattle.cy_planner_rows.specs.Conjuncts.{conjuncts}
+use Rattle.cy_planner_rows.specs.internal.Conjuncts.{conjuncts}
 use Rattle.cy_planner_rows.specs.internal.Opened.{steps_left, waiting}
 use Rattle.cy_planner_rows.proofs.conjunctions.conjuncts.Given as goal
 

@@ -1,7 +1,7 @@
 use Rattle.std.proofs.Common.{◌≡◌, [], length, sym, ap, ◌∙◌, arith}
 use Rattle.cy_trees.specs.Trees.{Expression}
 use Rattle.cy_trees.specs.TreeModels.{expression_of}
-use Rattle.cy_planner_rows.specs.Conjuncts.{all_conjuncts, conjuncts}
+use Rattle.cy_planner_rows.specs.internal.Conjuncts.{all_conjuncts, conjuncts}
 use Rattle.cy_planner_rows.proofs.Alike.{one_at_least}
 use Rattle.cy_planner_rows.proofs.Stacks.{conjuncts_again}
 use Rattle.cy_planner_rows.proofs.conjunctions.halved.Goals as goal

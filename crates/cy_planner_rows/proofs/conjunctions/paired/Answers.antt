@@ -6,7 +6,7 @@ use Rattle.cy_trees.specs.declared.expressions.Expr.{Expr, the_lemmas}
 use Rattle.cy_trees.specs.declared.expressions.Expr.TheVariants as expr
 use Rattle.cy_trees.specs.Trees.{binary}
 use Rattle.cy_trees.specs.TreeModels.{expression_of}
-use Rattle.cy_planner_rows.specs.Conjuncts.{all_conjuncts}
+use Rattle.cy_planner_rows.specs.internal.Conjuncts.{all_conjuncts}
 use Rattle.cy_planner_rows.specs.internal.Opened.{AreFewer, waiting}
 use Rattle.cy_planner_rows.proofs.Stacks.{fewer_last_one, fewer_two, joined_one, joined_two, waiting_reversed}
 use Rattle.cy_planner_rows.proofs.conjunctions.paired.Goals as goal

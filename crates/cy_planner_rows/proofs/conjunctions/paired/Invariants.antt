@@ -1,6 +1,6 @@
 -- The conditions that were made, and those that wait.
 use Rattle.std.proofs.Common.{◌≡◌, ◌++◌, length, vec_len}
-use Rattle.cy_planner_rows.specs.Conjuncts.{all_conjuncts}
+use Rattle.cy_planner_rows.specs.internal.Conjuncts.{all_conjuncts}
 use Rattle.cy_planner_rows.specs.internal.Opened.{AreFewer, waiting}
 use Rattle.cy_planner_rows.proofs.conjunctions.paired.Given as goal
 

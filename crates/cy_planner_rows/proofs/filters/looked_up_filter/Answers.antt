@@ -8,7 +8,7 @@ use Rattle.cy_planner_algebra.specs.Plans.{Plan, width}
 use Rattle.cy_planner_algebra.specs.PlanModels.{plan_of}
 use Rattle.cy_planner_algebra.specs.WellFormed.{IsOver, greatest_width}
 use Rattle.cy_planner_rows.specs.declared.places.Wanted.{Wanted}
-use Rattle.cy_planner_rows.specs.Lowered.{lowered}
+use Rattle.cy_planner_rows.specs.internal.Lowered.{lowered}
 use Rattle.cy_planner_rows.specs.Places.{place}
 use Rattle.cy_planner_rows.specs.internal.Asked.{asked, wanted_of, with_tree}
 use Rattle.cy_planner_rows.specs.internal.Filters.{IsLookedUpFilter}

@@ -8,7 +8,7 @@ use Rattle.cy_trees.specs.declared.expressions.Link.{Link}
 use Rattle.cy_trees.specs.Trees.{Expression, call}
 use Rattle.cy_trees.specs.TreeModels.{arm_of, arms_from, expression_of, expressions_from, link_of, links_from}
 use Rattle.cy_scope_kinds.specs.Functions.{function_named}
-use Rattle.cy_planner_rows.specs.Lowered as spec
+use Rattle.cy_planner_rows.specs.internal.Lowered as spec
 use Rattle.cy_planner_rows.specs.Places.{place}
 use Rattle.cy_planner_rows.proofs.LoweredLists.{call_is, lowered_arms_list, lowered_links_list, lowered_list, other_arguments, single_call}
 use Rattle.cy_planner_rows.proofs.lowering.+lowering.Goals as goal

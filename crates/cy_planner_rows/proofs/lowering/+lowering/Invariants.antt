@@ -1,7 +1,7 @@
 -- The parts so far.
 use Rattle.std.proofs.Common.{◌≡◌, map, take}
 use Rattle.cy_trees.specs.TreeModels.{expression_of, link_of, arm_of}
-use Rattle.cy_planner_rows.specs.Lowered.{lowered, lowered_arm, lowered_link}
+use Rattle.cy_planner_rows.specs.internal.Lowered.{lowered, lowered_arm, lowered_link}
 use Rattle.cy_planner_rows.specs.Places.{place}
 use Rattle.cy_planner_rows.proofs.lowering.+lowering.Given as goal
 

@@ -2,7 +2,7 @@ use Rattle.std.proofs.Common.{sym}
 use Rattle.std.proofs.lemmas.Result.{IfOk-weaker}
 use Rattle.cy_planner_algebra.specs.Plans.{Plan}
 use Rattle.cy_planner_algebra.specs.PlanModels.{plan_of}
-use Rattle.cy_planner_rewriting.specs.Opened.{together}
+use Rattle.cy_planner_rewriting.specs.internal.Opened.{together}
 use Rattle.cy_planner_passes.proofs.Congruent.{equal_plans}
 use Rattle.cy_planner_passes.proofs.outer_filters.bases.put_together.Goals as goal
 

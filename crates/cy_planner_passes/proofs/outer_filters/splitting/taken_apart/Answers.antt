@@ -3,7 +3,7 @@ use Rattle.cy_trees.specs.Trees.{Expression}
 use Rattle.cy_trees.specs.TreeModels.{expression_of}
 use Rattle.cy_planner_algebra.specs.Plans.{Plan}
 use Rattle.cy_planner_algebra.specs.PlanModels.{plan_of}
-use Rattle.cy_planner_rows.specs.Conjuncts.{conjuncts}
+use Rattle.cy_planner_rows.specs.internal.Conjuncts.{conjuncts}
 use Rattle.cy_planner_pushdown.specs.After.{AreKept}
 use Rattle.cy_planner_passes.proofs.Predicates.{left_split}
 use Rattle.cy_planner_passes.proofs.outer_filters.splitting.taken_apart.Goals as goal

@@ -1,0 +1,2 @@
+-- What proofs and the crate's own functions need.
+pub mod Below

@@ -24,7 +24,7 @@ def first_session(name: str) -> List[Exchange]:
     return [it.without_entries() for it in session if it.answers]
 
 
-def send_again(program: Path, lines: List[bytes], faults: Path, growth: int) -> Tuple[Ended, int, int]:
+def send_lines(program: Path, lines: List[bytes], faults: Path, growth: int) -> Tuple[Ended, int, int]:
     """Sends lines one by one, and one that is answered with out of memory once more at once, while the growth of that number is refused.
     Answers how the run ended, with the answers but for those, how many these were, and how many growths there were."""
     counts = faults.parent / f"counts-{growth}"
@@ -61,12 +61,12 @@ def refuse_each(program: Path, name: str, faults: Path) -> Tuple[int, int, int, 
     and how many answers were lost."""
     session = first_session(name)
     lines, wanted = [it.line.encode() for it in session], [f"{it.answers[0]}\n".encode() for it in session]
-    undisturbed, again, total = send_again(program, lines, faults, 0)
+    undisturbed, again, total = send_lines(program, lines, faults, 0)
     expect(undisturbed, Ended(0, b"".join(wanted), b""), f"{name}, with no growth refused")
     at_start = sent_again = lost = 0
     with ThreadPoolExecutor(os.cpu_count()) as workers:
         numbers = range(1, total + 1)
-        for number, (ended, again, _) in zip(numbers, workers.map(lambda it: send_again(program, lines, faults, it), numbers)):
+        for number, (ended, again, _) in zip(numbers, workers.map(lambda it: send_lines(program, lines, faults, it), numbers)):
             if ended == AT_START:
                 at_start += 1
                 continue

@@ -6,7 +6,7 @@ use Rattle.std.proofs.lemmas.List.{nil_from_length}
 use Rattle.cy_graph.specs.Graph.{State, Versions, IsGraph}
 use Rattle.cy_graph.specs.Touched.{BeforeImage, before_image, AreTouched}
 use Rattle.cy_graph.specs.declared.touched.Touched.{Touched}
-use Rattle.cy_network_touches.specs.Changes.{before_change}
+use Rattle.cy_network_sources.specs.Changes.{before_change}
 use Rattle.cy_engine_views.specs.declared.faults.UpkeepFault.{UpkeepFault}
 use Rattle.cy_engine_views.specs.declared.faults.UpkeepFault.TheVariants as upkeep
 use Rattle.cy_engine_views.specs.Upkeep.{CannotFollow, Upkeep}

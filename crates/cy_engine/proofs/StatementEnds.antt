@@ -5,7 +5,7 @@ use Rattle.cy_index.specs.Index.{StoreState}
 use Rattle.cy_lexer.specs.declared.tokens.Token.{Token}
 use Rattle.cy_trees.specs.Trees.{Statement}
 use Rattle.cy_updates_meaning.specs.Statements.{Outcome, statement_outcome}
-use Rattle.cy_network_touches.specs.Changes.{before_change}
+use Rattle.cy_network_sources.specs.Changes.{before_change}
 use Rattle.cy_engine_views.specs.declared.views.Views.{Views}
 use Rattle.cy_engine_views.specs.HeldViews.{Held, view_of}
 use Rattle.cy_engine_views.specs.Upkeep.{AreKeptUp, StandFor, Upkeep, held_in, upkeep_in, upkeep_of, views_in}

@@ -6,7 +6,7 @@ ghost use Rattle.cy_trees.specs.TreeModels.{statement_of};
 ghost use Rattle.cy_oneshot_meaning.specs.Queries.{statement_columns};
 ghost use Rattle.cy_updates.specs.Answers.{outcome_seen};
 ghost use Rattle.cy_graph.specs.Graph.{State};
-ghost use Rattle.cy_network_touches.specs.Changes.{before_change};
+ghost use Rattle.cy_network_sources.specs.Changes.{before_change};
 ghost use Rattle.cy_engine_views.specs.Upkeep.{StandFor, held_in, upkeep_in};
 ghost use Rattle.cy_engine_views.specs.RegisteredViews.{View, entry_at};
 ghost use Rattle.cy_engine.specs.Model.{new_machine, state_of};

@@ -13,7 +13,7 @@ use Rattle.cy_planner_algebra.specs.Expressions.{cell_at, holds, output_cell, pr
 use Rattle.cy_planner_algebra.specs.Plans as plan
 use Rattle.cy_planner_algebra.specs.Plans.{Output, Plan}
 use Rattle.cy_network_sources.specs.Scans.{if_this, kept, kept_at, scan_column, scan_parts}
-use Rattle.cy_network_touches.specs.Attributes.{node_attribute}
+use Rattle.cy_network_sources.specs.Attributes.{node_attribute}
 use Rattle.cy_network_sources.specs.internal.Through.{node_made}
 use Rattle.cy_engine_views.specs.internal.Labelled.{Asks, HasLabels, IsLabelled, IsOne, IsSingle, LacksWithout, NamesNodes}
 

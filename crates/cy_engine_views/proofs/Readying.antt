@@ -8,7 +8,7 @@ use Rattle.cy_graph.specs.Graph.{Content, State}
 use Rattle.cy_bags.specs.declared.changes.Change.{Change}
 use Rattle.cy_bags.specs.Difference.{IsDifference, is_nothing}
 use Rattle.cy_feeds.specs.Feeds.{History, IsReserved, Kept, latest}
-use Rattle.cy_network_touches.specs.Changes.{IsChange, Touches}
+use Rattle.cy_network_sources.specs.Changes.{IsChange, Touches}
 use Rattle.cy_engine_views.specs.declared.registered.Registered.{Registered}
 use Rattle.cy_engine_views.specs.Upkeep.{IsItsChange, IsPrepared, IsReady, IsUntil, Rests, StandsFor}
 use Rattle.cy_engine_views.specs.RegisteredViews.{rows_of}

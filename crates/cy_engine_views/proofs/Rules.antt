@@ -12,7 +12,7 @@ use Rattle.cy_planner_algebra.specs.declared.operators.Orientation.{Orientation}
 use Rattle.cy_planner_algebra.specs.Expressions.{holds, projected}
 use Rattle.cy_planner_algebra.specs.Plans as plan
 use Rattle.cy_planner_algebra.specs.Plans.{Output, Plan}
-use Rattle.cy_network_touches.specs.Attributes.{node_attribute, rel_attribute}
+use Rattle.cy_network_sources.specs.Attributes.{node_attribute, rel_attribute}
 use Rattle.cy_network_sources.specs.Scans.{if_this, kept, kept_at, scan_column, scan_parts}
 use Rattle.cy_network_sources.specs.internal.Rows.{rel_rows}
 use Rattle.cy_network_sources.specs.internal.Through.{node_made, rel_made}

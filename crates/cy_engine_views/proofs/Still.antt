@@ -5,7 +5,7 @@ use Rattle.cy_values.specs.declared.rows.Cell.{Cell}
 use Rattle.cy_values.specs.Bag.{IsSameBag}
 use Rattle.cy_graph.specs.Graph.{State}
 use Rattle.cy_bags.specs.declared.changes.Change.{Change}
-use Rattle.cy_network_touches.specs.Changes.{IsChange, Touches}
+use Rattle.cy_network_sources.specs.Changes.{IsChange, Touches}
 use Rattle.cy_network_relevance.specs.Relevance.{IsUntouched}
 use Rattle.cy_network_parts.specs.Counted.{counted}
 use Rattle.cy_engine_views.specs.Masks.{AreApart, mask_of}

@@ -5,7 +5,7 @@ use Rattle.cy_graph.specs.declared.nodes.Node.{Node}
 use Rattle.cy_graph.specs.declared.nodes.Rel.{Rel}
 use Rattle.cy_graph.specs.Graph.{State, node_at, rel_at}
 use Rattle.cy_planner_algebra.specs.Plans.{Plan}
-use Rattle.cy_network_touches.specs.Changes.{IsChange, Touches}
+use Rattle.cy_network_sources.specs.Changes.{IsChange, Touches}
 use Rattle.cy_network_relevance.specs.Relevance.{IsUntouched}
 use Rattle.cy_engine_views.specs.NameBits.{AreBitsApart, joined_bits, no_bits, node_bits, rel_bits}
 use Rattle.cy_engine_views.specs.declared.masks.bits.Bits.{Bits}

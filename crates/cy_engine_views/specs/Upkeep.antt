@@ -15,8 +15,8 @@ use Rattle.cy_feeds.specs.Feeds.{Kept, IsReserved, latest}
 use Rattle.cy_network_memory.specs.contracts.keyed.KeyedMemoryMemory.TheImpl.{ghosts}
 use Rattle.cy_planner_algebra.specs.Plans.{Plan}
 use Rattle.cy_planner_algebra.specs.PlanModels.{plan_of}
-use Rattle.cy_network_touches.specs.Changes.{Touches, IsChange}
-use Rattle.cy_network_touches.specs.Costs.{cost}
+use Rattle.cy_network_sources.specs.Changes.{Touches, IsChange}
+use Rattle.cy_network_sources.specs.Costs.{cost}
 use Rattle.cy_engine_views.specs.Masks.{Covers}
 use Rattle.cy_network.specs.Networks as networks
 use Rattle.cy_network.specs.Networks.{HasTooManyRows, NetworkState, operator_of, state_of}

@@ -17,7 +17,7 @@ use crate::masks::bits::Bits;
 use crate::masks::plans::plan_mask;
 use crate::masks::touched::{touched_nodes, touched_rels};
 use cy_index::Sight;
-use cy_network_touches::GraphChange;
+use cy_network_sources::GraphChange;
 use cy_planner_algebra::Operator;
 
 /// The bits of what a plan reads, or of what a change touched. A name has one bit in each of two words, either of which it may share with others.

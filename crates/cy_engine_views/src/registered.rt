@@ -3,7 +3,7 @@
 ghost use Rattle.std.specs.Prelude.{◌≡◌, ℕ, ◌<◌, ◌≤◌, IfErr, IfSome, OnErr, OnOk};
 ghost use Rattle.cy_graph.specs.Graph.{Content};
 ghost use Rattle.cy_feeds.specs.Feeds.{latest};
-ghost use Rattle.cy_network_touches.specs.Changes.{IsChange, before_change};
+ghost use Rattle.cy_network_sources.specs.Changes.{IsChange, before_change};
 ghost use Rattle.cy_engine_views.specs.Masks.{mask_of};
 ghost use Rattle.cy_engine_views.specs.Upkeep.{CannotFollowBy, IsReady, Rests, network_of};
 ghost use Rattle.cy_engine_views.specs.internal.Loops.{CanRest, IsOne, IsSettledFrom, Takes};
@@ -14,7 +14,7 @@ use crate::rows::QueryRows;
 use cy_bags::{Change, Entry};
 use cy_feeds::Feed;
 use cy_index::Sight;
-use cy_network_touches::GraphChange;
+use cy_network_sources::GraphChange;
 use cy_values::{Duplicate, row_order_laws};
 use std::alloc::Global;
 

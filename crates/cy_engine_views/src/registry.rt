@@ -3,7 +3,7 @@
 ghost use Rattle.std.specs.Prelude.{◌≡◌, ℕ, ◌<◌, IfErr, OnErr, OnOk, map};
 ghost use Rattle.std.specs.List.{AllByRecursion};
 ghost use Rattle.cy_graph.specs.Graph.{Content};
-ghost use Rattle.cy_network_touches.specs.Changes.{IsChange, before_change};
+ghost use Rattle.cy_network_sources.specs.Changes.{IsChange, before_change};
 ghost use Rattle.cy_engine_views.specs.Masks.{mask_of};
 ghost use Rattle.cy_engine_views.specs.Upkeep.{CannotFollow, held, upkeep_of};
 ghost use Rattle.cy_engine_views.specs.internal.Loops.{AllAreSettled, AllCanRest, AllReady, AllRest, AllTake};
@@ -12,7 +12,7 @@ use crate::faults::UpkeepFault;
 use crate::masks::Mask;
 use crate::registered::Registered;
 use cy_index::Sight;
-use cy_network_touches::GraphChange;
+use cy_network_sources::GraphChange;
 use indexmap::IndexMap;
 use std::alloc::Global;
 

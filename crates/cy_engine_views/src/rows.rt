@@ -4,7 +4,7 @@ ghost use Rattle.std.specs.Prelude.{◌≡◌, ◌≤◌, IfErr, IfOk, OnErr, On
 ghost use Rattle.cy_trees.specs.TreeModels.{statement_of};
 ghost use Rattle.cy_graph.specs.Graph.{Content, State};
 ghost use Rattle.cy_planner.specs.Weight.{greatest_weight, weight};
-ghost use Rattle.cy_network_touches.specs.Changes.{IsChange, Touches, before_change};
+ghost use Rattle.cy_network_sources.specs.Changes.{IsChange, Touches, before_change};
 ghost use Rattle.cy_engine_views.specs.Masks.{mask_of};
 ghost use Rattle.cy_bags.specs.Difference.{IsDifference};
 ghost use Rattle.cy_network.specs.Networks.{operator_of};
@@ -17,7 +17,7 @@ use cy_bags::Change;
 use cy_index::{Sight, Store};
 use cy_network::Network;
 use cy_network_memory::KeyedMemory;
-use cy_network_touches::GraphChange;
+use cy_network_sources::GraphChange;
 use cy_planner::plan;
 use cy_scope::ViewQuery;
 use cy_values::{Fault, Row};

@@ -5,7 +5,7 @@ use Rattle.cy_network_memory.specs.declared.memory.Memory.{Ghosts}
 use Rattle.cy_network_memory.specs.declared.memory.RowDelta.{RowDelta}
 use Rattle.cy_planner_algebra.specs.Plans.{Plan}
 use Rattle.cy_network_operators.specs.declared.sides.SideDeltas.{SideDeltas}
-use Rattle.cy_network_touches.specs.Changes.{Touches}
+use Rattle.cy_network_sources.specs.Changes.{Touches}
 use Rattle.cy_network.specs.internal.OperatorsKeptUp.{FedPairs, FedRows}
 
 module _ {M C : Type 0} (memory : Ghosts M C) (p q : Plan) (own these : List M) (deltas : SideDeltas) (old : Option State) (now : State) (touches : Touches) where

@@ -7,12 +7,12 @@ use Rattle.cy_planner_algebra.specs.Meaning.{rows_of}
 use Rattle.cy_network_memory.specs.declared.memory.RowDelta.{RowDelta}
 use Rattle.cy_network_operators.specs.Deltas.{IsDelta}
 use Rattle.cy_network_operators.proofs.Staging.{after_delta}
-use Rattle.cy_network_touches.specs.Changes.{IsChange, Touches}
-use Rattle.cy_network_touches.specs.Costs.{cost}
+use Rattle.cy_network_sources.specs.Changes.{IsChange, Touches}
+use Rattle.cy_network_sources.specs.Costs.{cost}
 use Rattle.cy_network_parts.specs.Counted.{written}
 use Rattle.cy_network_parts.specs.Memories.{AreHeld, keys}
 use Rattle.cy_network_parts.specs.internal.Upkeep.{IsDone, IsUpkeep}
-use Rattle.cy_network_touches.specs.Work.{all_reads, all_steps, asked_reads}
+use Rattle.cy_network_sources.specs.Work.{all_reads, all_steps, asked_reads}
 use Rattle.cy_network.proofs.Excess.{written_deltas}
 
 -- what was staged for a graph is held there

@@ -22,7 +22,7 @@ use Rattle.cy_planner_algebra.specs.Sure.{HasCells, HasTruth, IsSure}
 use Rattle.cy_network_memory.specs.declared.memory.RowDelta.{RowDelta}
 use Rattle.cy_network_operators.specs.Deltas.{IsBounded, IsDelta, counts, counts_after, rows_at}
 use Rattle.cy_network_operators.proofs.PlanLemmas.{different_at, filter_at, lookup_at, once_at, project_at, one_of_two as either}
-use Rattle.cy_network_touches.specs.Changes.{Touches}
+use Rattle.cy_network_sources.specs.Changes.{Touches}
 use Rattle.cy_network_parts.specs.Memories.{is_row_by_row, is_scan, none_where}
 use Rattle.cy_network_parts.specs.internal.Upkeep.{IsDeltaOf, IsFed, IsOwnBegun, IsOwnDone, IsStep, content_of, state_of}
 use Rattle.cy_network_operators.specs.Passing.{left_of, row_delta_if}

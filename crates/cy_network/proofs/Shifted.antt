@@ -17,7 +17,7 @@ use Rattle.cy_network_operators.proofs.DeltaLemmas.{row_delta_there}
 use Rattle.cy_network_operators.proofs.Staging.{after_delta}
 use Rattle.cy_network_operators.proofs.StepLemmas.{row_delta_number}
 use Rattle.cy_network_operators.proofs.PlanLemmas.{one_of_two}
-use Rattle.cy_network_touches.specs.Changes.{IsChange, Touches}
+use Rattle.cy_network_sources.specs.Changes.{IsChange, Touches}
 use Rattle.cy_network_parts.specs.internal.Upkeep.{IsDeltaOf, content_of, state_of}
 use Rattle.cy_network_parts.proofs.Steps.{old_graph}
 

@@ -15,7 +15,7 @@ use Rattle.cy_network_parts.specs.internal.Inputs.{below_contents}
 use Rattle.cy_network_parts.specs.Memories.{contents, emptied_where, is_row_by_row, is_scan, keys, none_where, own_contents, own_keys}
 use Rattle.cy_network_parts.specs.Parts.{below_count, first_below, second_below}
 use Rattle.cy_network_parts.specs.Shared.{left_held, right_held}
-use Rattle.cy_network_touches.specs.Work.{in_all}
+use Rattle.cy_network_sources.specs.Work.{in_all}
 
 -- what a part with one part below it is made of
 pub record IsOverOne (p : Plan) : Type 0 where

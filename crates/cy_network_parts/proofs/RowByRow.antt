@@ -16,7 +16,7 @@ use Rattle.cy_network_operators.specs.Deltas.{AreWide, IsBounded, IsDelta, count
 use Rattle.std.specs.List.{All}
 use Rattle.cy_graph.specs.Graph.{IsGraph, State}
 use Rattle.cy_network_operators.proofs.PlanLemmas.{parts_wide, project_at}
-use Rattle.cy_network_touches.specs.Changes.{Touches}
+use Rattle.cy_network_sources.specs.Changes.{Touches}
 use Rattle.cy_network_sources.specs.Scans.{kept_at}
 use Rattle.cy_network_sources.proofs.Through.{kept_cell}
 use Rattle.cy_network_parts.proofs.Steps.{old_graph}

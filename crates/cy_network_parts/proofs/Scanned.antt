@@ -17,13 +17,13 @@ use Rattle.cy_network_memory.specs.declared.memory.RowDelta.{RowDelta}
 use Rattle.cy_network_memory.proofs.BucketMaps.{false_true}
 use Rattle.cy_network_operators.specs.Deltas.{IsBounded, IsDelta, content_at, counts, rows_at}
 use Rattle.cy_network_operators.proofs.PlanLemmas.{different_at, filter_at, lookup_at, nodes_at, project_at, rels_at}
-use Rattle.cy_network_touches.specs.Changes.{Touches}
+use Rattle.cy_network_sources.specs.Changes.{Touches}
 use Rattle.cy_network_sources.specs.Scans.{IsScan, column_over, if_this, kept, scan_column, scan_parts, scan_reads}
 use Rattle.cy_network_parts.proofs.ScanFacts.{scan_few}
 use Rattle.cy_network_parts.specs.Memories.{AreWithin, contents, is_scan, keys, own_contents, own_keys, tells_rows, none_where}
 use Rattle.cy_network_parts.specs.Parts.{below_count, chain, first_below}
 use Rattle.cy_network_parts.specs.internal.Upkeep.{IsBegun, IsDone, IsDeltaOf, IsStep, content_of, state_of}
-use Rattle.cy_network_touches.specs.Work.{all_reads}
+use Rattle.cy_network_sources.specs.Work.{all_reads}
 use Rattle.cy_network_parts.proofs.Steps.{done_leaf, old_content}
 
 -- ---- what is a scan

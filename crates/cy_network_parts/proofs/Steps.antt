@@ -15,7 +15,7 @@ use Rattle.cy_planner_algebra.specs.Meaning.{rows_of}
 use Rattle.cy_network_memory.specs.declared.memory.RowDelta.{RowDelta}
 use Rattle.cy_network_operators.specs.Deltas.{content_at, counts, rows_at}
 use Rattle.cy_network_operators.proofs.DeltaLemmas.{after_bounded}
-use Rattle.cy_network_touches.specs.Changes.{IsChange, Touches}
+use Rattle.cy_network_sources.specs.Changes.{IsChange, Touches}
 use Rattle.cy_network_parts.specs.internal.Inputs.{below_contents}
 use Rattle.cy_network_parts.specs.Memories.{AreWithin, contents, emptied_where, keys, own_contents, own_keys}
 use Rattle.cy_network_parts.specs.Limits.{HasTooManyRows}

@@ -9,7 +9,7 @@ use Rattle.cy_planner_algebra.specs.Plans.{Output, Plan}
 use Rattle.cy_planner_algebra.specs.PlanModels.{plan_of}
 use Rattle.cy_planner_algebra.specs.internal.Below.{below, sifted}
 use Rattle.cy_planner_algebra.proofs.Layers.{IsNoUnit, IsNoNodes, IsNoRels, IsNoJoin, IsNoOuter, IsNoLookup, IsNoProject, IsNoDistinct, IsNoUnion, by_layer, plan_from}
-use Rattle.cy_network_touches.specs.Work.{looks_at_graph}
+use Rattle.cy_network_sources.specs.Work.{looks_at_graph}
 use Rattle.cy_network_relevance.specs.declared.entities.Entity.{Entity}
 use Rattle.cy_network_relevance.specs.internal.Kept.{IsUnchanged}
 use Rattle.cy_network_relevance.specs.Lists.{least_named, most_named}

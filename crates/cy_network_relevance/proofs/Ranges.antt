@@ -7,7 +7,7 @@ use Rattle.std.specs.Ordering.{eq_by_cmp, is_lt, nat_cmp}
 use Rattle.std.specs.FinMap.Entries as entries
 use Rattle.std.proofs.lemmas.Bool.{and_parts, eqb-true}
 use Rattle.std.proofs.lemmas.Bool.Decides.{nat_tests}
-use Rattle.cy_network_touches.proofs.Keys.{same_by_order}
+use Rattle.cy_network_sources.proofs.Keys.{same_by_order}
 use Rattle.cy_network_sources.proofs.Through.{each_both, each_weaker}
 
 less_by_order : (m n : ℕ) → is_lt (nat_cmp m n) ≡ true → m < n

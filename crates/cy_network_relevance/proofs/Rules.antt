@@ -19,7 +19,7 @@ use Rattle.cy_planner_algebra.specs.Plans as plan
 use Rattle.cy_planner_algebra.specs.Plans.{Output, Plan, computed, gathered}
 use Rattle.cy_network_relevance.specs.Lists.{column_alone}
 use Rattle.cy_network_sources.specs.Scans.{if_this, is_column, is_this, kept, kept_at, scan_parts}
-use Rattle.cy_network_touches.specs.Attributes.{node_attribute, rel_attribute}
+use Rattle.cy_network_sources.specs.Attributes.{node_attribute, rel_attribute}
 use Rattle.cy_network_sources.specs.internal.Rows.{rel_rows}
 use Rattle.cy_network_sources.specs.Ends.{HaveSameEnds}
 use Rattle.cy_network_sources.specs.internal.Through.{IsNeeded, leaf_of, node_made, rel_made}

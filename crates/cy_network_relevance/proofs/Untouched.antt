@@ -16,10 +16,10 @@ use Rattle.cy_planner_algebra.specs.Expressions.{cell_at, holds, projected, rela
 use Rattle.cy_planner_algebra.specs.Meaning.{attribute_of, each_once, joined, outer_joined, rows_of, semi_joined}
 use Rattle.cy_planner_algebra.specs.Plans as plan
 use Rattle.cy_planner_algebra.specs.Plans.{Plan, width}
-use Rattle.cy_network_touches.specs.Changes.{IsChange, IsImage, Touches}
+use Rattle.cy_network_sources.specs.Changes.{IsChange, IsImage, Touches}
 use Rattle.cy_network_sources.specs.Scans.{scan_column}
-use Rattle.cy_network_touches.specs.Attributes.{node_attribute, rel_attribute}
-use Rattle.cy_network_touches.proofs.LookupLemmas.{at_node, at_rel, at_rels, at_value}
+use Rattle.cy_network_sources.specs.Attributes.{node_attribute, rel_attribute}
+use Rattle.cy_network_sources.proofs.LookupLemmas.{at_node, at_rel, at_rels, at_value}
 use Rattle.cy_network_sources.proofs.ScanDeltas.{node_under, rel_under}
 use Rattle.cy_network_sources.proofs.Through.{holds_found}
 use Rattle.cy_network_relevance.specs.Relevance.{IsUntouched}

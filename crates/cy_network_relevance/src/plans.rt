@@ -4,16 +4,16 @@ ghost use Rattle.std.specs.Prelude.{◌≡◌, ◌≤◌, ◌+◌, false, length
 ghost use Rattle.std.specs.List.{All};
 ghost use Rattle.cy_graph.specs.Graph.{State, node_at, rel_at};
 ghost use Rattle.cy_planner_algebra.specs.PlanModels.{plan_of};
-ghost use Rattle.cy_network_touches.specs.Changes.{IsChange};
-ghost use Rattle.cy_network_touches.specs.Work as work;
-ghost use Rattle.cy_network_touches.specs.Work.{asked_reads};
+ghost use Rattle.cy_network_sources.specs.Changes.{IsChange};
+ghost use Rattle.cy_network_sources.specs.Work as work;
+ghost use Rattle.cy_network_sources.specs.Work.{asked_reads};
 ghost use Rattle.cy_network_relevance.specs.Relevance.{IsUntouched};
 ghost use Rattle.cy_network_relevance.specs.internal.Kept.{IsNodeUnchanged, IsRelUnchanged};
 
 use crate::entities::Entity;
 use crate::parts::is_unchanged;
 use cy_index::Sight;
-use cy_network_touches::GraphChange;
+use cy_network_sources::GraphChange;
 use cy_planner_algebra::{Below, Operator};
 use cy_values::{NodeId, RelId};
 

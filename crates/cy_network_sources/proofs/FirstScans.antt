@@ -25,12 +25,12 @@ use Rattle.cy_planner_algebra.specs.Plans as plan
 use Rattle.cy_planner_algebra.specs.Plans.{Plan}
 use Rattle.cy_network_memory.specs.declared.memory.RowDelta.{RowDelta}
 use Rattle.cy_network_operators.specs.Deltas.{IsDelta, counts, deltas_of}
-use Rattle.cy_network_touches.specs.Changes.{IsChange, IsImage, Touches, image_at}
-use Rattle.cy_network_touches.specs.internal.Sources.{none_was}
-use Rattle.cy_network_touches.proofs.Determined.{node_number}
-use Rattle.cy_network_touches.proofs.Gathering.{all_come}
-use Rattle.cy_network_touches.proofs.Keys.{same_by_order}
-use Rattle.cy_network_touches.proofs.Owners.{none_between}
+use Rattle.cy_network_sources.specs.Changes.{IsChange, IsImage, Touches, image_at}
+use Rattle.cy_network_sources.specs.internal.Sources.{none_was}
+use Rattle.cy_network_sources.proofs.Determined.{node_number}
+use Rattle.cy_network_sources.proofs.Gathering.{all_come}
+use Rattle.cy_network_sources.proofs.Keys.{same_by_order}
+use Rattle.cy_network_sources.proofs.Owners.{none_between}
 use Rattle.cy_network_sources.specs.internal.Through.{IsNeeded, IsNodeFit, IsScanOver, node_made, recounted}
 use Rattle.cy_network_sources.proofs.ScanDeltas.{node_under}
 use Rattle.cy_network_sources.proofs.ThroughCounts.{each_there, node_fit}

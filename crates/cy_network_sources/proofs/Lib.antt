@@ -1,3 +1,15 @@
+pub mod Bound
+pub mod Examples
+pub mod Still
+pub mod Keys
+pub mod Gathering
+pub mod Owners
+pub mod LookupLemmas
+pub mod LookupDeltas
+pub mod AttributeLemmas
+pub mod NewRows
+pub mod CostLemmas
+pub mod Determined
 pub mod ScanLemmas
 pub mod ScanDeltas
 pub mod Through

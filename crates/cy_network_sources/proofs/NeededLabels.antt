@@ -26,7 +26,7 @@ use Rattle.cy_planner_algebra.specs.Plans as plan
 use Rattle.cy_planner_algebra.specs.Plans.{Output, Plan, computed}
 use Rattle.cy_planner_algebra.specs.PlanModels.{plan_of}
 use Rattle.cy_network_sources.specs.Scans.{is_column}
-use Rattle.cy_network_touches.specs.Attributes.{node_attribute}
+use Rattle.cy_network_sources.specs.Attributes.{node_attribute}
 use Rattle.cy_network_sources.specs.internal.Rows.{node_rows}
 use Rattle.cy_network_sources.specs.internal.Through.{IsLabelTest, IsNeeded, LeaveNode, labelled, through}
 use Rattle.cy_network_sources.proofs.Through.{column_cell, column_is}

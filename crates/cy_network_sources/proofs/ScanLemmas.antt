@@ -12,8 +12,8 @@ use Rattle.cy_values.specs.Bag.{count_of}
 use Rattle.cy_values.specs.Same.{is_row}
 use Rattle.cy_values.proofs.Naturals.{nothing_after}
 use Rattle.cy_planner_algebra.proofs.Counts.{count_flat_map}
-use Rattle.cy_network_touches.proofs.Keys.{found_alike, own_entries, rising_once, same_by_order, sum_kept}
-use Rattle.cy_network_touches.proofs.Owners.{owns}
+use Rattle.cy_network_sources.proofs.Keys.{found_alike, own_entries, rising_once, same_by_order, sum_kept}
+use Rattle.cy_network_sources.proofs.Owners.{owns}
 
 -- Rows that are made of entities by number: which ones each makes, none where it isn't there, and of which one a row may be.
 pub record Scan (V : Type 0) : Type 0 where

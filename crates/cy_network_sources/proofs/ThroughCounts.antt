@@ -34,16 +34,16 @@ use Rattle.cy_planner_algebra.specs.Sure.{IsSure}
 use Rattle.cy_planner_algebra.proofs.Numbers.{numbered_rows}
 use Rattle.cy_network_memory.specs.declared.memory.RowDelta.{RowDelta}
 use Rattle.cy_network_operators.specs.Deltas.{IsDelta, counts, row_delta_between, deltas_of}
-use Rattle.cy_network_touches.specs.Changes.{IsChange, IsImage, Touches}
+use Rattle.cy_network_sources.specs.Changes.{IsChange, IsImage, Touches}
 use Rattle.cy_network_sources.specs.Scans.{scan_column, scan_parts}
-use Rattle.cy_network_touches.specs.Attributes.{node_attribute, rel_attribute}
+use Rattle.cy_network_sources.specs.Attributes.{node_attribute, rel_attribute}
 use Rattle.cy_network_sources.specs.internal.Rows.{node_rows, rel_rows}
 use Rattle.cy_network_sources.specs.internal.Through.{AreFit, IsNodeFit, IsRelFit, leaf_of, node_made, recounted, rel_made}
-use Rattle.cy_network_touches.proofs.Keys.{found_alike, own_entries, rising_once, same_by_order}
-use Rattle.cy_network_touches.proofs.LookupLemmas.{at_node, at_rel}
+use Rattle.cy_network_sources.proofs.Keys.{found_alike, own_entries, rising_once, same_by_order}
+use Rattle.cy_network_sources.proofs.LookupLemmas.{at_node, at_rel}
 use Rattle.cy_network_sources.proofs.ScanDeltas.{node_rows_of, node_under, rel_under}
 use Rattle.cy_network_sources.proofs.ScanLemmas.{Scan, count_at, count_scan}
-use Rattle.cy_network_touches.proofs.Owners.{none_between, owns, none_counted}
+use Rattle.cy_network_sources.proofs.Owners.{none_between, owns, none_counted}
 use Rattle.cy_network_sources.proofs.Through.{each_found, each_weaker, fit_entities, holds_found, named, rows_by_entity}
 
 -- ---- how a row's count changes, where the entities change by which are touched

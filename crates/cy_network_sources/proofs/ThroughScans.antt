@@ -18,7 +18,7 @@ use Rattle.cy_planner_algebra.specs.Plans.{Plan}
 use Rattle.cy_planner_algebra.specs.PlanModels.{plan_of}
 use Rattle.cy_network_memory.specs.declared.memory.RowDelta.{RowDelta}
 use Rattle.cy_network_operators.specs.Deltas.{IsDelta, counts, deltas_of}
-use Rattle.cy_network_touches.specs.Changes.{Touches}
+use Rattle.cy_network_sources.specs.Changes.{Touches}
 use Rattle.cy_network_sources.specs.Scans.{scan_column, scan_parts, scan_reads}
 use Rattle.cy_network_sources.specs.internal.Through.{IsNodeFit, IsRelFit, IsScanOver, leaf_of, node_made, recounted, rel_made, made_by, through}
 use Rattle.cy_network_sources.proofs.ScanDeltas.{node_under, rel_under}

@@ -23,9 +23,9 @@ use Rattle.cy_planner_algebra.specs.Meaning.{backwards, forwards, is_loop, ways}
 use Rattle.cy_planner_algebra.specs.Plans as plan
 use Rattle.cy_planner_algebra.specs.Plans.{Output, Plan}
 use Rattle.cy_planner_algebra.specs.Sure.{HasCells, HasTruth}
-use Rattle.cy_network_touches.specs.Changes.{Touches}
+use Rattle.cy_network_sources.specs.Changes.{Touches}
 use Rattle.cy_network_sources.specs.Scans.{if_this, kept, scan_column, scan_parts, scan_reads}
-use Rattle.cy_network_touches.specs.Attributes.{node_attribute, rel_attribute}
+use Rattle.cy_network_sources.specs.Attributes.{node_attribute, rel_attribute}
 use Rattle.cy_network_sources.specs.internal.Rows.{node_rows, rel_rows}
 use Rattle.cy_network_sources.specs.internal.Through.{AreFit, IsFit, leaf_of, made_by, node_made, reads_graph, rel_made, through}
 

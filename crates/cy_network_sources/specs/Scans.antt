@@ -8,7 +8,7 @@ use Rattle.cy_graph.specs.Graph.{State}
 use Rattle.cy_planner_algebra.specs.Plans as plan
 use Rattle.cy_planner_algebra.specs.Plans.{Plan, Output, computed, gathered}
 use Rattle.cy_planner_algebra.specs.Sure.{IsSure}
-use Rattle.cy_network_touches.specs.Changes.{IsChange, Touches}
+use Rattle.cy_network_sources.specs.Changes.{IsChange, Touches}
 
 -- an expression's column is this one
 abbrev pub is_this : ℕ → Option ℕ → Bool

@@ -7,7 +7,7 @@ ghost use Rattle.cy_trees.specs.Trees.{Name};
 ghost use Rattle.cy_graph.specs.Maps.{value_at};
 ghost use Rattle.cy_planner_algebra.specs.PlanModels.{plan_of};
 ghost use Rattle.cy_planner_algebra.specs.declared.operators.Orientation.{Orientation};
-ghost use Rattle.cy_network_touches.specs.Attributes.{node_attribute, rel_attribute};
+ghost use Rattle.cy_network_sources.specs.Attributes.{node_attribute, rel_attribute};
 ghost use Rattle.cy_network_sources.specs.internal.Through as spec;
 ghost use Rattle.cy_network_sources.specs.Ends.{HaveSameEnds};
 ghost use Rattle.cy_network_sources.specs.internal.Through.{attribute_in, node_made, rel_made};

@@ -7,10 +7,10 @@ ghost use Rattle.cy_planner_algebra.specs.PlanModels.{plan_of};
 ghost use Rattle.cy_network_sources.specs.internal.Through as spec;
 ghost use Rattle.cy_network_sources.specs.internal.Through.{AreFit, IsFit, IsNodeFit, IsRelFit, attribute_in};
 
+use crate::attributes::{node_value, rel_value};
 use crate::needs::parts_left;
 use crate::rels::rows_of_rel;
 use cy_graph::{Node, Rel};
-use cy_network_touches::{node_value, rel_value};
 use cy_planner_algebra::{Attribute, Operator, Orientation, rows};
 use cy_values::{Cell, Fault, NodeId, RelId, Row, Sequence, Text, Value};
 use std::alloc::Global;

@@ -13,8 +13,7 @@ ghost use Rattle.cy_network_sources.specs.internal.Through.{recounted};
 
 use cy_network_memory::RowDelta;
 use cy_network_operators::add_row_delta;
-use cy_values::{Fault, Row, row_order};
-use std::cmp::Ordering;
+use cy_values::{Fault, Row, rows_equal};
 
 /// Adds a row delta of each row that counts otherwise among the new rows than among the old ones. Fails only when out of memory.
 pub(crate) fn add_recounted(
@@ -54,18 +53,12 @@ fn add_exchanged(deltas: &mut Vec<RowDelta>, old: Row, new: Row) -> Result<(), F
     ensures recounted { OnOk result ((row : List Cell) → deltas_of row deltas.new.items ≡ deltas_of row deltas.old.items ++ recounted (old ∷ []) (new ∷ []) row) }
     ensures bounded { OnOk result (All IsBounded deltas.old.items → All IsBounded deltas.new.items) }
 {
-    if is_same(&old, &new) {
+    rows_equal();
+    if old == new {
         return Ok(());
     }
     add_row_delta(deltas, old, 1, 0)?;
     add_row_delta(deltas, new, 0, 1)
-}
-
-// Whether two rows are the same.
-fn is_same(row: &Row, other: &Row) -> bool
-    ensures { result ≡ is_row row.now other.now }
-{
-    row_order(row, other) == Ordering::Equal
 }
 
 // Adds a row delta of each of the old rows that counts otherwise among the new ones, and takes it from these.
@@ -105,7 +98,8 @@ fn take_same(rows: &mut Vec<Row>, row: &Row) -> u64
     ensures taken { result ≡ count_of row.now rows.old.items }
     ensures left { rows.new.items ≡ std.filter (λ other. not (is_row row.now other)) rows.old.items }
 {
+    rows_equal();
     let all = rows.len();
-    rows.retain(|other| !is_same(row, other));
+    rows.retain(|other| row != other);
     (all - rows.len()) as u64
 }

@@ -4,7 +4,7 @@ use Rattle.std.specs.Prelude.{IfOk, IsOk, Result, Ok, Err}
 use Rattle.std.specs.List.{All, AllByRecursion, Contains}
 use Rattle.std.specs.Cmp.{IsTotalOrder}
 use Rattle.std.proofs.lemmas.List.Elements.{All-cons, All-nil}
-use Rattle.cy_planner_clauses.proofs.Outcomes.{then_ok}
+use Rattle.cy_planner_optional.proofs.Outcomes.{then_ok}
 use Rattle.cy_values.specs.declared.rows.Cell.{Cell}
 use Rattle.cy_values.specs.Bag.{count_of, IsSameBag}
 use Rattle.cy_values.specs.Order.{row_cmp}

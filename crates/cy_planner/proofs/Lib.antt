@@ -1,3 +1,20 @@
+pub mod Columns
+pub mod Settling
+pub mod Pairing
+pub mod Putting
+pub mod Ranking
+pub mod Made
+pub mod Congruent
+pub mod OuterLaw
+pub mod Predicates
+pub mod Together
+pub mod OuterPutting
+mod MatchPlans
+mod MatchedPlans
+mod FittingRows
+mod PlainProjections
+mod ProjectedPlans
+mod WithPlans
 pub mod Copying
 pub mod Equal
 pub mod Meets

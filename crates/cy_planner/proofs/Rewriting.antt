@@ -5,7 +5,7 @@ use Rattle.cy_trees.specs.Trees.{Statement}
 use Rattle.cy_oneshot_patterns.specs.Outcomes.{IsSameOutcome}
 use Rattle.cy_oneshot_meaning.specs.Queries.{statement_rows}
 use Rattle.cy_planner_algebra.specs.Plans.{Plan}
-use Rattle.cy_planner_passes.specs.Standing.{StandsFor}
+use Rattle.cy_planner.specs.internal.Standing.{StandsFor}
 use Rattle.cy_planner.specs.Serves.{Serves}
 use Rattle.cy_planner.specs.WideTables.{wide_tables}
 

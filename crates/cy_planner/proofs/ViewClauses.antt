@@ -30,8 +30,8 @@ use Rattle.cy_graph.specs.Graph.{Content}
 use Rattle.cy_oneshot_meaning.proofs.ScopeClauses.{clause_fits, projection_fits}
 use Rattle.cy_oneshot_meaning.specs.Projection.{projection_rows}
 use Rattle.cy_oneshot_meaning.specs.Queries.{rows_after}
-use Rattle.cy_planner_clauses.specs.Matched.{IsTestKinded, where_only}
-use Rattle.cy_planner_clauses.specs.internal.Projections.{expressions_in}
+use Rattle.cy_planner_optional.specs.Matched.{IsTestKinded, where_only}
+use Rattle.cy_planner.specs.internal.Projections.{expressions_in}
 use Rattle.cy_planner.specs.internal.ClausePlans.{Fits}
 use Rattle.cy_planner.specs.internal.ViewClauses.{AreViewClauses, IsViewClause}
 

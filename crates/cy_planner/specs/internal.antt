@@ -1,7 +1,16 @@
 -- What proofs and the crate's own functions need.
+pub mod Matches
+pub mod Projections
 pub mod Keys
 pub mod Patterns
 pub mod Copies
+pub mod Ranks
+pub mod Narrows
+pub mod KeyPairs
+pub mod NarrowAbove
+pub mod Standing
+pub mod OuterAbove
+pub mod SplitPredicates
 -- What proofs alone need.
 pub mod ClausePlans
 pub mod QueryPlans

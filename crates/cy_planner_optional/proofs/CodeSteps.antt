@@ -7,7 +7,7 @@ use Rattle.std.proofs.lemmas.List.{drop_all, length-append}
 use Rattle.std.proofs.lemmas.List.FromFn.{map-range_with_len_more}
 use Rattle.cy_trees.specs.Trees.{Expression}
 use Rattle.cy_oneshot_patterns.specs.Places.{Place}
-use Rattle.cy_planner_clauses.specs.Shared.{other_entries}
+use Rattle.cy_planner_optional.specs.Shared.{other_entries}
 use Rattle.cy_planner_optional.specs.Own.{common_count, common_counts}
 use Rattle.cy_planner_rows.specs.Conditions.{or_true, with_test, with_tests}
 use Rattle.cy_planner_optional.specs.internal.OptionalPairs.{all_of}

@@ -1,3 +1,9 @@
+pub mod OwnPlaces
+pub mod OwnNames
+pub mod MatchRow
+pub mod RowBags
+pub mod Outcomes
+pub mod PlaceColumns
 pub mod PairLemmas
 pub mod Truths
 pub mod Covering

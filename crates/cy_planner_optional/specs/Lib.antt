@@ -1,3 +1,7 @@
+pub mod OwnPatterns
+pub mod Shared
+pub mod MatchColumns
+pub mod Matched
 pub mod Optional
 pub mod Own
 pub mod Columns

@@ -5,7 +5,7 @@ ghost use Rattle.std.specs.List.{range_with_len};
 ghost use Rattle.cy_oneshot_patterns.specs.Places.{variable_at};
 ghost use Rattle.cy_oneshot_patterns.specs.internal.Patterns.{place_of};
 ghost use Rattle.cy_planner_algebra.specs.WellFormed.{greatest_width};
-ghost use Rattle.cy_planner_clauses.specs.Columns as spec;
+ghost use Rattle.cy_planner_optional.specs.MatchColumns as spec;
 
 use cy_oneshot_patterns::Place;
 use cy_values::Fault;

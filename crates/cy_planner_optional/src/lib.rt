@@ -1,5 +1,5 @@
-//! The plans of OPTIONAL MATCH, and of a path as a condition whatever its maps ask for: a pattern that is planned by itself, and joined to the
-//! rows before it, by the values that its maps ask for in columns after these.
+//! OPTIONAL MATCH as an outer join, paths after WHERE whose maps read the row, and what both are made of: the pattern of a clause by itself, over
+//! the row of no columns, where variables of the row before the clause are new ones.
 #![tactic(auto)]
 
 mod columns;
@@ -7,7 +7,9 @@ mod joining;
 mod lookup_lists;
 mod lookups;
 mod optional;
+mod own_columns;
 mod paths;
+mod patterns;
 mod place_keys;
 mod predicates;
 mod trails;

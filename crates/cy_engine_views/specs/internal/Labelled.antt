@@ -13,7 +13,7 @@ use Rattle.cy_planner_algebra.specs.Expressions.{cell_at, holds}
 use Rattle.cy_planner_algebra.specs.Plans as plan
 use Rattle.cy_planner_algebra.specs.Plans.{Plan}
 use Rattle.cy_network_sources.specs.Scans.{scan_column, scan_parts}
-use Rattle.cy_network_touches.specs.Attributes.{node_attribute}
+use Rattle.cy_network_sources.specs.Attributes.{node_attribute}
 use Rattle.cy_network_sources.specs.internal.Through.{IsNeeded, leaf_of, node_made}
 
 -- a condition holds on no row whose second cell is a list of labels without this one

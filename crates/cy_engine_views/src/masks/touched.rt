@@ -7,7 +7,7 @@ ghost use Rattle.cy_engine_views.specs.NameBits.{no_bits};
 use crate::masks::bits::{Bits, NONE};
 use crate::masks::name_bits::{node_bits, rel_bits};
 use cy_index::Sight;
-use cy_network_touches::GraphChange;
+use cy_network_sources::GraphChange;
 use cy_values::{NodeId, RelId};
 
 /// The bits of the touched nodes, as they were and as they are. Reads each once.

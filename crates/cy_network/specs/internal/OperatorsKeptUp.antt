@@ -13,8 +13,8 @@ use Rattle.cy_planner_algebra.specs.Plans.{Plan}
 use Rattle.cy_network_operators.specs.declared.sides.SideDeltas.{SideDeltas}
 use Rattle.cy_network_operators.specs.Deltas.{rows_at}
 use Rattle.cy_network_operators.specs.internal.Reading.{IsRead}
-use Rattle.cy_network_touches.specs.Changes.{Touches}
-use Rattle.cy_network_touches.specs.Work.{own_reads, own_steps}
+use Rattle.cy_network_sources.specs.Changes.{Touches}
+use Rattle.cy_network_sources.specs.Work.{own_reads, own_steps}
 use Rattle.cy_network_parts.specs.Taken.{NoneFalls}
 use Rattle.cy_network_parts.specs.internal.Upkeep.{HasTooMany, IsFed, IsFedByTwo, IsOwnDone, content_of}
 use Rattle.cy_network.specs.declared.operators.pairs.HeldDeltas.{HeldDeltas}

@@ -10,14 +10,13 @@ ghost use Rattle.cy_network_operators.specs.Deltas.{row_delta_between};
 ghost use Rattle.cy_network_parts.specs.Memories.{is_scan};
 ghost use Rattle.cy_network_parts.specs.Parts as parts;
 ghost use Rattle.cy_network_parts.specs.internal.Upkeep.{IsDeltaOf, IsStep};
-ghost use Rattle.cy_network_touches.specs.Work.{all_reads};
+ghost use Rattle.cy_network_sources.specs.Work.{all_reads};
 
 use cy_index::Sight;
 use cy_network_memory::RowDelta;
 use cy_network_operators::add_row_delta;
 use cy_network_parts::is_unit;
-use cy_network_sources::scan;
-use cy_network_touches::GraphChange;
+use cy_network_sources::{GraphChange, scan};
 use cy_planner_algebra::Operator;
 use cy_values::{Fault, Sequence};
 use std::alloc::Global;

@@ -14,8 +14,8 @@ use Rattle.cy_planner_algebra.specs.WellFormed.{IsWellFormed}
 use Rattle.cy_network_memory.specs.Counts.{Counts, greatest_count}
 use Rattle.cy_network_memory.specs.declared.memory.RowDelta.{RowDelta}
 use Rattle.cy_network_operators.specs.Deltas.{IsBounded, IsDelta, counts, rows_at}
-use Rattle.cy_network_touches.specs.Changes.{IsChange, Touches}
-use Rattle.cy_network_touches.specs.Work.{all_reads, all_steps, asked_reads}
+use Rattle.cy_network_sources.specs.Changes.{IsChange, Touches}
+use Rattle.cy_network_sources.specs.Work.{all_reads, all_steps, asked_reads}
 use Rattle.cy_network_parts.specs.Memories.{AreWithin, own_contents, own_keys, AreHeld, contents, is_scan, keys}
 use Rattle.cy_network_parts.specs.Parts.{first_below, second_below, chain}
 use Rattle.cy_network_parts.specs.internal.Parts.{own_of_all}

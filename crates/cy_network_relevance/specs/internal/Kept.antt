@@ -9,7 +9,7 @@ use Rattle.cy_planner_algebra.specs.declared.operators.Orientation.{Orientation}
 use Rattle.cy_planner_algebra.specs.Plans as plan
 use Rattle.cy_planner_algebra.specs.Plans.{Plan}
 use Rattle.cy_network_sources.specs.Scans.{scan_column, scan_parts}
-use Rattle.cy_network_touches.specs.Attributes.{node_attribute, rel_attribute}
+use Rattle.cy_network_sources.specs.Attributes.{node_attribute, rel_attribute}
 use Rattle.cy_network_sources.specs.internal.Through.{leaf_of, node_made, rel_made}
 use Rattle.cy_network_relevance.specs.declared.entities.Entity.{Entity}
 use Rattle.cy_network_relevance.specs.declared.entities.Entity.TheVariants as entity

@@ -22,11 +22,11 @@ use Rattle.cy_planner_algebra.specs.Plans.{Plan}
 use Rattle.cy_planner_algebra.specs.Sure.{HasCells, HasTruth}
 use Rattle.cy_network_memory.specs.declared.memory.RowDelta.{RowDelta}
 use Rattle.cy_network_operators.specs.Deltas.{row_delta_between}
-use Rattle.cy_network_touches.specs.Changes.{Touches}
+use Rattle.cy_network_sources.specs.Changes.{Touches}
 use Rattle.cy_network_sources.specs.Scans.{IsScan}
 use Rattle.cy_network_sources.specs.declared.entities.EntityValue.{EntityValue}
 use Rattle.cy_network_sources.specs.declared.entities.EntityValue.TheVariants as entity
-use Rattle.cy_network_touches.specs.Attributes.{node_attribute, rel_attribute}
+use Rattle.cy_network_sources.specs.Attributes.{node_attribute, rel_attribute}
 use Rattle.cy_network_sources.specs.internal.Rows.{node_rows, rel_rows}
 
 -- an attribute of an entity that is there

@@ -1,6 +1,6 @@
 use Rattle.std.proofs.Common.{refl, sym, ◌∙◌, arith, inl, inr}
 use Rattle.std.proofs.lemmas.Result.{err_from_is_err_and}
-use Rattle.cy_network_touches.specs.Changes.{before_change}
+use Rattle.cy_network_sources.specs.Changes.{before_change}
 use Rattle.cy_engine.proofs.ChangeEffects.{cannot_follow, differs, graph_before, moves_on, same, touched_before}
 use Rattle.cy_engine.proofs.Queries.{risen}
 use Rattle.cy_engine.proofs.engine.view_effect.Goals as goal

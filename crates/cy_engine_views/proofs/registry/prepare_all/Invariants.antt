@@ -1,5 +1,5 @@
 use Rattle.std.proofs.Common.{◌≡◌}
-use Rattle.cy_network_touches.specs.Changes.{before_change}
+use Rattle.cy_network_sources.specs.Changes.{before_change}
 use Rattle.cy_engine_views.proofs.Going.{FirstDone}
 use Rattle.cy_engine_views.proofs.Steps.{IsPreparedFrom}
 use Rattle.cy_engine_views.proofs.registry.prepare_all.Given as goal

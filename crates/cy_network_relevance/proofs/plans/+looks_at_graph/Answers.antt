@@ -1,5 +1,5 @@
 use Rattle.std.proofs.Common.{sym, ap, ◌∙◌, arith}
-use Rattle.cy_network_touches.specs.Work.{looks_at_graph}
+use Rattle.cy_network_sources.specs.Work.{looks_at_graph}
 use Rattle.cy_network_relevance.proofs.Elsewhere.{either, looks_else}
 use Rattle.cy_network_relevance.proofs.plans.+looks_at_graph.Goals as goal
 

@@ -1,7 +1,7 @@
 use Rattle.std.proofs.Common.{◌≡◌, ◌≤◌}
 use Rattle.cy_planner_algebra.specs.declared.operators.Operator.{size-Operator}
 use Rattle.cy_planner_algebra.specs.PlanModels.{plan_of}
-use Rattle.cy_network_touches.specs.Work.{looks_at_graph}
+use Rattle.cy_network_sources.specs.Work.{looks_at_graph}
 use Rattle.cy_network_relevance.proofs.plans.+looks_at_graph.Given as goal
 
 -- the part looks at the graph where what is left does

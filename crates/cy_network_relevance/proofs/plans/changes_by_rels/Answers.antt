@@ -7,7 +7,7 @@ use Rattle.cy_graph.specs.Graph.{Versions, rel_at}
 use Rattle.cy_index.specs.Index.{SightState}
 use Rattle.cy_planner_algebra.specs.Plans.{Plan}
 use Rattle.cy_planner_algebra.specs.PlanModels.{plan_of}
-use Rattle.cy_network_touches.proofs.AttributeLemmas.{one_less}
+use Rattle.cy_network_sources.proofs.AttributeLemmas.{one_less}
 use Rattle.cy_network_relevance.specs.internal.Kept.{IsRelUnchanged}
 use Rattle.cy_network_relevance.proofs.Rules.{one_read}
 use Rattle.cy_network_relevance.proofs.plans.changes_by_rels.Goals as goal

@@ -3,7 +3,7 @@ use Rattle.std.specs.Cmp.Lexicographic.{pointwise}
 use Rattle.cy_values.specs.declared.scalars.Scalar.TheVariants as scalar
 use Rattle.cy_values.specs.declared.scalars.Value.TheVariants as value
 use Rattle.cy_graph.proofs.Same.{same_lists, same_label}
-use Rattle.cy_network_touches.specs.Attributes.{node_attribute}
+use Rattle.cy_network_sources.specs.Attributes.{node_attribute}
 use Rattle.cy_network_sources.proofs.alike.node_has_same.Goals as goal
 
 pub returns-in-Labels : goal.returns-in-Labels

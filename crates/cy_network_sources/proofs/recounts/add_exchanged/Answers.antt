@@ -7,9 +7,9 @@ use Rattle.cy_network_sources.proofs.Replaced.{after_others, both_changed, none_
 use Rattle.cy_network_sources.proofs.ThroughScans.{on_ok_then}
 use Rattle.cy_network_sources.proofs.recounts.add_exchanged.Goals as goal
 
-pub returns-then-is_same-clause-recounted : goal.returns-then-is_same-clause-recounted
-returns-then-is_same-clause-recounted c = λ row.
-    sym (ap (λ made. deltas_of row c.args.deltas.now.items ++ made) (none_changed row c.args.old c.args.new (sym c.is_same.ensures ∙ c.if-is_same.true)) ∙ append-nil (deltas_of row c.args.deltas.now.items))
+pub returns-then-eq-clause-recounted : goal.returns-then-eq-clause-recounted
+returns-then-eq-clause-recounted c = λ row.
+    sym (ap (λ made. deltas_of row c.args.deltas.now.items ++ made) (none_changed row c.args.old c.args.new (sym (c.rows_equal.ensures c.args.old c.args.new) ∙ sym c.eq.ensures ∙ c.if-eq.true)) ∙ append-nil (deltas_of row c.args.deltas.now.items))
 
 pub returns-clause-recounted : goal.returns-clause-recounted
 returns-clause-recounted c =
@@ -20,7 +20,7 @@ returns-clause-recounted c =
     ∙ ap (λ first. first ++ deltas_of row (row_delta_between c.args.new 0 1))
     (ap (deltas_of row) c.in_ok-add_row_delta.ensures ∙ after_others row c.args.deltas.now.items (row_delta_between c.args.old 1 0) (deltas_of row (row_delta_between c.args.old 1 0)) refl)
     ∙ append_assoc (deltas_of row c.args.deltas.now.items) (deltas_of row (row_delta_between c.args.old 1 0)) (deltas_of row (row_delta_between c.args.new 0 1))
-    ∙ ap (λ rest. deltas_of row c.args.deltas.now.items ++ rest) (both_changed row c.args.old c.args.new (sym c.is_same.ensures ∙ c.if-is_same.false)))
+    ∙ ap (λ rest. deltas_of row c.args.deltas.now.items ++ rest) (both_changed row c.args.old c.args.new (sym (c.rows_equal.ensures c.args.old c.args.new) ∙ sym c.eq.ensures ∙ c.if-eq.false)))
     c.add_row_delta-2.ensures
 
 pub returns-clause-bounded : goal.returns-clause-bounded

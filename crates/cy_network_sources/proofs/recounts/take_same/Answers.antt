@@ -7,7 +7,7 @@ use Rattle.cy_network_sources.proofs.Recounting.{others, split_count}
 use Rattle.cy_network_sources.proofs.recounts.take_same.Goals as goal
 
 pub returns-clause-left : goal.returns-clause-left
-returns-clause-left c = filter_same _ (λ (other : List Cell). not (is_row c.args.row.now other)) _ (λ other b f' k. search rules) _ _ c.retain.ensures.filtered
+returns-clause-left c = filter_same _ (λ (other : List Cell). not (is_row c.args.row.now other)) _ (λ other b f' k. search (rules, c.rows_equal.ensures)) _ _ c.retain.ensures.filtered
 
 counted : (row : List Cell) (rows left : List (List Cell)) (all kept : ℕ) → all ≡ length rows → kept ≡ length left → left ≡ others row rows → all - kept ≡ count_of row rows
 counted row rows left all kept first second is =

@@ -2,7 +2,7 @@ use Rattle.std.proofs.Common.{◌++◌, sym, ap, ◌∙◌}
 use Rattle.std.proofs.lemmas.List.{append-nil}
 use Rattle.cy_values.specs.Bag.{count_of}
 use Rattle.cy_network_operators.specs.Deltas.{deltas_of}
-use Rattle.cy_network_touches.proofs.Owners.{none_between}
+use Rattle.cy_network_sources.proofs.Owners.{none_between}
 use Rattle.cy_network_sources.proofs.scanning.add_node.Goals as goal
 
 pub returns-then-are_alike_nodes-clause-made : goal.returns-then-are_alike_nodes-clause-made

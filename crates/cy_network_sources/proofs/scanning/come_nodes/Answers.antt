@@ -5,7 +5,7 @@ use Rattle.cy_index.specs.Index.{SightState}
 use Rattle.cy_network_operators.specs.Deltas.{deltas_of}
 use Rattle.cy_network_operators.proofs.DeltaLemmas.{made_more}
 use Rattle.cy_planner_algebra.specs.PlanModels.{plan_of}
-use Rattle.cy_network_touches.proofs.AttributeLemmas.{one_more_read}
+use Rattle.cy_network_sources.proofs.AttributeLemmas.{one_more_read}
 use Rattle.cy_network_sources.specs.internal.Through.{IsNodeFit, node_made, recounted}
 use Rattle.cy_network_sources.proofs.FirstScans.{come, one_read}
 use Rattle.cy_network_sources.proofs.scanning.come_nodes.Goals as goal

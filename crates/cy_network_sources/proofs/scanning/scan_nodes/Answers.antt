@@ -9,7 +9,7 @@ use Rattle.cy_planner_algebra.specs.Plans.{Plan}
 use Rattle.cy_planner_algebra.specs.PlanModels.{plan_of}
 use Rattle.cy_network_operators.specs.Deltas.{deltas_of}
 use Rattle.cy_network_sources.specs.internal.Through.{IsNodeFit, node_made, recounted}
-use Rattle.cy_network_touches.proofs.AttributeLemmas.{one_less, walked}
+use Rattle.cy_network_sources.proofs.AttributeLemmas.{one_less, walked}
 use Rattle.cy_network_sources.proofs.ScanDeltas.{first_of_all, node_under}
 use Rattle.cy_network_sources.proofs.FirstScans.{one_read}
 use Rattle.cy_network_sources.proofs.scanning.scan_nodes.Goals as goal

@@ -10,7 +10,7 @@ use Rattle.cy_network_operators.specs.Deltas.{deltas_of}
 use Rattle.cy_trees.specs.Trees.{Name}
 use Rattle.cy_planner_algebra.specs.declared.operators.Orientation.{Orientation}
 use Rattle.cy_network_sources.specs.internal.Through.{IsRelFit, recounted, rel_made}
-use Rattle.cy_network_touches.proofs.AttributeLemmas.{one_less, walked}
+use Rattle.cy_network_sources.proofs.AttributeLemmas.{one_less, walked}
 use Rattle.cy_network_sources.proofs.ScanDeltas.{first_of_all, rel_under}
 use Rattle.cy_network_sources.proofs.FirstScans.{one_read}
 use Rattle.cy_network_sources.proofs.scanning.scan_rels.Goals as goal

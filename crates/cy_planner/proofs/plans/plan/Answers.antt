@@ -4,8 +4,8 @@ use Rattle.cy_trees.specs.Trees.{Statement}
 use Rattle.cy_trees.specs.TreeModels.{statement_of}
 use Rattle.cy_planner_algebra.specs.Plans.{Plan}
 use Rattle.cy_planner_algebra.specs.PlanModels.{plan_of}
-use Rattle.cy_planner_passes.specs.Standing.{StandsFor}
-use Rattle.cy_planner_passes.proofs.Congruent.{on_graphs, stands_again}
+use Rattle.cy_planner.specs.internal.Standing.{StandsFor}
+use Rattle.cy_planner.proofs.Congruent.{on_graphs, stands_again}
 use Rattle.cy_planner.specs.Serves.{Serves}
 use Rattle.cy_planner.proofs.Rewriting.{serves_standing}
 use Rattle.cy_planner.proofs.plans.plan.Goals as goal

@@ -4,7 +4,7 @@ use Rattle.std.proofs.lemmas.Result.{err_from_is_err_and}
 use Rattle.cy_graph.specs.Graph.{Content, State}
 use Rattle.cy_updates_meaning.specs.Statements.{Outcome}
 use Rattle.cy_index.specs.Index.{StoreState}
-use Rattle.cy_network_touches.specs.Changes.{before_change}
+use Rattle.cy_network_sources.specs.Changes.{before_change}
 use Rattle.cy_trees.specs.TreeModels.{statement_of}
 use Rattle.cy_updates.specs.Answers.{outcome_seen}
 use Rattle.cy_engine_views.specs.declared.views.Views.{Views}

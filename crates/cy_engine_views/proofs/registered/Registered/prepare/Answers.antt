@@ -1,5 +1,5 @@
 use Rattle.std.proofs.Common.{true, Some, refl, sym, ap, ◌∙◌}
-use Rattle.cy_network_touches.specs.Changes.{before_change}
+use Rattle.cy_network_sources.specs.Changes.{before_change}
 use Rattle.cy_feeds.specs.Feeds.{Kept}
 use Rattle.cy_engine_views.specs.declared.registered.Registered.{Registered}
 use Rattle.cy_engine_views.proofs.Readying.{ready_changed, ready_unchanged, ready_unconcerned}

@@ -1,12 +1,12 @@
 use Rattle.std.proofs.Common.{◌≤◌, ◌*◌, refl, sym, subst}
-use Rattle.cy_network_touches.specs.Costs.{cost}
+use Rattle.cy_network_sources.specs.Costs.{cost}
 use Rattle.std.proofs.lemmas.Result.{err_from_is_err_and}
 use Rattle.cy_trees.specs.TreeModels.{statement_of}
 use Rattle.cy_planner_algebra.specs.PlanModels.{plan_of}
 use Rattle.cy_planner_algebra.specs.declared.operators.Operator.{Operator}
 use Rattle.cy_engine_views.specs.Masks.{Covers}
 use Rattle.cy_planner.specs.Serves.{Serves}
-use Rattle.cy_network_touches.specs.Changes.{before_change}
+use Rattle.cy_network_sources.specs.Changes.{before_change}
 use Rattle.cy_engine_views.specs.Upkeep.{StandsFor, network_of}
 use Rattle.cy_engine_views.proofs.Served.{unprepared}
 use Rattle.cy_engine_views.proofs.rows.QueryRows.prepare.Goals as goal

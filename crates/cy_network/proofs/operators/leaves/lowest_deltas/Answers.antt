@@ -9,7 +9,7 @@ use Rattle.cy_network_memory.specs.declared.memory.RowDelta.{RowDelta}
 use Rattle.cy_network_operators.specs.Deltas.{IsBounded, counts, rows_at, row_delta_between, deltas_of}
 use Rattle.cy_network_parts.specs.Memories.{is_scan}
 use Rattle.cy_network_parts.specs.Parts.{is_unit}
-use Rattle.cy_network_touches.specs.Changes.{IsChange, Touches}
+use Rattle.cy_network_sources.specs.Changes.{IsChange, Touches}
 use Rattle.cy_network_parts.specs.internal.Upkeep.{IsDeltaOf, IsStep, state_of}
 use Rattle.cy_network_parts.proofs.Outcomes.{if_ok_more, if_ok_two}
 use Rattle.cy_network_parts.proofs.Scanned.{chain_scan, is_scan_of, reads_within, scan_delta}

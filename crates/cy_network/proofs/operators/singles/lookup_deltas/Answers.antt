@@ -14,12 +14,12 @@ use Rattle.cy_planner_algebra.specs.PlanModels.{plan_of}
 use Rattle.cy_network_memory.specs.declared.memory.Memory.{Ghosts}
 use Rattle.cy_network_memory.specs.declared.memory.RowDelta.{RowDelta}
 use Rattle.cy_network_operators.specs.Deltas.{IsBounded, IsDelta, counts, counts_after, rows_at}
-use Rattle.cy_network_touches.specs.Changes.{IsChange, Touches}
-use Rattle.cy_network_touches.specs.LookupCosts.{naming_rows}
+use Rattle.cy_network_sources.specs.Changes.{IsChange, Touches}
+use Rattle.cy_network_sources.specs.LookupCosts.{naming_rows}
 use Rattle.cy_network_parts.specs.Memories.{is_scan, none_where, own_keys}
 use Rattle.cy_network_parts.specs.Parts.{first_below}
 use Rattle.cy_network_parts.specs.internal.Upkeep.{IsOwnDone, content_of, state_of}
-use Rattle.cy_network_touches.specs.Work.{own_reads, own_steps}
+use Rattle.cy_network_sources.specs.Work.{own_reads, own_steps}
 use Rattle.cy_network_parts.proofs.Lent.{done_as, own_length, steps_of_one}
 use Rattle.cy_network.specs.internal.OperatorsKeptUp.{FedRows}
 use Rattle.cy_network.specs.internal.Forms.{IsLookup}

@@ -15,11 +15,11 @@ use Rattle.cy_planner_algebra.specs.PlanModels.{plan_of}
 use Rattle.cy_network_memory.specs.declared.memory.Memory.{Ghosts}
 use Rattle.cy_network_memory.specs.declared.memory.RowDelta.{RowDelta}
 use Rattle.cy_network_operators.specs.Deltas.{IsBounded, IsDelta, counts, rows_at}
-use Rattle.cy_network_touches.specs.Changes.{Touches}
+use Rattle.cy_network_sources.specs.Changes.{Touches}
 use Rattle.cy_network_parts.specs.Memories.{is_row_by_row, none_where, own_keys}
 use Rattle.cy_network_parts.specs.Parts.{first_below}
 use Rattle.cy_network_parts.specs.internal.Upkeep.{HasTooMany, IsOwnDone, content_of}
-use Rattle.cy_network_touches.specs.Work.{own_steps}
+use Rattle.cy_network_sources.specs.Work.{own_steps}
 use Rattle.cy_network.specs.internal.Passages.{images_by, outputs_of}
 use Rattle.cy_network_parts.proofs.Lent.{done_as, own_length, steps_of_one}
 use Rattle.cy_network_parts.proofs.Outcomes.{if_err_more, if_ok_from, if_ok_three}

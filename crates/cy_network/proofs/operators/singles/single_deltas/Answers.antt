@@ -26,8 +26,8 @@ use Rattle.cy_planner_algebra.specs.PlanModels.{plan_of, plan_step}
 use Rattle.cy_network_memory.specs.declared.memory.Memory.{Ghosts}
 use Rattle.cy_network_memory.specs.declared.memory.RowDelta.{RowDelta}
 use Rattle.cy_network_operators.specs.Deltas.{IsBounded, IsDelta, counts, rows_at}
-use Rattle.cy_network_touches.specs.Changes.{Touches}
-use Rattle.cy_network_touches.specs.Work.{own_reads, own_steps}
+use Rattle.cy_network_sources.specs.Changes.{Touches}
+use Rattle.cy_network_sources.specs.Work.{own_reads, own_steps}
 use Rattle.cy_network_parts.specs.internal.Upkeep.{IsFed, IsOwnDone, content_of}
 use Rattle.cy_network_parts.proofs.Outcomes.{if_err_more, if_ok_from, if_ok_more}
 use Rattle.cy_network_parts.proofs.Refusals.{if_memory}

@@ -1,6 +1,0 @@
-pub mod Costs
-pub mod Work
-pub mod Attributes
-pub mod Changes
-pub mod LookupCosts
-pub mod internal

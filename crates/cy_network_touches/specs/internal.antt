@@ -1,5 +1,0 @@
--- What proofs and the crate's own functions need.
-pub mod Attributes
-pub mod Images
-pub mod Named
-pub mod Sources

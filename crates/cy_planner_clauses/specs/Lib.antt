@@ -1,5 +1,0 @@
-pub mod OwnPatterns
-pub mod Shared
-pub mod Columns
-pub mod Matched
-pub mod internal

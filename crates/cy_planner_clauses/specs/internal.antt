@@ -1,2 +1,0 @@
--- What proofs and the crate's own functions need.
-pub mod Projections

@@ -9,6 +9,7 @@ use Rattle.cy_graph.specs.Graph.{Content}
 use Rattle.cy_bags.specs.declared.changes.Entry.{Entry}
 use Rattle.cy_feeds.specs.Feeds.{History, IsRising, latest, pushed}
 use Rattle.cy_feeds.specs.Following.{NewFeedsTell, PushedFeedsTell, QuietFeedsTell, Tells as TellsRows}
+use Rattle.cy_feeds.proofs.Pushes.{latest_pushed}
 use Rattle.cy_trees.specs.Trees.{Statement}
 use Rattle.cy_engine.specs.State.{EngineState}
 use Rattle.cy_engine_views.specs.RegisteredViews.{AreEntries, Entries, IsEntry, View, entry_at, fed, rows_of, without}
@@ -16,7 +17,6 @@ use Rattle.cy_engine.specs.EngineStep.{Answer}
 use Rattle.cy_engine_views.specs.Upkeep.{AreNamed}
 use Rattle.cy_engine.proofs.Effects.{Effects, exact}
 use Rattle.cy_engine.proofs.EachEntry.{each_entry}
-use Rattle.cy_engine_views.proofs.Feeding.{latest_pushed}
 use Rattle.cy_engine.proofs.Ticks.{Moves, moves}
 
 -- the rows of a query at each tick

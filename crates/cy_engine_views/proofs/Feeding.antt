@@ -1,5 +1,5 @@
 -- Once a change is committed, what is to go into the feeds of the views goes there.
-use Rattle.std.proofs.Common.{◌≡◌, ◌⊎◌, inl, inr, ℕ, zero, suc, true, false, ◌-◌, ◌≤◌, ◌<◌, cond, List, [], ◌∷◌, ◌++◌, map, find, length, take, drop, Option, None, Some, IfSome, string_bytes, refl, sym, ap, subst, ◌∙◌, arith}
+use Rattle.std.proofs.Common.{◌≡◌, ◌⊎◌, inl, inr, ℕ, true, false, ◌≤◌, ◌<◌, cond, List, [], ◌∷◌, ◌++◌, map, find, Option, None, Some, IfSome, string_bytes, refl, sym, ap, subst, ◌∙◌, arith}
 use Rattle.std.specs.Option.{option_map, option_map_or}
 use Rattle.std.specs.Str.{bytes_eq}
 use Rattle.cy_trees.specs.TreeModels.{statement_of}
@@ -7,6 +7,7 @@ use Rattle.cy_graph.specs.Graph.{State}
 use Rattle.cy_bags.specs.declared.changes.Change.{Change}
 use Rattle.cy_bags.specs.declared.changes.Entry.{Entry}
 use Rattle.cy_feeds.specs.Feeds.{History, IsReserved, latest, pushed}
+use Rattle.cy_feeds.proofs.Pushes.{latest_pushed}
 use Rattle.cy_planner_algebra.specs.PlanModels.{plan_of}
 use Rattle.cy_engine_views.specs.declared.registered.Registered.{Registered}
 use Rattle.cy_engine_views.specs.declared.rows.QueryRows.{QueryRows}
@@ -16,21 +17,6 @@ use Rattle.cy_engine_views.specs.RegisteredViews.{Entries, View, entry_at, fed}
 use Rattle.cy_engine_views.specs.internal.Loops.{AllAreSettled, IsSettledFrom, Takes, with_change}
 use Rattle.cy_engine_views.proofs.Going.{All}
 use Rattle.cy_engine_views.proofs.Named.{itself, turned, views}
-
--- ---- the tick of the last entry
-
-latest_split : (base k : ℕ) (es : List Entry) → latest (latest base (take k es)) (drop k es) ≡ latest base es
-latest_split base zero es = refl
-latest_split base (suc k) [] = refl
-latest_split base (suc k) (e ∷ es) = latest_split e.tick k es
-
-latest_last : (base : ℕ) (es : List Entry) (e : Entry) → latest base (es ++ e ∷ []) ≡ e.tick
-latest_last base [] e = refl
-latest_last base (x ∷ es) e = latest_last x.tick es e
-
-pub latest_pushed : (entry : Entry) (feed : History) → latest (pushed entry feed).base (pushed entry feed).entries ≡ entry.tick
-latest_pushed entry feed =
-    latest_split feed.base (length (feed.entries ++ entry ∷ []) - feed.limit) (feed.entries ++ entry ∷ []) ∙ latest_last feed.base feed.entries entry
 
 until_fed : (tick : ℕ) (o : Option Change) (feed : History) → latest feed.base feed.entries < tick → latest (with_change tick o feed).base (with_change tick o feed).entries ≤ tick
 until_fed tick None feed lt = omega (arith, lt)

@@ -1,8 +1,8 @@
 -- Feeds that get one more entry.
-use Rattle.std.proofs.Common.{◌≡◌, ℕ, zero, suc, ◌+◌, ◌-◌, ◌<◌, List, [], ◌∷◌, ◌++◌, Option, None, Some, take, drop, arith}
+use Rattle.std.proofs.Common.{◌≡◌, ℕ, zero, suc, ◌+◌, ◌-◌, ◌<◌, List, [], ◌∷◌, ◌++◌, Option, None, Some, length, take, drop, refl, ◌∙◌, arith}
 use Rattle.std.specs.Prelude.{MatchOption}
 use Rattle.cy_bags.specs.declared.changes.Entry.{Entry}
-use Rattle.cy_feeds.specs.Feeds.{IsRising, latest}
+use Rattle.cy_feeds.specs.Feeds.{History, IsRising, latest, pushed}
 
 pub rising_more : (base : ℕ) (es : List Entry) (e : Entry) → IsRising base es → latest base es < e.tick → IsRising base (es ++ e ∷ [])
 rising_more base [] e rising above = (above, tt)
@@ -28,3 +28,18 @@ latest_tail base tick (e ∷ f ∷ es) rising above = above
 pub fewer : (popped : Option Entry) (before after : ℕ) → MatchOption popped ((before ≡ 0) × (after ≡ 0)) (λ _. after + 1 ≡ before) → 0 < before → after < before
 fewer None before after cases some = absurd (omega (arith, cases.0, some))
 fewer (Some e) before after cases some = omega (arith, cases)
+
+-- ---- the tick of the last entry is that of the entry which was put there
+
+latest_split : (base k : ℕ) (es : List Entry) → latest (latest base (take k es)) (drop k es) ≡ latest base es
+latest_split base zero es = refl
+latest_split base (suc k) [] = refl
+latest_split base (suc k) (e ∷ es) = latest_split e.tick k es
+
+latest_last : (base : ℕ) (es : List Entry) (e : Entry) → latest base (es ++ e ∷ []) ≡ e.tick
+latest_last base [] e = refl
+latest_last base (x ∷ es) e = latest_last x.tick es e
+
+pub latest_pushed : (entry : Entry) (feed : History) → latest (pushed entry feed).base (pushed entry feed).entries ≡ entry.tick
+latest_pushed entry feed =
+    latest_split feed.base (length (feed.entries ++ entry ∷ []) - feed.limit) (feed.entries ++ entry ∷ []) ∙ latest_last feed.base feed.entries entry

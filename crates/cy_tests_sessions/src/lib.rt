@@ -1,4 +1,4 @@
-//! What no transcript holds of sessions: calls of the engine, bags and feeds, invalid UTF-8, very long lines, lines that are cut short, and
+//! What no transcript holds of sessions: calls of the engine, invalid UTF-8, very long lines, lines that are cut short, and
 //! streams that fail or are interrupted. Only tests stand here.
 #![tactic(auto)]
 
@@ -6,8 +6,6 @@
 mod cuts;
 #[cfg(test)]
 mod engine;
-#[cfg(test)]
-mod feeds;
 #[cfg(test)]
 mod lines;
 #[cfg(test)]

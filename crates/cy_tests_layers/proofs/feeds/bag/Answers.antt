@@ -5,7 +5,7 @@ use Rattle.std.proofs.lemmas.Result.{IfOk-weaker}
 use Rattle.cy_values.specs.Bag.{IsBagOf, weight_of}
 use Rattle.cy_values.specs.Order.{row_cmp}
 use Rattle.cy_values.specs.declared.rows.Cell.{Cell}
-use Rattle.cy_tests_sessions.proofs.feeds.bag.Goals as goal
+use Rattle.cy_tests_layers.proofs.feeds.bag.Goals as goal
 
 -- no row counts more often than there are rows
 pub returns-clause-few : goal.returns-clause-few

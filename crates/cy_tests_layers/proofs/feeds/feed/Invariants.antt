@@ -1,6 +1,6 @@
 use Rattle.std.proofs.Common.{◌<◌}
 use Rattle.cy_feeds.specs.Feeds.{latest}
-use Rattle.cy_tests_sessions.proofs.feeds.feed.Given as goal
+use Rattle.cy_tests_layers.proofs.feeds.feed.Given as goal
 
 -- no entry is there of this tick or of one above it
 abbrev pub invariant-loop-tick : goal.invariant-loop-tick

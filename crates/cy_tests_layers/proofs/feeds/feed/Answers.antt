@@ -1,8 +1,8 @@
 use Rattle.std.proofs.Common.{◌<◌, ◌+◌, ℕ, sym, subst, arith}
 use Rattle.cy_bags.specs.declared.changes.Entry.{Entry}
 use Rattle.cy_feeds.specs.Feeds.{Kept, latest}
-use Rattle.cy_engine_views.proofs.Feeding.{latest_pushed}
-use Rattle.cy_tests_sessions.proofs.feeds.feed.Goals as goal
+use Rattle.cy_feeds.proofs.Pushes.{latest_pushed}
+use Rattle.cy_tests_layers.proofs.feeds.feed.Goals as goal
 
 abbrev latest_of : Kept → ℕ
 latest_of feed = latest feed.history.base feed.history.entries

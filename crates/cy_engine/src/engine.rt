@@ -40,7 +40,6 @@ const LAST_TICK: u64 = (1 << 62) - 1;
 const VIEW_LIMIT: usize = 256;
 
 /// A property graph with its views. It takes lines and answers them; a refused line leaves it as it was.
-#[derive(Drop)]
 pub struct Engine {
     alloc: Global,
     store: Store,
@@ -49,6 +48,20 @@ pub struct Engine {
     history: usize,
     /// What the last line changed in the rows of views.
     entries: Sequence<(Text, Entry)>,
+}
+
+/// Called from each place where an engine is dropped.
+impl Drop for Engine {
+    fn drop(self) {
+        let Engine {
+            alloc: _,
+            store: _,
+            views: _,
+            tick: _,
+            history: _,
+            entries: _,
+        } = self;
+    }
 }
 
 // What a change of the content does: the tick that follows, and the entries of the views.

@@ -19,7 +19,6 @@ use cy_values::{Duplicate, row_order_laws};
 use std::alloc::Global;
 
 /// A view: the rows of its query, and its feed.
-#[derive(Drop)]
 pub(crate) struct Registered {
     pub(crate) rows: QueryRows,
     /// The tick at which it was made.
@@ -31,6 +30,20 @@ pub(crate) struct Registered {
     pub(crate) prepared: bool,
     /// What the open change, for which they are prepared, does to them, where that is something.
     pub(crate) change: Option<Change>,
+}
+
+/// Called from each place where a view is dropped.
+impl Drop for Registered {
+    fn drop(self) {
+        let Registered {
+            rows: _,
+            made: _,
+            feed: _,
+            steps: _,
+            prepared: _,
+            change: _,
+        } = self;
+    }
 }
 
 impl Registered {

@@ -59,7 +59,6 @@ fn expect_calls(rt: &impl Abort, alloc: Global, engine: &mut Engine) -> Result<(
     expect_entry(rt, engine)
 }
 
-// (This one function owns an engine, since the proof of each exit of such a function takes minutes.)
 #[test]
 fn answers_lines(rt: HostRuntime) -> Result<(), Fail> {
     let mut engine = Engine::new(rt.alloc(), 64);

@@ -20,7 +20,6 @@ use std::alloc::Global;
 use std::marker::Model;
 
 /// A property graph in memory.
-#[derive(Drop)]
 pub struct Graph {
     nodes: Series<Node>,
     rels: Series<Rel>,
@@ -29,6 +28,19 @@ pub struct Graph {
     incoming: Adjacency,
     /// The texts of labels, types and keys that came last.
     names: Names,
+}
+
+/// Called from each place where a graph is dropped.
+impl Drop for Graph {
+    fn drop(self) {
+        let Graph {
+            nodes: _,
+            rels: _,
+            outgoing: _,
+            incoming: _,
+            names: _,
+        } = self;
+    }
 }
 
 impl Model for Graph {

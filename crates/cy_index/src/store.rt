@@ -19,12 +19,22 @@ use std::marker::Model;
 
 /// A property graph with an index of its labels, and with indexes of the values of chosen properties. Each look-up reads
 /// the graph as it stands, in an open change too.
-#[derive(Drop)]
 pub struct Store {
     graph: Graph,
     chosen: Vec<Pair>,
     /// The nodes under each key. They are up to date at each point of a change, so what ends it needs no more memory.
     postings: Postings<Key>,
+}
+
+/// Called from each place where a store is dropped.
+impl Drop for Store {
+    fn drop(self) {
+        let Store {
+            graph: _,
+            chosen: _,
+            postings: _,
+        } = self;
+    }
 }
 
 impl Model for Store {

@@ -17,7 +17,6 @@ pub struct Query {
     pub clauses: Vec<Clause>,
 }
 
-#[derive(Drop)]
 pub enum Clause {
     Match(Match),
     Unwind(Unwind),
@@ -28,6 +27,16 @@ pub enum Clause {
     Set(Vec<SetItem>),
     Remove(Vec<RemoveItem>),
     Delete(Delete),
+}
+
+/// Called from each of the many places where a clause is dropped.
+impl Drop for Clause {
+    fn drop(self) {
+        match self {
+            Clause::Match(_) | Clause::Unwind(_) | Clause::With(_) | Clause::Return(_) => {}
+            Clause::Create(_) | Clause::Set(_) | Clause::Remove(_) | Clause::Delete(_) => {}
+        }
+    }
 }
 
 /// MATCH or OPTIONAL MATCH: the paths, one or more, and what stands after WHERE.
@@ -106,7 +115,6 @@ pub struct Step {
     pub node: NodePattern,
 }
 
-#[derive(Drop)]
 pub struct NodePattern {
     pub variable: Option<Variable>,
     pub labels: Vec<Text>,
@@ -114,7 +122,17 @@ pub struct NodePattern {
     pub properties: Option<Vec<MapEntry>>,
 }
 
-#[derive(Drop)]
+/// Called from each of the many places where the pattern of a node is dropped.
+impl Drop for NodePattern {
+    fn drop(self) {
+        let NodePattern {
+            variable: _,
+            labels: _,
+            properties: _,
+        } = self;
+    }
+}
+
 pub struct RelationshipPattern {
     pub variable: Option<Variable>,
     pub direction: Direction,
@@ -122,6 +140,19 @@ pub struct RelationshipPattern {
     pub types: Vec<Text>,
     pub length: Option<Length>,
     pub properties: Option<Vec<MapEntry>>,
+}
+
+/// Called from each of the many places where the pattern of a relationship is dropped.
+impl Drop for RelationshipPattern {
+    fn drop(self) {
+        let RelationshipPattern {
+            variable: _,
+            direction: _,
+            types: _,
+            length: _,
+            properties: _,
+        } = self;
+    }
 }
 
 /// Which way a relationship points, as the path is written.

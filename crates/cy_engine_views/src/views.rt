@@ -33,10 +33,19 @@ use std::alloc::Global;
 
 /// Views, each under its name. Their rows follow a graph: a change of it is prepared before it ends, so that what then remains to be
 /// done can't fail.
-#[derive(Drop)]
 pub struct Views {
     alloc: Global,
     registered: IndexMap<String, Registered>,
+}
+
+/// Called from each place where views are dropped.
+impl Drop for Views {
+    fn drop(self) {
+        let Views {
+            alloc: _,
+            registered: _,
+        } = self;
+    }
 }
 
 impl Views {

@@ -1,4 +1,1 @@
-pub mod DepthLemmas
 pub mod RefusalLemmas
-pub mod Turns
-pub mod PartsLemmas

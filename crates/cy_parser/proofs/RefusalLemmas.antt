@@ -2,8 +2,8 @@
 use Rattle.std.proofs.Common.{◌≡◌, ◌≢◌, List, Some, None, refl}
 use Rattle.cy_lexer.specs.declared.tokens.Token.{Token}
 use Rattle.cy_parser_grammar.specs.internal.Reader.{Outcome}
-use Rattle.cy_parser.specs.declared.refusals.Refusal.{Refusal}
-use Rattle.cy_parser.specs.declared.refusals.Refusal.TheVariants.{NoMemory}
+use Rattle.cy_parser_statements.specs.declared.refusals.Refusal.{Refusal}
+use Rattle.cy_parser_statements.specs.declared.refusals.Refusal.TheVariants.{NoMemory}
 
 -- where there is an answer, it is refused only when out of memory
 pub memory_alone : {A : Type 0} (refusal : Refusal) (o : Outcome A) (x : A × List Token) → (refusal ≢ NoMemory → o ≡ None) → o ≡ Some x → refusal ≡ NoMemory

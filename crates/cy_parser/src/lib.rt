@@ -1,26 +1,8 @@
 //! A line's tokens become the tree of a statement.
 #![tactic(auto)]
 
-mod building;
-mod conditions;
-mod connectives;
-mod cursor;
 mod faults;
-mod grammar;
-mod lengths;
-mod levels;
-mod nesting;
-mod operands;
-mod operations;
-mod order;
 mod parsing;
-mod patterns;
-mod primary;
-mod projections;
-mod refusals;
-mod source;
-mod statements;
-mod updates;
 
 pub use cy_parser_grammar::{denoted_text, is_word, slice_in, trees_and_texts};
 pub use cy_trees::{

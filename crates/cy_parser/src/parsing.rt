@@ -8,18 +8,16 @@ ghost use Rattle.cy_lexer.specs.Tokens.{tokens_of};
 ghost use Rattle.cy_parser.specs.declared.faults.ParseFault.TheVariants.{NoMemory, Unexpected};
 ghost use Rattle.cy_parser.specs.Faults.{PointsAtPlace, IsPlace};
 ghost use Rattle.cy_parser_grammar.specs.SpellsClauses.{SpellsStatement};
-ghost use Rattle.cy_parser.specs.declared.refusals.Refusal.TheVariants as refusals;
+ghost use Rattle.cy_parser_statements.specs.declared.refusals.Refusal.TheVariants as refusals;
 ghost use Rattle.cy_parser_grammar.specs.Shown.{AreAlike, AreNeighbours, with_columns};
 ghost use Rattle.cy_trees.specs.Show as shown;
 ghost use Rattle.cy_trees.specs.Trees as tree;
 ghost use Rattle.cy_trees.specs.TreeModels.{statement_of};
 ghost use Rattle.cy_parser_grammar.specs.internal.Clauses as spec;
 
-use crate::cursor::Cursor;
 use crate::faults::ParseFault;
-use crate::refusals::Refusal;
-use crate::source::Source;
 use cy_lexer::Token;
+use cy_parser_statements::{Cursor, Refusal, Source};
 use cy_trees::Statement;
 use std::alloc::Global;
 

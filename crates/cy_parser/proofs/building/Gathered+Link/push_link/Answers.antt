@@ -1,9 +1,0 @@
-use Rattle.std.proofs.Common.{arith}
-use Rattle.cy_parser.proofs.DepthLemmas.{links_added}
-use Rattle.cy_parser.proofs.building.Gathered+Link.push_link.Goals as goal
-
-pub returns-clause-measured : goal.returns-clause-measured
-returns-clause-measured c =
-    let items = rw c.into_tree.ensures at c.in_ok-push.ensures.items in
-    let added = links_added c.args.self.now.items.items c.args.comparator c.args.operand.tree c.push.new.self.items items in
-    record { deepest_is = omega (arith, added); shallow = omega arith }

@@ -1,4 +1,0 @@
-use Rattle.cy_parser.proofs.nesting.+nesting.Given as goal
-
-abbrev pub decreases-nesting : goal.decreases-nesting
-decreases-nesting l = l.levels

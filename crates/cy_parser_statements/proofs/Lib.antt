@@ -1,0 +1,3 @@
+pub mod DepthLemmas
+pub mod Turns
+pub mod PartsLemmas

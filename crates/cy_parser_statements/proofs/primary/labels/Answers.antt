@@ -1,0 +1,34 @@
+use Rattle.std.proofs.Common.{rules, arith}
+use Rattle.std.proofs.lemmas.Grind.{common_steps}
+use Rattle.cy_parser_grammar.specs.internal.Expressions.{labels, labels_from}
+use Rattle.cy_parser_grammar.specs.internal.Reader.{and_then}
+use Rattle.cy_parser_statements.proofs.Turns.{turn, turned}
+use Rattle.cy_parser_statements.proofs.primary.labels.Goals as goal
+
+pub loop-turn-init : goal.loop-turn-init
+unfolding labels and_then
+loop-turn-init c = first_of (search rules, grind (arith, common_steps))
+
+pub returns-in_err-word : goal.returns-in_err-word
+unfolding labels_from and_then
+returns-in_err-word c =
+    let e = turn (λ n. labels_from c.args.line.now n c.loop-turn.found.items c.loop-turn.tokens) _ c.loop-turn._turn c.loop-turn-test.true c.loop-turn.invariant in
+    first_of (search rules, grind (arith, common_steps))
+
+pub returns-then-not-eat_symbol : goal.returns-then-not-eat_symbol
+unfolding labels_from and_then
+returns-then-not-eat_symbol c =
+    let e = turn (λ n. labels_from c.args.line.now n c.loop-turn.found.items c.loop-turn.tokens) _ c.loop-turn._turn c.loop-turn-test.true c.loop-turn.invariant in
+    first_of (search rules, grind (arith, common_steps))
+
+pub loop-turn-preserved : goal.loop-turn-preserved
+unfolding labels_from and_then
+loop-turn-preserved c =
+    let e = turn (λ n. labels_from c.args.line.now n c.loop-turn.found.items c.loop-turn.tokens) _ c.loop-turn._turn c.loop-turn-test.true c.loop-turn.invariant in
+    first_of (search rules, grind (arith, common_steps))
+
+pub returns : goal.returns
+unfolding labels_from and_then
+returns c =
+    let e = turned (λ n. labels_from c.args.line.now n c.loop-turn.found.items c.loop-turn.tokens) _ c.loop-turn._turn c.loop-turn-test.false c.loop-turn.invariant in
+    first_of (search rules, grind (arith, common_steps))

@@ -1,0 +1,34 @@
+use Rattle.std.proofs.Common.{rules, arith}
+use Rattle.std.proofs.lemmas.Grind.{common_steps}
+use Rattle.cy_parser_grammar.specs.internal.Clauses.{separated_from, variable_read, variables}
+use Rattle.cy_parser_grammar.specs.internal.Reader.{and_then}
+use Rattle.cy_parser_statements.proofs.Turns.{turn, turned}
+use Rattle.cy_parser_statements.proofs.source.Source.variables.Goals as goal
+
+pub loop-turn-init : goal.loop-turn-init
+unfolding variables and_then
+loop-turn-init c = first_of (search rules, grind (arith, common_steps))
+
+pub returns-in_err-variable : goal.returns-in_err-variable
+unfolding separated_from and_then
+returns-in_err-variable c =
+    let e = turn (λ n. separated_from (variable_read c.args.self.now.line.now) n (c.loop-turn.found.items) c.loop-turn.tokens) _ c.loop-turn._turn c.loop-turn-test.true c.loop-turn.invariant in
+    first_of (search rules, grind (arith, common_steps))
+
+pub returns-then-not-eat_symbol : goal.returns-then-not-eat_symbol
+unfolding separated_from and_then
+returns-then-not-eat_symbol c =
+    let e = turn (λ n. separated_from (variable_read c.args.self.now.line.now) n (c.loop-turn.found.items) c.loop-turn.tokens) _ c.loop-turn._turn c.loop-turn-test.true c.loop-turn.invariant in
+    first_of (search rules, grind (arith, common_steps))
+
+pub loop-turn-preserved : goal.loop-turn-preserved
+unfolding separated_from and_then
+loop-turn-preserved c =
+    let e = turn (λ n. separated_from (variable_read c.args.self.now.line.now) n (c.loop-turn.found.items) c.loop-turn.tokens) _ c.loop-turn._turn c.loop-turn-test.true c.loop-turn.invariant in
+    first_of (search rules, grind (arith, common_steps))
+
+pub returns : goal.returns
+unfolding separated_from and_then
+returns c =
+    let e = turned (λ n. separated_from (variable_read c.args.self.now.line.now) n (c.loop-turn.found.items) c.loop-turn.tokens) _ c.loop-turn._turn c.loop-turn-test.false c.loop-turn.invariant in
+    first_of (search rules, grind (arith, common_steps))

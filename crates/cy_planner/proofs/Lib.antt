@@ -1,9 +1,3 @@
-pub mod Columns
-pub mod Settling
-pub mod Pairing
-pub mod Putting
-pub mod Ranking
-pub mod Made
 pub mod Congruent
 pub mod OuterLaw
 pub mod Predicates

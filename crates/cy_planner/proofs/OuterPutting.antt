@@ -11,7 +11,8 @@ use Rattle.cy_planner.specs.declared.outer_filters.OuterAbove.{OuterAbove}
 use Rattle.cy_planner.specs.internal.OuterAbove.{StandsBelowOuters, put_outer_over, put_outer_over_one}
 use Rattle.cy_planner_rewriting.specs.internal.Opened.{together}
 use Rattle.cy_planner.proofs.Congruent.{equal_plans, on_graphs, stands_again}
-use Rattle.cy_planner.proofs.Together.{both_replaced, over_all, over_both, well_sides}
+use Rattle.cy_planner_rewriting.proofs.NarrowPutting.{well_sides}
+use Rattle.cy_planner.proofs.Together.{both_replaced, over_all, over_both}
 
 -- another plan in the place of the left one
 over_one : (a : OuterAbove) (p q : Plan) → StandsFor p q → StandsFor (put_outer_over_one a p) (put_outer_over_one a q)

@@ -26,10 +26,6 @@ pub over_all : (ls : List Layer) (p q : Plan) → StandsFor p q → StandsFor (l
 over_all [] p q is = is
 over_all (l ∷ ls) p q is = over_any l (layered ls p) (layered ls q) (over_all ls p q is)
 
-pub well_sides : (j : Joint) (p q : Plan) → IsWellFormed (together j p q) → IsWellFormed p × IsWellFormed q
-well_sides (joint.Join keys) p q well = (well.0, well.1)
-well_sides _ p q well = (well.0, well.1)
-
 pub over_both : (j : Joint) (p q other_p other_q : Plan) → StandsFor p other_p → StandsFor q other_q → StandsFor (together j p q) (together j other_p other_q)
 over_both (joint.Join keys) p q other_p other_q here there = over_join p q other_p other_q here there keys.items
 over_both (joint.Outer keys test) p q other_p other_q here there = over_outer p q other_p other_q here there keys.items (expression_of test)

@@ -4,10 +4,6 @@ pub mod Projections
 pub mod Keys
 pub mod Patterns
 pub mod Copies
-pub mod Ranks
-pub mod Narrows
-pub mod KeyPairs
-pub mod NarrowAbove
 pub mod Standing
 pub mod OuterAbove
 pub mod SplitPredicates

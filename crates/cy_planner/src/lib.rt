@@ -1,14 +1,12 @@
 //! Plans of the queries of views: how much there is to plan, which plans serve a query, the plans of its clauses, and what a path after WHERE
-//! keeps of its rows; and the passes over a whole plan, after which it gives the same rows. In these, rows get narrower: of columns in which a
-//! join makes the same stand, one is kept, and a column goes as soon as nobody reads it. And predicates of outer joins go down: what one asks of
-//! the right rows alone is asked of the right input, before it is joined.
+//! keeps of its rows. And a pass over a whole plan, after which it gives the same rows: predicates of outer joins go down, so that what one asks
+//! of the right rows alone is asked of the right input, before it is joined.
 #![tactic(auto)]
 
 mod clauses;
 mod faults;
 mod match_columns;
 mod matches;
-mod narrowing;
 mod outer_filters;
 mod paths;
 mod plans;

@@ -10,12 +10,11 @@ ghost use Rattle.cy_planner.specs.internal.QueryPlans.{AreViewQueries, IsPlanOfA
 
 use crate::clauses::clause_rows;
 use crate::faults::PlanFault;
-use crate::narrowing::narrowed;
 use crate::outer_filters::with_low_predicates;
 use crate::weight::is_too_large;
 use cy_oneshot_meaning::laws::{clauses_on_bags, view_queries};
 use cy_planner_algebra::Plan;
-use cy_planner_rewriting::rewritten;
+use cy_planner_rewriting::{narrowed, rewritten};
 use cy_scope::{ViewQuery, checked_statements};
 use cy_trees::{Clause, Query, Statement};
 use cy_values::{Fault, row_order_laws};

@@ -12,3 +12,9 @@ pub mod Stacking
 pub mod Redirecting
 pub mod Splitting
 pub mod Putting
+pub mod Settling
+pub mod NarrowColumns
+pub mod Pairing
+pub mod NarrowPutting
+pub mod Ranking
+pub mod Made

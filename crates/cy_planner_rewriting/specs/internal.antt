@@ -6,3 +6,7 @@ pub mod Lowered
 pub mod Opened
 pub mod Redirected
 pub mod Splits
+pub mod KeyPairs
+pub mod NarrowAbove
+pub mod Narrows
+pub mod Ranks

@@ -33,7 +33,7 @@ pub(crate) fn are_first_columns(outputs: &[Output]) -> bool
 }
 
 /// The columns that a projection takes over, if it makes no other one. Fails only when out of memory.
-pub fn columns_of(alloc: Global, outputs: &[Output]) -> Result<Option<Vec<usize>>, Fault>
+pub(crate) fn columns_of(alloc: Global, outputs: &[Output]) -> Result<Option<Vec<usize>>, Fault>
     ensures { IfOk result (λ made. IfSome made (λ columns. spec.AreColumns (map output_of outputs.now) columns.items)) }
 {
     let mut columns = Vec::with_capacity(alloc, outputs.len())?;
@@ -57,7 +57,7 @@ fn column_for(columns: &[usize], column: usize) -> usize
 }
 
 /// Columns of a row that is made of taken columns, as columns of the rows that these are taken from. Fails only when out of memory.
-pub fn renumber_members(
+pub(crate) fn renumber_members(
     alloc: Global,
     members: &[usize],
     columns: &[usize],
@@ -82,7 +82,7 @@ fn renumber_output(alloc: Global, output: &Output, columns: &[usize]) -> Result<
 }
 
 /// Outputs over taken columns, over the rows that these are columns of. Fails only when out of memory.
-pub fn renumber_outputs(
+pub(crate) fn renumber_outputs(
     alloc: Global,
     outputs: &[Output],
     columns: &[usize],

@@ -13,7 +13,8 @@ use Rattle.cy_planner.specs.declared.outer_filters.OuterAbove.{OuterAbove}
 use Rattle.cy_planner.specs.internal.OuterAbove.{StandsBelowOuters, put_outer_over}
 use Rattle.cy_planner_rewriting.specs.internal.Opened.{together}
 use Rattle.cy_planner.proofs.Congruent.{on_graphs, stands_again}
-use Rattle.cy_planner.proofs.Together.{no_layer, well_base, well_sides}
+use Rattle.cy_planner_rewriting.proofs.NarrowPutting.{well_sides}
+use Rattle.cy_planner.proofs.Together.{no_layer, well_base}
 use Rattle.cy_planner.proofs.OuterPutting.{stands_alone, stands_left}
 use Rattle.cy_planner.proofs.outer_filters.+lowered.Goals as goal
 

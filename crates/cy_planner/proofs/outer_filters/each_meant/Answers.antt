@@ -1,5 +1,5 @@
 use Rattle.cy_planner_algebra.specs.PlanModels.{plan_of}
-use Rattle.cy_planner.proofs.Together.{well_sides}
+use Rattle.cy_planner_rewriting.proofs.NarrowPutting.{well_sides}
 use Rattle.cy_planner.proofs.outer_filters.each_meant.Goals as goal
 
 pub returns-clause-left : goal.returns-clause-left

@@ -1,6 +1,6 @@
 //! A statement from the tokens of a line.
 
-ghost use Rattle.std.specs.Prelude.{◌≡◌, ◌≢◌, ◌≤◌, ℕ, List, [], length, Some, None, Ok, Err, IfOk, IfErr, MatchResult};
+ghost use Rattle.std.specs.Prelude.{◌≡◌, ◌≤◌, ℕ, List, [], length, Ok, Err, IfOk, IfErr, MatchResult};
 ghost use Rattle.std.specs.Str.{IsUtf8};
 ghost use Rattle.cy_lexer.specs.declared.tokens.Token as token;
 ghost use Rattle.cy_lexer.specs.Line.{longest_line};
@@ -13,7 +13,6 @@ ghost use Rattle.cy_parser_grammar.specs.Shown.{AreAlike, AreNeighbours, with_co
 ghost use Rattle.cy_trees.specs.Show as shown;
 ghost use Rattle.cy_trees.specs.Trees as tree;
 ghost use Rattle.cy_trees.specs.TreeModels.{statement_of};
-ghost use Rattle.cy_parser_grammar.specs.internal.Clauses as spec;
 
 use crate::faults::ParseFault;
 use cy_lexer::Token;

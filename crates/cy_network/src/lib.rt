@@ -1,10 +1,8 @@
 //! Networks: the rows of a view's plan, kept up to date by what changes in the graph, operator by operator.
 #![tactic(auto)]
 
-mod changes;
 mod kept;
 mod networks;
-mod operators;
 mod pending;
 mod rows;
 

@@ -25,7 +25,8 @@ use Rattle.cy_network_operators.specs.Deltas.{counts}
 use Rattle.cy_network_operators.proofs.PairLemmas.{split_row}
 use Rattle.cy_network_counts.specs.Outer.{AreNumbersOfPartners, are_matched}
 use Rattle.cy_network_counts.specs.internal.OuterMatches.{matched_counts}
-use Rattle.cy_network_counts.specs.internal.OuterNulls.{null_count, outer_counts}
+use Rattle.cy_network_counts.specs.internal.OuterNulls.{outer_counts}
+use Rattle.cy_network_operators.specs.Partners.{null_count}
 use Rattle.cy_network_counts.proofs.NumberLemmas.{a_row_passes, some_number}
 use Rattle.cy_network_counts.proofs.Naturals.{factors, positive}
 

@@ -6,7 +6,6 @@ mod greatest;
 mod merges;
 mod outer_joins;
 pub mod outer_laws;
-mod partners;
 mod passages;
 mod projections;
 mod semi_joins;

@@ -12,3 +12,4 @@ pub mod JoinLemmas
 pub mod PlanLemmas
 pub mod StepLemmas
 pub mod Joining
+pub mod Records

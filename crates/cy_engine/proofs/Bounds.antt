@@ -14,10 +14,10 @@ use Rattle.cy_feeds.proofs.Pushes.{rising_more}
 use Rattle.cy_feeds.proofs.Telling.{latest_above, latest_in_time}
 use Rattle.cy_engine_views.specs.Upkeep.{AreNamed}
 use Rattle.cy_engine_views.specs.RegisteredViews.{Entries, IsEntry, View, entry_at, fed, rows_of, without}
-use Rattle.cy_engine.specs.State.{EngineState}
-use Rattle.cy_engine.specs.EngineStep.{Answer, AreBounded}
+use Rattle.cy_engine_lines.specs.State.{EngineState}
+use Rattle.cy_engine_lines.specs.EngineStep.{Answer, AreBounded}
 use Rattle.cy_engine.proofs.EachEntry.{each_entry}
-use Rattle.cy_engine.proofs.Effects.{Effects, exact}
+use Rattle.cy_engine_lines.proofs.Effects.{Effects, exact}
 use Rattle.cy_engine.proofs.StepNames.{fed_query}
 use Rattle.cy_engine.proofs.Ticks.{Moves, moves}
 use Rattle.cy_engine.proofs.ToldRows.{AllTold, IsTold, rows_at, with_one}

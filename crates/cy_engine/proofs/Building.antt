@@ -15,18 +15,18 @@ use Rattle.cy_feeds.specs.Feeds.{answer_since}
 use Rattle.cy_updates_meaning.specs.Faults.{◌>>=◌}
 use Rattle.cy_updates_meaning.specs.declared.faults.UpdateFault.{UpdateFault}
 use Rattle.cy_updates_meaning.specs.Statements.{Outcome, statement_outcome}
-use Rattle.cy_engine.specs.Faults.{of_update}
-use Rattle.cy_engine.specs.declared.faults.Fault.{Fault}
-use Rattle.cy_engine.specs.declared.faults.Fault.TheVariants as fault
+use Rattle.cy_engine_lines.specs.Faults.{of_update}
+use Rattle.cy_engine_lines.specs.declared.faults.Fault.{Fault}
+use Rattle.cy_engine_lines.specs.declared.faults.Fault.TheVariants as fault
 use Rattle.cy_engine.specs.Headline.{Builds, Leads, Moment, moment_of}
-use Rattle.cy_engine.specs.Requests.{Asks, Request, StatementOf, ViewOf, RowsOf, SinceOf, ListOfSteps, DropOf, IndexOf, Refused, request}
+use Rattle.cy_engine_lines.specs.Requests.{Asks, Request, StatementOf, ViewOf, RowsOf, SinceOf, ListOfSteps, DropOf, IndexOf, Refused, request}
 use Rattle.cy_engine.specs.Runs.{Event, Run}
-use Rattle.cy_engine.specs.State.{EngineState}
+use Rattle.cy_engine_lines.specs.State.{EngineState}
 use Rattle.cy_engine_views.specs.RegisteredViews.{Entries, View}
-use Rattle.cy_engine.specs.EngineStep.{Answer, Answers, Executes, Drops, ShowsAnswer, Indexes, Lexed, Makes, Shows, EngineStep, AnswersSince}
-use Rattle.cy_engine.specs.Verdicts.{Executed, execution_verdict, index_verdict, or_fault, rows_verdict, scope_verdict, since_verdict, statement_verdict, tick_after, passes, view_verdict}
-use Rattle.cy_engine.proofs.Effects.{statement_timed}
-use Rattle.cy_engine.proofs.Queries.{bind_ok, same_ok, view_made}
+use Rattle.cy_engine_lines.specs.EngineStep.{Answer, Answers, Executes, Drops, ShowsAnswer, Indexes, Lexed, Makes, Shows, EngineStep, AnswersSince}
+use Rattle.cy_engine_lines.specs.Verdicts.{Executed, execution_verdict, index_verdict, or_fault, rows_verdict, scope_verdict, since_verdict, statement_verdict, tick_after, passes, view_verdict}
+use Rattle.cy_engine_lines.proofs.Effects.{statement_timed}
+use Rattle.cy_engine_lines.proofs.Queries.{bind_ok, same_ok, view_made}
 
 -- what a statement that is executed means
 pub scoped : (tree resolved : Statement) → scope_verdict tree ≡ Ok resolved → resolved ≡ resolved_statement tree

@@ -1,19 +1,13 @@
 -- Runs, step by step.
-use Rattle.std.proofs.Common.{◌≡◌, ℕ, List, [], ◌∷◌, ◌++◌, refl, sym, ap, subst, ◌∙◌, inl}
+use Rattle.std.proofs.Common.{◌≡◌, ℕ, List, [], ◌∷◌, ◌++◌, refl, sym, ap, subst, ◌∙◌}
 use Rattle.std.proofs.lemmas.List.{map-append}
-use Rattle.cy_graph.specs.Graph.{Content}
 use Rattle.cy_engine.specs.KeptRuns.{KeptRun}
-use Rattle.cy_engine.specs.KeptStep.{KeptState, KeptStep, kept_state_of}
+use Rattle.cy_engine_lines.specs.KeptStep.{KeptState, KeptStep, kept_state_of}
 use Rattle.cy_engine.specs.Runs.{Event, Run, last_entries}
-use Rattle.cy_engine.specs.Model.{Machine}
-use Rattle.cy_engine.specs.internal.Stages.{RunsKept}
-use Rattle.cy_engine_views.specs.RegisteredViews.{AreEntries, Entries, View}
-use Rattle.cy_engine.specs.EngineStep.{Answer}
-
--- where the content stays, no view gets an entry
-pub nothing_changed : (views : List View) (content : Content) (tick : ℕ) → AreEntries views content content tick []
-nothing_changed [] content tick = refl
-nothing_changed (view ∷ views) content tick = inl ((λ row. refl), nothing_changed views content tick)
+use Rattle.cy_engine_lines.specs.Model.{Machine}
+use Rattle.cy_engine.specs.internal.KeptLines.{RunsKept}
+use Rattle.cy_engine_views.specs.RegisteredViews.{Entries}
+use Rattle.cy_engine_lines.specs.EngineStep.{Answer}
 
 run_append : (old mid new : KeptState) (events : List Event) (e : Event) → KeptRun old events mid → KeptStep mid e.line e.answer e.entries new → KeptRun old (events ++ e ∷ []) new
 run_append old mid new [] e run step = (new, subst (λ (s : KeptState). KeptStep s e.line e.answer e.entries new) run step, refl)

@@ -13,16 +13,16 @@ use Rattle.cy_scope.specs.Checked.{IsViewQuery}
 use Rattle.cy_oneshot_meaning.specs.Queries.{statement_columns, statement_rows}
 use Rattle.cy_bags.specs.declared.changes.Entry.{Entry}
 use Rattle.cy_feeds.specs.Feeds.{History, new_history}
-use Rattle.cy_engine.specs.declared.replies.Reply.TheVariants as reply
+use Rattle.cy_engine_lines.specs.declared.replies.Reply.TheVariants as reply
 use Rattle.cy_engine.specs.Headline.{AreItsEntries, AsksForView, HeadlineHolds, IsItsEntry, IsMaintained, Leads, Moment, counts_in, entries_of, followed, moment_of, with_entries, with_entry}
 use Rattle.cy_engine.specs.Runs.{Event, OnlySo, Run, accepted}
-use Rattle.cy_engine.specs.State.{EngineState, empty_engine}
+use Rattle.cy_engine_lines.specs.State.{EngineState, empty_engine}
 use Rattle.cy_engine_views.specs.RegisteredViews.{AreEntries, Entries, View, entry_at, fed, rows_of, without}
-use Rattle.cy_engine.specs.EngineStep.{Answer, EngineStep}
+use Rattle.cy_engine_lines.specs.EngineStep.{Answer, EngineStep}
 use Rattle.cy_engine_views.specs.Upkeep.{AreNamed}
 use Rattle.cy_engine.proofs.Building.{run_builds, step_leads}
 use Rattle.cy_engine.proofs.EachEntry.{each_entry}
-use Rattle.cy_engine.proofs.Effects.{Effects, effects, exact}
+use Rattle.cy_engine_lines.proofs.Effects.{Effects, effects, exact}
 use Rattle.cy_engine.proofs.Making.{step_asked}
 use Rattle.cy_engine.proofs.Names.{Among, among_from, among_either, found}
 use Rattle.cy_engine.proofs.StepNames.{effects_named, fed_name, fed_query}

@@ -1,10 +1,10 @@
 -- Refused lines leave no trace in how views are kept up.
 use Rattle.std.proofs.Common.{◌≡◌, [], ◌∷◌, Ok, Err, refl, subst}
-use Rattle.cy_engine.specs.declared.faults.Fault.{Fault}
-use Rattle.cy_engine.specs.declared.faults.Fault.TheVariants as fault
-use Rattle.cy_engine.specs.EngineStep.{Answer}
+use Rattle.cy_engine_lines.specs.declared.faults.Fault.{Fault}
+use Rattle.cy_engine_lines.specs.declared.faults.Fault.TheVariants as fault
+use Rattle.cy_engine_lines.specs.EngineStep.{Answer}
 use Rattle.cy_engine.specs.KeptRuns.{KeptRun, RefusedLinesKeepUpkeep}
-use Rattle.cy_engine.specs.KeptStep.{AsksTooMuch, Keeps, KeptState, KeptStep}
+use Rattle.cy_engine_lines.specs.KeptStep.{AsksTooMuch, Keeps, KeptState, KeptStep}
 use Rattle.cy_engine.specs.Runs.{Event, accepted, accepted_before}
 use Rattle.cy_engine.proofs.Traces.{step_left}
 

@@ -14,17 +14,17 @@ use Rattle.cy_feeds.specs.declared.feeds.Answer as feeds
 use Rattle.cy_feeds.specs.declared.feeds.Answer.TheVariants.{Entries as Since, Lagged}
 use Rattle.cy_feeds.specs.Feeds.{answer_since}
 use Rattle.cy_updates_meaning.specs.Faults.{◌>>=◌}
-use Rattle.cy_engine.specs.declared.faults.Fault.{Fault}
-use Rattle.cy_engine.specs.declared.faults.Fault.TheVariants as fault
-use Rattle.cy_engine.specs.declared.replies.Reply.TheVariants as reply
+use Rattle.cy_engine_lines.specs.declared.faults.Fault.{Fault}
+use Rattle.cy_engine_lines.specs.declared.faults.Fault.TheVariants as fault
+use Rattle.cy_engine_lines.specs.declared.replies.Reply.TheVariants as reply
 use Rattle.cy_engine.specs.Headline.{AsksForView}
-use Rattle.cy_engine.specs.Requests.{Asks, Request, StatementOf, ViewOf, RowsOf, SinceOf, ListOfSteps, DropOf, IndexOf, Refused, request}
-use Rattle.cy_engine.specs.State.{EngineState}
+use Rattle.cy_engine_lines.specs.Requests.{Asks, Request, StatementOf, ViewOf, RowsOf, SinceOf, ListOfSteps, DropOf, IndexOf, Refused, request}
+use Rattle.cy_engine_lines.specs.State.{EngineState}
 use Rattle.cy_engine_views.specs.RegisteredViews.{Entries, View}
-use Rattle.cy_engine.specs.EngineStep.{Answer, Answers, Executes, Drops, ShowsAnswer, Indexes, IsMade, Lexed, Makes, Shows, EngineStep, AnswersSince}
-use Rattle.cy_engine.specs.Verdicts.{Executed, index_verdict, query_verdict, rows_verdict, scope_verdict, since_verdict, statement_verdict, passes, view_verdict}
+use Rattle.cy_engine_lines.specs.EngineStep.{Answer, Answers, Executes, Drops, ShowsAnswer, Indexes, IsMade, Lexed, Makes, Shows, EngineStep, AnswersSince}
+use Rattle.cy_engine_lines.specs.Verdicts.{Executed, index_verdict, query_verdict, rows_verdict, scope_verdict, since_verdict, statement_verdict, passes, view_verdict}
 use Rattle.cy_engine.proofs.Building.{scoped}
-use Rattle.cy_engine.proofs.Queries.{bind_ok, same_ok, view_parts}
+use Rattle.cy_engine_lines.proofs.Queries.{bind_ok, same_ok, view_parts}
 
 -- the query of a view is the statement that is spelt, with the columns of its variables
 spelt_query : (tree query : Statement) → query_verdict tree ≡ Ok query → query ≡ resolved_statement tree

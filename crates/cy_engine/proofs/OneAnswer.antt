@@ -19,17 +19,17 @@ use Rattle.cy_bags.specs.declared.changes.Entry.{Entry}
 use Rattle.cy_feeds.specs.declared.feeds.Answer as feeds
 use Rattle.cy_feeds.specs.declared.feeds.Answer.TheVariants.{Entries as Since, Lagged}
 use Rattle.cy_feeds.specs.Feeds.{answer_since}
-use Rattle.cy_engine.specs.declared.faults.Fault.{Fault}
-use Rattle.cy_engine.specs.declared.faults.Fault.TheVariants as fault
-use Rattle.cy_engine.specs.declared.replies.Reply.{Reply}
-use Rattle.cy_engine.specs.declared.replies.Reply.TheVariants as reply
+use Rattle.cy_engine_lines.specs.declared.faults.Fault.{Fault}
+use Rattle.cy_engine_lines.specs.declared.faults.Fault.TheVariants as fault
+use Rattle.cy_engine_lines.specs.declared.replies.Reply.{Reply}
+use Rattle.cy_engine_lines.specs.declared.replies.Reply.TheVariants as reply
 use Rattle.cy_bags.specs.Difference.{IsDifference}
-use Rattle.cy_engine.specs.Requests.{Request, Nothing, StatementOf, ViewOf, RowsOf, SinceOf, ListOfViews, ListOfSteps, DropOf, IndexOf, Refused, request}
+use Rattle.cy_engine_lines.specs.Requests.{Request, Nothing, StatementOf, ViewOf, RowsOf, SinceOf, ListOfViews, ListOfSteps, DropOf, IndexOf, Refused, request}
 use Rattle.cy_engine.specs.Runs.{Agree, IsBound, IsDetermined, is_choice, is_want, seen_answer}
-use Rattle.cy_engine.specs.State.{EngineState}
+use Rattle.cy_engine_lines.specs.State.{EngineState}
 use Rattle.cy_engine_views.specs.RegisteredViews.{AreEntries, Entries, IsEntry, View, fed, listed, rows_of}
-use Rattle.cy_engine.specs.EngineStep.{Answer, AreRows, IsListOfSteps, IsRefused, IsReplied, Executes, Lacks, Makes, Drops, Indexes, Shows, ShowsAnswer, AnswersSince, Answers, Lexed}
-use Rattle.cy_engine.specs.Verdicts.{Executed, index_verdict, rows_verdict, since_verdict, statement_verdict, view_verdict}
+use Rattle.cy_engine_lines.specs.EngineStep.{Answer, AreRows, IsListOfSteps, IsRefused, IsReplied, Executes, Lacks, Makes, Drops, Indexes, Shows, ShowsAnswer, AnswersSince, Answers, Lexed}
+use Rattle.cy_engine_lines.specs.Verdicts.{Executed, index_verdict, rows_verdict, since_verdict, statement_verdict, view_verdict}
 use Rattle.cy_bags.proofs.Surpluses.{same_pairs}
 
 abbrev IsOne : Type 0

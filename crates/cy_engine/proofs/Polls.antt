@@ -12,20 +12,20 @@ use Rattle.cy_feeds.specs.declared.feeds.Answer.TheVariants.{Entries as Since, L
 use Rattle.cy_feeds.specs.Feeds.{History, entries_after}
 use Rattle.cy_feeds.specs.Following.{FollowersGoOn, IsCopy, NewFeedsTell, PushedFeedsTell, QuietFeedsTell}
 use Rattle.cy_updates_meaning.specs.Faults.{◌>>=◌}
-use Rattle.cy_engine.specs.declared.faults.Fault.{Fault}
-use Rattle.cy_engine.specs.declared.faults.Fault.TheVariants as fault
-use Rattle.cy_engine.specs.declared.replies.Reply.TheVariants as reply
+use Rattle.cy_engine_lines.specs.declared.faults.Fault.{Fault}
+use Rattle.cy_engine_lines.specs.declared.faults.Fault.TheVariants as fault
+use Rattle.cy_engine_lines.specs.declared.replies.Reply.TheVariants as reply
 use Rattle.cy_engine.specs.Followers.{Copy, FollowersAgree, IsCurrent, IsLedBy, IsPoll, IsServed, TakesOver, no_copy}
-use Rattle.cy_engine.specs.Requests.{Asks, Request, RowsOf, SinceOf}
+use Rattle.cy_engine_lines.specs.Requests.{Asks, Request, RowsOf, SinceOf}
 use Rattle.cy_engine.specs.Runs.{Event, Run}
-use Rattle.cy_engine.specs.State.{EngineState, empty_engine, view_at}
+use Rattle.cy_engine_lines.specs.State.{EngineState, empty_engine, view_at}
 use Rattle.cy_engine_views.specs.RegisteredViews.{Entries, View, entry_at, fed, rows_of, without}
-use Rattle.cy_engine.specs.EngineStep.{Answer, Answers, AreRows, ShowsAnswer, IsRefused, Lexed, Shows, EngineStep, AnswersSince}
-use Rattle.cy_engine.specs.Verdicts.{needs, there}
+use Rattle.cy_engine_lines.specs.EngineStep.{Answer, Answers, AreRows, ShowsAnswer, IsRefused, Lexed, Shows, EngineStep, AnswersSince}
+use Rattle.cy_engine_lines.specs.Verdicts.{needs, there}
 use Rattle.cy_engine_views.specs.Upkeep.{AreNamed}
 use Rattle.cy_trees.specs.Trees.{Statement}
 use Rattle.cy_engine.proofs.Bounds.{AllLimited, IsLater, base_rises, later_entries, limited_step}
-use Rattle.cy_engine.proofs.Effects.{Effects, effects}
+use Rattle.cy_engine_lines.proofs.Effects.{Effects, effects}
 use Rattle.cy_engine.proofs.StepNames.{effects_named, fed_name, fed_query}
 use Rattle.cy_engine.proofs.Ticks.{content_at, content_first, content_next, later, moves}
 use Rattle.cy_engine.proofs.ToldRows.{AllTold, IsTold, rows_at, told_step}

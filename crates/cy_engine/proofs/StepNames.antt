@@ -4,11 +4,11 @@ use Rattle.std.specs.Option.{option_map_or}
 use Rattle.std.specs.Str.{bytes_eq}
 use Rattle.cy_bags.specs.declared.changes.Entry.{Entry}
 use Rattle.cy_feeds.specs.Feeds.{pushed}
-use Rattle.cy_engine.specs.State.{EngineState}
+use Rattle.cy_engine_lines.specs.State.{EngineState}
 use Rattle.cy_engine_views.specs.RegisteredViews.{Entries, View, entry_at, fed, without}
-use Rattle.cy_engine.specs.EngineStep.{Answer}
+use Rattle.cy_engine_lines.specs.EngineStep.{Answer}
 use Rattle.cy_engine_views.specs.Upkeep.{AreNamed, IsNew}
-use Rattle.cy_engine.proofs.Effects.{Effects}
+use Rattle.cy_engine_lines.proofs.Effects.{Effects}
 use Rattle.cy_engine_views.proofs.Named.{new_last}
 
 -- a view that is taken out

@@ -11,14 +11,14 @@ use Rattle.cy_feeds.specs.Following.{FollowersGoOn, IsCopy, NewFeedsTell, Pushed
 use Rattle.cy_feeds.proofs.GoingOn.{Differ, InTime, Silent, copies_change, goes_on_after, other_tick, none_before}
 use Rattle.cy_updates_meaning.specs.Faults.{◌>>=◌}
 use Rattle.cy_engine_views.specs.RegisteredViews.{View}
-use Rattle.cy_engine.specs.declared.faults.Fault.{Fault}
-use Rattle.cy_engine.specs.declared.faults.Fault.TheVariants as fault
-use Rattle.cy_engine.specs.declared.replies.Reply.TheVariants as reply
+use Rattle.cy_engine_lines.specs.declared.faults.Fault.{Fault}
+use Rattle.cy_engine_lines.specs.declared.faults.Fault.TheVariants as fault
+use Rattle.cy_engine_lines.specs.declared.replies.Reply.TheVariants as reply
 use Rattle.cy_engine.specs.Followers.{CanFollow, EntriesCanBeTaken, no_copy}
-use Rattle.cy_engine.specs.Requests.{Asks, RowsOf, SinceOf}
-use Rattle.cy_engine.specs.State.{empty_engine, view_at}
-use Rattle.cy_engine.specs.EngineStep.{Answer, Answers, ShowsAnswer, IsRefused, Shows, AnswersSince}
-use Rattle.cy_engine.specs.Verdicts.{needs, there}
+use Rattle.cy_engine_lines.specs.Requests.{Asks, RowsOf, SinceOf}
+use Rattle.cy_engine_lines.specs.State.{empty_engine, view_at}
+use Rattle.cy_engine_lines.specs.EngineStep.{Answer, Answers, ShowsAnswer, IsRefused, Shows, AnswersSince}
+use Rattle.cy_engine_lines.specs.Verdicts.{needs, there}
 use Rattle.cy_engine.proofs.Bounds.{IsLimited}
 use Rattle.cy_engine.proofs.Polls.{Known, asked_step, found_each, known_run}
 use Rattle.cy_engine.proofs.Ticks.{content_at, content_first}

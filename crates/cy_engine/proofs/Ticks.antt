@@ -3,13 +3,13 @@ use Rattle.std.proofs.Common.{◌≡◌, ◌⊎◌, ℕ, ◌+◌, ◌≤◌, nat
 use Rattle.std.proofs.lemmas.Bool.Decides.{nat_tests}
 use Rattle.cy_graph.specs.Graph.{Content}
 use Rattle.cy_engine.specs.Runs.{Event, Run}
-use Rattle.cy_engine.specs.State.{EngineState}
+use Rattle.cy_engine_lines.specs.State.{EngineState}
 use Rattle.cy_engine_views.specs.RegisteredViews.{Entries}
-use Rattle.cy_engine.specs.EngineStep.{Answer}
-use Rattle.cy_engine.specs.Verdicts.{next_tick, same_content, tick_after}
-use Rattle.cy_engine.proofs.Contents.{content_decides}
-use Rattle.cy_engine.proofs.Effects.{Effects}
-use Rattle.cy_engine.proofs.Queries.{risen, same_ok}
+use Rattle.cy_engine_lines.specs.EngineStep.{Answer}
+use Rattle.cy_engine_lines.specs.Verdicts.{next_tick, same_content, tick_after}
+use Rattle.cy_engine_lines.proofs.Contents.{content_decides}
+use Rattle.cy_engine_lines.proofs.Effects.{Effects}
+use Rattle.cy_engine_lines.proofs.Queries.{risen, same_ok}
 
 -- a tick more, or the same tick and the same content
 abbrev pub Moves : EngineState → EngineState → Type 0

@@ -11,11 +11,11 @@ use Rattle.cy_feeds.specs.Feeds.{History, IsRising, latest, pushed}
 use Rattle.cy_feeds.specs.Following.{NewFeedsTell, PushedFeedsTell, QuietFeedsTell, Tells as TellsRows}
 use Rattle.cy_feeds.proofs.Pushes.{latest_pushed}
 use Rattle.cy_trees.specs.Trees.{Statement}
-use Rattle.cy_engine.specs.State.{EngineState}
+use Rattle.cy_engine_lines.specs.State.{EngineState}
 use Rattle.cy_engine_views.specs.RegisteredViews.{AreEntries, Entries, IsEntry, View, entry_at, fed, rows_of, without}
-use Rattle.cy_engine.specs.EngineStep.{Answer}
+use Rattle.cy_engine_lines.specs.EngineStep.{Answer}
 use Rattle.cy_engine_views.specs.Upkeep.{AreNamed}
-use Rattle.cy_engine.proofs.Effects.{Effects, exact}
+use Rattle.cy_engine_lines.proofs.Effects.{Effects, exact}
 use Rattle.cy_engine.proofs.EachEntry.{each_entry}
 use Rattle.cy_engine.proofs.Ticks.{Moves, moves}
 

@@ -8,14 +8,14 @@ use Rattle.cy_feeds.specs.declared.feeds.Answer as feeds
 use Rattle.cy_feeds.specs.declared.feeds.Answer.TheVariants.{Entries as Since, Lagged}
 use Rattle.cy_feeds.specs.Feeds.{answer_since}
 use Rattle.cy_index.specs.declared.keys.Pair.{Pair}
-use Rattle.cy_engine.specs.declared.faults.Fault.{Fault}
-use Rattle.cy_engine.specs.declared.replies.Reply.{Reply}
-use Rattle.cy_engine.specs.Requests.{Request, StatementOf, ViewOf, RowsOf, SinceOf, ListOfSteps, DropOf, IndexOf, request}
+use Rattle.cy_engine_lines.specs.declared.faults.Fault.{Fault}
+use Rattle.cy_engine_lines.specs.declared.replies.Reply.{Reply}
+use Rattle.cy_engine_lines.specs.Requests.{Request, StatementOf, ViewOf, RowsOf, SinceOf, ListOfSteps, DropOf, IndexOf, request}
 use Rattle.cy_engine.specs.Runs.{Event, Run, Agree, IsBound, IsDetermined, RefusedLinesLeaveNoTrace, accepted, accepted_before, is_choice, is_want, seen_answer, seen_event}
-use Rattle.cy_engine.specs.State.{EngineState}
+use Rattle.cy_engine_lines.specs.State.{EngineState}
 use Rattle.cy_engine_views.specs.RegisteredViews.{Entries, View}
-use Rattle.cy_engine.specs.EngineStep.{Answer, Executes, Makes, Drops, Indexes, Shows, ShowsAnswer, AnswersSince, Answers, Lexed, EngineStep}
-use Rattle.cy_engine.specs.Verdicts.{Executed, index_verdict, rows_verdict, since_verdict, statement_verdict, view_verdict}
+use Rattle.cy_engine_lines.specs.EngineStep.{Answer, Executes, Makes, Drops, Indexes, Shows, ShowsAnswer, AnswersSince, Answers, Lexed, EngineStep}
+use Rattle.cy_engine_lines.specs.Verdicts.{Executed, index_verdict, rows_verdict, since_verdict, statement_verdict, view_verdict}
 
 abbrev is_ok : Answer → Type 0
 is_ok answer = (reply : Reply) × (answer ≡ Ok reply)

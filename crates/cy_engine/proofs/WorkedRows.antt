@@ -23,23 +23,23 @@ use Rattle.cy_graph.specs.declared.nodes.Node.{Node}
 use Rattle.cy_updates_meaning.specs.declared.faults.UpdateFault.TheVariants as update
 use Rattle.cy_updates_meaning.specs.Statements.{Outcome}
 use Rattle.cy_bags.specs.declared.changes.Entry.{Entry}
-use Rattle.cy_engine.specs.declared.faults.Fault.TheVariants as fault
-use Rattle.cy_engine.specs.declared.replies.Reply.TheVariants as reply
-use Rattle.cy_engine.specs.Faults.{code_of, offset_of}
+use Rattle.cy_engine_lines.specs.declared.faults.Fault.TheVariants as fault
+use Rattle.cy_engine_lines.specs.declared.replies.Reply.TheVariants as reply
+use Rattle.cy_engine_lines.specs.Faults.{code_of, offset_of}
 use Rattle.cy_feeds.specs.Feeds.{new_history}
-use Rattle.cy_engine.specs.Requests.{request, StatementOf, ViewOf, RowsOf, IndexOf, Refused, without_end}
-use Rattle.cy_engine.specs.KeptStep.{kept_state_of, unkept}
-use Rattle.cy_engine.specs.Model.{new_machine}
-use Rattle.cy_engine.specs.State.{EngineState, last_tick, view_at}
-use Rattle.cy_engine.specs.Fields.{machine_of}
+use Rattle.cy_engine_lines.specs.Requests.{request, StatementOf, ViewOf, RowsOf, IndexOf, Refused, without_end}
+use Rattle.cy_engine_lines.specs.KeptStep.{kept_state_of, unkept}
+use Rattle.cy_engine_lines.specs.Model.{new_machine}
+use Rattle.cy_engine_lines.specs.State.{EngineState, last_tick, view_at}
+use Rattle.cy_engine_lines.specs.Fields.{machine_of}
 use Rattle.cy_planner_algebra.specs.Plans as plan
 use Rattle.cy_engine_views.specs.declared.views.Views.{Views}
 use Rattle.cy_engine_views.specs.Upkeep.{Upkeep, held_in, upkeep_in, views_in}
 use Rattle.cy_engine_views.specs.RegisteredViews.{Entries, View, entry_at, rows_of}
 use Rattle.cy_engine.specs.Headline.{entries_of}
-use Rattle.cy_engine.specs.EngineStep.{Answer}
+use Rattle.cy_engine_lines.specs.EngineStep.{Answer}
 use Rattle.cy_engine.specs.Runs.{Event, accepted, seen_answer}
-use Rattle.cy_engine.specs.Verdicts.{execution_verdict, statement_verdict, query_verdict, rows_verdict, since_verdict, index_verdict, view_verdict}
+use Rattle.cy_engine_lines.specs.Verdicts.{execution_verdict, statement_verdict, query_verdict, rows_verdict, since_verdict, index_verdict, view_verdict}
 use Rattle.cy_engine.proofs.WorkedLines.{mark, letter, create_tree, create_tokens, view_line, view_tokens, query_tokens, query_tree, rows_line, rows_tokens, set_tree, bare_tree}
 
 -- ---- what a line asks for

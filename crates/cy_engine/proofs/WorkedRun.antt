@@ -22,16 +22,16 @@ use Rattle.cy_values.specs.declared.rows.Cell.TheVariants as cell
 use Rattle.cy_values.specs.Bag.{count_of, IsCanonical}
 use Rattle.cy_values.specs.Order.{row_cmp}
 use Rattle.cy_graph.specs.declared.nodes.Node.{Node}
-use Rattle.cy_engine.specs.declared.faults.Fault.TheVariants as fault
-use Rattle.cy_engine.specs.declared.replies.Reply.TheVariants as reply
+use Rattle.cy_engine_lines.specs.declared.faults.Fault.TheVariants as fault
+use Rattle.cy_engine_lines.specs.declared.replies.Reply.TheVariants as reply
 use Rattle.cy_bags.specs.Difference.{IsDifference}
 use Rattle.cy_bags.specs.declared.changes.Entry.{Entry}
-use Rattle.cy_engine.specs.Requests.{request}
+use Rattle.cy_engine_lines.specs.Requests.{request}
 use Rattle.cy_engine.specs.Runs.{Event, Run}
-use Rattle.cy_engine.specs.State.{EngineState, empty_engine}
+use Rattle.cy_engine_lines.specs.State.{EngineState, empty_engine}
 use Rattle.cy_feeds.specs.Following.{last_count}
 use Rattle.cy_engine_views.specs.RegisteredViews.{Entries, View}
-use Rattle.cy_engine.specs.EngineStep.{Answer, Answers, Lexed, EngineStep}
+use Rattle.cy_engine_lines.specs.EngineStep.{Answer, Answers, Lexed, EngineStep}
 use Rattle.cy_bags.specs.internal.Counting.{counted_rows}
 use Rattle.cy_bags.specs.internal.Surplus.{surplus_of}
 use Rattle.cy_bags.proofs.Counting.{bag_of_counted}

@@ -22,12 +22,12 @@ use Rattle.cy_planner.specs.Serves.{Serves}
 use Rattle.cy_planner.specs.WideTables.{wide_tables}
 use Rattle.cy_engine_views.specs.Upkeep.{IsWithinCost, SomeHasTooManyRows, Upkeep}
 use Rattle.cy_engine_views.specs.RegisteredViews.{Entries, View}
-use Rattle.cy_engine.specs.declared.faults.Fault.TheVariants as fault
-use Rattle.cy_engine.specs.declared.replies.Reply.TheVariants as reply
-use Rattle.cy_engine.specs.EngineStep.{Answer}
+use Rattle.cy_engine_lines.specs.declared.faults.Fault.TheVariants as fault
+use Rattle.cy_engine_lines.specs.declared.replies.Reply.TheVariants as reply
+use Rattle.cy_engine_lines.specs.EngineStep.{Answer}
 use Rattle.cy_engine.specs.KeptRuns.{KeptRun}
-use Rattle.cy_engine.specs.KeptStep.{KeptState, KeptStep, empty_kept_state}
-use Rattle.cy_engine.specs.State.{EngineState, empty_engine}
+use Rattle.cy_engine_lines.specs.KeptStep.{KeptState, KeptStep, empty_kept_state}
+use Rattle.cy_engine_lines.specs.State.{EngineState, empty_engine}
 use Rattle.cy_engine.proofs.WorkedLines.{create_line, view_line, rows_line, set_line, unknown_line, null_line, delete_line, bare_line}
 use Rattle.cy_engine.proofs.WorkedRun.{node, bare, keys, view, one, none, int, statement, counted, entry, fed_set, fed_null, fed_deleted, fed_created, worked_lines, created, made, unknown, shown, set_once, set_again, set_null, deleted, created_again}
 

@@ -5,12 +5,12 @@ use Rattle.cy_values.specs.Bag.{IsCanonical, weight_of}
 use Rattle.cy_bags.specs.declared.changes.Change.{Change}
 use Rattle.cy_bags.specs.declared.changes.Entry.{Entry}
 use Rattle.cy_feeds.specs.Following.{Follows, IsBounded, IsChangedBy}
-use Rattle.cy_engine.specs.declared.replies.Reply.TheVariants as reply
-use Rattle.cy_engine.specs.Requests.{Asks, RowsOf, SinceOf}
+use Rattle.cy_engine_lines.specs.declared.replies.Reply.TheVariants as reply
+use Rattle.cy_engine_lines.specs.Requests.{Asks, RowsOf, SinceOf}
 use Rattle.cy_engine.specs.Runs.{Event, Run}
-use Rattle.cy_engine.specs.State.{EngineState, empty_engine, view_at}
+use Rattle.cy_engine_lines.specs.State.{EngineState, empty_engine, view_at}
 use Rattle.cy_engine_views.specs.RegisteredViews.{View}
-use Rattle.cy_engine.specs.EngineStep.{Answer, AreRows, EngineStep}
+use Rattle.cy_engine_lines.specs.EngineStep.{Answer, AreRows, EngineStep}
 
 -- ---- what a follower has
 

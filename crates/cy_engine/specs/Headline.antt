@@ -11,14 +11,14 @@ use Rattle.cy_oneshot_meaning.specs.Queries.{statement_columns, statement_rows}
 use Rattle.cy_updates_meaning.specs.Statements.{Outcome, statement_outcome}
 use Rattle.cy_bags.specs.declared.changes.Entry.{Entry}
 use Rattle.cy_feeds.specs.Feeds.{History, new_history, pushed}
-use Rattle.cy_engine.specs.declared.replies.Reply.TheVariants as reply
-use Rattle.cy_engine.specs.Model.{Machine, new_machine, state_of}
-use Rattle.cy_engine.specs.Requests.{Asks, StatementOf, ViewOf}
+use Rattle.cy_engine_lines.specs.declared.replies.Reply.TheVariants as reply
+use Rattle.cy_engine_lines.specs.Model.{Machine, new_machine, state_of}
+use Rattle.cy_engine_lines.specs.Requests.{Asks, StatementOf, ViewOf}
 use Rattle.cy_engine.specs.Runs.{Event, OnlySo, Run, Runs, accepted}
-use Rattle.cy_engine.specs.State.{EngineState, empty_engine, view_at}
+use Rattle.cy_engine_lines.specs.State.{EngineState, empty_engine, view_at}
 use Rattle.cy_engine_views.specs.RegisteredViews.{AreEntries, Entries, IsEntry, View, entry_at, rows_of}
-use Rattle.cy_engine.specs.EngineStep.{Answer, AreRows, EngineStep, changed_by}
-use Rattle.cy_engine.specs.Verdicts.{tick_after}
+use Rattle.cy_engine_lines.specs.EngineStep.{Answer, AreRows, EngineStep, changed_by}
+use Rattle.cy_engine_lines.specs.Verdicts.{tick_after}
 
 -- ---- the graph and the tick
 

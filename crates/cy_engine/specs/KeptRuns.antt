@@ -1,7 +1,7 @@
 -- Runs of the engine with the upkeep of its views (own).
 use Rattle.std.specs.Prelude.{◌≡◌, List, [], ◌∷◌}
-use Rattle.cy_engine.specs.KeptStep.{KeptState, KeptStep, kept_state_of}
-use Rattle.cy_engine.specs.Model.{Machine}
+use Rattle.cy_engine_lines.specs.KeptStep.{KeptState, KeptStep, kept_state_of}
+use Rattle.cy_engine_lines.specs.Model.{Machine}
 use Rattle.cy_engine.specs.Runs.{Event, accepted}
 
 -- from old, lines may be answered so, one after another, and lead to new, with the views kept up as is promised

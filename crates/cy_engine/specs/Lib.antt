@@ -1,13 +1,5 @@
-pub mod Faults
-pub mod Fields
 pub mod Followers
 pub mod Headline
 pub mod KeptRuns
-pub mod KeptStep
-pub mod Model
-pub mod Requests
 pub mod Runs
-pub mod State
-pub mod EngineStep
-pub mod Verdicts
 pub mod internal

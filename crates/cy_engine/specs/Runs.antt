@@ -1,12 +1,12 @@
 -- Runs of the engine over lists of lines, and what holds of them (own).
 use Rattle.std.specs.Prelude.{◌≡◌, ◌⊎◌, ℕ, Bool, true, false, IsTrue, List, [], ◌∷◌, map, Ok, Err}
 use Rattle.std.specs.List.{AllByRecursion}
-use Rattle.cy_engine.specs.declared.faults.Fault.TheVariants as fault
-use Rattle.cy_engine.specs.Model.{Machine, state_of}
-use Rattle.cy_engine.specs.declared.replies.Reply.TheVariants as reply
-use Rattle.cy_engine.specs.State.{EngineState}
+use Rattle.cy_engine_lines.specs.declared.faults.Fault.TheVariants as fault
+use Rattle.cy_engine_lines.specs.Model.{Machine, state_of}
+use Rattle.cy_engine_lines.specs.declared.replies.Reply.TheVariants as reply
+use Rattle.cy_engine_lines.specs.State.{EngineState}
 use Rattle.cy_engine_views.specs.RegisteredViews.{Entries}
-use Rattle.cy_engine.specs.EngineStep.{Answer, EngineStep}
+use Rattle.cy_engine_lines.specs.EngineStep.{Answer, EngineStep}
 
 -- a line, its answer and the entries that it made
 pub record Event : Type 0 where

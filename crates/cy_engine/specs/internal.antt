@@ -1,3 +1,2 @@
 -- What proofs and the crate's own functions need.
-pub mod Representation
-pub mod Stages
+pub mod KeptLines

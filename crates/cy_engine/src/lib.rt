@@ -1,17 +1,8 @@
-//! The engine: lines in, replies out, and views that follow the graph.
+//! The engine: lines in, replies out, and views that follow the graph; and what holds of every list of lines that it was sent.
 #![tactic(auto)]
 
-mod engine;
-mod faults;
 pub mod laws;
-mod reading;
-mod replies;
-mod requests;
 mod runs;
 
-pub use cy_bags::{Change, Entry};
-pub use cy_engine_views::ViewListing;
-pub use engine::Engine;
-pub use faults::Fault;
-pub use replies::{Changed, Reply};
+pub use cy_engine_lines::{Change, Changed, Engine, Entry, Fault, Reply, ViewListing};
 pub use runs::answer_all;

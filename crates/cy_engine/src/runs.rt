@@ -4,10 +4,8 @@ ghost use Rattle.std.specs.Prelude.{◌≡◌, IfErr, IfOk, OnErr, map};
 ghost use Rattle.cy_engine.specs.Headline.{AnswersWithHeadline};
 ghost use Rattle.cy_engine.specs.KeptRuns.{AreKeptThrough};
 
-use crate::engine::Engine;
-use crate::faults::Fault;
 use crate::laws::headline;
-use crate::replies::Reply;
+use cy_engine_lines::{Engine, Fault, Reply};
 use std::alloc::Global;
 
 /// Answers lines one after another. Where the answers themselves find no room, no line is answered.

@@ -8,13 +8,13 @@ use Rattle.std.specs.Str.{IsUtf8, is_utf8}
 use Rattle.cy_lexer.specs.declared.faults.LexFault.{LexFault}
 use Rattle.cy_lexer.specs.declared.tokens.Token.{Token}
 use Rattle.cy_lexer.specs.Tokens.{tokens_of}
-use Rattle.cy_engine.specs.declared.faults.Fault.TheVariants as fault
+use Rattle.cy_engine_lines.specs.declared.faults.Fault.TheVariants as fault
 use Rattle.cy_shell.specs.Lines.{line_limit}
 use Rattle.cy_shell.specs.Printed.{no_memory_text, IsAnswerText, IsFeedText, IsLineText, fed}
-use Rattle.cy_engine.specs.declared.faults.Fault.{Fault}
-use Rattle.cy_engine.specs.declared.replies.Reply.{Reply}
-use Rattle.cy_engine.specs.declared.replies.Reply.TheVariants as reply
-use Rattle.cy_engine.specs.EngineStep.{Lexed}
+use Rattle.cy_engine_lines.specs.declared.faults.Fault.{Fault}
+use Rattle.cy_engine_lines.specs.declared.replies.Reply.{Reply}
+use Rattle.cy_engine_lines.specs.declared.replies.Reply.TheVariants as reply
+use Rattle.cy_engine_lines.specs.EngineStep.{Lexed}
 use Rattle.cy_shell.specs.Runs.{Serving, Answered, TooLong, NotUtf8, Executed, PrintedRun, WritesRun, WritesBeginning}
 use Rattle.cy_shell.specs.Streams.{appended}
 use Rattle.cy_shell.specs.internal.Writing.{AppendsFront}

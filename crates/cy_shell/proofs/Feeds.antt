@@ -2,8 +2,8 @@
 use Rattle.std.proofs.Common.{◌≡◌, ℕ, ◌&&◌, Bool, true, false, List, [], ◌∷◌, ◌++◌, Option, Some, refl, sym, ap, subst, ◌∙◌, append_assoc, inl}
 use Rattle.std.proofs.lemmas.List.{append-nil}
 use Rattle.cy_values.proofs.Booleans.{and_false, and_true}
-use Rattle.cy_engine.specs.Model.{Machine}
-use Rattle.cy_engine.specs.KeptStep.{KeptState}
+use Rattle.cy_engine_lines.specs.Model.{Machine}
+use Rattle.cy_engine_lines.specs.KeptStep.{KeptState}
 use Rattle.cy_bags.specs.declared.changes.Entry.{Entry}
 use Rattle.cy_shell.specs.internal.Feeding.{IsAnswer, WritesFeed, BeginsFeed}
 use Rattle.cy_shell.specs.Printed.{printed_line, IsObjectText, IsFeedText, fed}

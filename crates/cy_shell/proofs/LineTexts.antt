@@ -6,8 +6,8 @@ use Rattle.cy_lexer.specs.Faults.{at_of, code_of}
 use Rattle.cy_lexer.specs.Line.{IsTextOf}
 use Rattle.cy_lexer.specs.declared.faults.LexFault.{LexFault}
 use Rattle.cy_lexer.specs.declared.faults.LexFault.TheVariants as fault
-use Rattle.cy_engine.specs.Model.{Machine}
-use Rattle.cy_engine.specs.KeptStep.{KeptState}
+use Rattle.cy_engine_lines.specs.Model.{Machine}
+use Rattle.cy_engine_lines.specs.KeptStep.{KeptState}
 use Rattle.cy_shell.specs.internal.Feeding.{Answers, IsAnswer}
 use Rattle.cy_shell.specs.Lines.{line_limit}
 use Rattle.cy_shell.specs.internal.Lines.{buffered}

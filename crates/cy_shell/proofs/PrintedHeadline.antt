@@ -2,9 +2,9 @@
 use Rattle.std.proofs.Common.{◌≡◌, ℕ, Bool, List, [], ◌∷◌, ◌++◌, ◌<◌, length, Option, None, Some, Result, Ok, Err, OnOk, IfSome, sym, ◌∙◌, ap, subst, append_assoc, inl, inr}
 use Rattle.cy_engine.specs.Headline.{HeadlineHolds}
 use Rattle.cy_engine.specs.KeptRuns.{KeptRun}
-use Rattle.cy_engine.specs.KeptStep.{empty_kept_state}
+use Rattle.cy_engine_lines.specs.KeptStep.{empty_kept_state}
 use Rattle.cy_engine.specs.Runs.{Event, Run}
-use Rattle.cy_engine.specs.State.{empty_engine}
+use Rattle.cy_engine_lines.specs.State.{empty_engine}
 use Rattle.cy_engine.proofs.Chains.{run_of_kept}
 use Rattle.cy_shell.specs.Lines.{whole_lines, lines_of, lines_after}
 use Rattle.cy_shell.specs.PrintedHeadline.{AnswersAll, AnswersBegun, AnswersRead, NoLine, Prints, Sent, Unsent}

@@ -4,11 +4,11 @@ use Rattle.serde_json.specs.Data.{Data}
 use Rattle.serde_json.specs.Written.{compact_text}
 use Rattle.cy_lexer.specs.Faults as lexer
 use Rattle.cy_lexer.specs.declared.faults.LexFault.{LexFault}
-use Rattle.cy_engine.specs.Faults.{code_of, offset_of}
+use Rattle.cy_engine_lines.specs.Faults.{code_of, offset_of}
 use Rattle.cy_bags.specs.declared.changes.Entry.{Entry}
-use Rattle.cy_engine.specs.declared.faults.Fault.{Fault}
-use Rattle.cy_engine.specs.declared.faults.Fault.TheVariants.{NoMemory}
-use Rattle.cy_engine.specs.declared.replies.Reply.{Reply}
+use Rattle.cy_engine_lines.specs.declared.faults.Fault.{Fault}
+use Rattle.cy_engine_lines.specs.declared.faults.Fault.TheVariants.{NoMemory}
+use Rattle.cy_engine_lines.specs.declared.replies.Reply.{Reply}
 use Rattle.cy_shell.specs.Lines.{line_feed}
 use Rattle.cy_shell.specs.Replies.{reply_json, entry_json, fault_json}
 

@@ -5,8 +5,8 @@ use Rattle.std.specs.Str.Lossy.{utf8_valid_len}
 use Rattle.cy_lexer.specs.declared.faults.LexFault.TheVariants as lex
 use Rattle.cy_engine.specs.Headline.{Headline}
 use Rattle.cy_engine.specs.Runs.{Event, Run}
-use Rattle.cy_engine.specs.State.{EngineState, empty_engine}
-use Rattle.cy_engine.specs.EngineStep.{Answer}
+use Rattle.cy_engine_lines.specs.State.{EngineState, empty_engine}
+use Rattle.cy_engine_lines.specs.EngineStep.{Answer}
 use Rattle.cy_shell.specs.Lines.{line_limit, whole_lines, lines_of, lines_after}
 use Rattle.cy_shell.specs.Printed.{IsLexFaultText, IsLineText}
 use Rattle.cy_shell.specs.Streams.{appended}

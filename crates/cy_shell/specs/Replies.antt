@@ -3,10 +3,10 @@ use Rattle.std.specs.Prelude.{ℕ, List, codes, Option, Some, None}
 use Rattle.serde_json.specs.Data.{Data, null, number, unsigned, string, array, object, item, no_items, member, no_members}
 use Rattle.cy_values.specs.declared.rows.Cell.{Cell}
 use Rattle.cy_bags.specs.declared.changes.Entry.{Entry}
-use Rattle.cy_engine.specs.declared.replies.Changed.{Changed}
-use Rattle.cy_engine.specs.declared.replies.Reply.{Reply}
+use Rattle.cy_engine_lines.specs.declared.replies.Changed.{Changed}
+use Rattle.cy_engine_lines.specs.declared.replies.Reply.{Reply}
 use Rattle.cy_engine_views.specs.declared.listings.ViewListing.{ViewListing}
-use Rattle.cy_engine.specs.declared.replies.Reply.TheVariants as reply
+use Rattle.cy_engine_lines.specs.declared.replies.Reply.TheVariants as reply
 use Rattle.cy_shell.specs.Json.{keyed, list_json, row_json, counted_json}
 use Rattle.cy_shell.specs.Words.{word_of}
 

@@ -4,10 +4,10 @@ use Rattle.std.specs.Str.{IsUtf8}
 use Rattle.std.specs.Str.Lossy.{utf8_valid_len}
 use Rattle.cy_lexer.specs.declared.faults.LexFault.TheVariants as lex
 use Rattle.cy_engine.specs.KeptRuns.{KeptRun}
-use Rattle.cy_engine.specs.KeptStep.{KeptState, KeptStep, empty_kept_state}
+use Rattle.cy_engine_lines.specs.KeptStep.{KeptState, KeptStep, empty_kept_state}
 use Rattle.cy_bags.specs.declared.changes.Entry.{Entry}
-use Rattle.cy_engine.specs.declared.faults.Fault.{Fault}
-use Rattle.cy_engine.specs.declared.replies.Reply.{Reply}
+use Rattle.cy_engine_lines.specs.declared.faults.Fault.{Fault}
+use Rattle.cy_engine_lines.specs.declared.replies.Reply.{Reply}
 use Rattle.cy_shell.specs.Lines.{line_limit, whole_lines, lines_of, lines_after}
 use Rattle.cy_shell.specs.Printed.{IsLexFaultText, IsLineText}
 use Rattle.cy_shell.specs.PrintedHeadline.{AnswersLines}

@@ -2,7 +2,7 @@
 
 ghost use Rattle.std.specs.Prelude.{◌≡◌, ℕ, List};
 ghost use Rattle.cy_lexer.specs.Line.{IsTextOf};
-ghost use Rattle.cy_engine.specs.KeptStep.{kept_state_of};
+ghost use Rattle.cy_engine_lines.specs.KeptStep.{kept_state_of};
 ghost use Rattle.cy_shell.specs.internal.Lines.{buffered};
 ghost use Rattle.cy_shell.specs.internal.Printing.{printed_text};
 ghost use Rattle.cy_shell.specs.internal.Feeding.{Answers, IsAnswer};

@@ -1,11 +1,11 @@
 -- A line is answered, and then its entries are printed.
 use Rattle.std.specs.Prelude.{◌≡◌, ℕ, ◌≤◌, Bool, true, false, List, ◌++◌, length, Option, Result}
 use Rattle.std.specs.Str.{IsUtf8}
-use Rattle.cy_engine.specs.KeptStep.{KeptState, KeptStep, kept_state_of}
-use Rattle.cy_engine.specs.Model.{Machine}
+use Rattle.cy_engine_lines.specs.KeptStep.{KeptState, KeptStep, kept_state_of}
+use Rattle.cy_engine_lines.specs.Model.{Machine}
 use Rattle.cy_bags.specs.declared.changes.Entry.{Entry}
-use Rattle.cy_engine.specs.declared.faults.Fault.{Fault}
-use Rattle.cy_engine.specs.declared.replies.Reply.{Reply}
+use Rattle.cy_engine_lines.specs.declared.faults.Fault.{Fault}
+use Rattle.cy_engine_lines.specs.declared.replies.Reply.{Reply}
 use Rattle.cy_shell.specs.Lines.{line_limit}
 use Rattle.cy_shell.specs.Printed.{IsAnswerText, IsFeedText}
 use Rattle.cy_shell.specs.Runs.{Answered}

@@ -6,7 +6,7 @@ use Rattle.serde_json.specs.Data.{Data, null, number}
 use Rattle.serde_json.specs.Find.{of_integer}
 use Rattle.serde_json.specs.View.{items_of}
 use Rattle.serde_json.specs.Written.{outline, items_outline}
-use Rattle.cy_engine.specs.declared.replies.Reply.{Reply}
+use Rattle.cy_engine_lines.specs.declared.replies.Reply.{Reply}
 use Rattle.cy_shell.specs.Replies.{reply_json}
 
 abbrev pub tokens_of : Data → List Token

@@ -1,4 +1,4 @@
-use Rattle.cy_engine.proofs.Effects.{effects, exact}
+use Rattle.cy_engine_lines.proofs.Effects.{effects, exact}
 use Rattle.cy_engine.proofs.Following.{headline_holds}
 use Rattle.cy_engine.proofs.laws.headline.Goals as goal
 

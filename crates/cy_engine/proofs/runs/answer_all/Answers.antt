@@ -1,12 +1,12 @@
 use Rattle.std.proofs.Common.{◌≡◌, ◌+◌, ◌++◌, ◌∷◌, [], ◌<◌, Bool, cond, length, take, map, get_or, is_ok, vec_len, ap, subst, ◌∙◌, arith, List, ℕ, Bor}
 use Rattle.std.proofs.lemmas.List.{take_all, take_more, length-map, get_or-map}
-use Rattle.cy_engine.specs.EngineStep.{Answer}
+use Rattle.cy_engine_lines.specs.EngineStep.{Answer}
 use Rattle.cy_engine.specs.Headline.{AnswersWithHeadline, HeadlineHolds}
 use Rattle.cy_engine.specs.KeptRuns.{AreKeptThrough}
-use Rattle.cy_engine.specs.KeptStep.{kept_state_of}
-use Rattle.cy_engine.specs.Model.{Machine, state_of}
+use Rattle.cy_engine_lines.specs.KeptStep.{kept_state_of}
+use Rattle.cy_engine_lines.specs.Model.{Machine, state_of}
 use Rattle.cy_engine.specs.Runs.{Run}
-use Rattle.cy_engine.specs.internal.Stages.{RunsKept}
+use Rattle.cy_engine.specs.internal.KeptLines.{RunsKept}
 use Rattle.cy_engine.proofs.Chains.{run_of_kept, runs_more}
 use Rattle.cy_engine.proofs.KeptRuns.{kept_accepted}
 use Rattle.cy_engine.proofs.runs.answer_all.Goals as goal

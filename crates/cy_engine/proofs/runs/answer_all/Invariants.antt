@@ -1,6 +1,6 @@
 use Rattle.std.proofs.Common.{◌≡◌, ◌≤◌, length, take, map, vec_len}
 use Rattle.std.specs.Vec.{vec_capacity}
-use Rattle.cy_engine.specs.internal.Stages.{RunsKept}
+use Rattle.cy_engine.specs.internal.KeptLines.{RunsKept}
 use Rattle.cy_engine.proofs.runs.answer_all.Given as goal
 
 -- the lines so far are run, and there is room for the answers to all

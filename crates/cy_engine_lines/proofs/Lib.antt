@@ -1,0 +1,14 @@
+pub mod ChangeEffects
+pub mod Contents
+pub mod Dropping
+pub mod Effects
+pub mod FromTokens
+pub mod Keeping
+pub mod Limits
+pub mod Lines
+pub mod Queries
+pub mod Refusals
+pub mod Since
+pub mod StatementEnds
+pub mod Steps
+pub mod TouchedContents

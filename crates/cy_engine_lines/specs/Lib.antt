@@ -1,0 +1,9 @@
+pub mod Faults
+pub mod Fields
+pub mod KeptStep
+pub mod Model
+pub mod Requests
+pub mod State
+pub mod EngineStep
+pub mod Verdicts
+pub mod internal

@@ -1,0 +1,3 @@
+-- What proofs and the crate's own functions need.
+pub mod Representation
+pub mod Stages

@@ -1,11 +1,3 @@
-pub mod Apart
-pub mod NameBits
-pub mod Asking
-pub mod Labelled
-pub mod Rules
-pub mod Walk
-pub mod Covering
-pub mod TouchedBits
 pub mod Columns
 pub mod Feeding
 pub mod Going

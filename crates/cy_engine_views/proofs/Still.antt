@@ -8,7 +8,7 @@ use Rattle.cy_bags.specs.declared.changes.Change.{Change}
 use Rattle.cy_network_sources.specs.Changes.{IsChange, Touches}
 use Rattle.cy_network_relevance.specs.Relevance.{IsUntouched}
 use Rattle.cy_network_parts.specs.Counted.{counted}
-use Rattle.cy_engine_views.specs.Masks.{AreApart, mask_of}
+use Rattle.cy_network_relevance.specs.Masks.{AreApart, mask_of}
 use Rattle.cy_network.specs.Networks as networks
 use Rattle.cy_network.specs.Networks.{NetworkState}
 use Rattle.cy_network.specs.Places.{rows_by}

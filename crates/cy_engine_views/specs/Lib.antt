@@ -1,5 +1,3 @@
-pub mod NameBits
-pub mod Masks
 pub mod HeldViews
 pub mod RegisteredViews
 pub mod Upkeep

@@ -17,7 +17,7 @@ use Rattle.cy_planner_algebra.specs.Plans.{Plan}
 use Rattle.cy_planner_algebra.specs.PlanModels.{plan_of}
 use Rattle.cy_network_sources.specs.Changes.{Touches, IsChange}
 use Rattle.cy_network_sources.specs.Costs.{cost}
-use Rattle.cy_engine_views.specs.Masks.{Covers}
+use Rattle.cy_network_relevance.specs.Masks.{Covers}
 use Rattle.cy_network.specs.Networks as networks
 use Rattle.cy_network.specs.Networks.{HasTooManyRows, NetworkState, operator_of, state_of}
 use Rattle.cy_planner.specs.Serves.{Serves}

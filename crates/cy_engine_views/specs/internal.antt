@@ -1,4 +1,2 @@
 -- What proofs and the crate's own functions need.
-pub mod Labelled
-pub mod Left
 pub mod Loops

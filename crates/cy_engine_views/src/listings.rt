@@ -1,6 +1,6 @@
 //! The views in a list of them.
 
-ghost use Rattle.std.specs.Prelude.{◌≡◌, IfErr, IfOk, IsTrue, [], map};
+ghost use Rattle.std.specs.Prelude.{◌≡◌, IfOk, IsTrue, [], map};
 ghost use Rattle.cy_trees.specs.TreeModels.{clause_of, item_of, statement_of};
 ghost use Rattle.cy_scope.specs.Views.{ends_with_return};
 ghost use Rattle.cy_oneshot_meaning.specs.Queries.{columns_after_all, statement_columns};

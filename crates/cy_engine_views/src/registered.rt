@@ -1,19 +1,18 @@
 //! What is registered under the name of a view.
 
-ghost use Rattle.std.specs.Prelude.{◌≡◌, ℕ, ◌<◌, ◌≤◌, IfErr, IfSome, OnErr, OnOk};
+ghost use Rattle.std.specs.Prelude.{◌≡◌, ℕ, ◌<◌, IfErr, OnErr, OnOk};
 ghost use Rattle.cy_graph.specs.Graph.{Content};
-ghost use Rattle.cy_feeds.specs.Feeds.{latest};
 ghost use Rattle.cy_network_sources.specs.Changes.{IsChange, before_change};
-ghost use Rattle.cy_engine_views.specs.Masks.{mask_of};
+ghost use Rattle.cy_network_relevance.specs.Masks.{mask_of};
 ghost use Rattle.cy_engine_views.specs.Upkeep.{CannotFollowBy, IsReady, Rests, network_of};
 ghost use Rattle.cy_engine_views.specs.internal.Loops.{CanRest, IsOne, IsSettledFrom, Takes};
 
 use crate::faults::UpkeepFault;
-use crate::masks::Mask;
 use crate::rows::QueryRows;
 use cy_bags::{Change, Entry};
 use cy_feeds::Feed;
 use cy_index::Sight;
+use cy_network_relevance::Mask;
 use cy_network_sources::GraphChange;
 use cy_values::{Duplicate, row_order_laws};
 use std::alloc::Global;

@@ -1,17 +1,16 @@
 //! All views, and each step of a change for all of them, in the order in which they were made.
 
-ghost use Rattle.std.specs.Prelude.{◌≡◌, ℕ, ◌<◌, IfErr, OnErr, OnOk, map};
-ghost use Rattle.std.specs.List.{AllByRecursion};
+ghost use Rattle.std.specs.Prelude.{◌≡◌, ℕ, ◌<◌, IfErr, OnOk, map};
 ghost use Rattle.cy_graph.specs.Graph.{Content};
 ghost use Rattle.cy_network_sources.specs.Changes.{IsChange, before_change};
-ghost use Rattle.cy_engine_views.specs.Masks.{mask_of};
+ghost use Rattle.cy_network_relevance.specs.Masks.{mask_of};
 ghost use Rattle.cy_engine_views.specs.Upkeep.{CannotFollow, held, upkeep_of};
 ghost use Rattle.cy_engine_views.specs.internal.Loops.{AllAreSettled, AllCanRest, AllReady, AllRest, AllTake};
 
 use crate::faults::UpkeepFault;
-use crate::masks::Mask;
 use crate::registered::Registered;
 use cy_index::Sight;
+use cy_network_relevance::Mask;
 use cy_network_sources::GraphChange;
 use indexmap::IndexMap;
 use std::alloc::Global;

@@ -1,22 +1,22 @@
 //! The rows of a view's query, which follow the graph.
 
-ghost use Rattle.std.specs.Prelude.{◌≡◌, ◌≤◌, IfErr, IfOk, OnErr, OnOk, Some, false};
+ghost use Rattle.std.specs.Prelude.{◌≡◌, ◌≤◌, IfErr, IfOk, OnErr, OnOk, false};
 ghost use Rattle.cy_trees.specs.TreeModels.{statement_of};
 ghost use Rattle.cy_graph.specs.Graph.{Content, State};
 ghost use Rattle.cy_planner.specs.Weight.{greatest_weight, weight};
 ghost use Rattle.cy_network_sources.specs.Changes.{IsChange, Touches, before_change};
-ghost use Rattle.cy_engine_views.specs.Masks.{mask_of};
+ghost use Rattle.cy_network_relevance.specs.Masks.{mask_of};
 ghost use Rattle.cy_bags.specs.Difference.{IsDifference};
 ghost use Rattle.cy_network.specs.Networks.{operator_of};
 ghost use Rattle.cy_engine_views.specs.Upkeep.{CannotFollowBy, IsPrepared, IsUnkept, StandsFor, network_of};
 ghost use Rattle.cy_engine_views.specs.RegisteredViews.{AreRowsOf, rows_of};
 
 use crate::faults::UpkeepFault;
-use crate::masks::Mask;
 use cy_bags::Change;
 use cy_index::{Sight, Store};
 use cy_network::Network;
 use cy_network_memory::KeyedMemory;
+use cy_network_relevance::Mask;
 use cy_network_sources::GraphChange;
 use cy_planner::plan;
 use cy_scope::ViewQuery;

@@ -9,3 +9,11 @@ pub mod Ranges
 pub mod Scanned
 pub mod Untouched
 pub mod Elsewhere
+pub mod BitsApart
+pub mod Asking
+pub mod Covering
+pub mod Labelled
+pub mod NameBits
+pub mod MaskRules
+pub mod TouchedBits
+pub mod MaskWalk

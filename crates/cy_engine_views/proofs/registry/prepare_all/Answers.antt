@@ -2,7 +2,7 @@ use Rattle.std.proofs.Common.{◌≡◌, ◌+◌, ◌<◌, ℕ, List, map, refl,
 use Rattle.std.proofs.lemmas.Result.{err_from_is_err_and}
 use Rattle.cy_graph.specs.Graph.{Versions}
 use Rattle.cy_network_sources.specs.Changes.{IsChange, before_change}
-use Rattle.cy_engine_views.specs.Masks.{mask_of}
+use Rattle.cy_network_relevance.specs.Masks.{mask_of}
 use Rattle.cy_engine_views.specs.declared.registered.Registered.{Registered}
 use Rattle.cy_engine_views.specs.HeldViews.{Held}
 use Rattle.cy_engine_views.specs.Upkeep.{CannotFollow, IsReady, Registry, Rests, held, upkeep_of}

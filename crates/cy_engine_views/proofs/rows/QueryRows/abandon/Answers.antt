@@ -2,7 +2,7 @@ use Rattle.std.proofs.Common.{sym, subst}
 use Rattle.cy_trees.specs.TreeModels.{statement_of}
 use Rattle.cy_planner_algebra.specs.PlanModels.{plan_of}
 use Rattle.cy_planner_algebra.specs.declared.operators.Operator.{Operator}
-use Rattle.cy_engine_views.specs.Masks.{Covers}
+use Rattle.cy_network_relevance.specs.Masks.{Covers}
 use Rattle.cy_planner.specs.Serves.{Serves}
 use Rattle.cy_engine_views.proofs.rows.QueryRows.abandon.Goals as goal
 

@@ -1,6 +1,6 @@
 use Rattle.std.proofs.Common.{subst}
-use Rattle.cy_engine_views.specs.Masks.{AreApart}
-use Rattle.cy_engine_views.specs.declared.masks.Mask.{Mask}
+use Rattle.cy_network_relevance.specs.Masks.{AreApart}
+use Rattle.cy_network_relevance.specs.declared.masks.Mask.{Mask}
 use Rattle.cy_engine_views.proofs.Still.{still_rows}
 use Rattle.cy_engine_views.proofs.rows.QueryRows.may_change.Goals as goal
 

@@ -2,7 +2,7 @@ use Rattle.std.proofs.Common.{List, map, sym, ap, subst, ◌∙◌}
 use Rattle.std.specs.Prelude.{IsSome}
 use Rattle.cy_graph.specs.Graph.{Versions}
 use Rattle.cy_network_sources.specs.Changes.{IsChange, before_change}
-use Rattle.cy_engine_views.specs.Masks.{mask_of}
+use Rattle.cy_network_relevance.specs.Masks.{mask_of}
 use Rattle.cy_engine_views.specs.HeldViews.{Held, view_of}
 use Rattle.cy_engine_views.specs.Upkeep.{Rests, entries_in, views_in}
 use Rattle.cy_engine_views.specs.RegisteredViews.{AreEntries, Entries}

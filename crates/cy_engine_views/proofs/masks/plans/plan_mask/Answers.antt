@@ -1,6 +1,0 @@
-use Rattle.cy_planner_algebra.specs.PlanModels.{plan_of}
-use Rattle.cy_engine_views.proofs.Covering.{covers}
-use Rattle.cy_engine_views.proofs.masks.plans.plan_mask.Goals as goal
-
-pub returns : goal.returns
-returns c = covers c.parts_mask.result (plan_of c.args.part.now) c.parts_mask.ensures

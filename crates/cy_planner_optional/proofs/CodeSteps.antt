@@ -7,11 +7,11 @@ use Rattle.std.proofs.lemmas.List.{drop_all, length-append}
 use Rattle.std.proofs.lemmas.List.FromFn.{map-range_with_len_more}
 use Rattle.cy_trees.specs.Trees.{Expression}
 use Rattle.cy_oneshot_patterns.specs.Places.{Place}
-use Rattle.cy_planner_optional.specs.Shared.{other_entries}
-use Rattle.cy_planner_optional.specs.Own.{common_count, common_counts}
+use Rattle.cy_planner_tables.specs.Shared.{other_entries}
+use Rattle.cy_planner_tables.specs.Own.{common_count, common_counts}
 use Rattle.cy_planner_rows.specs.Conditions.{or_true, with_test, with_tests}
-use Rattle.cy_planner_optional.specs.internal.OptionalPairs.{all_of}
-use Rattle.cy_planner_optional.proofs.CodeLemmas.{tests_all, tests_append}
+use Rattle.cy_planner_tables.specs.internal.OptionalPairs.{all_of}
+use Rattle.cy_planner_tables.proofs.CodeLemmas.{tests_all, tests_append}
 use Rattle.cy_planner_optional.specs.Columns.{reading_entries}
 use Rattle.cy_planner_optional.specs.internal.PathPairs.{empty_or_equal, empty_or_equal_from, equal_columns, equal_from, looked_count, looked_counts, place_tests, places_tests}
 use Rattle.cy_planner_optional.specs.internal.Told.{alike, all_there, is_not_null_at}

@@ -12,10 +12,8 @@ pub mod Sifted
 pub mod TrailLemmas
 pub mod PairRows
 pub mod WholePlans
-pub mod CodeLemmas
 pub mod PredicateLemmas
 pub mod JoinedParts
-pub mod LookupLemmas
 pub mod Extended
 pub mod TrailColumns
 pub mod OwnTables

@@ -15,7 +15,7 @@ use Rattle.cy_planner_algebra.specs.Plans.{Plan, width}
 use Rattle.cy_planner_algebra.specs.Sure.{IsSureOn}
 use Rattle.cy_planner_algebra.specs.Within.{IsWithin}
 use Rattle.cy_planner_rows.specs.Rows.{FitsRows, cells_on}
-use Rattle.cy_planner_optional.specs.Shared.{other_entries}
+use Rattle.cy_planner_tables.specs.Shared.{other_entries}
 
 -- the entries of maps that read the row, and their values
 abbrev pub reading_entries : List Place → List MapEntry

@@ -1,9 +1,5 @@
-pub mod OwnPatterns
-pub mod Shared
-pub mod MatchColumns
 pub mod Matched
 pub mod Optional
-pub mod Own
 pub mod Columns
 pub mod Paths
 pub mod internal

@@ -5,14 +5,14 @@ ghost use Rattle.std.specs.List.{range_with_len};
 ghost use Rattle.cy_oneshot_patterns.specs.Places.{variable_at};
 ghost use Rattle.cy_oneshot_patterns.specs.internal.Patterns.{place_of};
 ghost use Rattle.cy_planner_algebra.specs.WellFormed.{greatest_width};
-ghost use Rattle.cy_planner_optional.specs.MatchColumns as spec;
+ghost use Rattle.cy_planner_tables.specs.MatchColumns as spec;
 
 use cy_oneshot_patterns::Place;
 use cy_values::Fault;
 use std::alloc::Global;
 
 /// Adds the column of a place whose variable is a new one.
-#[tactic(auto, using(crate::proofs::CodeLemmas::place_kept))]
+#[tactic(auto, using(cy_planner_tables::proofs::CodeLemmas::place_kept))]
 fn add_column(kept: &mut Vec<usize>, column: usize, place: Place<'_>) -> Result<(), Fault>
     ensures { OnOk result (kept.new.items ≡ spec.with_place kept.old.items column (variable_at (place_of place.entry))) }
 {

@@ -4,21 +4,15 @@
 
 mod columns;
 mod joining;
-mod lookup_lists;
-mod lookups;
 mod optional;
 mod own_columns;
 mod paths;
 mod patterns;
-mod place_keys;
-mod predicates;
 mod trails;
 mod values;
 
-pub use lookups::right_lookups;
 pub use optional::{optional_rows, own_table};
 pub use paths::conditions::other_count;
 pub use paths::met::assigned_rows;
 pub use paths::unmet::unassigned_rows;
-pub use place_keys::keys;
 pub use values::{open_values, with_values};

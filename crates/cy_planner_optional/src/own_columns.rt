@@ -1,8 +1,8 @@
 //! The columns of the variables of a pattern.
 
-ghost use Rattle.std.specs.Prelude.{◌≡◌, ◌+◌, ◌≤◌, IfOk, OnOk, length, map};
+ghost use Rattle.std.specs.Prelude.{◌≡◌, ◌+◌, IfOk, OnOk, map};
 ghost use Rattle.cy_oneshot_patterns.specs.internal.Patterns.{place_of};
-ghost use Rattle.cy_planner_optional.specs.OwnPatterns as spec;
+ghost use Rattle.cy_planner_tables.specs.OwnPatterns as spec;
 
 use cy_oneshot_patterns::Place;
 use cy_values::Fault;

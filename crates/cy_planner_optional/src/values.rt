@@ -12,7 +12,7 @@ ghost use Rattle.cy_planner_rows.specs.Places.{place};
 ghost use Rattle.cy_planner_rows.specs.Columns.{column_output};
 ghost use Rattle.cy_planner_rows.specs.Rows.{AreReadOver};
 ghost use Rattle.cy_planner_rows.specs.internal.Asked.{asked, with_asked};
-ghost use Rattle.cy_planner_optional.specs.OwnPatterns.{is_literal_entry};
+ghost use Rattle.cy_planner_tables.specs.OwnPatterns.{is_literal_entry};
 ghost use Rattle.cy_planner_optional.specs.Columns.{IsExtended, reading_entries, values_of};
 
 use cy_oneshot_patterns::Place;

@@ -10,7 +10,7 @@ pub mod Ranges
 pub mod Empty
 pub mod FromNodes
 pub mod Leading
-pub mod Asked
+pub mod AskedTables
 pub mod Valued
 pub mod TrailMaps
 pub mod Calls
@@ -25,3 +25,5 @@ pub mod KeepingLemmas
 pub mod Filtering
 pub mod Dropping
 pub mod FrontLemmas
+pub mod CodeLemmas
+pub mod LookupLemmas

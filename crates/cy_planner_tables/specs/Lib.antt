@@ -3,4 +3,8 @@ pub mod Trails
 pub mod Fronts
 pub mod Numbers
 pub mod Partial
+pub mod MatchColumns
+pub mod Own
+pub mod OwnPatterns
+pub mod Shared
 pub mod internal

@@ -3,3 +3,6 @@ pub mod Growing
 pub mod Asked
 pub mod Firsts
 pub mod Agreement
+pub mod Joined
+pub mod LookupLists
+pub mod OptionalPairs

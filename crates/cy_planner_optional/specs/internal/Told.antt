@@ -11,7 +11,7 @@ use Rattle.cy_planner_algebra.specs.Plans as plan
 use Rattle.cy_planner_algebra.specs.Plans.{Plan}
 use Rattle.cy_planner_algebra.specs.WellFormed.{IsWellFormed}
 use Rattle.cy_planner_rows.specs.internal.Lookups.{narrowed}
-use Rattle.cy_planner_optional.specs.internal.OptionalPairs.{all_of, keys_from}
+use Rattle.cy_planner_tables.specs.internal.OptionalPairs.{all_of, keys_from}
 use Rattle.cy_planner_optional.specs.Columns.{reading_entries, values_of}
 use Rattle.cy_planner_rows.specs.Conditions.{column_variable}
 

@@ -8,10 +8,10 @@ ghost use Rattle.cy_oneshot_patterns.specs.internal.Patterns.{place_of};
 ghost use Rattle.cy_planner_algebra.specs.WellFormed.{greatest_width};
 ghost use Rattle.cy_planner_optional.specs.internal.Told as spec;
 
-use crate::place_keys::keys;
 use cy_oneshot_patterns::Place;
 use cy_planner_algebra::KeyColumns;
 use cy_planner_rows::{and_also, column_variable, or_true};
+use cy_planner_tables::keys;
 use cy_trees::{Expr, UnaryOperator};
 use cy_values::{Fault, Text};
 use std::alloc::Global;
@@ -121,7 +121,7 @@ fn is_not_null_at(alloc: Global, column: usize) -> Result<Expr, Fault>
 }
 
 /// Whether each of these columns has something. Fails only when out of memory.
-#[tactic(auto, using(crate::proofs::CodeLemmas::tests_all))]
+#[tactic(auto, using(cy_planner_tables::proofs::CodeLemmas::tests_all))]
 pub(crate) fn all_there(alloc: Global, columns: &[usize]) -> Result<Expr, Fault>
     ensures { IfOk result (λ e. expression_of e ≡ spec.all_there columns.now) }
 {

@@ -2,7 +2,7 @@
 use Rattle.std.proofs.Common.{◌≡◌, ◌+◌, drop, map}
 use Rattle.std.specs.List.{range_with_len}
 use Rattle.cy_oneshot_patterns.specs.internal.Patterns.{place_of}
-use Rattle.cy_planner_optional.specs.MatchColumns.{with_places}
+use Rattle.cy_planner_tables.specs.MatchColumns.{with_places}
 use Rattle.cy_planner_optional.proofs.columns.kept_columns.Given as goal
 
 abbrev pub invariant-loop-place : goal.invariant-loop-place

@@ -1,6 +1,6 @@
 -- The columns that are left settle the number.
 use Rattle.std.proofs.Common.{◌≡◌, drop}
-use Rattle.cy_planner_optional.specs.OwnPatterns as spec
+use Rattle.cy_planner_tables.specs.OwnPatterns as spec
 use Rattle.cy_planner_optional.proofs.own_columns.position.Given as goal
 
 abbrev pub invariant-loop-other : goal.invariant-loop-other

@@ -1,7 +1,7 @@
 -- The values so far, and those that are left.
 use Rattle.std.proofs.Common.{◌≡◌, ◌++◌, drop, filter, map, not}
 use Rattle.cy_trees.specs.TreeModels.{entry_of, expression_of}
-use Rattle.cy_planner_optional.specs.OwnPatterns.{is_literal_entry}
+use Rattle.cy_planner_tables.specs.OwnPatterns.{is_literal_entry}
 use Rattle.cy_planner_optional.specs.Columns.{values_of}
 use Rattle.cy_planner_optional.proofs.values.add_values.Given as goal
 

@@ -1,5 +1,5 @@
 -- What an expression gives, by what its parts give.
-use Rattle.std.proofs.Common.{◌≡◌, ◌⊎◌, inl, inr, ◌∙◌, List, Vec, Global, map, rules, sym, ap, subst}
+use Rattle.std.proofs.Common.{◌≡◌, ◌⊎◌, Bool, inl, inr, ◌∙◌, List, Vec, Global, map, rules, sym, ap, subst}
 use Rattle.std.specs.Prelude.{Option, Some, None, Result, Ok, Err, IsErr, IsErrAnd}
 use Rattle.std.specs.declared.boxed.Box.{Box}
 use Rattle.cy_values.specs.declared.rows.Cell.{Cell}
@@ -9,7 +9,7 @@ use Rattle.cy_trees.specs.declared.expressions.Expr as coded
 use Rattle.cy_trees.specs.declared.expressions.Expr.{Expr, the_lemmas}
 use Rattle.cy_trees.specs.declared.expressions.Link.{Link}
 use Rattle.cy_trees.specs.declared.expressions.UnaryOperator.{UnaryOperator}
-use Rattle.cy_trees.specs.Trees.{Name, Expression, property, has_labels, unary, binary, comparison, list, case}
+use Rattle.cy_trees.specs.Trees.{Name, Expression, property, has_labels, unary, binary, comparison, list, case, call}
 use Rattle.cy_trees.specs.TreeModels.{arm_of, arms_from, expression_of, expressions_from, link_of, links_from}
 use Rattle.cy_scope_kinds.specs.internal.ExpressionTrees.{otherwise_of}
 use Rattle.cy_expr.specs.declared.faults.EvalFault.{EvalFault}
@@ -53,6 +53,12 @@ module _ (e : Expr) where
   list_at elements shown is alike =
       let made : expression_of (coded.List elements) ≡ list (expressions_from (map expression_of elements.items)) = search (rules, the_lemmas) in
       ap expression_of is ∙ made ∙ (λ i. list (expressions_from (map expression_of (sym alike i))))
+
+  pub call_at : (name shown_name : Name) (distinct : Bool) (arguments : Vec Expr Global) (shown : List Expr) → e ≡ coded.Call name distinct arguments → shown_name ≡ name → shown ≡ arguments.items
+      → expression_of e ≡ call shown_name distinct (expressions_from (map expression_of shown))
+  call_at name shown_name distinct arguments shown is same alike =
+      let made : expression_of (coded.Call name distinct arguments) ≡ call name distinct (expressions_from (map expression_of arguments.items)) = search (rules, the_lemmas) in
+      ap expression_of is ∙ made ∙ (λ i. call (sym same i) distinct (expressions_from (map expression_of (sym alike i))))
 
   pub case_at : (arms : Vec Arm Global) (shown : List Arm) (other : Option (Box Expr Global)) → e ≡ coded.Case arms other → shown ≡ arms.items → expression_of e ≡ case (arms_from (map arm_of shown)) (otherwise_of other)
   case_at arms shown other is alike = ap expression_of is ∙ case_is other ∙ (λ i. case (arms_from (map arm_of (sym alike i))) (otherwise_of other))

@@ -1,8 +1,8 @@
-use Rattle.std.proofs.Common.{sym, ap, refl, ◌∙◌, inl, map}
+use Rattle.std.proofs.Common.{sym, ap, subst, refl, ◌∙◌, inl, map}
 use Rattle.std.specs.Prelude.{Some, None, Result, Ok, option_map}
 use Rattle.cy_values.specs.declared.rows.Cell.{Cell}
-use Rattle.cy_expr.specs.internal.Lent.{held_cell}
-use Rattle.cy_trees.specs.Trees.{list}
+use Rattle.cy_expr.specs.internal.Lent.{GivesOrWants, held_cell}
+use Rattle.cy_trees.specs.Trees.{call, list}
 use Rattle.cy_trees.specs.TreeModels.{expression_of, expressions_from, link_of, links_from}
 use Rattle.cy_expr.specs.declared.faults.EvalFault.{EvalFault}
 use Rattle.cy_expr.specs.Faults.{on_one, on_two}
@@ -10,10 +10,10 @@ use Rattle.cy_expr.specs.Logic.{value_of}
 use Rattle.cy_expr.specs.Lookups.{labels_test, property_value}
 use Rattle.cy_expr.specs.Operators.{binary_value, unary_value, value_in_cell}
 use Rattle.cy_values.specs.Compare.{lent}
-use Rattle.cy_expr.specs.Evaluation.{as_cell, cell_of, cells_of, chain, outcomes_of, property_exists, values_of}
+use Rattle.cy_expr.specs.Evaluation.{as_cell, call_value, cell_of, cells_of, chain, outcomes_of, property_exists, values_of}
 use Rattle.cy_expr.proofs.ReadingLemmas.{cell-numbered}
 use Rattle.cy_expr.proofs.Rules.{membership-all, membership-more, chain-more, elements-more, cells-more, cells-refused, cell-faults, count_from-zero, counted, failed, other_call}
-use Rattle.cy_expr.proofs.WholeSteps.{after, after_arms, arms_stopped, binary_at, case_at, comparison_at, labels_at, list_at, property_at, stopped, sure, unary_at, whole}
+use Rattle.cy_expr.proofs.WholeSteps.{after, after_arms, arms_stopped, binary_at, call_at, case_at, comparison_at, labels_at, list_at, property_at, stopped, sure, unary_at, whole}
 use Rattle.cy_expr.proofs.evaluation.+evaluation.Goals as goal
 
 -- ---- an expression by its form
@@ -130,6 +130,15 @@ evaluate_whole-returns-in-None g t c =
     let is = case_at c.args.expression.now c.in-Case.arms c.deref-in-Case.result.now c.in-Case.otherwise c.in-Case.is c.deref-in-Case.ensures.value in
     after_arms (g.G.Lookups.lookups c.args.graph.now) c.args.row.now c.evaluate_otherwise.result c.args.expression.now c.deref-in-Case.result.now c.in-Case.otherwise is
     (Ok None) (c.in_ok-outcome-in-Case.ensures ∙ (λ i. Ok (option_map held_cell (c.in-None.is i)))) c.evaluate_otherwise.ensures
+
+pub evaluate_whole-returns-in-Call : goal.evaluate_whole-returns-in-Call
+evaluate_whole-returns-in-Call g t c =
+    let graph = g.G.Lookups.lookups c.args.graph.now in
+    let row = c.args.row.now in
+    let es = expressions_from (map expression_of c.deref-in-Call.result.now) in
+    let is = call_at c.args.expression.now c.in-Call.name c.as_str-in-Call.result.now c.in-Call.field-1 c.in-Call.arguments c.deref-in-Call.result.now c.in-Call.is c.as_str-in-Call.ensures c.deref-in-Call.ensures.value in
+    whole graph row c.evaluate_call.result c.args.expression.now (call c.as_str-in-Call.result.now c.in-Call.field-1 es) is
+    (subst (λ f. GivesOrWants c.evaluate_call.result (as_cell (call_value graph f (cells_of graph row es) (outcomes_of graph row es) (property_exists graph row es)))) c.named.ensures c.evaluate_call.ensures)
 
 -- ---- its parts
 
